@@ -1,0 +1,48 @@
+//! How a call fails, apart from the refusals that a client sees.
+ghost use Rattle.std.specs.Prelude.{◌≡◌};
+ghost use Rattle.mc_model.specs.declared.fault.Fault.TheVariants.{Memory};
+
+use std::alloc::{AllocError, AllocFailed};
+use thiserror::Error;
+
+/// How a call fails. A call's clauses name the variants that it can answer, and what each leaves behind.
+#[derive(Clone, Copy, Debug, PartialEq, Eq, Error)]
+pub enum Fault {
+    /// A growth was really refused.
+    #[error("out of memory")]
+    Memory,
+    /// The log has no place left for the command.
+    #[error("log full")]
+    LogFull,
+    /// The command's cell holds another value.
+    #[error("cell taken")]
+    Taken,
+    /// The input failed in this call.
+    #[error("input failed")]
+    Input,
+    /// The output failed in this call.
+    #[error("output failed")]
+    Output,
+    /// The event isn't enabled in the present state.
+    #[error("event not enabled")]
+    BadEvent,
+    /// A number of the settings is out of its range.
+    #[error("bad settings")]
+    BadSettings,
+}
+
+impl From<AllocError> for Fault {
+    ghost from_gives = { λ _ fault. fault ≡ Memory };
+
+    fn from(_error: AllocError) -> Fault {
+        Fault::Memory
+    }
+}
+
+impl<T: Drop> From<AllocFailed<T>> for Fault {
+    ghost from_gives = { λ _ fault. fault ≡ Memory };
+
+    fn from(_error: AllocFailed<T>) -> Fault {
+        Fault::Memory
+    }
+}

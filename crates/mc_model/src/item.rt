@@ -1,0 +1,79 @@
+//! What a table holds under a key.
+ghost use Rattle.std.specs.Cmp.{partial_equiv_from_equiv};
+ghost use Rattle.std.specs.Cmp.Lexicographic.{nat_list_eq_equiv, pointwise};
+ghost use Rattle.std.specs.Option.{SomeIff};
+ghost use Rattle.std.specs.Prelude.{◌≡◌, ℕ, ◌≤◌, List, length, nat_eq, vec_len, IfOk, IsOkUnless};
+ghost use Rattle.mc_model.specs.declared.item.TheConstants.{DATA_BYTES};
+
+use crate::Fault;
+use std::marker::Model;
+
+/// How many bytes a data block may have.
+pub const DATA_BYTES: usize = 1_048_576;
+
+/// A data block: any bytes, at most `DATA_BYTES` of them.
+#[derive(Debug, Drop)]
+pub struct Data {
+    bytes: Vec<u8>,
+}
+
+impl Model for Data {
+    ghost Value = { List ℕ };
+
+    ghost view = { λ block. block.bytes.items };
+
+    ghost invariant = { λ block. vec_len block.bytes ≤ DATA_BYTES };
+}
+
+impl Data {
+    /// The block of these bytes, or `None` where there are too many.
+    pub fn new(bytes: Vec<u8>) -> Option<Data>
+        ensures { SomeIff result (vec_len bytes ≤ DATA_BYTES) bytes.items }
+    {
+        if bytes.len() <= DATA_BYTES {
+            Some(Data { bytes })
+        } else {
+            None
+        }
+    }
+
+    /// The block's bytes.
+    pub fn as_bytes(&self) -> &[u8]
+        ensures value { result.now ≡ self.now }
+        ensures few { length self.now ≤ DATA_BYTES }
+    {
+        self.bytes.as_slice()
+    }
+
+    /// The same block in memory of its own.
+    pub fn try_clone(&self) -> Result<Data, Fault>
+        ensures block { IfOk result (λ block. block ≡ self.now) }
+        ensures memory { IsOkUnless result Fault.Memory }
+    {
+        Ok(Data {
+            bytes: self.bytes.clone()?,
+        })
+    }
+}
+
+impl PartialEq for Data {
+    ghost eq = { pointwise nat_eq };
+
+    ghost laws = { partial_equiv_from_equiv nat_list_eq_equiv };
+
+    fn eq(&self, other: &Data) -> bool {
+        self.bytes == other.bytes
+    }
+}
+
+impl Eq for Data {
+    ghost laws = { nat_list_eq_equiv };
+}
+
+/// An item of a table: the flags and the data that a client stored, and the unique of the change that stored them.
+#[derive(Debug, PartialEq, Eq, Drop)]
+pub struct Item {
+    pub flags: u32,
+    pub block: Data,
+    pub unique: u64,
+}

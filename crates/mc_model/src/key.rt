@@ -1,0 +1,155 @@
+//! Keys, and the list of keys of a retrieval.
+ghost use Rattle.std.specs.Cmp.{partial_equiv_from_equiv};
+ghost use Rattle.std.specs.Cmp.Lexicographic.{lists_equiv, nat_list_eq_equiv, pointwise};
+ghost use Rattle.std.specs.List.{list_all};
+ghost use Rattle.std.specs.Option.{SomeIff};
+ghost use Rattle.std.specs.Prelude.{◌≡◌, ◌≢◌, ℕ, ◌<◌, ◌≤◌, List, length, nat_eq, vec_len, All, IsTrue, IfOk, OnErr, IsOkUnless};
+ghost use Rattle.mc_model.specs.Key.{is_key_byte, is_lawful_key, key_of};
+
+use crate::Fault;
+use std::alloc::Global;
+use std::marker::Model;
+
+/// How many bytes a key may have.
+pub const KEY_BYTES: usize = 250;
+
+/// A lawful key: 1 to `KEY_BYTES` bytes, none of them a control character or a space.
+#[derive(Debug, Drop)]
+pub struct Key {
+    bytes: Vec<u8>,
+}
+
+impl Model for Key {
+    ghost Value = { List ℕ };
+
+    ghost view = { λ key. key.bytes.items };
+
+    ghost invariant = { λ key. IsTrue (is_lawful_key key.bytes.items) };
+}
+
+impl Key {
+    /// Whether the bytes are a lawful key.
+    pub fn is_lawful(bytes: &[u8]) -> bool
+        ensures { result ≡ is_lawful_key bytes.now }
+    {
+        !bytes.is_empty() && bytes.len() <= KEY_BYTES && are_plain(bytes)
+    }
+
+    /// The key of these bytes, or `None` where they are no lawful key. Only a lawful key takes memory.
+    pub fn new(alloc: Global, bytes: &[u8]) -> Result<Option<Key>, Fault>
+        ensures key { IfOk result (λ key. key ≡ key_of bytes.now) }
+        ensures memory { IsOkUnless result Fault.Memory }
+        ensures unlawful { OnErr result (IsTrue (is_lawful_key bytes.now)) }
+    {
+        if !Key::is_lawful(bytes) {
+            return Ok(None);
+        }
+        Ok(Some(Key {
+            bytes: Vec::from_slice(alloc, bytes)?,
+        }))
+    }
+
+    /// The key's bytes.
+    pub fn as_bytes(&self) -> &[u8]
+        ensures value { result.now ≡ self.now }
+        ensures lawful { IsTrue (is_lawful_key self.now) }
+
+        // What a lawful key is.
+        ensures some { 0 < length self.now }
+        ensures few { length self.now ≤ KEY_BYTES }
+        ensures plain { All (λ byte. (32 < byte) × (byte ≢ 127)) self.now }
+    {
+        self.bytes.as_slice()
+    }
+
+    /// The same key in memory of its own.
+    pub fn try_clone(&self) -> Result<Key, Fault>
+        ensures key { IfOk result (λ key. key ≡ self.now) }
+        ensures memory { IsOkUnless result Fault.Memory }
+    {
+        Ok(Key {
+            bytes: self.bytes.clone()?,
+        })
+    }
+}
+
+/// Whether no byte is a control character or a space.
+fn are_plain(bytes: &[u8]) -> bool
+    ensures { result ≡ list_all is_key_byte bytes.now }
+{
+    bytes.iter().all(|byte| *byte > 32 && *byte != 127)
+}
+
+impl PartialEq for Key {
+    ghost eq = { pointwise nat_eq };
+
+    ghost laws = { partial_equiv_from_equiv nat_list_eq_equiv };
+
+    fn eq(&self, other: &Key) -> bool {
+        self.bytes == other.bytes
+    }
+}
+
+impl Eq for Key {
+    ghost laws = { nat_list_eq_equiv };
+}
+
+/// The keys of a retrieval in the line's order, at least one.
+#[derive(Debug, Drop)]
+pub struct KeyList {
+    keys: Vec<Key>,
+}
+
+impl Model for KeyList {
+    ghost use Rattle.std.specs.Prelude.{◌<◌, List, vec_len};
+    ghost use Rattle.mc_model.specs.declared.key.Key.{Key};
+
+    ghost Value = { List Key };
+
+    ghost view = { λ list. list.keys.items };
+
+    ghost invariant = { λ list. 0 < vec_len list.keys };
+}
+
+impl KeyList {
+    /// The list of these keys, or `None` where there is none.
+    pub fn new(keys: Vec<Key>) -> Option<KeyList>
+        ensures { SomeIff result (0 < vec_len keys) keys.items }
+    {
+        if keys.is_empty() {
+            None
+        } else {
+            Some(KeyList { keys })
+        }
+    }
+
+    /// The keys as a slice, of at least one.
+    pub fn as_slice(&self) -> &[Key]
+        ensures value { result.now ≡ self.now }
+        ensures some { 0 < length self.now }
+    {
+        self.keys.as_slice()
+    }
+
+    /// The keys, in the vector that they were given in.
+    pub fn into_keys(self) -> Vec<Key>
+        ensures value { result.items ≡ self }
+        ensures some { 0 < vec_len result }
+    {
+        self.keys
+    }
+}
+
+impl PartialEq for KeyList {
+    ghost eq = { pointwise (pointwise nat_eq) };
+
+    ghost laws = { partial_equiv_from_equiv (lists_equiv nat_list_eq_equiv) };
+
+    fn eq(&self, other: &KeyList) -> bool {
+        self.keys == other.keys
+    }
+}
+
+impl Eq for KeyList {
+    ghost laws = { lists_equiv nat_list_eq_equiv };
+}

@@ -1,0 +1,25 @@
+//! What all layers speak of: the lawful values of the protocol, and what commands mean on a tenant's table.
+//!
+//! The types hold lawful values alone. The definitions of `specs/` say what a command does to a table and what it
+//! answers; the functions of `laws` state in the protocol's words what follows from them.
+#![tactic(auto)]
+
+pub use command::{Command, Verb};
+pub use fault::Fault;
+pub use id::{TenantId, Ticket, WorkerId};
+pub use item::{Data, Item};
+pub use key::{Key, KeyList};
+pub use number::read_number;
+pub use reply::{Reply, Value, ValueList, WireNo};
+pub use request::{Entry, Request};
+pub use settings::{Limits, Settings};
+
+pub mod command;
+pub mod fault;
+pub mod id;
+pub mod item;
+pub mod key;
+pub mod number;
+pub mod reply;
+pub mod request;
+pub mod settings;

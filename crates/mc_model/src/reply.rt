@@ -1,0 +1,112 @@
+//! Replies, and the refusals among them.
+ghost use Rattle.std.specs.Prelude.{◌≡◌};
+
+use crate::{Data, Key};
+use std::marker::Model;
+
+/// A refusal, by the text that a client reads.
+#[derive(Clone, Copy, Debug, PartialEq, Eq)]
+pub enum WireNo {
+    /// `ERROR`
+    E1,
+    /// `CLIENT_ERROR bad command line format`
+    E2,
+    /// `CLIENT_ERROR bad data chunk`
+    E3,
+    /// `CLIENT_ERROR expiry is not supported`
+    E4,
+    /// `CLIENT_ERROR line too long`
+    E5,
+    /// `SERVER_ERROR object too large for cache`
+    E6,
+    /// `SERVER_ERROR out of memory storing object`
+    E7,
+    /// `CLIENT_ERROR cannot increment or decrement non-numeric value`
+    E8,
+    /// `CLIENT_ERROR invalid numeric delta argument`
+    E9,
+    /// `SERVER_ERROR log full`
+    E10,
+    /// `SERVER_ERROR out of memory`
+    E11,
+}
+
+/// An item as a retrieval shows it; `unique` is there where it is shown.
+#[derive(Debug, PartialEq, Eq, Drop)]
+pub struct Value {
+    pub key: Key,
+    pub flags: u32,
+    pub block: Data,
+    pub unique: Option<u64>,
+}
+
+/// The items that a retrieval found, in the line's order.
+#[derive(Debug, Drop)]
+pub struct ValueList {
+    values: Vec<Value>,
+}
+
+impl Model for ValueList {
+    ghost use Rattle.std.specs.Prelude.{List};
+    ghost use Rattle.mc_model.specs.declared.reply.Value.{Value as Shown};
+
+    ghost Value = { List Shown };
+
+    ghost view = { λ list. list.values.items };
+}
+
+impl ValueList {
+    /// The list of these values.
+    pub fn new(values: Vec<Value>) -> ValueList
+        ensures { result ≡ values.items }
+    {
+        ValueList { values }
+    }
+
+    /// The values as a slice.
+    pub fn as_slice(&self) -> &[Value]
+        ensures { result.now ≡ self.now }
+    {
+        self.values.as_slice()
+    }
+
+    /// The values, in the vector that they were given in.
+    pub fn into_values(self) -> Vec<Value>
+        ensures { result.items ≡ self }
+    {
+        self.values
+    }
+}
+
+impl PartialEq for ValueList {
+    ghost use Rattle.std.specs.Cmp.{partial_equiv_from_equiv};
+    ghost use Rattle.std.specs.Cmp.Lexicographic.{lists_equiv, pointwise};
+    ghost use Rattle.mc_model.specs.contracts.reply.ValuePartialEq.TheImpl as shown;
+    ghost use Rattle.mc_model.specs.contracts.reply.ValueEq.TheImpl.Laws as shown_laws;
+
+    ghost eq = { pointwise shown.ghosts.eq };
+
+    ghost laws = { partial_equiv_from_equiv (lists_equiv shown_laws.lawful.laws) };
+
+    fn eq(&self, other: &ValueList) -> bool {
+        self.values == other.values
+    }
+}
+
+impl Eq for ValueList {
+    ghost use Rattle.std.specs.Cmp.Lexicographic.{lists_equiv};
+    ghost use Rattle.mc_model.specs.contracts.reply.ValueEq.TheImpl.Laws as shown_laws;
+
+    ghost laws = { lists_equiv shown_laws.lawful.laws };
+}
+
+/// What a request is answered with.
+#[derive(Debug, PartialEq, Eq, Drop)]
+pub enum Reply {
+    /// `STORED`
+    Stored,
+    /// The items found, and `END`
+    Values(ValueList),
+    /// A refusal.
+    Refused(WireNo),
+}
