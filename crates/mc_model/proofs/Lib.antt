@@ -1,1 +1,4 @@
 pub mod Numerals
+pub mod Tables
+pub mod Histories
+mod Rows

@@ -73,8 +73,9 @@ IsNumber limit bytes = IsNumeral 10 bytes × (digits_value 10 bytes ≤ limit)
 -- the test of `number_up_to` passes at the numbers that std's words name, and at no others
 number_test : (limit : ℕ) (bytes : List ℕ) → Decides (is_numeral bytes && nat_le (digits_value 10 bytes) limit) (IsNumber limit bytes)
 number_test limit bytes = (
-    λ h. let both = and_parts _ _ h in let parts = and_parts _ _ both.0 in ((ltb-true _ _ parts.0, AllDigits-from_test bytes parts.1), leb-true _ _ both.1),
-    λ n. and_from _ _ (and_from _ _ (lt-ltb _ _ n.0.0) (all_ascii_digits-true bytes n.0.1)) (le-leb _ _ n.1))
+  λ h. let both = and_parts _ _ h in let parts = and_parts _ _ both.0 in ((ltb-true _ _ parts.0, AllDigits-from_test bytes parts.1), leb-true _ _ both.1),
+  λ n. and_from _ _ (and_from _ _ (lt-ltb _ _ n.0.0) (all_ascii_digits-true bytes n.0.1)) (le-leb _ _ n.1),
+)
 
 pub number_up_to-some : (limit : ℕ) (bytes : List ℕ) → IsNumber limit bytes → number_up_to limit bytes ≡ Some (digits_value 10 bytes)
 number_up_to-some limit bytes n = cond-true _ _ _ ((number_test limit bytes).1 n)

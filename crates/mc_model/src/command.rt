@@ -19,5 +19,8 @@ pub enum Command {
         block: Data,
     },
     /// Asks for the items of these keys; `uniques` says whether their uniques are shown.
-    Get { keys: KeyList, uniques: bool },
+    Get {
+        keys: KeyList,
+        uniques: bool,
+    },
 }

@@ -19,6 +19,7 @@ pub mod fault;
 pub mod id;
 pub mod item;
 pub mod key;
+pub mod laws;
 pub mod number;
 pub mod reply;
 pub mod request;

@@ -1,0 +1,20 @@
+use Rattle.std.proofs.Common.{ap, ◌∙◌, ◌+◌, Bool, if◌then◌else◌, add-zero}
+use Rattle.mc_model.specs.History.{after-none, after-push, changes, changes-none, changes-push}
+use Rattle.mc_model.proofs.laws.commands_act_in_order.Goals as goal
+
+pub returns-clause-nothing : goal.returns-clause-nothing
+returns-clause-nothing c = after-none
+
+pub returns-clause-no_change : goal.returns-clause-no_change
+returns-clause-no_change c = changes-none
+
+pub returns-clause-table : goal.returns-clause-table
+returns-clause-table c = after-push
+
+pub returns-clause-change : goal.returns-clause-change
+returns-clause-change c = λ list command accepted.
+    changes-push list command ∙ ap (λ (b : Bool). changes list + (if b then 1 else 0)) accepted
+
+pub returns-clause-refusal : goal.returns-clause-refusal
+returns-clause-refusal c = λ list command refused.
+    changes-push list command ∙ (ap (λ (b : Bool). changes list + (if b then 1 else 0)) refused ∙ add-zero (changes list))

@@ -1,0 +1,41 @@
+-- A tenant's table: what it holds under each key. In memcached's doc/protocol.txt an item is "identified with the help of a key".
+use Rattle.std.specs.Prelude.{ℕ, ◌+◌, List, length, sum_by, refl}
+use Rattle.std.specs.Coded.{Coded, code_by, coded×, coded_ℕ, coded_list}
+use Rattle.std.specs.Cmp.{IsTotalOrder}
+use Rattle.std.specs.Cmp.Lexicographic.{nat_list_cmp_total, slice_cmp}
+use Rattle.std.specs.FinMap as map
+use Rattle.std.specs.Ordering.{nat_cmp}
+use Rattle.std.specs.declared.cmp.Ordering.{Ordering}
+use Rattle.mc_model.specs.declared.item.Item.{Item}
+use Rattle.mc_model.specs.declared.key.Key.{Key}
+
+-- keys in the order of their bytes; only the equality of keys matters to a table
+abbrev pub key_cmp : Key → Key → Ordering
+key_cmp = slice_cmp nat_cmp
+
+pub key_cmp_total : IsTotalOrder key_cmp
+key_cmp_total = nat_list_cmp_total
+
+-- keys that tie are one key
+pub key_cmp_exact : map.IsAntisymmetric key_cmp
+key_cmp_exact = map.slice_cmp-IsAntisymmetric map.nat_cmp-IsAntisymmetric
+
+-- a finite map from keys to items
+abbrev pub Table : Type 0
+Table = map.FinMap key_cmp Item
+
+-- how many bytes the keys and the data have in sum
+abbrev pub use_of : Table → ℕ
+use_of table = sum_by (λ held. length held.0 + length held.1.block) (map.entries table)
+
+-- how many items there are
+abbrev pub count_of : Table → ℕ
+count_of table = map.len table
+
+-- how a table is stored as a model's value
+abbrev pub coded_item : Coded Item
+coded_item =
+    code_by (ℕ × (List ℕ × ℕ)) (coded× coded_ℕ (coded× (coded_list coded_ℕ) coded_ℕ)) (λ i. (i.flags, (i.block, i.unique))) (λ p. record { flags = p.0; block = p.1.0; unique = p.1.1 }) (λ _. refl)
+
+abbrev pub coded_table : Coded Table
+coded_table = map.code (coded_list coded_ℕ) coded_item

@@ -1,0 +1,2 @@
+//! The command reader: bytes in any pieces become requests.
+#![tactic(auto)]

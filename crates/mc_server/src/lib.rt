@@ -1,0 +1,2 @@
+//! The functions behind the programs.
+#![tactic(auto)]
