@@ -24,3 +24,5 @@ pub mod number;
 pub mod reply;
 pub mod request;
 pub mod settings;
+#[cfg(test)]
+mod tests;

@@ -1,2 +1,12 @@
-//! The command reader: bytes in any pieces become requests.
+//! The command reader of memcached's text protocol: bytes in any pieces become requests.
+//!
+//! `specs/Text.antt` says what the text of a request is, `specs/Reading.antt` what a byte list reads as, and `laws` that
+//! each byte list has just one reading. A `Reader` gives the requests of that reading, however the stream is cut.
 #![tactic(auto)]
+
+pub use reader::Reader;
+
+mod buffer;
+pub mod laws;
+mod line;
+mod reader;

@@ -1,2 +1,12 @@
 //! The functions behind the programs.
 #![tactic(auto)]
+
+pub use memory::{InputStep, MemoryInput, MemoryOutput, OutputStep};
+pub use standard::{Reading, Writing};
+pub use stream::{Input, Output, Pull, Push};
+
+pub mod memory;
+pub mod standard;
+pub mod stream;
+mod tally;
+mod text;

@@ -1,0 +1,8 @@
+pub mod Splits
+pub mod Words
+pub mod Texts
+pub mod Readings
+pub mod Holdings
+pub mod Lines
+pub mod Steps
+pub mod States

@@ -1,0 +1,75 @@
+-- What is true of a reader's fields stays true when bytes come.
+use Rattle.std.proofs.Common.{◌≡◌, ℕ, ◌-◌, ◌<◌, ◌≤◌, ◌↔◌, inl, inr, ◌⊎◌, List, [], ◌++◌, length, Result, Ok, Err, OnOk, OnErr, sym, ◌∙◌, ap, subst, ⊎_elim, length-append, arith}
+use Rattle.std.proofs.lemmas.Bool.{both_ways, cases_lt}
+use Rattle.std.proofs.lemmas.List.{get_or_append_left, nil_from_length, take-append-le}
+use Rattle.std.proofs.lemmas.List.Sums.{fails_before_first, passes_at_first, position_or_len_is}
+use Rattle.mc_model.specs.declared.fault.Fault.{Fault}
+use Rattle.mc_model.specs.declared.request.Request.{Request}
+use Rattle.mc_read.specs.declared.line.Header.{Header}
+use Rattle.mc_read.specs.declared.reader.State.{State}
+use Rattle.mc_read.specs.declared.reader.State.TheVariants as state
+use Rattle.mc_read.specs.First.{is_line_feed, line_length}
+use Rattle.mc_read.specs.Line.{asked}
+use Rattle.mc_read.specs.Reading.{IsFed, ReadsOn, Swallowing}
+use Rattle.mc_read.specs.State.{IsSearched, IsStateOf}
+use Rattle.mc_read.proofs.Holdings.{fed_within, reads_alike}
+use Rattle.mc_read.proofs.Lines.{line_length_le}
+
+-- a line that has ended stays as long
+line_length-append : (bytes piece : List ℕ) → line_length bytes < length bytes → line_length (bytes ++ piece) ≡ line_length bytes
+line_length-append bytes piece ends =
+    position_or_len_is is_line_feed (bytes ++ piece) (line_length bytes) 0 (omega (arith, ends, length-append bytes piece))
+    (λ k below. ap is_line_feed (get_or_append_left bytes piece 0 k (omega (arith, below, ends))) ∙ fails_before_first is_line_feed bytes k 0 below)
+    (λ _. ap is_line_feed (get_or_append_left bytes piece 0 (line_length bytes) ends) ∙ passes_at_first is_line_feed bytes 0 ends)
+
+-- bytes without a line feed stay without
+line_length-append-ge : (bytes piece : List ℕ) → line_length bytes ≤ line_length (bytes ++ piece)
+line_length-append-ge bytes piece =
+    ⊎_elim
+    (λ early.
+    let whole = line_length_le bytes in
+    let here : line_length (bytes ++ piece) < length bytes = omega (arith, early, whole) in
+    let feed = passes_at_first is_line_feed (bytes ++ piece) 0 (omega (arith, here, length-append bytes piece)) in
+    let none = fails_before_first is_line_feed bytes (line_length (bytes ++ piece)) 0 early in
+    let same = ap is_line_feed (get_or_append_left bytes piece 0 (line_length (bytes ++ piece)) here) in
+    absurd (both_ways _ none (sym same ∙ feed)))
+    (λ late. late)
+    (cases_lt (line_length (bytes ++ piece)) (line_length bytes))
+
+searched_more : (searched : ℕ) (bytes piece : List ℕ) → IsSearched searched bytes → IsSearched searched (bytes ++ piece)
+searched_more searched bytes piece is = record {
+  in_vain = omega (arith, is.in_vain, line_length-append-ge bytes piece);
+  few = is.few;
+}
+
+block_more : (line : ℕ) (header : Header) (bytes piece : List ℕ) → IsStateOf (state.Block line header) bytes → IsStateOf (state.Block line header) (bytes ++ piece)
+block_more line header bytes piece is =
+    let at = is.0 in
+    let same = line_length-append bytes piece (omega (arith, at.is_length, at.ends)) in (
+      record { is_length = same ∙ at.is_length; ends = omega (arith, at.ends, length-append bytes piece); short = at.short },
+      ap asked (take-append-le line bytes piece (omega (arith, at.ends))) ∙ is.1,
+      is.2,
+    )
+
+-- a state that keeps all bytes is a state of them and a piece, or of what they were
+pub state_more : (s : State) (old piece new : List ℕ) (r : Result (Unit {0}) Fault)
+    → ((searched : ℕ) × (s ≡ state.Line searched)) ⊎ ((line : ℕ) × (header : Header) × (s ≡ state.Block line header))
+    → IsStateOf s old → OnOk r (new ≡ old ++ piece) → OnErr r (new ≡ old) → IsStateOf s new
+state_more s old piece new (Ok u) which is more same = subst (IsStateOf s) (sym more) (grown which)
+  where
+    grown : ((searched : ℕ) × (s ≡ state.Line searched)) ⊎ ((line : ℕ) × (header : Header) × (s ≡ state.Block line header)) → IsStateOf s (old ++ piece)
+    grown (inl line) = subst (λ t. IsStateOf t (old ++ piece)) (sym line.1) (searched_more line.0 old piece (subst (λ t. IsStateOf t old) line.1 is))
+    grown (inr block) = subst (λ t. IsStateOf t (old ++ piece)) (sym block.2) (block_more block.0 block.1 old piece (subst (λ t. IsStateOf t old) block.2 is))
+state_more s old piece new (Err fault) which is more same = subst (IsStateOf s) (sym same) is
+
+-- a piece within a refused block, also where none of the block is still to come
+pub fed_refused : (request : Request) (left : ℕ) (bytes piece : List ℕ) → (0 < left → bytes ≡ []) → length piece ≤ left → IsFed (Swallowing request left bytes) piece (Swallowing request (left - length piece) bytes)
+fed_refused request left bytes piece empty within =
+    ⊎_elim
+    (λ some. rw (empty some) (fed_within request left piece within))
+    (λ none.
+    let nothing : piece ≡ [] = nil_from_length piece (omega (arith, within, none)) in
+    let same : left - length piece ≡ left = omega (arith, none) in
+    λ more requests. subst (λ p. ReadsOn (Swallowing request (left - length piece) bytes) more requests ↔ ReadsOn (Swallowing request left bytes) (p ++ more) requests) (sym nothing)
+    (subst (λ n. ReadsOn (Swallowing request n bytes) more requests ↔ ReadsOn (Swallowing request left bytes) more requests) (sym same) (reads_alike (Swallowing request left bytes) more requests)))
+    (cases_lt 0 left)

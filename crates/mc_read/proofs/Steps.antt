@@ -1,0 +1,137 @@
+-- The answers of a reader that looks at the line at the front of its bytes.
+use Rattle.std.proofs.Common.{◌≡◌, ℕ, ◌+◌, ◌-◌, ◌<◌, ◌≤◌, Bool, true, false, cond, List, [], ◌∷◌, ◌++◌, length, get_or, take, drop, Some, None, refl, sym, ◌∙◌, ap, subst, length-drop, length-take, arith}
+use Rattle.std.proofs.lemmas.Bool.{cond-false, cond-true, eqb-true, le-leb, le-ltb, lt-leb, lt-ltb}
+use Rattle.std.proofs.lemmas.List.{drop-drop}
+use Rattle.std.proofs.lemmas.List.Sums.{passes_at_first, split_at_first}
+use Rattle.mc_model.specs.declared.item.TheConstants.{DATA_BYTES}
+use Rattle.mc_model.specs.declared.command.Command.TheVariants.{Store}
+use Rattle.mc_model.specs.declared.reply.WireNo.{WireNo}
+use Rattle.mc_model.specs.declared.reply.WireNo.TheVariants.{E3}
+use Rattle.mc_model.specs.declared.request.Request.{Request}
+use Rattle.mc_model.specs.declared.request.Request.TheVariants.{Logged, TooLong}
+use Rattle.mc_read.specs.declared.line.Asked.{Asked}
+use Rattle.mc_read.specs.declared.line.Asked.TheVariants.{Line, Refused, Stored}
+use Rattle.mc_read.specs.declared.line.Header.{Header}
+use Rattle.mc_read.specs.declared.line.TheConstants.{LINE_BYTES}
+use Rattle.mc_read.specs.declared.reader.State.TheVariants as state
+use Rattle.mc_read.specs.First.{first_behind, first_request, found, is_line_feed, line_length}
+use Rattle.mc_read.specs.Line.{asked, is_word, refused}
+use Rattle.mc_read.specs.Reading.{Ended, HasNone, Kept, ReadAlike, Swallowing, ends_stream}
+use Rattle.mc_read.specs.State.{EndsInRefusal, IsAnswer, IsLineAt, held_in, state_after}
+use Rattle.mc_read.specs.Text.{IsUnbroken, length_behind, request_of, stored}
+use Rattle.mc_read.proofs.Holdings.{has_none, held_after, next_is_first, reads_alike, refused_alike, refused_has_none}
+use Rattle.mc_read.proofs.Texts.{before_first-unbroken}
+
+-- a first request is answered
+pub answer_first : (bytes : List ℕ) (request : Request) (left : List ℕ) → first_request bytes ≡ found request left → IsAnswer (Kept bytes) (Some request) (held_after request left)
+answer_first bytes request left is = next_is_first bytes request left is
+
+-- without one the bytes stay
+pub answer_none : (bytes : List ℕ) → first_request bytes ≡ None → length bytes ≤ LINE_BYTES + 1 + DATA_BYTES + 1 → IsAnswer (Kept bytes) None (Kept bytes)
+answer_none bytes none few = (has_none bytes none, reads_alike (Kept bytes), few)
+
+pub first_too_long : (bytes : List ℕ) → LINE_BYTES < line_length bytes → first_request bytes ≡ found TooLong (drop (LINE_BYTES + 1) bytes)
+first_too_long bytes long = cond-true _ _ _ (lt-ltb LINE_BYTES (line_length bytes) long)
+
+pub first_open : (bytes : List ℕ) → line_length bytes ≡ length bytes → length bytes ≤ LINE_BYTES → first_request bytes ≡ None
+first_open bytes is_open short =
+    let in_limit : line_length bytes ≤ LINE_BYTES = omega (arith, is_open, short) in
+    let unended : length bytes ≤ line_length bytes = omega (arith, is_open) in
+    cond-false _ _ _ (le-ltb LINE_BYTES (line_length bytes) in_limit) ∙ cond-false _ _ _ (le-ltb (line_length bytes) (length bytes) unended)
+
+module _ (bytes : List ℕ) (line : ℕ) (is_line : IsLineAt bytes line) where
+  pub split_line : bytes ≡ take line bytes ++ 10 ∷ drop (line + 1) bytes
+  split_line =
+      let stands : line_length bytes < length bytes = omega (arith, is_line.is_length, is_line.ends) in
+      let feed : get_or bytes (line_length bytes) 0 ≡ 10 = eqb-true _ 10 (passes_at_first is_line_feed bytes 0 stands) in
+      split_at_first is_line_feed bytes 0 stands
+      ∙ (ap (λ byte. take (line_length bytes) bytes ++ byte ∷ drop (line_length bytes + 1) bytes) feed
+      ∙ ap (λ n. take n bytes ++ 10 ∷ drop (n + 1) bytes) is_line.is_length)
+
+  pub unbroken_line : IsUnbroken (take line bytes)
+  unbroken_line = before_first-unbroken bytes line (omega (arith, is_line.is_length))
+
+  first_at : first_request bytes ≡ first_behind (asked (take line bytes)) (drop (line + 1) bytes)
+  first_at =
+      let in_limit : line_length bytes ≤ LINE_BYTES = omega (arith, is_line.is_length, is_line.short) in
+      let stands : line_length bytes < length bytes = omega (arith, is_line.is_length, is_line.ends) in
+      cond-false _ _ _ (le-ltb LINE_BYTES (line_length bytes) in_limit)
+      ∙ (cond-true _ _ _ (lt-ltb (line_length bytes) (length bytes) stands)
+      ∙ ap (λ n. first_behind (asked (take n bytes)) (drop (n + 1) bytes)) is_line.is_length)
+
+  -- all that belongs to the line has come
+  pub first_whole : (a : Asked) → asked (take line bytes) ≡ a → line + 1 + length_behind a ≤ length bytes →
+      first_request bytes ≡ found (request_of a (take (length_behind a) (drop (line + 1) bytes))) (drop (line + 1 + length_behind a) bytes)
+  first_whole a is whole =
+      let enough : length_behind a ≤ length (drop (line + 1) bytes) = omega (arith, whole, length-drop (line + 1) bytes) in
+      first_at
+      ∙ (ap (λ b. first_behind b (drop (line + 1) bytes)) is
+      ∙ (cond-true _ _ _ (le-leb (length_behind a) (length (drop (line + 1) bytes)) enough)
+      ∙ ap (found (request_of a (take (length_behind a) (drop (line + 1) bytes)))) (drop-drop (length_behind a) (line + 1) bytes)))
+
+  pub answer_whole : (a : Asked) → asked (take line bytes) ≡ a → line + 1 + length_behind a ≤ length bytes → (request : Request) (left : List ℕ)
+      → request ≡ request_of a (take (length_behind a) (drop (line + 1) bytes)) → left ≡ drop (line + 1 + length_behind a) bytes → IsAnswer (Kept bytes) (Some request) (held_after request left)
+  answer_whole a is whole request left is_request is_left =
+      answer_first bytes request left (first_whole a is whole ∙ (λ i. found (sym is_request i) (sym is_left i)))
+
+  -- a part of it is still to come
+  pub first_partial : (a : Asked) → asked (take line bytes) ≡ a → length bytes < line + 1 + length_behind a → first_request bytes ≡ None
+  first_partial a is partial =
+      let ends = is_line.ends in
+      let short_of : length (drop (line + 1) bytes) < length_behind a = omega (arith, partial, ends, length-drop (line + 1) bytes) in
+      first_at
+      ∙ (ap (λ b. first_behind b (drop (line + 1) bytes)) is
+      ∙ cond-false _ _ _ (lt-leb (length_behind a) (length (drop (line + 1) bytes)) short_of))
+
+  -- of a refused block only the length is kept
+  pub answer_swallowing : (size left : ℕ) (refusal : WireNo) (quiet : Bool) → asked (take line bytes) ≡ Refused size refusal quiet → length bytes + left ≡ line + 1 + size + 2 → 0 < left → IsAnswer (Kept bytes) None (Swallowing (refused refusal quiet) left [])
+  answer_swallowing size left refusal quiet is is_left some =
+      let behind = drop (line + 1) bytes in
+      let ends = is_line.ends in
+      let partial : length behind < size + 2 = omega (arith, is_left, some, ends, length-drop (line + 1) bytes) in
+      let same_left : size + 2 - length behind ≡ left = omega (arith, is_left, some, ends, length-drop (line + 1) bytes) in
+      let short : length (take line bytes) ≤ LINE_BYTES = omega (arith, is_line.short, length-take line bytes) in
+      let held = ap (λ b. Kept b) (sym split_line) in (
+        subst HasNone held (refused_has_none (take line bytes) behind size refusal quiet unbroken_line short is partial),
+        subst (λ h. ReadAlike h (Swallowing (refused refusal quiet) left [])) held
+            (subst (λ n. ReadAlike (Kept (take line bytes ++ 10 ∷ behind)) (Swallowing (refused refusal quiet) n [])) same_left
+            (refused_alike (take line bytes) behind size refusal quiet unbroken_line short is partial)),
+        omega arith,
+      )
+
+-- what a line asks for is a refusal with its block
+abbrev pub IsRefusal : Asked → Type 0
+IsRefusal (Line request) = ⊥
+IsRefusal (Refused size refusal quiet) = Unit {0}
+IsRefusal (Stored header) = ⊥
+
+-- Bytes that end within a refused block begin with its line.
+module _ (bytes : List ℕ) (request : Request) (left : ℕ) (ends : EndsInRefusal bytes request left) (line : ℕ) (is_line : IsLineAt bytes line) where
+  asks_refusal : asked (take line bytes) ≡ Refused ends.size ends.refusal ends.quiet
+  asks_refusal = ap (λ n. asked (take n bytes)) (sym is_line.is_length ∙ ends.is_line.is_length) ∙ ends.is_asked
+
+  -- the refusal is the one that the line asks for
+  pub that_refusal : (size : ℕ) (refusal : WireNo) (quiet : Bool) → asked (take line bytes) ≡ Refused size refusal quiet → (refused refusal quiet ≡ request) × (length bytes + left ≡ line + 1 + size + 2)
+  that_refusal size refusal quiet is =
+      let same : Refused size refusal quiet ≡ Refused ends.size ends.refusal ends.quiet = sym is ∙ asks_refusal in
+      let same_size : size ≡ ends.size = cc in
+      let same_text : refused refusal quiet ≡ refused ends.refusal ends.quiet = cc in
+      (same_text ∙ sym ends.is_request, omega (arith, ends.is_left, same_size, is_line.is_length, ends.is_line.is_length))
+
+  pub no_other : (a : Asked) → asked (take line bytes) ≡ a → IsRefusal a
+  no_other a is = subst IsRefusal (sym asks_refusal ∙ is) tt
+
+-- the state after a request holds what follows it
+pub held_in_state_after : (request : Request) (left : List ℕ) → held_in (state_after request) left ≡ held_after request left
+held_in_state_after request left =
+    elim (ends_stream request) as (λ b. held_in (cond b state.Ended (state.Line 0)) left ≡ cond b Ended (Kept left)) [ true ↦ refl | false ↦ refl ]
+
+-- after a block the stream goes on
+pub stored_goes_on : (header : Header) (behind left : List ℕ) → held_after (stored header behind) left ≡ Kept left
+stored_goes_on header behind left =
+    elim (is_word (13 ∷ 10 ∷ []) (drop header.length behind)) as (λ b. held_after (cond b (Logged (Store header.verb header.key header.flags (take header.length behind)) header.quiet) (refused E3 header.quiet)) left ≡ Kept left) [ true ↦ refl | false ↦ refl ]
+
+-- a block that was copied from the bytes behind its line is stored as they say
+pub stored_from_copy : (header : Header) (slice behind block : List ℕ) (ends_well : Bool) → slice ≡ behind → block ≡ take header.length slice → ends_well ≡ is_word (13 ∷ 10 ∷ []) (drop header.length slice)
+    → cond ends_well (Logged (Store header.verb header.key header.flags block) header.quiet) (refused E3 header.quiet) ≡ stored header behind
+stored_from_copy header slice behind block ends_well same is_block is_end = rw (is_block, is_end) (ap (stored header) same)

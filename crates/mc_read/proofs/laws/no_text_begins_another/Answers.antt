@@ -1,0 +1,5 @@
+use Rattle.mc_read.proofs.Readings.{text_is_whole}
+use Rattle.mc_read.proofs.laws.no_text_begins_another.Goals as goal
+
+pub returns : goal.returns
+returns c = text_is_whole

@@ -1,0 +1,35 @@
+-- Which request stands at the front of a byte list, computed.
+use Rattle.std.specs.Prelude.{ℕ, ◌+◌, Bool, ◌==◌, nat_lt, nat_le, if◌then◌else◌, List, length, take, drop, Option, Some, None}
+use Rattle.std.specs.List.{after_first, before_first, position_or_len}
+use Rattle.mc_model.specs.declared.request.Request.{Request}
+use Rattle.mc_model.specs.declared.request.Request.TheVariants.{TooLong}
+use Rattle.mc_read.specs.declared.line.Asked.{Asked}
+use Rattle.mc_read.specs.declared.line.TheConstants.{LINE_BYTES}
+use Rattle.mc_read.specs.Line.{asked}
+use Rattle.mc_read.specs.Text.{length_behind, request_of}
+
+abbrev pub is_line_feed : ℕ → Bool
+is_line_feed byte = byte == 10
+
+-- how many bytes stand before the first line feed, or in all
+abbrev pub line_length : List ℕ → ℕ
+line_length bytes = position_or_len is_line_feed bytes
+
+-- a request stands there, and this follows it
+abbrev pub found : Request → List ℕ → Option (Request × List ℕ)
+found request more = Some (request, more)
+
+-- the request of a line, and what follows it
+abbrev pub first_behind : Asked → List ℕ → Option (Request × List ℕ)
+first_behind asked behind =
+    if nat_le (length_behind asked) (length behind)
+    then found (request_of asked (take (length_behind asked) behind)) (drop (length_behind asked) behind)
+    else None
+
+-- the first request and what follows it, where a whole request stands there
+abbrev pub first_request : List ℕ → Option (Request × List ℕ)
+first_request bytes =
+    if nat_lt LINE_BYTES (line_length bytes) then found TooLong (drop (LINE_BYTES + 1) bytes)
+    else if nat_lt (line_length bytes) (length bytes)
+    then first_behind (asked (before_first is_line_feed bytes)) (after_first is_line_feed bytes)
+    else None

@@ -1,0 +1,6 @@
+pub mod Line
+pub mod Words
+pub mod Text
+pub mod Reading
+pub mod First
+pub mod State

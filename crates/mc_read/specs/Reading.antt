@@ -1,0 +1,65 @@
+-- What a byte list reads as: requests, and a rest in which no whole request stands. After memcached's doc/protocol.txt,
+-- "Protocol": a connection is a stream of such texts, one after another.
+use Rattle.std.specs.Prelude.{◌≡◌, ◌≢◌, ◌↔◌, ℕ, Bool, true, false, nat_lt, MatchBool, List, [], ◌∷◌, ◌++◌, length, drop}
+use Rattle.mc_model.specs.declared.request.Request.{Request}
+use Rattle.mc_model.specs.declared.request.Request.TheVariants.{Local, Logged, Quit, TooLong}
+use Rattle.mc_read.specs.Text.{IsRequestText}
+
+-- nothing is read after such a request
+abbrev pub ends_stream : Request → Bool
+ends_stream (Logged command quiet) = false
+ends_stream (Local reply quiet) = false
+ends_stream Quit = true
+ends_stream TooLong = true
+
+-- no request text is a beginning of the bytes
+abbrev pub HasNoRequest : List ℕ → Type 0
+HasNoRequest bytes = (text more : List ℕ) (request : Request) → IsRequestText text request → bytes ≢ text ++ more
+
+-- the bytes read as these requests and a rest
+abbrev pub Reads : List ℕ → List Request → List ℕ → Type 0
+Reads bytes [] rest = (bytes ≡ rest) × HasNoRequest bytes
+Reads bytes (request ∷ requests) rest =
+    (text : List ℕ) × (more : List ℕ) × IsRequestText text request × (bytes ≡ text ++ more)
+    × MatchBool (ends_stream request) ((requests ≡ []) × (more ≡ rest)) (Reads more requests rest)
+
+-- What a reader holds: bytes; or a request that was refused, with so many bytes of its block still to come and the bytes
+-- behind it; or nothing, after the end.
+pub data Held : Type 0 where
+  Kept : List ℕ → Held
+  Swallowing : Request → ℕ → List ℕ → Held
+  Ended : Held
+
+-- the first of the requests is this one, and P holds of the others
+abbrev pub GoesOn : Request → (List Request → Type 0) → List Request → Type 0
+GoesOn request P [] = ⊥
+GoesOn request P (first ∷ others) = (first ≡ request) × P others
+
+-- the requests that the bytes read as, whatever the rest
+abbrev pub ReadsAs : List ℕ → List Request → Type 0
+ReadsAs bytes requests = (rest : List ℕ) × Reads bytes requests rest
+
+-- the requests that what is held, followed by more bytes, reads as
+abbrev pub ReadsOn : Held → List ℕ → List Request → Type 0
+ReadsOn (Kept bytes) more requests = ReadsAs (bytes ++ more) requests
+ReadsOn (Swallowing request left bytes) more requests =
+    MatchBool (nat_lt (length more) left) (requests ≡ []) (GoesOn request (ReadsAs (bytes ++ drop left more)) requests)
+ReadsOn Ended more requests = requests ≡ []
+
+-- whatever follows, what is held before reads as this request and then as what is held after
+abbrev pub IsNext : Held → Request → Held → Type 0
+IsNext before request after =
+    (more : List ℕ) (requests : List Request) → ReadsOn before more requests ↔ GoesOn request (ReadsOn after more) requests
+
+-- no request stands in what is held
+abbrev pub HasNone : Held → Type 0
+HasNone held = (requests : List Request) → ReadsOn held [] requests → requests ≡ []
+
+-- whatever follows, both read alike
+abbrev pub ReadAlike : Held → Held → Type 0
+ReadAlike before after = (more : List ℕ) (requests : List Request) → ReadsOn before more requests ↔ ReadsOn after more requests
+
+-- whatever follows, what is held after a piece reads as what was held before it, followed by the piece
+abbrev pub IsFed : Held → List ℕ → Held → Type 0
+IsFed before piece after =
+    (more : List ℕ) (requests : List Request) → ReadsOn after more requests ↔ ReadsOn before (piece ++ more) requests

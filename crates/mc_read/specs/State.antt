@@ -1,0 +1,76 @@
+-- What a reader's fields stand for, and what is true of them.
+use Rattle.std.specs.Prelude.{◌≡◌, ℕ, ◌+◌, ◌<◌, ◌≤◌, Bool, if◌then◌else◌, List, [], length, take, Option, Some, None}
+use Rattle.mc_model.specs.declared.item.TheConstants.{DATA_BYTES}
+use Rattle.mc_model.specs.declared.reply.WireNo.{WireNo}
+use Rattle.mc_model.specs.declared.request.Request.{Request}
+use Rattle.mc_read.specs.declared.line.Asked.TheVariants.{Refused as RefusedBlock, Stored}
+use Rattle.mc_read.specs.declared.line.TheConstants.{LINE_BYTES}
+use Rattle.mc_read.specs.declared.reader.State.{State}
+use Rattle.mc_read.specs.declared.reader.State.TheVariants as state
+use Rattle.mc_read.specs.declared.reader.Sought.{Sought}
+use Rattle.mc_read.specs.declared.reader.Sought.TheVariants as sought
+use Rattle.mc_read.specs.First.{line_length}
+use Rattle.mc_read.specs.Line.{asked, refused}
+use Rattle.mc_read.specs.Reading.{Ended, HasNone, Held, IsNext, Kept, ReadAlike, Swallowing, ends_stream}
+
+-- what is held in this state with these bytes
+abbrev pub held_in : State → List ℕ → Held
+held_in (state.Line searched) bytes = Kept bytes
+held_in (state.Block line header) bytes = Kept bytes
+held_in (state.Refused refusal quiet left) bytes = Swallowing (refused refusal quiet) left bytes
+held_in state.Ended bytes = Ended
+
+-- a line of this length stands at the front of the bytes
+pub record IsLineAt (bytes : List ℕ) (line : ℕ) : Type 0 where
+  pub is_length : line_length bytes ≡ line
+  pub ends : line < length bytes
+  pub short : line ≤ LINE_BYTES
+
+-- no line feed stands in the first bytes, which are no more than a line may have
+pub record IsSearched (searched : ℕ) (bytes : List ℕ) : Type 0 where
+  pub in_vain : searched ≤ line_length bytes
+  pub few : searched ≤ LINE_BYTES
+
+-- what a state says of the bytes
+abbrev pub IsStateOf : State → List ℕ → Type 0
+IsStateOf (state.Line searched) bytes = IsSearched searched bytes
+IsStateOf (state.Block line header) bytes = IsLineAt bytes line × (asked (take line bytes) ≡ Stored header) × (header.length ≤ DATA_BYTES)
+IsStateOf (state.Refused refusal quiet left) bytes = 0 < left → bytes ≡ []
+IsStateOf state.Ended bytes = Unit {0}
+
+-- how many bytes are kept
+abbrev pub kept_length : Held → ℕ
+kept_length (Kept bytes) = length bytes
+kept_length (Swallowing request left bytes) = length bytes
+kept_length Ended = 0
+
+-- no more is kept than a line with its line feed, and of a block and the two bytes behind it all but one
+abbrev pub IsBounded : Held → Type 0
+IsBounded held = kept_length held ≤ LINE_BYTES + 1 + DATA_BYTES + 1
+
+-- what holds before and after an answer of `next`
+abbrev pub IsAnswer : Held → Option Request → Held → Type 0
+IsAnswer before (Some request) after = IsNext before request after
+IsAnswer before None after = HasNone before × ReadAlike before after × IsBounded after
+
+-- the bytes end within a refused block, of which so many are still to come
+pub record EndsInRefusal (bytes : List ℕ) (request : Request) (left : ℕ) : Type 0 where
+  pub line : ℕ
+  pub size : ℕ
+  pub refusal : WireNo
+  pub quiet : Bool
+  pub is_line : IsLineAt bytes line
+  pub is_asked : asked (take line bytes) ≡ RefusedBlock size refusal quiet
+  pub is_request : request ≡ refused refusal quiet
+  pub is_left : length bytes + left ≡ line + 1 + size + 2
+  pub some : 0 < left
+
+-- the state in which a reader goes on after a request
+abbrev pub state_after : Request → State
+state_after request = if ends_stream request then state.Ended else state.Line 0
+
+-- what a search says of the bytes
+abbrev pub IsSought : List ℕ → Sought → Type 0
+IsSought bytes (sought.Line line) = IsLineAt bytes line
+IsSought bytes sought.TooLong = LINE_BYTES < line_length bytes
+IsSought bytes sought.Open = (line_length bytes ≡ length bytes) × (length bytes ≤ LINE_BYTES)

@@ -1,0 +1,54 @@
+-- The text of a request, after memcached's doc/protocol.txt, "Protocol" and "Storage commands": a line, and behind the
+-- line of a storage command a block and two bytes. How long a line may be is this project's profile.
+use Rattle.std.specs.Prelude.{◌≡◌, ◌≢◌, ℕ, ◌+◌, ◌≤◌, ◌⊎◌, if◌then◌else◌, List, [], ◌∷◌, ◌++◌, length, take, drop, All}
+use Rattle.mc_model.specs.declared.command.Command.TheVariants.{Store}
+use Rattle.mc_model.specs.declared.reply.WireNo.TheVariants.{E3}
+use Rattle.mc_model.specs.declared.request.Request.{Request}
+use Rattle.mc_model.specs.declared.request.Request.TheVariants.{Logged, TooLong}
+use Rattle.mc_read.specs.declared.line.Asked.{Asked}
+use Rattle.mc_read.specs.declared.line.Asked.TheVariants.{Line, Refused, Stored}
+use Rattle.mc_read.specs.declared.line.Header.{Header}
+use Rattle.mc_read.specs.declared.line.TheConstants.{LINE_BYTES}
+use Rattle.mc_read.specs.Line.{asked, is_word, refused}
+
+-- how many bytes behind its line belong to a request: none, or a block and two more
+abbrev pub length_behind : Asked → ℕ
+length_behind (Line request) = 0
+length_behind (Refused length refusal quiet) = length + 2
+length_behind (Stored header) = header.length + 2
+
+-- a block and the two bytes behind it, which must be a carriage return and a line feed
+abbrev pub stored : Header → List ℕ → Request
+stored header behind =
+    if is_word (13 ∷ 10 ∷ []) (drop header.length behind)
+    then Logged (Store header.verb header.key header.flags (take header.length behind)) header.quiet
+    else refused E3 header.quiet
+
+-- the request of a line with these bytes behind it
+abbrev pub request_of : Asked → List ℕ → Request
+request_of (Line request) behind = request
+request_of (Refused length refusal quiet) behind = refused refusal quiet
+request_of (Stored header) behind = stored header behind
+
+-- no line feed stands in the bytes
+abbrev pub IsUnbroken : List ℕ → Type 0
+IsUnbroken bytes = All (λ byte. byte ≢ 10) bytes
+
+-- a line with its line feed, and behind it what belongs to the request: nothing, or a block and two more bytes
+pub record IsLineText (text : List ℕ) (request : Request) : Type 0 where
+  pub line : List ℕ
+  pub behind : List ℕ
+  pub short : length line ≤ LINE_BYTES
+  pub unbroken : IsUnbroken line
+  pub whole : length behind ≡ length_behind (asked line)
+  pub in_text : text ≡ line ++ 10 ∷ behind
+  pub is_asked : request ≡ request_of (asked line) behind
+
+-- one byte more than a line may have, and no line feed among them
+pub record IsTooLongText (text : List ℕ) (request : Request) : Type 0 where
+  pub long : length text ≡ LINE_BYTES + 1
+  pub unbroken : IsUnbroken text
+  pub is_too_long : request ≡ TooLong
+
+abbrev pub IsRequestText : List ℕ → Request → Type 0
+IsRequestText text request = IsLineText text request ⊎ IsTooLongText text request

@@ -1,0 +1,73 @@
+//! Bytes that come at the end and are taken from the front.
+ghost use Rattle.std.specs.Prelude.{◌≡◌, ℕ, ◌≤◌, List, [], ◌++◌, drop, length, vec_len, IsOkUnless, OnOk, OnErr};
+
+use mc_model::Fault;
+use std::alloc::Global;
+use std::marker::Model;
+
+/// A queue of bytes in one vector. What was taken stays in front until it is half of the vector or more, so that
+/// moving the rest costs no more than the bytes that were taken.
+#[derive(Debug, Drop)]
+pub struct Buffer {
+    bytes: Vec<u8>,
+    taken: usize,
+}
+
+impl Model for Buffer {
+    ghost Value = { List ℕ };
+
+    ghost view = { λ buffer. drop buffer.taken buffer.bytes.items };
+
+    ghost invariant = { λ buffer. buffer.taken ≤ vec_len buffer.bytes };
+}
+
+impl Buffer {
+    /// An empty buffer. Takes no memory.
+    pub fn new(alloc: Global) -> Buffer
+        ensures { result ≡ [] }
+    {
+        Buffer {
+            bytes: Vec::new(alloc),
+            taken: 0,
+        }
+    }
+
+    /// The bytes that are there.
+    pub fn as_slice(&self) -> &[u8]
+        ensures { result.now ≡ self.now }
+    {
+        &self.bytes[self.taken..]
+    }
+
+    /// Adds bytes at the end.
+    pub fn extend(&mut self, piece: &[u8]) -> Result<(), Fault>
+        ensures bytes { OnOk result (self.new ≡ self.old ++ piece.now) }
+        ensures memory { IsOkUnless result Fault.Memory }
+        ensures unchanged { OnErr result (self.new ≡ self.old) }
+    {
+        self.bytes.extend_from_slice(piece)?;
+        Ok(())
+    }
+
+    /// Takes bytes from the front.
+    pub fn take(&mut self, count: usize)
+        requires { count ≤ length self.old }
+        ensures { self.new ≡ drop count self.old }
+    {
+        self.taken += count;
+        if self.taken >= self.bytes.len() - self.taken {
+            let left = self.bytes.len() - self.taken;
+            self.bytes.copy_within(self.taken.., 0);
+            self.bytes.truncate(left);
+            self.taken = 0;
+        }
+    }
+
+    /// Takes all bytes.
+    pub fn clear(&mut self)
+        ensures { self.new ≡ [] }
+    {
+        self.bytes.clear();
+        self.taken = 0;
+    }
+}

@@ -1,0 +1,297 @@
+//! The reader: what has come of the stream and isn't read yet.
+ghost use Rattle.std.specs.Bool.{OnTrue};
+ghost use Rattle.std.specs.Prelude.{◌≡◌, ℕ, ◌+◌, ◌≤◌, if◌then◌else◌, List, [], ◌∷◌, length, take, drop, IfOk, IfSome, IsOk, IsOkUnless, OnOk, OnErr};
+ghost use Rattle.mc_model.specs.declared.item.TheConstants.{DATA_BYTES};
+ghost use Rattle.mc_model.specs.declared.command.Command.TheVariants.{Store};
+ghost use Rattle.mc_model.specs.declared.reply.WireNo.TheVariants.{E3};
+ghost use Rattle.mc_model.specs.declared.request.Request.{Request};
+ghost use Rattle.mc_model.specs.declared.request.Request.TheVariants.{Logged};
+ghost use Rattle.mc_read.specs.First.{line_length};
+ghost use Rattle.mc_read.specs.Line.{is_word, refused};
+ghost use Rattle.mc_read.specs.Reading.{ends_stream, Ended, IsFed, Kept, Swallowing};
+ghost use Rattle.mc_read.specs.State.{EndsInRefusal, IsAnswer, IsSearched, IsSought, IsStateOf, held_in, state_after};
+ghost use Rattle.mc_read.specs.Text.{stored};
+
+use crate::buffer::Buffer;
+use crate::line::{Asked, Header, LINE_BYTES, ask, refused};
+use mc_model::{Command, Data, Fault, Request, WireNo};
+use memchr::memchr;
+use std::alloc::Global;
+use std::marker::Model;
+use std::mem;
+
+/// How far the reader is with the request at the front of its bytes.
+#[derive(Debug, Drop)]
+enum State {
+    /// Its line is awaited; no line feed stands in the first `searched` bytes.
+    Line {
+        searched: usize,
+    },
+    /// Its line has come, `line` bytes long, and its block is awaited.
+    Block {
+        line: usize,
+        header: Header,
+    },
+    /// Its block is refused; so many bytes of it and of the two behind it are still to come.
+    Refused {
+        refusal: WireNo,
+        quiet: bool,
+        left: u64,
+    },
+    /// Nothing is read any more.
+    Ended,
+}
+
+/// What a search for a line found.
+enum Sought {
+    /// A line of this length.
+    Line(usize),
+    /// More bytes than a line may have, without a line feed.
+    TooLong,
+    /// No line feed yet.
+    Open,
+}
+
+/// Searches the bytes behind the first `searched` for the end of the first line.
+#[tactic(auto, using(crate::proofs::Lines::line_length_le))]
+fn find_line(bytes: &[u8], searched: usize) -> Sought
+    requires { IsSearched searched bytes.now }
+    ensures { IsSought bytes.now result }
+{
+    let limit = bytes.len().min(LINE_BYTES + 1);
+    match memchr(b'\n', &bytes[searched..limit]) {
+        Some(place) => Sought::Line(searched + place),
+        None if bytes.len() > LINE_BYTES => Sought::TooLong,
+        None => Sought::Open,
+    }
+}
+
+/// Whether nothing is read after the request.
+fn ends_stream(request: &Request) -> bool
+    ensures { result ≡ ends_stream request.now }
+{
+    matches!(request, Request::Quit | Request::TooLong)
+}
+
+/// The request of a block that has come whole, with the two bytes behind it.
+fn stored(header: Header, block: Data, ends_well: bool) -> Request
+    ensures { result ≡ (if ends_well then Logged (Store header.verb header.key header.flags block) header.quiet else refused E3 header.quiet) }
+{
+    if !ends_well {
+        return refused(WireNo::E3, header.quiet);
+    }
+    Request::Logged {
+        command: Command::Store {
+            verb: header.verb,
+            key: header.key,
+            flags: header.flags,
+            block,
+        },
+        quiet: header.quiet,
+    }
+}
+
+/// Copies a block out of the bytes behind its line, and says whether the two bytes behind the block are as they must be.
+fn copy_block(alloc: Global, size: usize, behind: &[u8]) -> Result<(Data, bool), Fault>
+    requires small { size ≤ DATA_BYTES }
+    requires whole { length behind.now ≡ size + 2 }
+    ensures block { IfOk result (λ copied. copied.0 ≡ take size behind.now) }
+    ensures ends_well { IfOk result (λ copied. copied.1 ≡ is_word (13 ∷ 10 ∷ []) (drop size behind.now)) }
+    ensures memory { IsOkUnless result Fault.Memory }
+{
+    let ends_well = &behind[size..] == b"\r\n".as_slice();
+    match Data::new(Vec::from_slice(alloc, &behind[..size])?) {
+        Some(block) => Ok((block, ends_well)),
+        None => unreachable!(),
+    }
+}
+
+/// The state in which the reader goes on after a request.
+fn state_after(request: &Request) -> State
+    ensures { result ≡ state_after request.now }
+{
+    if ends_stream(request) {
+        State::Ended
+    } else {
+        State::Line { searched: 0 }
+    }
+}
+
+/// Looks for a request at the front of the bytes, where `searched` of them hold no line feed. Gives it, if it is whole,
+/// and the state in which the reader goes on.
+fn next_line(
+    alloc: Global,
+    buffer: &mut Buffer,
+    searched: usize,
+) -> Result<(Option<Request>, State), Fault>
+    requires { IsSearched searched buffer.old }
+    ensures answer { IfOk result (λ step. IsAnswer (Kept buffer.old) step.0 (held_in step.1 buffer.new)) }
+    ensures state { IfOk result (λ step. IsStateOf step.1 buffer.new) }
+    ensures end { IfOk result (λ step. IfSome step.0 (λ request. step.1 ≡ state_after request)) }
+    ensures refused { (request : Request) (left : ℕ) → EndsInRefusal buffer.old request left →
+        IfOk result (λ step. held_in step.1 buffer.new ≡ Swallowing request left []) }
+    ensures memory { IsOkUnless result Fault.Memory }
+    ensures unchanged { OnErr result (buffer.new ≡ buffer.old) }
+{
+    let bytes = buffer.as_slice();
+    let line = match find_line(bytes, searched) {
+        Sought::Line(line) => line,
+        Sought::TooLong => {
+            buffer.clear();
+            return Ok((Some(Request::TooLong), State::Ended));
+        }
+        Sought::Open => {
+            let searched = bytes.len();
+            return Ok((None, State::Line { searched }));
+        }
+    };
+    let start = line + 1;
+    let behind = bytes.len() - start;
+    match ask(alloc, &bytes[..line])? {
+        Asked::Line(request) => {
+            buffer.take(start);
+            let state = state_after(&request);
+            Ok((Some(request), state))
+        }
+        Asked::Refused {
+            length,
+            refusal,
+            quiet,
+        } => {
+            let size = length + 2;
+            let come = behind as u64;
+            if come < size {
+                buffer.clear();
+                let left = size - come;
+                return Ok((
+                    None,
+                    State::Refused {
+                        refusal,
+                        quiet,
+                        left,
+                    },
+                ));
+            }
+            buffer.take(start + size as usize);
+            Ok((Some(refused(refusal, quiet)), State::Line { searched: 0 }))
+        }
+        Asked::Stored(header) => {
+            let size = header.length as usize;
+            if behind < size + 2 {
+                return Ok((None, State::Block { line, header }));
+            }
+            let end = start + size + 2;
+            let (block, ends_well) = copy_block(alloc, size, &bytes[start..end])?;
+            buffer.take(end);
+            let request = stored(header, block, ends_well);
+            Ok((Some(request), State::Line { searched: 0 }))
+        }
+    }
+}
+
+/// Reads requests from a stream that comes in pieces of any size.
+///
+/// What is kept is bounded: of a line no more than it may have, of a block that is refused nothing, and of a block that is
+/// to be stored no more than has come.
+#[derive(Debug, Drop)]
+pub struct Reader {
+    alloc: Global,
+    buffer: Buffer,
+    state: State,
+}
+
+impl Model for Reader {
+    ghost use Rattle.mc_read.specs.Reading.{Held};
+    ghost use Rattle.mc_read.specs.State.{IsStateOf, held_in};
+
+    ghost Value = { Held };
+
+    ghost view = { λ reader. held_in reader.state reader.buffer };
+
+    ghost invariant = { λ reader. IsStateOf reader.state reader.buffer };
+}
+
+impl Reader {
+    /// A reader at the beginning of a stream. Takes no memory.
+    pub fn new(alloc: Global) -> Reader
+        ensures { result ≡ Kept [] }
+    {
+        Reader {
+            alloc,
+            buffer: Buffer::new(alloc),
+            state: State::Line { searched: 0 },
+        }
+    }
+
+    /// Takes the next piece of the stream. After the end it is dropped.
+    pub fn feed(&mut self, piece: &[u8]) -> Result<(), Fault>
+        ensures readings { OnOk result (IsFed self.old piece.now self.new) }
+        ensures memory { IsOkUnless result Fault.Memory }
+        ensures unchanged { OnErr result (self.new ≡ self.old) }
+
+        // Within a refused block, and after the end, it takes no memory.
+        ensures swallowed { (request : Request) (left : ℕ) → self.old ≡ Swallowing request left [] → length piece.now ≤ left → IsOk result }
+        ensures ended { self.old ≡ Ended → IsOk result × (self.new ≡ Ended) }
+    {
+        match &mut self.state {
+            State::Line { .. } => self.buffer.extend(piece),
+            State::Block { .. } => self.buffer.extend(piece),
+            State::Refused { left, .. } => {
+                let length = piece.len() as u64;
+                if length <= *left {
+                    *left -= length;
+                    return Ok(());
+                }
+                self.buffer.extend(&piece[*left as usize..])?;
+                *left = 0;
+                Ok(())
+            }
+            State::Ended => Ok(()),
+        }
+    }
+
+    /// The next request, or `None` where no whole request is held.
+    pub fn next(&mut self) -> Result<Option<Request>, Fault>
+        // Whatever follows, what was held reads as the request and then as what is held now; without a request, as
+        // before, and no request stood in it.
+        ensures answer { IfOk result (λ next. IsAnswer self.old next self.new) }
+        ensures end { IfOk result (λ next. IfSome next (λ request. OnTrue (ends_stream request) (self.new ≡ Ended))) }
+        ensures ended { self.old ≡ Ended → result ≡ Ok None × (self.new ≡ Ended) }
+
+        // Of a refused block only the length is kept.
+        ensures refused { (bytes : List ℕ) (request : Request) (left : ℕ) →
+            self.old ≡ Kept bytes → EndsInRefusal bytes request left → OnOk result (self.new ≡ Swallowing request left []) }
+        ensures memory { IsOkUnless result Fault.Memory }
+        ensures unchanged { OnErr result (self.new ≡ self.old) }
+    {
+        match &self.state {
+            State::Line { searched } => {
+                let (request, state) = next_line(self.alloc, &mut self.buffer, *searched)?;
+                self.state = state;
+                Ok(request)
+            }
+            State::Block { line, header } => {
+                let start = *line + 1;
+                let size = header.length as usize;
+                let bytes = self.buffer.as_slice();
+                if bytes.len() - start < size + 2 {
+                    return Ok(None);
+                }
+                let end = start + size + 2;
+                let (block, ends_well) = copy_block(self.alloc, size, &bytes[start..end])?;
+                self.buffer.take(end);
+                match mem::replace(&mut self.state, State::Line { searched: 0 }) {
+                    State::Block { header, .. } => Ok(Some(stored(header, block, ends_well))),
+                    _ => unreachable!(),
+                }
+            }
+            State::Refused { left, .. } if *left > 0 => Ok(None),
+            State::Refused { refusal, quiet, .. } => {
+                let request = refused(*refusal, *quiet);
+                self.state = State::Line { searched: 0 };
+                Ok(Some(request))
+            }
+            State::Ended => Ok(None),
+        }
+    }
+}

@@ -1,0 +1,4 @@
+pub mod Stream
+pub mod Memory
+pub mod Standard
+pub mod Text

@@ -1,0 +1,67 @@
+-- What contracts see of an input and an output over memory, and what their steps do.
+use Rattle.std.specs.Prelude.{ℕ, zero, suc, min, max, Bool, true, false, List, [], ◌∷◌}
+use Rattle.mc_server.specs.declared.memory.InputStep.{InputStep}
+use Rattle.mc_server.specs.declared.memory.InputStep.TheVariants.{Give, Empty as GiveNothing, Fail as FailToGive}
+use Rattle.mc_server.specs.declared.memory.OutputStep.{OutputStep}
+use Rattle.mc_server.specs.declared.memory.OutputStep.TheVariants.{Take, Full as TakeNothing, Fail as FailToTake}
+use Rattle.mc_server.specs.declared.stream.Pull.{Pull}
+use Rattle.mc_server.specs.declared.stream.Pull.TheVariants.{Bytes, Empty, Ended, Failed as InputFailed}
+use Rattle.mc_server.specs.declared.stream.Push.{Push}
+use Rattle.mc_server.specs.declared.stream.Push.TheVariants.{Taken, Full, Failed as OutputFailed}
+
+-- the bytes given and those left, and the steps used and those left
+pub record Source : Type 0 where
+  pub given : List ℕ
+  pub rest : List ℕ
+  pub used : List InputStep
+  pub steps : List InputStep
+
+-- so many bytes, or the end where there is none
+abbrev pub bytes_or_end : ℕ → Pull
+bytes_or_end zero = Ended
+bytes_or_end (suc count) = Bytes (suc count)
+
+-- what a pull gives by the steps that are left, of so many bytes, where there is so much room
+abbrev pub pull_by : List InputStep → ℕ → ℕ → Pull
+pull_by [] left room = bytes_or_end (min left room)
+pull_by (Give most ∷ steps) left room = bytes_or_end (min (min left (max most 1)) room)
+pull_by (GiveNothing ∷ steps) left room = Empty
+pull_by (FailToGive ∷ steps) left room = InputFailed
+
+-- a step at which a pull fails
+abbrev pub is_failing_pull : InputStep → Bool
+is_failing_pull (Give most) = false
+is_failing_pull GiveNothing = false
+is_failing_pull FailToGive = true
+
+-- a step at which a pull gives nothing
+abbrev pub is_empty_pull : InputStep → Bool
+is_empty_pull (Give most) = false
+is_empty_pull GiveNothing = true
+is_empty_pull FailToGive = false
+
+-- the bytes kept, the steps used and those left, and how often memory was wanting
+pub record Sink : Type 0 where
+  pub bytes : List ℕ
+  pub used : List OutputStep
+  pub steps : List OutputStep
+  pub starved : ℕ
+
+-- what a push of so many bytes takes by the steps that are left
+abbrev pub push_by : List OutputStep → ℕ → Push
+push_by [] there = Taken there
+push_by (Take most ∷ steps) there = Taken (min there (max most 1))
+push_by (TakeNothing ∷ steps) there = Full
+push_by (FailToTake ∷ steps) there = OutputFailed
+
+-- a step at which a push fails
+abbrev pub is_failing_push : OutputStep → Bool
+is_failing_push (Take most) = false
+is_failing_push TakeNothing = false
+is_failing_push FailToTake = true
+
+-- a step at which a push takes nothing
+abbrev pub is_full_push : OutputStep → Bool
+is_full_push (Take most) = false
+is_full_push TakeNothing = true
+is_full_push FailToTake = false

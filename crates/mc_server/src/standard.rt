@@ -1,0 +1,139 @@
+//! Inputs and outputs over std's readers and writers, as the standard streams.
+ghost use Rattle.std.specs.Io.KnownBytes.{Consumes, IsAtEnd};
+ghost use Rattle.std.specs.Prelude.{◌≡◌, ◌+◌, ◌<◌, None, length};
+ghost use Rattle.mc_server.specs.Standard.{WritesTaken, failures_of_reading, failures_of_writing, reader_of, waits_of_reading, waits_of_writing, writer_of};
+ghost use Rattle.mc_server.specs.Stream.{GivesAtMost, TakesAtMost, pull_failures, pull_waits, pulled_by, push_failures, push_waits};
+
+use crate::stream::{Input, Output, Pull, Push};
+use crate::tally::Tally;
+use std::io::{ErrorKind, Read, Write};
+
+/// An input over a reader. It doesn't tell its bytes. An interrupted read gave nothing, and any other error is a failure.
+#[derive(Drop)]
+pub struct Reading<R> {
+    reader: R,
+    failures: Tally,
+    waits: Tally,
+}
+
+impl<R> Reading<R> {
+    /// The input over this reader.
+    pub fn new(reader: R) -> Reading<R>
+        ensures reader { reader_of result ≡ reader }
+        ensures failures { failures_of_reading result ≡ 0 }
+        ensures waits { waits_of_reading result ≡ 0 }
+    {
+        Reading {
+            reader,
+            failures: Tally::new(),
+            waits: Tally::new(),
+        }
+    }
+}
+
+impl<R: Read> Input for Reading<R> {
+    ghost pulled = { λ _. None };
+
+    ghost failures = { failures_of_reading };
+
+    ghost waits = { waits_of_reading };
+
+    fn pull(&mut self, buffer: &mut [u8]) -> Pull
+        // As of each input.
+        requires { 0 < length buffer.old }
+        ensures count { GivesAtMost (length buffer.new) result }
+        ensures failed { failures_of_reading self.new ≡ failures_of_reading self.old + pull_failures result }
+        ensures waited { waits_of_reading self.new ≡ waits_of_reading self.old + pull_waits result }
+
+        // The bytes are the reader's next, and where it tells what it has left, it ends with them.
+        ensures given { Consumes (R.remaining (reader_of self.old)) (R.remaining (reader_of self.new)) (pulled_by result buffer.new) }
+        ensures ended { result ≡ Pull.Ended → IsAtEnd (R.remaining (reader_of self.new)) }
+    {
+        match self.reader.read(buffer) {
+            Ok(0) => Pull::Ended,
+            Ok(count) => Pull::Bytes(count),
+            Err(error) => {
+                if error.kind() == ErrorKind::Interrupted {
+                    self.waits.rise();
+                    Pull::Empty
+                } else {
+                    self.failures.rise();
+                    Pull::Failed
+                }
+            }
+        }
+    }
+}
+
+/// An output over a writer. It doesn't tell its bytes. An interrupted write took nothing, and any other error is a
+/// failure. What was taken is flushed in the same push.
+#[derive(Drop)]
+pub struct Writing<W> {
+    writer: W,
+    failures: Tally,
+    waits: Tally,
+}
+
+impl<W> Writing<W> {
+    /// The output over this writer.
+    pub fn new(writer: W) -> Writing<W>
+        ensures writer { writer_of result ≡ writer }
+        ensures failures { failures_of_writing result ≡ 0 }
+        ensures waits { waits_of_writing result ≡ 0 }
+    {
+        Writing {
+            writer,
+            failures: Tally::new(),
+            waits: Tally::new(),
+        }
+    }
+
+    /// Counts a failure.
+    fn fail(&mut self) -> Push
+        ensures answer { result ≡ Push.Failed }
+        ensures failures { failures_of_writing self.new ≡ failures_of_writing self.old + 1 }
+        ensures waits { waits_of_writing self.new ≡ waits_of_writing self.old }
+    {
+        self.failures.rise();
+        Push::Failed
+    }
+}
+
+impl<W: Write> Output for Writing<W> {
+    ghost pushed = { λ _. None };
+
+    ghost failures = { failures_of_writing };
+
+    ghost waits = { waits_of_writing };
+
+    fn push(&mut self, bytes: &[u8]) -> Push
+        // As of each output.
+        requires { 0 < length bytes.now }
+        ensures count { TakesAtMost (length bytes.now) result }
+        ensures failed { failures_of_writing self.new ≡ failures_of_writing self.old + push_failures result }
+        ensures waited { waits_of_writing self.new ≡ waits_of_writing self.old + push_waits result }
+
+        // Where the writer tells its bytes.
+        ensures written { WritesTaken (W.contents (writer_of self.old)) (W.contents (writer_of self.new)) result bytes.now }
+    {
+        match self.writer.write(bytes) {
+            Ok(0) => self.fail(),
+            Ok(count) => match self.writer.flush() {
+                Ok(()) => Push::Taken(count),
+                // Not `Full`, also where it was interrupted: the bytes would be pushed again.
+                Err(_) => self.fail(),
+            },
+            Err(error) => {
+                if error.kind() == ErrorKind::Interrupted {
+                    self.waits.rise();
+                    Push::Full
+                } else {
+                    self.fail()
+                }
+            }
+        }
+    }
+}
+
+#[cfg(test)]
+mod tests;
