@@ -99,7 +99,7 @@ reads_of_first bytes request left is goes_on requests =
 
 -- what is held reads alike while no request stands in it
 pub has_none : (bytes : List ℕ) → first_request bytes ≡ None → HasNone (Kept bytes)
-has_none bytes none requests = (reads_none (bytes ++ []) (ap first_request (append-nil bytes) ∙ none) requests).0
+has_none bytes none requests = reads_none (bytes ++ []) (ap first_request (append-nil bytes) ∙ none) requests
 
 pub reads_alike : (held : Held) → ReadAlike held held
 reads_alike held more requests = (λ reads. reads, λ reads. reads)
@@ -122,7 +122,7 @@ module _ (request : Request) (left : ℕ) (bytes more : List ℕ) (requests : Li
       )
 
 pub swallowing_has_none : (request : Request) (left : ℕ) (bytes : List ℕ) → 0 < left → HasNone (Swallowing request left bytes)
-swallowing_has_none request left bytes some requests = (swallows_more request left bytes [] requests some).0
+swallowing_has_none request left bytes some requests = swallows_more request left bytes [] requests some
 
 -- once its block has come a refused request is the next
 pub swallowed_is_next : (request : Request) (bytes : List ℕ) → IsNext (Swallowing request 0 bytes) request (Kept bytes)
@@ -163,8 +163,8 @@ module _ (line behind : List ℕ) (size : ℕ) (refusal : WireNo) (quiet : Bool)
       iff_then (same_reading ((line ++ 10 ∷ behind) ++ more) (kept_line more) (append_assoc line (10 ∷ behind) more) requests) (refused_alike_kept more requests)
 
   pub refused_has_none : HasNone (Kept (line ++ 10 ∷ behind))
-  refused_has_none requests reads =
-      swallowing_has_none (refused refusal quiet) (size + 2 - length behind) [] (omega (arith, partial)) requests ((refused_alike [] requests).0 reads)
+  refused_has_none requests =
+      iff_then (refused_alike [] requests) (swallowing_has_none (refused refusal quiet) (size + 2 - length behind) [] (omega (arith, partial)) requests)
 
 -- What a piece adds to what is held.
 pub fed_kept : (bytes piece : List ℕ) → IsFed (Kept bytes) piece (Kept (bytes ++ piece))

@@ -51,9 +51,9 @@ abbrev pub IsNext : Held → Request → Held → Type 0
 IsNext before request after =
     (more : List ℕ) (requests : List Request) → ReadsOn before more requests ↔ GoesOn request (ReadsOn after more) requests
 
--- no request stands in what is held
+-- what is held reads as no request
 abbrev pub HasNone : Held → Type 0
-HasNone held = (requests : List Request) → ReadsOn held [] requests → requests ≡ []
+HasNone held = (requests : List Request) → ReadsOn held [] requests ↔ (requests ≡ [])
 
 -- whatever follows, both read alike
 abbrev pub ReadAlike : Held → Held → Type 0

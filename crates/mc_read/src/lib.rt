@@ -4,9 +4,11 @@
 //! each byte list has just one reading. A `Reader` gives the requests of that reading, however the stream is cut.
 #![tactic(auto)]
 
-pub use reader::Reader;
+pub use reader::{Reader, ends_stream};
 
 mod buffer;
 pub mod laws;
 mod line;
 mod reader;
+#[cfg(test)]
+mod tests;

@@ -67,7 +67,7 @@ fn find_line(bytes: &[u8], searched: usize) -> Sought
 }
 
 /// Whether nothing is read after the request.
-fn ends_stream(request: &Request) -> bool
+pub fn ends_stream(request: &Request) -> bool
     ensures { result ≡ ends_stream request.now }
 {
     matches!(request, Request::Quit | Request::TooLong)

@@ -1,5 +1,6 @@
 -- Bytes that are moved in pieces.
-use Rattle.std.proofs.Common.{◌≡◌, ℕ, ◌+◌, ◌≤◌, List, ◌++◌, length, take, drop, sym, ap, ◌∙◌, arith, length-append}
+use Rattle.std.proofs.Common.{◌≡◌, ℕ, ◌+◌, ◌≤◌, Option, Some, None, List, [], ◌++◌, length, take, drop, refl, sym, ap, ◌∙◌, append-nil, append_assoc, arith, length-append}
+use Rattle.std.specs.Io.KnownBytes.{append_known}
 use Rattle.std.proofs.Math.Seq.{take-add, take-append_seam}
 use Rattle.std.proofs.lemmas.List.{drop-drop, take-append-drop, take-take, take_at}
 use Rattle.std.specs.Io.{StartsWith}
@@ -26,3 +27,21 @@ pub StartsWith-shorter : (bytes longer front more : List ℕ) → StartsWith byt
 StartsWith-shorter bytes longer front more begun is =
     let fits : length front ≤ length longer = omega (arith, length-append front more, ap length is) in
     sym (take-take (length front) (length longer) bytes fits) ∙ (ap (take (length front)) begun ∙ StartsWith-append longer front more is)
+
+-- two pieces are known as one
+pub append_known-more : (known : Option (List ℕ)) (first second : List ℕ) → append_known (append_known known first) second ≡ append_known known (first ++ second)
+append_known-more None first second = refl
+append_known-more (Some bytes) first second = ap Some (append_assoc bytes first second)
+
+pub append_known-nothing : (known : Option (List ℕ)) → append_known known [] ≡ known
+append_known-nothing None = refl
+append_known-nothing (Some bytes) = ap Some (append-nil bytes)
+
+-- what was sent and the piece that was taken is what is sent then
+pub sent_more : (before now after : Option (List ℕ)) (queue slice : List ℕ) (sent count : ℕ) → slice ≡ drop sent queue →
+    now ≡ append_known before (take sent queue) → after ≡ append_known now (take count slice) → after ≡ append_known before (take (sent + count) queue)
+sent_more before now after queue slice sent count is_rest is_now is_after =
+    is_after
+    ∙ (ap (λ known. append_known known (take count slice)) is_now
+    ∙ (append_known-more before (take sent queue) (take count slice)
+    ∙ ap (append_known before) (ap (λ rest. take sent queue ++ take count rest) is_rest ∙ sym (take-add sent count queue))))

@@ -1,4 +1,8 @@
-pub mod Stream
+pub mod Faults
 pub mod Memory
+pub mod Owed
+pub mod Pump
+pub mod Session
 pub mod Standard
+pub mod Stream
 pub mod Text

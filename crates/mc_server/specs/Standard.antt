@@ -1,5 +1,5 @@
 -- What contracts see of an input over a reader and an output over a writer.
-use Rattle.std.specs.Prelude.{ℕ, List, take, Option}
+use Rattle.std.specs.Prelude.{◌≡◌, ℕ, true, List, take, Option}
 use Rattle.std.specs.Io.KnownBytes.{Appends, Keeps}
 use Rattle.mc_server.specs.declared.standard.Reading.{Reading}
 use Rattle.mc_server.specs.declared.standard.Writing.{Writing}
@@ -14,6 +14,9 @@ failures_of_reading input = input.failures.count
 
 abbrev pub waits_of_reading : {R : Type 0} → Reading R → ℕ
 waits_of_reading input = input.waits.count
+
+abbrev pub has_reading_ended : {R : Type 0} → Reading R → Type 0
+has_reading_ended input = input.ended ≡ true
 
 abbrev pub writer_of : {W : Type 0} → Writing W → W
 writer_of output = output.writer

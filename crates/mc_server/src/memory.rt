@@ -84,12 +84,14 @@ impl MemoryInput {
 
     /// Gives at most so many bytes of those that are left.
     fn give(&mut self, most: usize, buffer: &mut [u8]) -> Pull
-        requires { 0 < length buffer.old }
+        requires room { 0 < length buffer.old }
+        requires some { 0 < most }
         ensures answer { result ≡ bytes_or_end (min (min (length self.old.rest) most) (length buffer.old)) }
         ensures given { self.new.given ≡ self.old.given ++ pulled_by result buffer.new }
         ensures rest { self.old.rest ≡ pulled_by result buffer.new ++ self.new.rest }
         ensures used { self.new.used ≡ self.old.used }
         ensures steps { self.new.steps ≡ self.old.steps }
+        ensures ended { result ≡ Pull.Ended → self.new.rest ≡ [] }
     {
         let left = &self.bytes[self.given..];
         let count = left.len().min(most).min(buffer.len());
@@ -109,6 +111,8 @@ impl Input for MemoryInput {
 
     ghost waits = { λ input. count_by is_empty_pull input.used };
 
+    ghost has_ended = { λ input. input.rest ≡ [] };
+
     fn pull(&mut self, buffer: &mut [u8]) -> Pull
         // As of each input.
         requires { 0 < length buffer.old }
@@ -116,6 +120,7 @@ impl Input for MemoryInput {
         ensures bytes { self.new.given ≡ self.old.given ++ pulled_by result buffer.new }
         ensures failed { count_by is_failing_pull self.new.used ≡ count_by is_failing_pull self.old.used + pull_failures result }
         ensures waited { count_by is_empty_pull self.new.used ≡ count_by is_empty_pull self.old.used + pull_waits result }
+        ensures ended { result ≡ Pull.Ended → self.new.rest ≡ [] }
 
         // What this one gives.
         ensures answer { result ≡ pull_by self.old.steps (length self.old.rest) (length buffer.old) }

@@ -1,7 +1,7 @@
 //! Inputs and outputs over std's readers and writers, as the standard streams.
 ghost use Rattle.std.specs.Io.KnownBytes.{Consumes, IsAtEnd};
 ghost use Rattle.std.specs.Prelude.{◌≡◌, ◌+◌, ◌<◌, None, length};
-ghost use Rattle.mc_server.specs.Standard.{WritesTaken, failures_of_reading, failures_of_writing, reader_of, waits_of_reading, waits_of_writing, writer_of};
+ghost use Rattle.mc_server.specs.Standard.{WritesTaken, failures_of_reading, failures_of_writing, has_reading_ended, reader_of, waits_of_reading, waits_of_writing, writer_of};
 ghost use Rattle.mc_server.specs.Stream.{GivesAtMost, TakesAtMost, pull_failures, pull_waits, pulled_by, push_failures, push_waits};
 
 use crate::stream::{Input, Output, Pull, Push};
@@ -12,6 +12,7 @@ use std::io::{ErrorKind, Read, Write};
 #[derive(Drop)]
 pub struct Reading<R> {
     reader: R,
+    ended: bool,
     failures: Tally,
     waits: Tally,
 }
@@ -25,6 +26,7 @@ impl<R> Reading<R> {
     {
         Reading {
             reader,
+            ended: false,
             failures: Tally::new(),
             waits: Tally::new(),
         }
@@ -38,19 +40,25 @@ impl<R: Read> Input for Reading<R> {
 
     ghost waits = { waits_of_reading };
 
+    ghost has_ended = { has_reading_ended };
+
     fn pull(&mut self, buffer: &mut [u8]) -> Pull
         // As of each input.
         requires { 0 < length buffer.old }
         ensures count { GivesAtMost (length buffer.new) result }
         ensures failed { failures_of_reading self.new ≡ failures_of_reading self.old + pull_failures result }
         ensures waited { waits_of_reading self.new ≡ waits_of_reading self.old + pull_waits result }
+        ensures ended { result ≡ Pull.Ended → has_reading_ended self.new }
 
         // The bytes are the reader's next, and where it tells what it has left, it ends with them.
         ensures given { Consumes (R.remaining (reader_of self.old)) (R.remaining (reader_of self.new)) (pulled_by result buffer.new) }
-        ensures ended { result ≡ Pull.Ended → IsAtEnd (R.remaining (reader_of self.new)) }
+        ensures no_more { result ≡ Pull.Ended → IsAtEnd (R.remaining (reader_of self.new)) }
     {
         match self.reader.read(buffer) {
-            Ok(0) => Pull::Ended,
+            Ok(0) => {
+                self.ended = true;
+                Pull::Ended
+            }
             Ok(count) => Pull::Bytes(count),
             Err(error) => {
                 if error.kind() == ErrorKind::Interrupted {

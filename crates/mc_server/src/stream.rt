@@ -38,13 +38,17 @@ pub trait Input {
     /// How often it had nothing to give.
     ghost waits: { Self → ℕ };
 
+    /// It has told its end.
+    ghost has_ended: { Self → Type 0 };
+
     /// Puts bytes at the front of the buffer. What stands behind them is open.
     fn pull(&mut self, buffer: &mut [u8]) -> Pull
         requires { 0 < length buffer.old }
         ensures count { GivesAtMost (length buffer.new) result }
         ensures bytes { pulled self.new ≡ append_known (pulled self.old) (pulled_by result buffer.new) }
         ensures failed { failures self.new ≡ failures self.old + pull_failures result }
-        ensures waited { waits self.new ≡ waits self.old + pull_waits result };
+        ensures waited { waits self.new ≡ waits self.old + pull_waits result }
+        ensures ended { result ≡ Pull.Ended → has_ended self.new };
 }
 
 /// Takes bytes, in pieces.
@@ -73,6 +77,8 @@ impl<I: Input> Input for &mut I {
     ghost failures = { λ input. I.failures input.now };
 
     ghost waits = { λ input. I.waits input.now };
+
+    ghost has_ended = { λ input. I.has_ended input.now };
 
     fn pull(&mut self, buffer: &mut [u8]) -> Pull {
         Input::pull(&mut **self, buffer)

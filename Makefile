@@ -1,0 +1,23 @@
+# `make run` and `make test` do all set-up on a machine that has the kit (`rt` on the PATH).
+.PHONY: help run test bench kit
+
+help:
+	@echo 'make run    proves, builds and runs mc_stdin on its first run, and prints what it prints'
+	@echo 'make test   the gate: every proof from nothing, the edits that must be refused, the tests, the programs'
+	@echo 'make bench  measures the built programs; the figures of docs/BENCHMARKS.md come from it'
+
+run: kit
+	@cd crates/mc_stdin && log=$$(mktemp) && { rt run >"$$log" 2>&1 || { cat "$$log"; rm -f "$$log"; exit 1; }; rm -f "$$log"; }
+	@crates/mc_stdin/out/mc_stdin <crates/mc_stdin/stdin
+	@echo "The program is crates/mc_stdin/out/mc_stdin; feed it from a file or a pipe: printf 'get a\\\\r\\\\n' | crates/mc_stdin/out/mc_stdin"
+
+test: kit
+	@rt ci
+
+bench: kit
+	@bench/stdin.sh
+	@bench/reader.sh
+
+# A clear word where the kit is missing, in place of the shell's.
+kit:
+	@command -v rt >/dev/null || { echo 'The kit is missing: put its folder bin, with the command rt, on your PATH.' >&2; exit 1; }

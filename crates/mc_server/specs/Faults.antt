@@ -1,0 +1,28 @@
+-- What a program says on standard error of the fault that ended it; this project's profile.
+use Rattle.std.specs.Prelude.{◌≡◌, ℕ, ◌≤◌, ◌+◌, List, ◌++◌, Option, Result, Err, codes}
+use Rattle.std.specs.Io.KnownBytes.{append_known}
+use Rattle.mc_model.specs.declared.fault.Fault.{Fault}
+use Rattle.mc_model.specs.declared.fault.Fault.TheVariants.{Memory, LogFull, Taken, Input, Output, BadEvent, BadSettings}
+use Rattle.mc_server.specs.Pump.{CountsFailures}
+
+-- the name of a fault
+abbrev pub fault_text : Fault → List ℕ
+fault_text Memory = codes "out of memory"
+fault_text LogFull = codes "log full"
+fault_text Taken = codes "cell taken"
+fault_text Input = codes "input failed"
+fault_text Output = codes "output failed"
+fault_text BadEvent = codes "event not enabled"
+fault_text BadSettings = codes "bad settings"
+
+-- the line that names the program and the fault
+abbrev pub fault_line : List ℕ → Fault → List ℕ
+fault_line program fault = program ++ codes ": " ++ fault_text fault ++ codes "\n"
+
+-- A run that failed met one fault, which the failures of the input and the output bear out, and said so, unless standard
+-- error failed.
+pub record Fails (program : List ℕ) (input_before input output_before output errors_before errors : ℕ) (said_before said : Option (List ℕ)) : Type 0 where
+  pub fault : Fault
+  pub counts : CountsFailures (Err fault) input_before input output_before output
+  pub told : errors ≡ errors_before → said ≡ append_known said_before (fault_line program fault)
+  pub once : errors ≤ errors_before + 1

@@ -1,0 +1,84 @@
+//! What requests do, one after another, and the replies that are to be pushed for them.
+ghost use Rattle.std.specs.Prelude.{◌≡◌, ℕ, ◌≤◌, ◌++◌, [], List, OnOk, OnErr, IsOkUnless};
+ghost use Rattle.mc_model.specs.declared.command.Command.{Command};
+ghost use Rattle.mc_server.specs.declared.session.TheConstants.{PLACES};
+ghost use Rattle.mc_server.specs.Owed.{answered, applied_with, logged_reply};
+
+use crate::text::write_reply;
+use mc_items::Items;
+use mc_model::settings::{MAX_BYTES, MAX_ITEMS};
+use mc_model::{Command, Fault, Limits, Reply, Request, WireNo};
+use std::alloc::Global;
+
+/// How many commands are applied. Every later one finds the log full.
+pub const PLACES: u64 = 65_536;
+
+/// One tenant's table, how many commands were applied to it, and the replies that are to be pushed.
+#[derive(Debug, Drop)]
+pub struct Session {
+    pub items: Items,
+    pub applied: u64,
+    pub queue: Vec<u8>,
+    ghost few: { applied ≤ PLACES },
+    ghost counted: { items.last_unique ≤ applied },
+}
+
+/// Queues a reply, but for a quiet request.
+fn queue_reply(reply: &Reply, quiet: bool, queue: &mut Vec<u8>) -> Result<(), Fault>
+    ensures queued { OnOk result (queue.new.items ≡ queue.old.items ++ answered quiet reply.now) }
+    ensures memory { IsOkUnless result Fault.Memory }
+    ensures unchanged { OnErr result (queue.new.items ≡ queue.old.items) }
+{
+    if quiet {
+        return Ok(());
+    }
+    write_reply(reply, queue)
+}
+
+impl Session {
+    ghost use Rattle.mc_server.specs.Session.{Responds, Stands};
+
+    /// A session with an empty table.
+    pub fn new(alloc: Global) -> Session
+        ensures stands { Stands [] result }
+        ensures queue { result.queue.items ≡ [] }
+    {
+        let limits = Limits {
+            items: MAX_ITEMS,
+            bytes: MAX_BYTES,
+        };
+        Session {
+            items: Items::new(alloc, limits),
+            applied: 0,
+            queue: Vec::new(alloc),
+        }
+    }
+
+    /// Applies a command where a place is left, and queues the reply.
+    fn respond_to_command(&mut self, command: &Command, quiet: bool) -> Result<(), Fault>
+        ensures stands { OnOk result ((applied : List Command) → Stands applied self.old → Stands (applied_with applied command.now) self.new) }
+        ensures queued { OnOk result ((applied : List Command) → Stands applied self.old →
+            self.new.queue.items ≡ self.old.queue.items ++ answered quiet (logged_reply applied command.now)) }
+        ensures memory { IsOkUnless result Fault.Memory }
+    {
+        if self.applied == PLACES {
+            return queue_reply(&Reply::Refused(WireNo::E10), quiet, &mut self.queue);
+        }
+        let reply = self.items.apply(command)?;
+        self.applied += 1;
+        queue_reply(&reply, quiet, &mut self.queue)
+    }
+
+    /// Does what a request asks for, and queues the reply.
+    pub fn respond(&mut self, request: Request) -> Result<(), Fault>
+        ensures owes { OnOk result ((applied : List Command) → Stands applied self.old → Responds request self.old self.new applied) }
+        ensures memory { IsOkUnless result Fault.Memory }
+    {
+        match request {
+            Request::Logged { command, quiet } => self.respond_to_command(&command, quiet),
+            Request::Local { reply, quiet } => queue_reply(&reply, quiet, &mut self.queue),
+            Request::Quit => Ok(()),
+            Request::TooLong => queue_reply(&Reply::Refused(WireNo::E5), false, &mut self.queue),
+        }
+    }
+}
