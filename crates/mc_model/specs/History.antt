@@ -65,7 +65,7 @@ pub changes-push : (list : List Command) (command : Command) → changes (list +
 unfolding after changes table_of
 changes-push list command = ap changes_of (reverse-append list (command ∷ []))
 
--- the change that gave an item: the item wasn't under the key before it, and is from then on
+-- the change that gave an item: the key didn't hold it before the change, and holds it right after
 pub record IsStoredBy (list : List Command) (key : Key) (item : Item) : Type 0 where
   pub earlier : List Command
   pub change : Command

@@ -19,7 +19,7 @@ use Rattle.mc_read.specs.declared.line.Asked.{Asked}
 use Rattle.mc_read.specs.declared.line.Asked.TheVariants.{Line, Refused, Stored}
 use Rattle.mc_read.specs.declared.line.TheConstants.{BLOCK_LENGTH, FLAGS}
 
--- a line without the one carriage return that may stand at its end
+-- a line without the one carriage return that may stand at its end; std's `slice_index` is 0 where nothing stands
 abbrev pub without_return : List ℕ → List ℕ
 without_return line = if slice_index line (length line - 1) == 13 then take (length line - 1) line else line
 
@@ -94,7 +94,7 @@ storage_checks line length =
     ∷ (nat_le length DATA_BYTES, E6)
     ∷ []
 
--- what becomes of a block of this length
+-- what becomes of a block of this length; where no check failed, the flags are a number
 abbrev pub asked_with : Verb → StorageLine → ℕ → Option WireNo → Asked
 asked_with verb line length None =
     Stored (record {

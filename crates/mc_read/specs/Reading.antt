@@ -23,8 +23,8 @@ Reads bytes (request ∷ requests) rest =
     (text : List ℕ) × (more : List ℕ) × IsRequestText text request × (bytes ≡ text ++ more)
     × MatchBool (ends_stream request) ((requests ≡ []) × (more ≡ rest)) (Reads more requests rest)
 
--- What a reader holds: bytes; or a request that was refused, with so many bytes of its block still to come and the bytes
--- behind it; or nothing, after the end.
+-- What a reader holds: bytes; or a request that was refused, with so many bytes still to come of its block
+-- and the two bytes behind it, and what is behind those; or nothing, after the end.
 pub data Held : Type 0 where
   Kept : List ℕ → Held
   Swallowing : Request → ℕ → List ℕ → Held

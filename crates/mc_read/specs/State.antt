@@ -53,7 +53,7 @@ abbrev pub IsAnswer : Held → Option Request → Held → Type 0
 IsAnswer before (Some request) after = IsNext before request after
 IsAnswer before None after = HasNone before × ReadAlike before after × IsBounded after
 
--- the bytes end within a refused block, of which so many are still to come
+-- the bytes end within a refused block or the two bytes behind it, and so many of these are still to come
 pub record EndsInRefusal (bytes : List ℕ) (request : Request) (left : ℕ) : Type 0 where
   pub line : ℕ
   pub size : ℕ

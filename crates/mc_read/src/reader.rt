@@ -1,6 +1,6 @@
 //! The reader: what has come of the stream and isn't read yet.
 ghost use Rattle.std.specs.Bool.{OnTrue};
-ghost use Rattle.std.specs.Prelude.{◌≡◌, ℕ, ◌+◌, ◌≤◌, if◌then◌else◌, List, [], ◌∷◌, length, take, drop, IfOk, IfSome, IsOk, IsOkUnless, OnOk, OnErr};
+ghost use Rattle.std.specs.Prelude.{◌≡◌, ℕ, ◌+◌, ◌-◌, ◌<◌, ◌≤◌, if◌then◌else◌, List, [], ◌∷◌, length, take, drop, IfOk, IfSome, IsOk, IsOkUnless, OnOk, OnErr};
 ghost use Rattle.mc_model.specs.declared.item.TheConstants.{DATA_BYTES};
 ghost use Rattle.mc_model.specs.declared.command.Command.TheVariants.{Store};
 ghost use Rattle.mc_model.specs.declared.reply.WireNo.TheVariants.{E3};
@@ -230,7 +230,8 @@ impl Reader {
         ensures unchanged { OnErr result (self.new ≡ self.old) }
 
         // Within a refused block, and after the end, it takes no memory.
-        ensures swallowed { (request : Request) (left : ℕ) → self.old ≡ Swallowing request left [] → length piece.now ≤ left → IsOk result }
+        ensures swallowed { (request : Request) (left : ℕ) → self.old ≡ Swallowing request left [] → length piece.now ≤ left →
+            IsOk result × (self.new ≡ Swallowing request (left - length piece.now) []) }
         ensures ended { self.old ≡ Ended → IsOk result × (self.new ≡ Ended) }
     {
         match &mut self.state {
@@ -258,9 +259,10 @@ impl Reader {
         ensures end { IfOk result (λ next. IfSome next (λ request. OnTrue (ends_stream request) (self.new ≡ Ended))) }
         ensures ended { self.old ≡ Ended → result ≡ Ok None × (self.new ≡ Ended) }
 
-        // Of a refused block only the length is kept.
+        // Of a refused block only the length is kept, and no memory is taken until it has passed.
         ensures refused { (bytes : List ℕ) (request : Request) (left : ℕ) →
             self.old ≡ Kept bytes → EndsInRefusal bytes request left → OnOk result (self.new ≡ Swallowing request left []) }
+        ensures swallowing { (request : Request) (left : ℕ) → self.old ≡ Swallowing request left [] → 0 < left → result ≡ Ok None × (self.new ≡ self.old) }
         ensures memory { IsOkUnless result Fault.Memory }
         ensures unchanged { OnErr result (self.new ≡ self.old) }
     {

@@ -38,7 +38,7 @@ pub trait Input {
     /// How often it had nothing to give.
     ghost waits: { Self → ℕ };
 
-    /// It has told its end.
+    /// Its end has come, which a pull that answers `Ended` shows.
     ghost has_ended: { Self → Type 0 };
 
     /// Puts bytes at the front of the buffer. What stands behind them is open.

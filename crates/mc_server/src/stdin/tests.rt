@@ -21,7 +21,18 @@ fn run_first<R: Wait>(
     takes: Vec<OutputStep>,
     tells: Vec<OutputStep>,
 ) -> Result<Ran, Fail> {
-    let mut input = MemoryInput::new(Vec::from_slice(alloc, FIRST_RUN)?, steps);
+    run_over(rt, alloc, FIRST_RUN, steps, takes, tells)
+}
+
+fn run_over<R: Wait>(
+    rt: &R,
+    alloc: Global,
+    stream: &[u8],
+    steps: Vec<InputStep>,
+    takes: Vec<OutputStep>,
+    tells: Vec<OutputStep>,
+) -> Result<Ran, Fail> {
+    let mut input = MemoryInput::new(Vec::from_slice(alloc, stream)?, steps);
     let mut output = MemoryOutput::new(alloc, takes);
     let mut errors = MemoryOutput::new(alloc, tells);
     let words = Vec::new(alloc);
@@ -103,6 +114,35 @@ fn names_faults_as_they_are_displayed(rt: HostRuntime) -> Result<(), Fail> {
     ] {
         let shown = format!(in alloc; "{fault}")?;
         assert_eq!(rt; fault_text(fault), shown.as_bytes());
+    }
+    Ok(())
+}
+
+#[test]
+fn serves_worked_runs_however_they_are_cut(rt: HostRuntime) -> Result<(), Fail> {
+    let alloc = rt.alloc();
+    for (stream, replies) in [
+        (FIRST_RUN, FIRST_REPLIES),
+        (
+            b"set k 0 0 7\r\n\r\nEND\r\n\r\nget k\r\n".as_slice(),
+            b"STORED\r\nVALUE k 0 7\r\n\r\nEND\r\n\r\nEND\r\n".as_slice(),
+        ),
+        (b"set a 0 0 3\r\nab".as_slice(), b"".as_slice()),
+    ] {
+        for (pull, push) in [(65_536, 65_536), (1, 65_536), (65_536, 1), (1, 1)] {
+            let mut steps = Vec::new(alloc);
+            let mut takes = Vec::new(alloc);
+            for _ in 0..64 {
+                steps.push(InputStep::Give(pull))?;
+                steps.push(InputStep::Empty)?;
+                takes.push(OutputStep::Take(push))?;
+                takes.push(OutputStep::Full)?;
+            }
+            let run = run_over(&rt, alloc, stream, steps, takes, Vec::new(alloc))?;
+            assert_eq!(rt; run.status, 0);
+            assert_eq!(rt; run.output.as_bytes(), replies);
+            assert_eq!(rt; run.errors.as_bytes(), b"".as_slice());
+        }
     }
     Ok(())
 }
