@@ -6,3 +6,4 @@ pub mod Holdings
 pub mod Lines
 pub mod Steps
 pub mod States
+mod Rows

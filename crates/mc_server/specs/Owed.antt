@@ -2,7 +2,7 @@
 -- and "Storage commands": each request is answered, but for those that say noreply. How many commands are applied is
 -- this project's profile.
 use Rattle.std.specs.Prelude.{◌≡◌, ℕ, ◌≤◌, Bool, true, ◌⊎◌, nat_lt, if◌then◌else◌, List, [], ◌∷◌, ◌++◌, length, Option}
-use Rattle.std.specs.Io.KnownBytes.{append_known}
+use Rattle.std.specs.Io.KnownBytes.{Consumes, IsAtEnd, append_known}
 use Rattle.std.specs.List.{list_any}
 use Rattle.mc_model.specs.declared.command.Command.{Command}
 use Rattle.mc_model.specs.declared.reply.Reply.{Reply}
@@ -38,11 +38,12 @@ owed applied (TooLong ∷ requests) = text (Refused E5) ++ owed applied requests
 
 -- The requests that the pulled bytes read as were answered with the pushed bytes, up to the end of the input or a request
 -- that ends the stream.
-pub record Serves (pulled_before pulled pushed_before pushed : Option (List ℕ)) (has_ended : Type 0) : Type 0 where
+pub record Serves (pulled_before pulled left_before left pushed_before pushed : Option (List ℕ)) (has_ended : Type 0) : Type 0 where
   pub bytes : List ℕ
   pub requests : List Request
   pub rest : List ℕ
   pub came : pulled ≡ append_known pulled_before bytes
+  pub consumed : Consumes left_before left bytes
   pub reads : Reads bytes requests rest
   pub went : pushed ≡ append_known pushed_before (owed [] requests)
-  pub end : has_ended ⊎ (list_any ends_stream requests ≡ true)
+  pub end : has_ended × IsAtEnd left ⊎ (list_any ends_stream requests ≡ true)

@@ -107,6 +107,8 @@ impl MemoryInput {
 impl Input for MemoryInput {
     ghost pulled = { λ input. Some input.given };
 
+    ghost left = { λ input. Some input.rest };
+
     ghost failures = { λ input. count_by is_failing_pull input.used };
 
     ghost waits = { λ input. count_by is_empty_pull input.used };

@@ -81,7 +81,7 @@ fn exchange<R: Wait, I: Input, O: Output>(
     requires begins { reader ≡ Kept [] }
     requires stands { Stands [] session.old }
     requires nothing_queued { session.old.queue.items ≡ [] }
-    ensures serves { OnOk result (Serves (I.pulled input.old) (I.pulled input.new) (O.pushed output.old) (O.pushed output.new) (I.has_ended input.new)) }
+    ensures serves { OnOk result (Serves (I.pulled input.old) (I.pulled input.new) (I.left input.old) (I.left input.new) (O.pushed output.old) (O.pushed output.new) (I.has_ended input.new)) }
     ensures failures { CountsFailures result (I.failures input.old) (I.failures input.new) (O.failures output.old) (O.failures output.new) }
     ensures memory { IsErrOf result Fault.Memory → O.failures output.new ≡ O.failures output.old }
 {
@@ -136,7 +136,7 @@ pub fn pump<R: Wait, I: Input, O: Output>(
     output: &mut O,
 ) -> Result<(), Fault>
     // From the bytes that came in to the bytes that went out.
-    ensures serves { OnOk result (Serves (I.pulled input.old) (I.pulled input.new) (O.pushed output.old) (O.pushed output.new) (I.has_ended input.new)) }
+    ensures serves { OnOk result (Serves (I.pulled input.old) (I.pulled input.new) (I.left input.old) (I.left input.new) (O.pushed output.old) (O.pushed output.new) (I.has_ended input.new)) }
 
     // Which fault comes when.
     ensures failures { CountsFailures result (I.failures input.old) (I.failures input.new) (O.failures output.old) (O.failures output.new) }

@@ -36,6 +36,8 @@ impl<R> Reading<R> {
 impl<R: Read> Input for Reading<R> {
     ghost pulled = { λ _. None };
 
+    ghost left = { λ input. R.remaining (reader_of input) };
+
     ghost failures = { failures_of_reading };
 
     ghost waits = { waits_of_reading };
@@ -49,9 +51,7 @@ impl<R: Read> Input for Reading<R> {
         ensures failed { failures_of_reading self.new ≡ failures_of_reading self.old + pull_failures result }
         ensures waited { waits_of_reading self.new ≡ waits_of_reading self.old + pull_waits result }
         ensures ended { result ≡ Pull.Ended → has_reading_ended self.new }
-
-        // The bytes are the reader's next, and where it tells what it has left, it ends with them.
-        ensures given { Consumes (R.remaining (reader_of self.old)) (R.remaining (reader_of self.new)) (pulled_by result buffer.new) }
+        ensures rest { Consumes (R.remaining (reader_of self.old)) (R.remaining (reader_of self.new)) (pulled_by result buffer.new) }
         ensures no_more { result ≡ Pull.Ended → IsAtEnd (R.remaining (reader_of self.new)) }
     {
         match self.reader.read(buffer) {

@@ -54,7 +54,7 @@ pub fn run_stdin<R: Wait, I: Input, O: Output, E: Output>(
 ) -> u8
     ensures status { (result ≡ 0) ⊎ (result ≡ 1) }
     // From the bytes that came in to the bytes that went out.
-    ensures serves { result ≡ 0 → Serves (I.pulled input.old) (I.pulled input.new) (O.pushed output.old) (O.pushed output.new) (I.has_ended input.new) }
+    ensures serves { result ≡ 0 → Serves (I.pulled input.old) (I.pulled input.new) (I.left input.old) (I.left input.new) (O.pushed output.old) (O.pushed output.new) (I.has_ended input.new) }
     ensures no_failure { result ≡ 0 → (I.failures input.new ≡ I.failures input.old) × (O.failures output.new ≡ O.failures output.old) }
     ensures silent { result ≡ 0 → (E.pushed errors.new ≡ E.pushed errors.old) × (E.failures errors.new ≡ E.failures errors.old) }
     ensures fails { result ≡ 1 → Fails (codes "mc_stdin") (I.failures input.old) (I.failures input.new) (O.failures output.old) (O.failures output.new) (E.failures errors.old) (E.failures errors.new) (E.pushed errors.old) (E.pushed errors.new) }

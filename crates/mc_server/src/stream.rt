@@ -1,5 +1,5 @@
 //! What gives bytes and what takes them.
-ghost use Rattle.std.specs.Io.KnownBytes.{append_known};
+ghost use Rattle.std.specs.Io.KnownBytes.{Consumes, IsAtEnd, append_known};
 ghost use Rattle.std.specs.Prelude.{◌≡◌, ℕ, ◌+◌, ◌<◌, Option, List, length};
 ghost use Rattle.mc_server.specs.Stream.{GivesAtMost, TakesAtMost, pull_failures, pull_waits, pulled_by, push_failures, push_waits, pushed_by};
 
@@ -32,6 +32,9 @@ pub trait Input {
     /// The bytes pulled so far. `None` for an input that doesn't tell them, as standard input: of those nothing is claimed.
     ghost pulled: { Self → Option (List ℕ) };
 
+    /// The bytes that are still to come. `None` for an input that doesn't know them.
+    ghost left: { Self → Option (List ℕ) };
+
     /// How often it has failed.
     ghost failures: { Self → ℕ };
 
@@ -46,9 +49,11 @@ pub trait Input {
         requires { 0 < length buffer.old }
         ensures count { GivesAtMost (length buffer.new) result }
         ensures bytes { pulled self.new ≡ append_known (pulled self.old) (pulled_by result buffer.new) }
+        ensures rest { Consumes (left self.old) (left self.new) (pulled_by result buffer.new) }
         ensures failed { failures self.new ≡ failures self.old + pull_failures result }
         ensures waited { waits self.new ≡ waits self.old + pull_waits result }
-        ensures ended { result ≡ Pull.Ended → has_ended self.new };
+        ensures ended { result ≡ Pull.Ended → has_ended self.new }
+        ensures no_more { result ≡ Pull.Ended → IsAtEnd (left self.new) };
 }
 
 /// Takes bytes, in pieces.
@@ -73,6 +78,8 @@ pub trait Output {
 
 impl<I: Input> Input for &mut I {
     ghost pulled = { λ input. I.pulled input.now };
+
+    ghost left = { λ input. I.left input.now };
 
     ghost failures = { λ input. I.failures input.now };
 
