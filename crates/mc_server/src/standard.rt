@@ -8,7 +8,8 @@ use crate::stream::{Input, Output, Pull, Push};
 use crate::tally::Tally;
 use std::io::{ErrorKind, Read, Write};
 
-/// An input over a reader. It doesn't tell its bytes. An interrupted read gave nothing, and any other error is a failure.
+/// An input over a reader. It knows what is left where the reader does. An interrupted read gave nothing, and any other
+/// error is a failure.
 #[derive(Drop)]
 pub struct Reading<R> {
     reader: R,
