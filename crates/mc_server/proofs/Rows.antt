@@ -7,6 +7,7 @@ use Rattle.mc_model.specs.declared.reply.Reply.TheVariants.{Values}
 use Rattle.mc_model.specs.declared.reply.WireNo.TheVariants.{E1, E4}
 use Rattle.mc_model.specs.declared.request.Request.TheVariants.{Logged, TooLong}
 use Rattle.mc_read.specs.Line.{refused}
+use Rattle.mc_server.specs.declared.session.TheConstants.{PLACES}
 use Rattle.mc_server.specs.Owed.{owed}
 use Rattle.mc_server.specs.Text.{text}
 
@@ -22,3 +23,7 @@ refusals = refl
 -- a set is answered
 a_set : owed [] (Logged (Store Set (codes "a") 5 (codes "abc")) false ∷ []) ≡ codes "STORED\r\n"
 a_set = refl
+
+-- how many commands find a place
+places : PLACES ≡ 65536
+places = refl

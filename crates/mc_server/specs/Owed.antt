@@ -1,7 +1,7 @@
 -- The bytes that a connection is owed for its requests, one after another. After memcached's doc/protocol.txt, "Commands"
 -- and "Storage commands": each request is answered, but for those that say noreply. How many commands are applied is
 -- this project's profile.
-use Rattle.std.specs.Prelude.{◌≡◌, ℕ, ◌≤◌, Bool, true, ◌⊎◌, nat_lt, if◌then◌else◌, List, [], ◌∷◌, ◌++◌, length, Option}
+use Rattle.std.specs.Prelude.{◌≡◌, ℕ, Bool, true, ◌⊎◌, nat_lt, if◌then◌else◌, List, [], ◌∷◌, ◌++◌, length, Option}
 use Rattle.std.specs.Io.KnownBytes.{Consumes, IsAtEnd, append_known}
 use Rattle.std.specs.List.{list_any}
 use Rattle.mc_model.specs.declared.command.Command.{Command}

@@ -1,9 +1,10 @@
 //! The loop between an input and an output.
 ghost use Rattle.std.specs.Bool.{OnTrue};
 ghost use Rattle.std.specs.Io.KnownBytes.{append_known};
-ghost use Rattle.std.specs.Prelude.{◌≡◌, ◌+◌, ◌≤◌, [], OnOk, IsErrOf, IsOkUnless, MatchResult};
+ghost use Rattle.std.specs.Prelude.{◌≡◌, ◌+◌, ◌≤◌, [], length, OnOk, IsErrOf, IsOkUnless, MatchResult};
 ghost use Rattle.mc_read.specs.Reading.{Kept};
 ghost use Rattle.mc_server.specs.Owed.{Serves};
+ghost use Rattle.mc_server.specs.declared.pump.TheConstants.{QUEUE_BYTES};
 ghost use Rattle.mc_server.specs.Pump.{CountsFailures, Moves};
 ghost use Rattle.mc_server.specs.Session.{Stands};
 
@@ -60,6 +61,7 @@ fn flush<R: Wait, O: Output>(rt: &R, queue: &mut Vec<u8>, output: &mut O) -> Res
 /// Pushes what is queued where it is more than may be queued when a request is taken.
 fn make_room<R: Wait, O: Output>(rt: &R, queue: &mut Vec<u8>, output: &mut O) -> Result<(), Fault>
     ensures pushed { OnOk result (Moves queue.old.items queue.new.items (O.pushed output.old) (O.pushed output.new)) }
+    ensures room { OnOk result (length queue.new.items ≤ QUEUE_BYTES) }
     ensures fault { IsOkUnless result Fault.Output }
     ensures failures { MatchResult result (λ _. O.failures output.new ≡ O.failures output.old) (λ _. O.failures output.new ≡ O.failures output.old + 1) }
 {
@@ -110,6 +112,7 @@ fn exchange<R: Wait, I: Input, O: Output>(
 
 /// Pushes bytes until all are taken, or the output is full or fails. Says whether all were taken.
 fn push_while_taken<O: Output>(bytes: &[u8], output: &mut O) -> bool
+    ensures pushed { OnTrue result (O.pushed output.new ≡ append_known (O.pushed output.old) bytes.now) }
     ensures taken { OnTrue result (O.failures output.new ≡ O.failures output.old) }
     ensures least { O.failures output.old ≤ O.failures output.new }
     ensures most { O.failures output.new ≤ O.failures output.old + 1 }
@@ -148,3 +151,6 @@ pub fn pump<R: Wait, I: Input, O: Output>(
     }
     served
 }
+
+#[cfg(test)]
+mod tests;

@@ -10,13 +10,6 @@ fn main(rt: HostRuntime) -> io::Result<ExitCode> {
     let mut input = Reading::new(rt.stdin());
     let mut output = Writing::new(rt.stdout());
     let mut errors = Writing::new(rt.stderr());
-    let status = run_stdin(
-        &rt,
-        rt.alloc(),
-        words,
-        &mut input,
-        &mut output,
-        &mut errors,
-    );
+    let status = run_stdin(&rt, rt.alloc(), words, &mut input, &mut output, &mut errors);
     Ok(ExitCode::from(status))
 }

@@ -1,4 +1,4 @@
-use Rattle.std.proofs.Common.{◌≡◌, take, refl, ◌∙◌, inl, inr, add-zero}
+use Rattle.std.proofs.Common.{take, refl, ◌∙◌, inl, inr, add-zero}
 use Rattle.mc_read.specs.Reading.{IsNext}
 use Rattle.mc_server.proofs.Underway.{serves_at_end, underway_alike, underway_begins, underway_fed, underway_moved, underway_next, underway_waits}
 use Rattle.mc_server.proofs.pump.exchange.Goals as goal

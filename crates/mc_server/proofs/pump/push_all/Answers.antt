@@ -1,4 +1,4 @@
-use Rattle.std.proofs.Common.{◌≡◌, ◌+◌, ◌-◌, ◌≤◌, length, take, drop, ◌∙◌, ap, add-zero, length-drop, arith}
+use Rattle.std.proofs.Common.{length, ◌∙◌, ap, add-zero, length-drop, arith}
 use Rattle.std.proofs.lemmas.List.{take_rest}
 use Rattle.mc_server.proofs.Pieces.{sent_more}
 use Rattle.mc_server.proofs.pump.push_all.Goals as goal

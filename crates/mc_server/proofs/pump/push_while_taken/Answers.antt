@@ -1,0 +1,16 @@
+use Rattle.std.proofs.Common.{length, ◌∙◌, ap, add-zero, length-drop, arith}
+use Rattle.std.proofs.lemmas.List.{take_rest}
+use Rattle.mc_server.proofs.Pieces.{sent_more}
+use Rattle.mc_server.proofs.pump.push_while_taken.Goals as goal
+
+pub loop-sent-preserved : goal.loop-sent-preserved
+loop-sent-preserved g c =
+    let bytes = c.args.bytes.now in
+    let sent = c.loop-sent.sent in
+    let so_far = c.loop-sent.invariant in
+    let rest = take_rest bytes sent in
+    record {
+      within = omega (arith, c.in-Taken.ensures.count, ap length rest, length-drop sent bytes, so_far.within);
+      pushed = sent_more _ _ _ bytes _ sent c.in-Taken.count rest so_far.pushed c.in-Taken.ensures.bytes;
+      failures = c.in-Taken.ensures.failed ∙ (add-zero _ ∙ so_far.failures);
+    }
