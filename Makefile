@@ -7,6 +7,7 @@ help:
 	@echo 'make bench  measures the built programs; the figures of docs/BENCHMARKS.md come from it'
 
 run: kit
+	@echo 'Proving and building; the first time takes some minutes.' >&2
 	@cd crates/mc_stdin && log=$$(mktemp) && { rt run >"$$log" 2>&1 || { cat "$$log"; rm -f "$$log"; exit 1; }; rm -f "$$log"; }
 	@crates/mc_stdin/out/mc_stdin <crates/mc_stdin/stdin
 	@echo "The program is crates/mc_stdin/out/mc_stdin; feed it from a file or a pipe: printf 'get a\\\\r\\\\n' | crates/mc_stdin/out/mc_stdin"
