@@ -111,7 +111,8 @@ impl Items {
     pub fn last_unique(&self) -> u64
         ensures { result ≡ self.now.last_unique }
     {
-        self.last_unique
+        let Items { last_unique, .. } = self;
+        *last_unique
     }
 
     /// The tenant's quotas.

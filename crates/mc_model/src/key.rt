@@ -136,7 +136,8 @@ impl KeyList {
         ensures value { result.items ≡ self }
         ensures some { 0 < vec_len result }
     {
-        self.keys
+        let Self { keys } = self;
+        keys
     }
 }
 
