@@ -1,4 +1,5 @@
 pub mod Numerals
 pub mod Tables
+pub mod Effects
 pub mod Histories
 mod Rows
