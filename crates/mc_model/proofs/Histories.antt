@@ -12,7 +12,7 @@ use Rattle.mc_model.specs.declared.item.Data.{Data}
 use Rattle.mc_model.specs.declared.item.Item.{Item}
 use Rattle.mc_model.specs.declared.key.Key.{Key}
 use Rattle.mc_model.specs.Effect.{ActsOn, Effect, SparesKey, is_acceptance, is_refusal}
-use Rattle.mc_model.specs.History.{IsStoredBy, Touches, accepts, after, after-none, after-push, answer, changes, changes-push, next_effect}
+use Rattle.mc_model.specs.History.{IsStoredBy, IsUntouched, Touches, accepts, after, after-none, after-push, answer, changes, changes-push, next_effect}
 use Rattle.mc_model.specs.Table.{Table, key_cmp}
 use Rattle.mc_model.proofs.Effects.{IsChange, IsNothing, IsTakenOut, Shape, shape}
 use Rattle.mc_model.proofs.Tables.{get-insert_same, put_cases}
@@ -249,3 +249,63 @@ own_push list command own key other item twin is is_twin same =
 
 pub has_own_uniques : (list : List Command) → HasOwnUniques list
 has_own_uniques = push_induction HasOwnUniques (λ key other item twin is is_twin same. absurd (nothing_under key item is)) own_push
+
+-- the key holds an item with this unique
+pub record HasUnique (list : List Command) (key : Key) (unique : ℕ) : Type 0 where
+  pub item : Item
+  pub held : map.get (after list) key ≡ Some item
+  pub its_unique : item.unique ≡ unique
+
+-- once a unique is past, no later command gives it to a key
+lacks_push : (list : List Command) (command : Command) (key : Key) (unique : ℕ) → unique ≤ changes list →
+    (HasUnique list key unique → ⊥) → HasUnique (list ++ command ∷ []) key unique → ⊥
+lacks_push list command key unique past lacks has =
+    ⊎_elim
+    (λ held. lacks (record { item = has.item; held = held; its_unique = has.its_unique }))
+    (λ fresh. omega (arith, past, fresh.1.0, has.its_unique))
+    (held_or_fresh list command key has.item has.held)
+
+lacks_more : (list more : List Command) (key : Key) (unique : ℕ) → unique ≤ changes list →
+    (HasUnique list key unique → ⊥) → HasUnique (list ++ more) key unique → ⊥
+lacks_more list [] key unique past lacks has = lacks (subst (λ l. HasUnique l key unique) (append-nil list) has)
+lacks_more list (command ∷ more) key unique past lacks has =
+    lacks_more (list ++ command ∷ []) more key unique (omega (arith, past, changes-push list command)) (lacks_push list command key unique past lacks)
+    (subst (λ l. HasUnique l key unique) (sym (append_assoc list (command ∷ []) more)) has)
+
+-- a command that touches a key leaves none of the past uniques there
+touched_lacks : (list : List Command) (command : Command) (key : Key) (unique : ℕ) → unique ≤ changes list →
+    Touches list key command → HasUnique (list ++ command ∷ []) key unique → ⊥
+touched_lacks list command key unique past touches has =
+    ⊎_elim
+    (λ stays. stays.0 touches)
+    (λ moves. ⊎_elim
+    (λ gone. let none = sym gone ∙ has.held in absurd (cc))
+    (λ fresh.
+    let same = ap (λ (i : Item). i.unique) (same_item fresh.item has.item (sym fresh.put ∙ has.held)) in
+    omega (arith, past, same, fresh.its_unique, has.its_unique))
+    moves.1)
+    (step list command key)
+
+-- a unique that is still there was not touched in between
+pub still_there_is_untouched : (earlier between : List Command) (key : Key) (unique : ℕ) → unique ≤ changes earlier →
+    HasUnique (earlier ++ between) key unique → IsUntouched earlier key between
+still_there_is_untouched earlier between key unique past has front back command split touches =
+    let here = earlier ++ front in
+    let until : unique ≤ changes here = omega (arith, past, changes_grow earlier front) in
+    let later : unique ≤ changes (here ++ command ∷ []) = omega (arith, until, changes-push here command) in
+    let joined : earlier ++ between ≡ (here ++ command ∷ []) ++ back =
+    ap (λ list. earlier ++ list) split ∙ (sym (append_assoc earlier front (command ∷ back)) ∙ sym (append_assoc here (command ∷ []) back)) in
+    lacks_more (here ++ command ∷ []) back key unique later (touched_lacks here command key unique until touches) (subst (λ l. HasUnique l key unique) joined has)
+
+-- what isn't touched is still there
+abbrev StaysUntouched : List Command → Key → List Command → Type 0
+StaysUntouched earlier key between = IsUntouched earlier key between → map.get (after (earlier ++ between)) key ≡ map.get (after earlier) key
+
+pub untouched_is_still_there : (earlier : List Command) (key : Key) (between : List Command) → StaysUntouched earlier key between
+untouched_is_still_there earlier key = push_induction (StaysUntouched earlier key) (λ untouched. ap (λ list. map.get (after list) key) (append-nil earlier)) more
+  where
+    more : (between : List Command) (command : Command) → StaysUntouched earlier key between → StaysUntouched earlier key (between ++ command ∷ [])
+    more between command before untouched =
+        let kept = before (λ front back other split touches. untouched front (back ++ command ∷ []) other (ap (λ list. list ++ command ∷ []) split ∙ append_assoc front (other ∷ back) (command ∷ [])) touches) in
+        ap (λ list. map.get (after list) key) (sym (append_assoc earlier between (command ∷ [])))
+        ∙ (untouched_push (earlier ++ between) command key (untouched between [] command refl) ∙ kept)

@@ -2,4 +2,5 @@ pub mod Numerals
 pub mod Tables
 pub mod Effects
 pub mod Histories
+pub mod OneKey
 mod Rows

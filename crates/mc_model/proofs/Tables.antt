@@ -24,6 +24,10 @@ pub get-insert_other : (table : Table) (key other : Key) (item : Item) → other
 get-insert_other table key other item apart =
     get-insert key_cmp_total table key item other ∙ cond-false _ _ _ (false_from_ne_true _ (λ tied. apart (tied_keys other key tied)))
 
+pub get-remove_same : (table : Table) (key : Key) → map.get (map.remove table key) key ≡ None
+get-remove_same table key =
+    get-remove key_cmp_total table key key ∙ cond-true _ _ _ ((eq_by_cmp_equiv key_cmp_total).refl key)
+
 -- under a key is what was put there, or what was there before
 pub put_cases : (table : Table) (under key : Key) (item : Item) →
     ((under ≡ key) × (map.get (map.insert table under item) key ≡ Some item)) ⊎ ((under ≢ key) × (map.get (map.insert table under item) key ≡ map.get table key))

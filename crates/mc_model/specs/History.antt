@@ -47,6 +47,11 @@ accepts list command = is_acceptance (answer list command)
 abbrev pub Touches : List Command → Key → Command → Type 0
 Touches list key command = ActsOn key command × (is_refusal (answer list command) ≡ false)
 
+-- none of the commands in between touches the key, each after those before it
+abbrev pub IsUntouched : List Command → Key → List Command → Type 0
+IsUntouched earlier key between =
+    (front back : List Command) (command : Command) → between ≡ front ++ command ∷ back → Touches (earlier ++ front) key command → ⊥
+
 -- a table and a number of changes stand for a list
 pub record StandsFor (list : List Command) (table : Table) (number : ℕ) : Type 0 where
   pub is_after : table ≡ after list

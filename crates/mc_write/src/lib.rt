@@ -1,0 +1,125 @@
+//! Reply text: what a client reads for each reply, appended to a queue of bytes.
+#![tactic(auto)]
+
+ghost use Rattle.std.specs.Io.{StartsWith};
+ghost use Rattle.std.specs.Prelude.{◌≡◌, ℕ, ◌++◌, codes, decimal, flat_map, OnErr, OnOk, IsOkUnless};
+ghost use Rattle.mc_model.specs.declared.reply.Reply.TheVariants.{Refused};
+ghost use Rattle.mc_write.specs.Text.{text, unique_text, value_line, value_text};
+
+use itoa::Buffer;
+use mc_model::{Fault, Reply, Value, WireNo};
+use std::alloc::AllocError;
+
+/// Appends a reply's text. Where memory runs out: `Memory`, and the old bytes stay as they were.
+pub fn write_reply(reply: &Reply, out: &mut Vec<u8>) -> Result<(), Fault>
+    ensures text { OnOk result (out.new.items ≡ out.old.items ++ text reply.now) }
+    ensures kept { OnErr result (out.new.items ≡ out.old.items) }
+    ensures memory { IsOkUnless result Fault.Memory }
+{
+    let start = out.len();
+    let written = append_reply(reply, out);
+    if written.is_err() {
+        out.truncate(start);
+    }
+    Ok(written?)
+}
+
+/// The text of a refusal, for a caller that has no memory to write it to. Takes none.
+pub fn refusal_text(refusal: WireNo) -> &'static [u8]
+    ensures { result.now ≡ text (Refused refusal) }
+{
+    match refusal {
+        WireNo::E1 => b"ERROR\r\n",
+        WireNo::E2 => b"CLIENT_ERROR bad command line format\r\n",
+        WireNo::E3 => b"CLIENT_ERROR bad data chunk\r\n",
+        WireNo::E4 => b"CLIENT_ERROR expiry is not supported\r\n",
+        WireNo::E5 => b"CLIENT_ERROR line too long\r\n",
+        WireNo::E6 => b"SERVER_ERROR object too large for cache\r\n",
+        WireNo::E7 => b"SERVER_ERROR out of memory storing object\r\n",
+        WireNo::E8 => b"CLIENT_ERROR cannot increment or decrement non-numeric value\r\n",
+        WireNo::E9 => b"CLIENT_ERROR invalid numeric delta argument\r\n",
+        WireNo::E10 => b"SERVER_ERROR log full\r\n",
+        WireNo::E11 => b"SERVER_ERROR out of memory\r\n",
+    }
+}
+
+/// A text may be written in part where memory runs out.
+fn append_reply(reply: &Reply, out: &mut Vec<u8>) -> Result<(), AllocError>
+    ensures text { OnOk result (out.new.items ≡ out.old.items ++ text reply.now) }
+    ensures begun { StartsWith out.new.items out.old.items }
+{
+    match reply {
+        Reply::Stored => out.extend_from_slice(b"STORED\r\n"),
+        Reply::NotStored => out.extend_from_slice(b"NOT_STORED\r\n"),
+        Reply::Exists => out.extend_from_slice(b"EXISTS\r\n"),
+        Reply::NotFound => out.extend_from_slice(b"NOT_FOUND\r\n"),
+        Reply::Deleted => out.extend_from_slice(b"DELETED\r\n"),
+        Reply::Ok => out.extend_from_slice(b"OK\r\n"),
+        Reply::Number(number) => {
+            append_digits(*number, out)?;
+            out.extend_from_slice(b"\r\n")
+        }
+        Reply::Values(values) => {
+            append_values(values.as_slice(), out)?;
+            out.extend_from_slice(b"END\r\n")
+        }
+        Reply::Version => out.extend_from_slice(b"VERSION 1.0.0\r\n"),
+        Reply::Refused(refusal) => out.extend_from_slice(refusal_text(*refusal)),
+    }
+}
+
+fn append_values(values: &[Value], out: &mut Vec<u8>) -> Result<(), AllocError>
+    ensures text { OnOk result (out.new.items ≡ out.old.items ++ flat_map value_text values.now) }
+    ensures begun { StartsWith out.new.items out.old.items }
+{
+    for value in values {
+        append_line(value, out)?;
+        append_block(value.block.as_bytes(), out)?;
+    }
+    Ok(())
+}
+
+/// The line of an item, without its end.
+fn append_line(value: &Value, out: &mut Vec<u8>) -> Result<(), AllocError>
+    ensures text { OnOk result (out.new.items ≡ out.old.items ++ value_line value.now) }
+    ensures begun { StartsWith out.new.items out.old.items }
+{
+    out.extend_from_slice(b"VALUE ")?;
+    out.extend_from_slice(value.key.as_bytes())?;
+    append_number(u64::from(value.flags), out)?;
+    append_number(value.block.as_bytes().len() as u64, out)?;
+    if let Some(unique) = value.unique {
+        append_number(unique, out)?;
+    }
+    Ok(())
+}
+
+/// The end of an item's line, and its data.
+fn append_block(block: &[u8], out: &mut Vec<u8>) -> Result<(), AllocError>
+    ensures text { OnOk result (out.new.items ≡ out.old.items ++ (codes "\r\n" ++ block.now ++ codes "\r\n")) }
+    ensures begun { StartsWith out.new.items out.old.items }
+{
+    out.extend_from_slice(b"\r\n")?;
+    out.extend_from_slice(block)?;
+    out.extend_from_slice(b"\r\n")
+}
+
+/// A space, and the number in decimal digits.
+fn append_number(number: u64, out: &mut Vec<u8>) -> Result<(), AllocError>
+    ensures text { OnOk result (out.new.items ≡ out.old.items ++ (codes " " ++ decimal number)) }
+    ensures begun { StartsWith out.new.items out.old.items }
+{
+    out.extend_from_slice(b" ")?;
+    append_digits(number, out)
+}
+
+fn append_digits(number: u64, out: &mut Vec<u8>) -> Result<(), AllocError>
+    ensures text { OnOk result (out.new.items ≡ out.old.items ++ decimal number) }
+    ensures begun { StartsWith out.new.items out.old.items }
+{
+    let mut digits = Buffer::new();
+    out.extend_from_slice(digits.format(number).as_bytes())
+}
+
+#[cfg(test)]
+mod tests;
