@@ -18,6 +18,9 @@ use mc_model::{Command, Data, Fault, Key, Limits, Reply, ValueList, Verb, WireNo
 use std::alloc::Global;
 use std::marker::Model;
 
+mod blocks;
+mod held;
+
 /// A tenant's table as a list of its keys and items, in no order that matters.
 #[derive(Debug, Drop)]
 pub struct Items {
@@ -172,19 +175,19 @@ impl Items {
     {
         let Some(old) = self.get(key) else {
             return match verb {
-                Verb::Set | Verb::Add => self.put(key, flags, block.try_clone()?),
+                Verb::Set | Verb::Add => self.put_block(key, flags, block.try_clone()?),
                 Verb::Replace | Verb::Append | Verb::Prepend => Ok(Reply::NotStored),
             };
         };
         let old_flags = old.flags;
         let whole = match verb {
-            Verb::Set | Verb::Replace => return self.put(key, flags, block.try_clone()?),
+            Verb::Set | Verb::Replace => return self.put_block(key, flags, block.try_clone()?),
             Verb::Add => return Ok(Reply::NotStored),
             Verb::Append => joined(self.alloc, &old.block, block)?,
             Verb::Prepend => joined(self.alloc, block, &old.block)?,
         };
         match whole {
-            Some(whole) => self.put(key, old_flags, whole),
+            Some(whole) => self.put_block(key, old_flags, whole),
             None => Ok(Reply::Refused(WireNo::E6)),
         }
     }
@@ -209,7 +212,7 @@ impl Items {
         if old.unique != seen {
             return Ok(Reply::Exists);
         }
-        self.put(key, flags, block.try_clone()?)
+        self.put_block(key, flags, block.try_clone()?)
     }
 
     /// Takes a key out. Takes no memory.
@@ -269,12 +272,12 @@ impl Items {
         ensures unchanged { OnErr result (self.new ≡ self.old) }
     {
         let digits = digits_of(self.alloc, number)?;
-        self.put(key, flags, digits)?;
+        self.put_block(key, flags, digits)?;
         Ok(Reply::Number(number))
     }
 
     /// Puts an item with the next unique under a key, over what it held.
-    fn put(&mut self, key: &Key, flags: u32, block: Data) -> Result<Reply, Fault>
+    fn put_block(&mut self, key: &Key, flags: u32, block: Data) -> Result<Reply, Fault>
         requires { self.old.last_unique < 2 ^ 64 - 1 }
         ensures reply { IfOk result (λ reply. reply ≡ Stored) }
         ensures state { OnOk result (self.new ≡ with_item self.old key.now flags block) }
@@ -293,7 +296,5 @@ impl Items {
     }
 }
 
-mod blocks;
-mod held;
 #[cfg(test)]
 mod tests;
