@@ -44,7 +44,8 @@ impl TenantId {
         ensures value { result ≡ self }
         ensures small { result < TENANTS }
     {
-        self.number
+        let TenantId { number } = self;
+        number
     }
 }
 
@@ -81,7 +82,8 @@ impl WorkerId {
         ensures value { result ≡ self }
         ensures small { result < WORKERS }
     {
-        self.number
+        let WorkerId { number } = self;
+        number
     }
 }
 

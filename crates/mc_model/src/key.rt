@@ -148,7 +148,8 @@ impl KeyList {
         ensures value { result.items ≡ self }
         ensures some { 0 < vec_len result }
     {
-        self.keys
+        let Self { keys } = self;
+        keys
     }
 }
 

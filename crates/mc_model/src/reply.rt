@@ -74,7 +74,8 @@ impl ValueList {
     pub fn into_values(self) -> Vec<Value>
         ensures { result.items ≡ self }
     {
-        self.values
+        let Self { values } = self;
+        values
     }
 }
 

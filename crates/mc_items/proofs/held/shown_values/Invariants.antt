@@ -2,7 +2,7 @@ use Rattle.std.proofs.Common.{◌≡◌, ◌++◌, drop}
 use Rattle.std.specs.List.{filter_map}
 use Rattle.mc_model.specs.Effect.{shown_at}
 use Rattle.mc_items.specs.Held.{table_of_held}
-use Rattle.mc_items.proofs.shown_values.Given as goal
+use Rattle.mc_items.proofs.held.shown_values.Given as goal
 
 -- what is shown so far and what is shown of the keys that are left is what is shown of all
 abbrev pub invariant-loop-key : goal.invariant-loop-key
