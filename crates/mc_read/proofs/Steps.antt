@@ -17,7 +17,7 @@ use Rattle.mc_read.specs.declared.reader.State.TheVariants as state
 use Rattle.mc_read.specs.First.{first_behind, first_request, found, is_line_feed, line_length}
 use Rattle.mc_read.specs.Line.{asked, is_word, refused}
 use Rattle.mc_read.specs.Reading.{Ended, HasNone, Kept, ReadAlike, Swallowing, ends_stream}
-use Rattle.mc_read.specs.State.{EndsInRefusal, IsAnswer, IsLineAt, held_in, state_after}
+use Rattle.mc_read.specs.State.{EndsInRefusal, IsAnswer, IsLineAt, IsStateOf, held_in, state_after}
 use Rattle.mc_read.specs.Text.{IsUnbroken, length_behind, request_of, stored}
 use Rattle.mc_read.proofs.Holdings.{has_none, held_after, next_is_first, reads_alike, refused_alike, refused_has_none}
 use Rattle.mc_read.proofs.Texts.{before_first-unbroken}
@@ -121,10 +121,14 @@ module _ (bytes : List ℕ) (request : Request) (left : ℕ) (ends : EndsInRefus
   pub no_other : (a : Asked) → asked (take line bytes) ≡ a → IsRefusal a
   no_other a is = subst IsRefusal (sym asks_refusal ∙ is) tt
 
--- the state after a request holds what follows it
-pub held_in_state_after : (request : Request) (left : List ℕ) → held_in (state_after request) left ≡ held_after request left
+-- the state after a request, with what follows it or nothing at the end of the stream
+pub held_in_state_after : (request : Request) (left : List ℕ) → held_in (state_after request) (cond (ends_stream request) [] left) ≡ held_after request left
 held_in_state_after request left =
-    elim (ends_stream request) as (λ b. held_in (cond b state.Ended (state.Line 0)) left ≡ cond b Ended (Kept left)) [ true ↦ refl | false ↦ refl ]
+    elim (ends_stream request) as (λ b. held_in (cond b state.Ended (state.Line 0)) (cond b [] left) ≡ cond b Ended (Kept left)) [ true ↦ refl | false ↦ refl ]
+
+pub is_state_after : (request : Request) (left : List ℕ) → IsStateOf (state_after request) (cond (ends_stream request) [] left)
+is_state_after request left =
+    elim (ends_stream request) as (λ b. IsStateOf (cond b state.Ended (state.Line 0)) (cond b [] left)) [ true ↦ refl | false ↦ record { in_vain = omega arith; few = omega arith } ]
 
 -- after a block the stream goes on
 pub stored_goes_on : (header : Header) (behind left : List ℕ) → held_after (stored header behind) left ≡ Kept left

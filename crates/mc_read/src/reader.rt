@@ -106,13 +106,18 @@ fn copy_block(alloc: Global, size: usize, behind: &[u8]) -> Result<(Data, bool),
     }
 }
 
-/// The state in which the reader goes on after a request.
-fn state_after(request: &Request) -> State
-    ensures { result ≡ state_after request.now }
+/// Takes a request of `count` bytes off the front, and gives the state in which the reader goes on. At the end of the
+/// stream nothing is kept.
+fn move_on(buffer: &mut Buffer, count: usize, request: &Request) -> State
+    requires { count ≤ length buffer.old }
+    ensures state { result ≡ state_after request.now }
+    ensures bytes { buffer.new ≡ (if ends_stream request.now then [] else drop count buffer.old) }
 {
     if ends_stream(request) {
+        buffer.clear();
         State::Ended
     } else {
+        buffer.take(count);
         State::Line { searched: 0 }
     }
 }
@@ -149,8 +154,7 @@ fn next_line(
     let behind = bytes.len() - start;
     match ask(alloc, &bytes[..line])? {
         Asked::Line(request) => {
-            buffer.take(start);
-            let state = state_after(&request);
+            let state = move_on(buffer, start, &request);
             Ok((Some(request), state))
         }
         Asked::Refused {
