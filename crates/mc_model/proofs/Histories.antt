@@ -1,20 +1,21 @@
 -- What follows from the definitions on lists of commands, by induction on the list.
-use Rattle.std.proofs.Common.{◌≡◌, ◌≢◌, ℕ, ◌+◌, ◌≤◌, Bool, List, [], ◌∷◌, ◌++◌, reverse, Some, refl, sym, ◌∙◌, ap, subst, if◌then◌else◌, ⊎_elim, append_assoc, append-nil, add-zero, arith}
+use Rattle.std.proofs.Common.{◌≡◌, ◌≢◌, ℕ, ◌+◌, ◌≤◌, Bool, true, false, ◌⊎◌, inl, inr, None, List, [], ◌∷◌, ◌++◌, reverse, Option, Some, refl, sym, ◌∙◌, ap, subst, if◌then◌else◌, ⊎_elim, append_assoc, append-nil, add-zero, arith}
+use Rattle.std.proofs.lemmas.Bool.{both_ways}
 use Rattle.std.proofs.lemmas.List.{reverse-append, reverse-reverse}
 use Rattle.std.specs.FinMap as map
 use Rattle.std.specs.FinMap.{get-empty}
 use Rattle.std.specs.List.{AllByRecursion}
 use Rattle.mc_model.specs.declared.command.Command.{Command}
-use Rattle.mc_model.specs.declared.command.Command.TheVariants.{Get, Store}
+use Rattle.mc_model.specs.declared.command.Command.TheVariants.{Store}
 use Rattle.mc_model.specs.declared.command.Verb.TheVariants.{Set}
 use Rattle.mc_model.specs.declared.item.Data.{Data}
 use Rattle.mc_model.specs.declared.item.Item.{Item}
 use Rattle.mc_model.specs.declared.key.Key.{Key}
-use Rattle.mc_model.specs.declared.key.KeyList.{KeyList}
-use Rattle.mc_model.specs.Effect.{SparesKey, is_acceptance}
-use Rattle.mc_model.specs.History.{IsStoredBy, after, after-none, after-push, changes, changes-push, next_effect}
+use Rattle.mc_model.specs.Effect.{ActsOn, Effect, SparesKey, is_acceptance, is_refusal}
+use Rattle.mc_model.specs.History.{IsStoredBy, IsUntouched, Touches, accepts, after, after-none, after-push, answer, changes, changes-push, next_effect}
 use Rattle.mc_model.specs.Table.{Table, key_cmp}
-use Rattle.mc_model.proofs.Tables.{get-insert_cases, get-insert_other, get-insert_same}
+use Rattle.mc_model.proofs.Effects.{IsChange, IsNothing, IsTakenOut, Shape, shape}
+use Rattle.mc_model.proofs.Tables.{get-insert_same, put_cases}
 
 -- what holds of no command, and of one more command at the end, holds of each list
 push_induction : (P : List Command → Type 0) → P [] → ((list : List Command) (command : Command) → P list → P (list ++ command ∷ [])) → (list : List Command) → P list
@@ -52,27 +53,91 @@ alike_more list other (command ∷ later) alike =
       same_changes = rw (append_assoc list (command ∷ []) later, append_assoc other (command ∷ []) later) at more.same_changes;
     }
 
--- a get leaves the table and the number of changes
-get_is_nothing : (list : List Command) (keys : KeyList) (uniques : Bool) → AreAlike (list ++ Get keys uniques ∷ []) list
-get_is_nothing list keys uniques = record {
-  same_table = after-push list (Get keys uniques);
-  same_changes = changes-push list (Get keys uniques) ∙ add-zero (changes list);
+same_item : (item other : Item) → ◌≡◌ {A = Option Item} (Some item) (Some other) → item ≡ other
+same_item item other is = cc
+
+-- what one more command does
+pub shape_of : (list : List Command) (command : Command) → Shape (after list) (changes list + 1) command (next_effect (after list) (changes list) command)
+shape_of list command = shape (after list) (changes list + 1) command
+
+get_pushed : (list : List Command) (command : Command) (key : Key) → map.get (after (list ++ command ∷ [])) key ≡ map.get (next_effect (after list) (changes list) command).table key
+get_pushed list command key = ap (λ table. map.get table key) (after-push list command)
+
+changes_pushed : (list : List Command) (command : Command) (b : Bool) → accepts list command ≡ b → changes (list ++ command ∷ []) ≡ changes list + (if b then 1 else 0)
+changes_pushed list command b is = changes-push list command ∙ ap (λ (a : Bool). changes list + (if a then 1 else 0)) is
+
+-- a command that changes nothing can be left out
+pub nothing_is_alike : (list : List Command) (command : Command) → IsNothing (after list) command (next_effect (after list) (changes list) command) → AreAlike (list ++ command ∷ []) list
+nothing_is_alike list command is = record {
+  same_table = after-push list command ∙ is.same;
+  same_changes = changes_pushed list command false is.no_change ∙ add-zero (changes list);
 }
 
-pub alike_without_get : (earlier later : List Command) (keys : KeyList) (uniques : Bool) → AreAlike (earlier ++ Get keys uniques ∷ later) (earlier ++ later)
-alike_without_get earlier later keys uniques =
-    subst (λ list. AreAlike list (earlier ++ later)) (append_assoc earlier (Get keys uniques ∷ []) later) (alike_more (earlier ++ Get keys uniques ∷ []) earlier later (get_is_nothing earlier keys uniques))
+pub alike_without : (earlier later : List Command) (command : Command) → IsNothing (after earlier) command (next_effect (after earlier) (changes earlier) command) →
+    AreAlike (earlier ++ command ∷ later) (earlier ++ later)
+alike_without earlier later command is =
+    subst (λ list. AreAlike list (earlier ++ later)) (append_assoc earlier (command ∷ []) later) (alike_more (earlier ++ command ∷ []) earlier later (nothing_is_alike earlier command is))
 
--- a command that spares a key leaves what is under it
-spared_push : (list : List Command) (command : Command) (key : Key) → SparesKey key command → map.get (after (list ++ command ∷ [])) key ≡ map.get (after list) key
-spared_push list (Store Set other flags block) key apart =
-    ap (λ table. map.get table key) (after-push list (Store Set other flags block)) ∙ get-insert_other _ _ key _ (λ same. apart (sym same))
-spared_push list (Get keys uniques) key _ = ap (λ table. map.get table key) (after-push list (Get keys uniques))
+-- a refused command changes nothing
+pub refusal_is_nothing : (list : List Command) (command : Command) → is_refusal (answer list command) ≡ true → IsNothing (after list) command (next_effect (after list) (changes list) command)
+refusal_is_nothing list command refused =
+    ⊎_elim (λ nothing. nothing) (⊎_elim (λ change. absurd (both_ways _ change.granted refused)) (λ out. absurd (both_ways _ out.granted refused))) (shape_of list command)
+
+-- What one more command does to what is under a key: it stays, is taken out, or gives way to an item with the next unique;
+-- the latter two only where the command touches the key.
+record IsFresh (list : List Command) (command : Command) (key : Key) : Type 0 where
+  item : Item
+  put : map.get (after (list ++ command ∷ [])) key ≡ Some item
+  its_unique : item.unique ≡ changes list + 1
+  accepted : accepts list command ≡ true
+  only : (other : Key) → ActsOn other command → key ≡ other
+
+abbrev Stays : List Command → Command → Key → Type 0
+Stays list command key = (Touches list key command → ⊥) × (map.get (after (list ++ command ∷ [])) key ≡ map.get (after list) key)
+
+abbrev Moves : List Command → Command → Key → Type 0
+Moves list command key = Touches list key command × ((map.get (after (list ++ command ∷ [])) key ≡ None) ⊎ IsFresh list command key)
+
+step : (list : List Command) (command : Command) (key : Key) → Stays list command key ⊎ Moves list command key
+step list command key = ⊎_elim by_nothing (⊎_elim by_change by_taking_out) (shape_of list command)
+  where
+    done : Effect
+    done = next_effect (after list) (changes list) command
+
+    by_nothing : IsNothing (after list) command done → Stays list command key ⊎ Moves list command key
+    by_nothing is = inl (λ touches. both_ways _ touches.1 (is.refused key touches.0), get_pushed list command key ∙ ap (λ table. map.get table key) is.same)
+
+    by_change : IsChange (after list) (changes list + 1) command done → Stays list command key ⊎ Moves list command key
+    by_change is =
+        let found : map.get (after (list ++ command ∷ [])) key ≡ map.get (map.insert (after list) is.under is.item) key = get_pushed list command key ∙ ap (λ table. map.get table key) is.put in
+        ⊎_elim
+        (λ here. inr (
+          (subst (λ k. ActsOn k command) here.0 is.acts, is.granted),
+          inr (record {
+            item = is.item;
+            put = found ∙ here.1;
+            its_unique = is.its_unique;
+            accepted = is.accepted;
+            only = λ other acts. sym here.0 ∙ is.only other acts;
+          }),
+        ))
+        (λ there. inl (λ touches. there.0 (is.only key touches.0), found ∙ there.1))
+        (put_cases (after list) is.under key is.item)
+
+    by_taking_out : IsTakenOut (after list) command done → Stays list command key ⊎ Moves list command key
+    by_taking_out is = ⊎_elim
+        (λ gone. inr ((gone.0, is.granted), inl (get_pushed list command key ∙ gone.1)))
+        (λ kept. inl (λ touches. kept.0 touches.0, get_pushed list command key ∙ kept.1))
+        (is.left key)
+
+-- a command that doesn't touch a key leaves what is under it
+untouched_push : (list : List Command) (command : Command) (key : Key) → (Touches list key command → ⊥) → map.get (after (list ++ command ∷ [])) key ≡ map.get (after list) key
+untouched_push list command key untouched = ⊎_elim (λ stays. stays.1) (λ moves. absurd (untouched moves.0)) (step list command key)
 
 pub spared_more : (list more : List Command) (key : Key) → AllByRecursion (SparesKey key) more → map.get (after (list ++ more)) key ≡ map.get (after list) key
 spared_more list [] key spared = rw (append-nil list) refl
 spared_more list (command ∷ more) key spared =
-    rw (append_assoc list (command ∷ []) more) at (spared_more (list ++ command ∷ []) more key spared.1) ∙ spared_push list command key spared.0
+    rw (append_assoc list (command ∷ []) more) at (spared_more (list ++ command ∷ []) more key spared.1) ∙ untouched_push list command key (λ touches. spared.0 touches.0)
 
 -- what a set leaves under its key
 pub get_after_push-set : (list : List Command) (key : Key) (flags : ℕ) (block : Data) → map.get (after (list ++ Store Set key flags block ∷ [])) key ≡ Some (record { flags = flags; block = block; unique = changes list + 1 })
@@ -82,21 +147,33 @@ get_after_push-set list key flags block =
 nothing_under : (key : Key) (item : Item) → map.get (after []) key ≢ Some item
 nothing_under key item is = let empty = sym (get-empty key_cmp key) ∙ (ap (λ table. map.get table key) (sym after-none) ∙ is) in cc
 
+-- changes are never fewer after more commands
+pub changes_grow : (list more : List Command) → changes list ≤ changes (list ++ more)
+changes_grow list [] = let same : changes (list ++ []) ≡ changes list = ap changes (append-nil list) in omega (arith, same)
+changes_grow list (command ∷ more) =
+    let later = changes_grow (list ++ command ∷ []) more in
+    let same : changes ((list ++ command ∷ []) ++ more) ≡ changes (list ++ command ∷ more) = ap changes (append_assoc list (command ∷ []) more) in
+    omega (arith, later, same, changes-push list command)
+
 -- each unique is between 1 and the number of changes
 abbrev HasBoundedUniques : List Command → Type 0
 HasBoundedUniques list = (key : Key) (item : Item) → map.get (after list) key ≡ Some item → (1 ≤ item.unique) × (item.unique ≤ changes list)
 
 bounded_push : (list : List Command) (command : Command) → HasBoundedUniques list → HasBoundedUniques (list ++ command ∷ [])
-bounded_push list (Get keys uniques) bounded key item is =
-    let alike = get_is_nothing list keys uniques in
-    let before = bounded key item (rw alike.same_table at is) in
-    rw alike.same_changes before
-bounded_push list (Store Set other flags block) bounded key item is =
-    let put = rw after-push at is in
-    let grown : changes (list ++ Store Set other flags block ∷ []) ≡ changes list + 1 = changes-push list (Store Set other flags block) in
-    ⊎_elim (λ here. let unique = ap (λ (i : Item). i.unique) here.1 in (omega (arith, unique), omega (arith, unique, grown))) (λ there. let before = bounded key item there.1 in (before.0, omega (arith, before.1, grown))) (get-insert_cases _ _ _ _ _ put)
+bounded_push list command bounded key item is =
+    ⊎_elim
+    (λ stays. let before = bounded key item (sym stays.1 ∙ is) in (before.0, omega (arith, before.1, changes-push list command)))
+    (λ moves. ⊎_elim
+    (λ gone. absurd (let none = sym gone ∙ is in cc))
+    (λ fresh.
+    let same : fresh.item ≡ item = same_item fresh.item item (sym fresh.put ∙ is) in
+    let unique = ap (λ (i : Item). i.unique) same in
+    let grown = changes_pushed list command true fresh.accepted in
+    (omega (arith, unique, fresh.its_unique), omega (arith, unique, fresh.its_unique, grown)))
+    moves.1)
+    (step list command key)
 
-has_bounded_uniques : (list : List Command) → HasBoundedUniques list
+pub has_bounded_uniques : (list : List Command) → HasBoundedUniques list
 has_bounded_uniques = push_induction HasBoundedUniques (λ key item is. absurd (nothing_under key item is)) bounded_push
 
 -- each item came with a change
@@ -115,22 +192,28 @@ stored_push list command key item by = record {
   unique = by.unique;
 }
 
-changes_kept : (list : List Command) (command : Command) → HaveChanges list → HaveChanges (list ++ command ∷ [])
-changes_kept list (Get keys uniques) have key item is =
-    stored_push list (Get keys uniques) key item (have key item (rw (get_is_nothing list keys uniques).same_table at is))
-changes_kept list (Store Set other flags block) have key item is =
-    let set = Store Set other flags block in
-    let grown : changes (list ++ set ∷ []) ≡ changes list + 1 = changes-push list set in
-    ⊎_elim (λ here. let unique = ap (λ (i : Item). i.unique) here.1 in record {
+stored_now : (list : List Command) (command : Command) (key : Key) (item : Item) → IsFresh list command key → map.get (after (list ++ command ∷ [])) key ≡ Some item → IsStoredBy (list ++ command ∷ []) key item
+stored_now list command key item fresh is =
+    let same : fresh.item ≡ item = same_item fresh.item item (sym fresh.put ∙ is) in
+    let unique = ap (λ (i : Item). i.unique) same in
+    let grown = changes_pushed list command true fresh.accepted in
+    record {
       earlier = list;
-      change = set;
+      change = command;
       later = [];
       in_list = refl;
-      accepted = refl;
-      absent = λ before. absurd (omega (arith, unique, (has_bounded_uniques list key item before).1));
+      accepted = fresh.accepted;
+      absent = λ before. absurd (omega (arith, unique, fresh.its_unique, (has_bounded_uniques list key item before).1));
       stored = is;
-      unique = omega (arith, unique, grown);
-    }) (λ there. stored_push list set key item (have key item there.1)) (get-insert_cases _ _ _ _ _ (rw after-push at is))
+      unique = omega (arith, unique, fresh.its_unique, grown);
+    }
+
+changes_kept : (list : List Command) (command : Command) → HaveChanges list → HaveChanges (list ++ command ∷ [])
+changes_kept list command have key item is =
+    ⊎_elim
+    (λ stays. stored_push list command key item (have key item (sym stays.1 ∙ is)))
+    (λ moves. ⊎_elim (λ gone. absurd (let none = sym gone ∙ is in cc)) (λ fresh. stored_now list command key item fresh is) moves.1)
+    (step list command key)
 
 pub have_changes : (list : List Command) → HaveChanges list
 have_changes = push_induction HaveChanges (λ key item is. absurd (nothing_under key item is)) changes_kept
@@ -139,25 +222,90 @@ have_changes = push_induction HaveChanges (λ key item is. absurd (nothing_under
 abbrev HasOwnUniques : List Command → Type 0
 HasOwnUniques list = (key other : Key) (item twin : Item) → map.get (after list) key ≡ Some item → map.get (after list) other ≡ Some twin → item.unique ≡ twin.unique → key ≡ other
 
-own_push : (list : List Command) (command : Command) → HasOwnUniques list → HasOwnUniques (list ++ command ∷ [])
-own_push list (Get keys uniques) own key other item twin is is_twin same =
-    let alike = (get_is_nothing list keys uniques).same_table in
-    own key other item twin (rw alike at is) (rw alike at is_twin) same
-own_push list (Store Set set_key flags block) own key other item twin is is_twin same =
+-- what is under a key after one more command was there, or is fresh
+held_or_fresh : (list : List Command) (command : Command) (key : Key) (item : Item) → map.get (after (list ++ command ∷ [])) key ≡ Some item →
+    (map.get (after list) key ≡ Some item) ⊎ (Touches list key command × ((item.unique ≡ changes list + 1) × ((other : Key) → ActsOn other command → key ≡ other)))
+held_or_fresh list command key item is =
     ⊎_elim
-    (λ here. ⊎_elim
-    (λ twin_here. here.0 ∙ sym twin_here.0)
-    (λ twin_there.
-    let unique = ap (λ (i : Item). i.unique) here.1 in
-    absurd (omega (arith, unique, same, (has_bounded_uniques list other twin twin_there.1).1)))
-    (get-insert_cases _ _ _ _ _ (rw after-push at is_twin)))
-    (λ there. ⊎_elim
-    (λ twin_here.
-    let unique = ap (λ (i : Item). i.unique) twin_here.1 in
-    absurd (omega (arith, unique, same, (has_bounded_uniques list key item there.1).1)))
-    (λ twin_there. own key other item twin there.1 twin_there.1 same)
-    (get-insert_cases _ _ _ _ _ (rw after-push at is_twin)))
-    (get-insert_cases _ _ _ _ _ (rw after-push at is))
+    (λ stays. inl (sym stays.1 ∙ is))
+    (λ moves. ⊎_elim
+    (λ gone. absurd (let none = sym gone ∙ is in cc))
+    (λ fresh. inr (moves.0, (ap (λ (i : Item). i.unique) (sym (same_item fresh.item item (sym fresh.put ∙ is))) ∙ fresh.its_unique, fresh.only)))
+    moves.1)
+    (step list command key)
+
+own_push : (list : List Command) (command : Command) → HasOwnUniques list → HasOwnUniques (list ++ command ∷ [])
+own_push list command own key other item twin is is_twin same =
+    ⊎_elim
+    (λ held. ⊎_elim
+    (λ twin_held. own key other item twin held twin_held same)
+    (λ twin_fresh. absurd (omega (arith, same, twin_fresh.1.0, (has_bounded_uniques list key item held).1)))
+    (held_or_fresh list command other twin is_twin))
+    (λ fresh. ⊎_elim
+    (λ twin_held. absurd (omega (arith, same, fresh.1.0, (has_bounded_uniques list other twin twin_held).1)))
+    (λ twin_fresh. fresh.1.1 other twin_fresh.0.0)
+    (held_or_fresh list command other twin is_twin))
+    (held_or_fresh list command key item is)
 
 pub has_own_uniques : (list : List Command) → HasOwnUniques list
 has_own_uniques = push_induction HasOwnUniques (λ key other item twin is is_twin same. absurd (nothing_under key item is)) own_push
+
+-- the key holds an item with this unique
+pub record HasUnique (list : List Command) (key : Key) (unique : ℕ) : Type 0 where
+  pub item : Item
+  pub held : map.get (after list) key ≡ Some item
+  pub its_unique : item.unique ≡ unique
+
+-- once a unique is past, no later command gives it to a key
+lacks_push : (list : List Command) (command : Command) (key : Key) (unique : ℕ) → unique ≤ changes list →
+    (HasUnique list key unique → ⊥) → HasUnique (list ++ command ∷ []) key unique → ⊥
+lacks_push list command key unique past lacks has =
+    ⊎_elim
+    (λ held. lacks (record { item = has.item; held = held; its_unique = has.its_unique }))
+    (λ fresh. omega (arith, past, fresh.1.0, has.its_unique))
+    (held_or_fresh list command key has.item has.held)
+
+lacks_more : (list more : List Command) (key : Key) (unique : ℕ) → unique ≤ changes list →
+    (HasUnique list key unique → ⊥) → HasUnique (list ++ more) key unique → ⊥
+lacks_more list [] key unique past lacks has = lacks (subst (λ l. HasUnique l key unique) (append-nil list) has)
+lacks_more list (command ∷ more) key unique past lacks has =
+    lacks_more (list ++ command ∷ []) more key unique (omega (arith, past, changes-push list command)) (lacks_push list command key unique past lacks)
+    (subst (λ l. HasUnique l key unique) (sym (append_assoc list (command ∷ []) more)) has)
+
+-- a command that touches a key leaves none of the past uniques there
+touched_lacks : (list : List Command) (command : Command) (key : Key) (unique : ℕ) → unique ≤ changes list →
+    Touches list key command → HasUnique (list ++ command ∷ []) key unique → ⊥
+touched_lacks list command key unique past touches has =
+    ⊎_elim
+    (λ stays. stays.0 touches)
+    (λ moves. ⊎_elim
+    (λ gone. let none = sym gone ∙ has.held in absurd (cc))
+    (λ fresh.
+    let same = ap (λ (i : Item). i.unique) (same_item fresh.item has.item (sym fresh.put ∙ has.held)) in
+    omega (arith, past, same, fresh.its_unique, has.its_unique))
+    moves.1)
+    (step list command key)
+
+-- a unique that is still there was not touched in between
+pub still_there_is_untouched : (earlier between : List Command) (key : Key) (unique : ℕ) → unique ≤ changes earlier →
+    HasUnique (earlier ++ between) key unique → IsUntouched earlier key between
+still_there_is_untouched earlier between key unique past has front back command split touches =
+    let here = earlier ++ front in
+    let until : unique ≤ changes here = omega (arith, past, changes_grow earlier front) in
+    let later : unique ≤ changes (here ++ command ∷ []) = omega (arith, until, changes-push here command) in
+    let joined : earlier ++ between ≡ (here ++ command ∷ []) ++ back =
+    ap (λ list. earlier ++ list) split ∙ (sym (append_assoc earlier front (command ∷ back)) ∙ sym (append_assoc here (command ∷ []) back)) in
+    lacks_more (here ++ command ∷ []) back key unique later (touched_lacks here command key unique until touches) (subst (λ l. HasUnique l key unique) joined has)
+
+-- what isn't touched is still there
+abbrev StaysUntouched : List Command → Key → List Command → Type 0
+StaysUntouched earlier key between = IsUntouched earlier key between → map.get (after (earlier ++ between)) key ≡ map.get (after earlier) key
+
+pub untouched_is_still_there : (earlier : List Command) (key : Key) (between : List Command) → StaysUntouched earlier key between
+untouched_is_still_there earlier key = push_induction (StaysUntouched earlier key) (λ untouched. ap (λ list. map.get (after list) key) (append-nil earlier)) more
+  where
+    more : (between : List Command) (command : Command) → StaysUntouched earlier key between → StaysUntouched earlier key (between ++ command ∷ [])
+    more between command before untouched =
+        let kept = before (λ front back other split touches. untouched front (back ++ command ∷ []) other (ap (λ list. list ++ command ∷ []) split ∙ append_assoc front (other ∷ back) (command ∷ [])) touches) in
+        ap (λ list. map.get (after list) key) (sym (append_assoc earlier between (command ∷ [])))
+        ∙ (untouched_push (earlier ++ between) command key (untouched between [] command refl) ∙ kept)

@@ -1,4 +1,6 @@
 pub mod Numerals
 pub mod Tables
+pub mod Effects
 pub mod Histories
+pub mod OneKey
 mod Rows

@@ -1,17 +1,21 @@
--- What a command does to a table and what it is answered, after memcached's doc/protocol.txt, "Storage commands" and
--- "Retrieval command". One equation a command.
-use Rattle.std.specs.Prelude.{◌≢◌, ℕ, Bool, true, false, if◌then◌else◌, Option, Some, None}
+-- What a command does to a table and what it is answered, after memcached's doc/protocol.txt, "Storage commands",
+-- "Retrieval command", "Deletion", "Increment/Decrement" and, for flush_all, "Other commands". One equation a command.
+use Rattle.std.specs.Prelude.{◌≡◌, ℕ, ◌+◌, ◌-◌, ◌%◌, ◌^◌, ◌==◌, nat_le, Bool, true, false, if◌then◌else◌, ◌++◌, length, decimal, Option, Some, None}
 use Rattle.std.specs.List.{filter_map}
 use Rattle.std.specs.Option.{option_map}
 use Rattle.std.specs.FinMap as map
 use Rattle.mc_model.specs.declared.command.Command.{Command}
-use Rattle.mc_model.specs.declared.command.Command.TheVariants.{Store, Get}
-use Rattle.mc_model.specs.declared.command.Verb.TheVariants.{Set}
+use Rattle.mc_model.specs.declared.command.Command.TheVariants.{Store, Cas, Get, Delete, Incr, Decr, Flush}
+use Rattle.mc_model.specs.declared.command.Verb.TheVariants.{Set, Add, Replace, Append, Prepend}
+use Rattle.mc_model.specs.declared.item.Data.{Data}
 use Rattle.mc_model.specs.declared.item.Item.{Item}
+use Rattle.mc_model.specs.declared.item.TheConstants.{DATA_BYTES}
 use Rattle.mc_model.specs.declared.key.Key.{Key}
 use Rattle.mc_model.specs.declared.reply.Reply.{Reply}
-use Rattle.mc_model.specs.declared.reply.Reply.TheVariants.{Stored, Values, Refused}
+use Rattle.mc_model.specs.declared.reply.Reply.TheVariants.{Stored, NotStored, Exists, NotFound, Deleted, Ok, Number, Values, Refused}
 use Rattle.mc_model.specs.declared.reply.Value.{Value}
+use Rattle.mc_model.specs.declared.reply.WireNo.TheVariants.{E6, E8}
+use Rattle.mc_model.specs.Number.{numeric_value}
 use Rattle.mc_model.specs.Table.{Table}
 
 -- the table that a command leaves, and its reply
@@ -28,20 +32,88 @@ shown_item uniques key item =
 abbrev pub shown_at : Table → Bool → Key → Option Value
 shown_at table uniques key = option_map (shown_item uniques key) (map.get table key)
 
--- a command on a table, where a change gets this unique
+-- the table stays
+abbrev pub unchanged : Table → Reply → Effect
+unchanged table reply = record { table = table; reply = reply }
+
+-- an item goes under the key, over what the key held
+abbrev pub stored : Table → Key → Item → Reply → Effect
+stored table key item reply = record { table = map.insert table key item; reply = reply }
+
+-- one effect where there is nothing, another of what is there
+abbrev pub by_cases : {A : Type 0} → Option A → Effect → (A → Effect) → Effect
+by_cases None absent held = absent
+by_cases (Some value) absent held = held value
+
+-- joined data, as far as a block may have so many bytes
+abbrev pub joined : Table → ℕ → Key → ℕ → Data → Effect
+joined table unique key flags block =
+    if nat_le (length block) DATA_BYTES
+    then stored table key (record { flags = flags; block = block; unique = unique }) Stored
+    else unchanged table (Refused E6)
+
+-- the number under a key gives way to another, in decimal digits; the flags stay
+abbrev pub counted : Table → ℕ → Key → Item → (ℕ → ℕ) → Effect
+counted table unique key old next =
+    by_cases (numeric_value old.block) (unchanged table (Refused E8))
+    (λ number. stored table key (record { flags = old.flags; block = decimal (next number); unique = unique }) (Number (next number)))
+
+-- A command on a table, where a change gets this unique. The subtraction of decr is that of natural numbers, which stops at 0.
 abbrev pub effect : Table → ℕ → Command → Effect
 effect table unique (Store Set key flags block) =
-    record { table = map.insert table key (record { flags = flags; block = block; unique = unique }); reply = Stored }
+    stored table key (record { flags = flags; block = block; unique = unique }) Stored
+effect table unique (Store Add key flags block) =
+    by_cases (map.get table key) (stored table key (record { flags = flags; block = block; unique = unique }) Stored)
+    (λ old. unchanged table NotStored)
+effect table unique (Store Replace key flags block) =
+    by_cases (map.get table key) (unchanged table NotStored)
+    (λ old. stored table key (record { flags = flags; block = block; unique = unique }) Stored)
+effect table unique (Store Append key flags block) =
+    by_cases (map.get table key) (unchanged table NotStored)
+    (λ old. joined table unique key old.flags (old.block ++ block))
+effect table unique (Store Prepend key flags block) =
+    by_cases (map.get table key) (unchanged table NotStored)
+    (λ old. joined table unique key old.flags (block ++ old.block))
+effect table unique (Cas key flags block seen) =
+    by_cases (map.get table key) (unchanged table NotFound)
+    (λ old. if old.unique == seen
+    then stored table key (record { flags = flags; block = block; unique = unique }) Stored
+    else unchanged table Exists)
 effect table unique (Get keys uniques) =
-    record { table = table; reply = Values (filter_map (shown_at table uniques) keys) }
+    unchanged table (Values (filter_map (shown_at table uniques) keys))
+effect table unique (Delete key) =
+    by_cases (map.get table key) (unchanged table NotFound)
+    (λ old. record { table = map.remove table key; reply = Deleted })
+effect table unique (Incr key by) =
+    by_cases (map.get table key) (unchanged table NotFound) (λ old. counted table unique key old (λ number. (number + by) % (2 ^ 64)))
+effect table unique (Decr key by) =
+    by_cases (map.get table key) (unchanged table NotFound) (λ old. counted table unique key old (λ number. number - by))
+effect table unique Flush = record { table = map.empty; reply = Ok }
 
 -- whether a reply says that a command has changed an item
 abbrev pub is_acceptance : Reply → Bool
 is_acceptance Stored = true
-is_acceptance (Values values) = false
-is_acceptance (Refused refusal) = false
+is_acceptance (Number number) = true
+is_acceptance _ = false
 
--- the command changes no item under this key: it names other keys, or only reads
+-- whether a reply says that a command was refused
+abbrev pub is_refusal : Reply → Bool
+is_refusal NotStored = true
+is_refusal Exists = true
+is_refusal NotFound = true
+is_refusal (Refused refusal) = true
+is_refusal _ = false
+
+-- the command, where it isn't refused, changes the item under this key or takes it out
+abbrev pub ActsOn : Key → Command → Type 0
+ActsOn key (Store verb other flags block) = other ≡ key
+ActsOn key (Cas other flags block seen) = other ≡ key
+ActsOn key (Get keys uniques) = ⊥
+ActsOn key (Delete other) = other ≡ key
+ActsOn key (Incr other by) = other ≡ key
+ActsOn key (Decr other by) = other ≡ key
+ActsOn key Flush = Unit {0}
+
+-- the command leaves this key alone: it names other keys, or only reads
 abbrev pub SparesKey : Key → Command → Type 0
-SparesKey key (Store verb other flags block) = other ≢ key
-SparesKey key (Get keys uniques) = Unit {0}
+SparesKey key command = ActsOn key command → ⊥

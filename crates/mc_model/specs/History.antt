@@ -1,7 +1,7 @@
 -- What a list of commands leaves of a table that is empty at first. The lists stand in the order of the commands.
 -- A change is a command that was accepted; its unique is how many there are with it, from 1 (this project's profile of
 -- the "unique 64-bit value" of memcached's doc/protocol.txt).
-use Rattle.std.specs.Prelude.{◌≡◌, ◌≢◌, ℕ, ◌+◌, Bool, if◌then◌else◌, IsTrue, List, [], ◌∷◌, ◌++◌, reverse, Some, refl}
+use Rattle.std.specs.Prelude.{◌≡◌, ◌≢◌, ℕ, ◌+◌, Bool, false, if◌then◌else◌, IsTrue, List, [], ◌∷◌, ◌++◌, reverse, Some, refl}
 use Rattle.std.proofs.Common.{ap}
 use Rattle.std.proofs.lemmas.List.{reverse-append}
 use Rattle.std.specs.FinMap as map
@@ -9,7 +9,7 @@ use Rattle.mc_model.specs.declared.command.Command.{Command}
 use Rattle.mc_model.specs.declared.item.Item.{Item}
 use Rattle.mc_model.specs.declared.key.Key.{Key}
 use Rattle.mc_model.specs.declared.reply.Reply.{Reply}
-use Rattle.mc_model.specs.Effect.{Effect, effect, is_acceptance}
+use Rattle.mc_model.specs.Effect.{ActsOn, Effect, effect, is_acceptance, is_refusal}
 use Rattle.mc_model.specs.Table.{Table}
 
 -- the effect of a command on a table after so many changes: a change gets the next unique
@@ -42,6 +42,15 @@ answer list command = (next_effect (after list) (changes list) command).reply
 -- whether a command is accepted after a list
 abbrev pub accepts : List Command → Command → Bool
 accepts list command = is_acceptance (answer list command)
+
+-- after a list, the command changes the item under the key or takes it out
+abbrev pub Touches : List Command → Key → Command → Type 0
+Touches list key command = ActsOn key command × (is_refusal (answer list command) ≡ false)
+
+-- none of the commands in between touches the key, each after those before it
+abbrev pub IsUntouched : List Command → Key → List Command → Type 0
+IsUntouched earlier key between =
+    (front back : List Command) (command : Command) → between ≡ front ++ command ∷ back → Touches (earlier ++ front) key command → ⊥
 
 -- a table and a number of changes stand for a list
 pub record StandsFor (list : List Command) (table : Table) (number : ℕ) : Type 0 where

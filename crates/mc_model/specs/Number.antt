@@ -1,5 +1,5 @@
 -- Numbers in a line, in decimal digits, as memcached's doc/protocol.txt has flags, lengths, uniques and deltas.
-use Rattle.std.specs.Prelude.{ℕ, Bool, ◌&&◌, nat_lt, nat_le, if◌then◌else◌, List, length, Option, Some, None}
+use Rattle.std.specs.Prelude.{ℕ, ◌-◌, ◌^◌, Bool, ◌&&◌, nat_lt, nat_le, if◌then◌else◌, List, length, Option, Some, None}
 use Rattle.std.specs.Str.{all_ascii_digits}
 use Rattle.std.specs.Str.Parse.{digits_value}
 
@@ -11,3 +11,8 @@ is_numeral bytes = nat_lt 0 (length bytes) && all_ascii_digits bytes
 abbrev pub number_up_to : ℕ → List ℕ → Option ℕ
 number_up_to limit bytes =
     if is_numeral bytes && nat_le (digits_value 10 bytes) limit then Some (digits_value 10 bytes) else None
+
+-- The number that data spell, where they are numeric: 1 to 20 decimal digits, a "decimal representation of a 64-bit
+-- unsigned integer" ("Increment/Decrement").
+abbrev pub numeric_value : List ℕ → Option ℕ
+numeric_value block = if nat_le (length block) 20 then number_up_to (2 ^ 64 - 1) block else None

@@ -131,6 +131,18 @@ impl KeyList {
         self.keys.as_slice()
     }
 
+    /// The same keys in memory of their own.
+    pub fn try_clone(&self) -> Result<KeyList, Fault>
+        ensures keys { IfOk result (λ keys. keys ≡ self.now) }
+        ensures memory { IsOkUnless result Fault.Memory }
+    {
+        let mut keys = Vec::new(*self.keys.allocator());
+        for key in self.keys.as_slice() {
+            keys.push(key.try_clone()?)?;
+        }
+        Ok(KeyList { keys })
+    }
+
     /// The keys, in the vector that they were given in.
     pub fn into_keys(self) -> Vec<Key>
         ensures value { result.items ≡ self }

@@ -105,8 +105,22 @@ impl Eq for ValueList {
 pub enum Reply {
     /// `STORED`
     Stored,
+    /// `NOT_STORED`
+    NotStored,
+    /// `EXISTS`
+    Exists,
+    /// `NOT_FOUND`
+    NotFound,
+    /// `DELETED`
+    Deleted,
+    /// `OK`
+    Ok,
+    /// The number that an arithmetic command leaves.
+    Number(u64),
     /// The items found, and `END`
     Values(ValueList),
+    /// `VERSION 1.0.0`
+    Version,
     /// A refusal.
     Refused(WireNo),
 }

@@ -56,6 +56,7 @@ fn lists_there_and_back(rt: HostRuntime) -> Result<(), Fail> {
         "a list",
     )?;
     assert_eq!(rt; list.as_slice().len(), 2);
+    assert_eq!(rt; list.try_clone()?, list);
     assert_eq!(rt; list.into_keys(), vec![in rt.alloc(); key, other]?);
     assert!(rt; KeyList::new(Vec::new(rt.alloc())).is_none());
 
@@ -63,6 +64,49 @@ fn lists_there_and_back(rt: HostRuntime) -> Result<(), Fail> {
     assert_eq!(rt; values.as_slice().len(), 1);
     assert_eq!(rt; ValueList::new(Vec::new(rt.alloc())).as_slice().len(), 0);
     assert_eq!(rt; values.into_values().len(), 1);
+    Ok(())
+}
+
+#[test]
+fn each_command_copied(rt: HostRuntime) -> Result<(), Fail> {
+    let key = || -> Result<Key, Fail> { Ok(Key::new(rt.alloc(), b"a")?.ok_or("a key")?) };
+    let block = || -> Result<Data, Fail> {
+        Ok(Data::new(Vec::from_slice(rt.alloc(), b"x")?).ok_or("a block")?)
+    };
+    let keys = KeyList::new(vec![in rt.alloc(); key()?, key()?]?).ok_or("a list")?;
+    let mut commands = vec![in rt.alloc();
+        Command::Cas {
+            key: key()?,
+            flags: 1,
+            block: block()?,
+            unique: 2
+        },
+        Command::Get {
+            keys,
+            uniques: true
+        },
+        Command::Delete { key: key()? },
+        Command::Incr { key: key()?, by: 3 },
+        Command::Decr { key: key()?, by: 4 },
+        Command::Flush,
+    ]?;
+    for verb in [
+        Verb::Set,
+        Verb::Add,
+        Verb::Replace,
+        Verb::Append,
+        Verb::Prepend,
+    ] {
+        commands.push(Command::Store {
+            verb,
+            key: key()?,
+            flags: 5,
+            block: block()?,
+        })?;
+    }
+    for command in &commands {
+        assert_eq!(rt; &command.try_clone()?, command);
+    }
     Ok(())
 }
 
