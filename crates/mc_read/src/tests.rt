@@ -6,71 +6,60 @@ use mc_model::{Command, Fault, Key, KeyList, Reply, Request, Verb, WireNo};
 use std::process::Abort;
 use std::test::Fail;
 
-/// What is asked for, or the refusal.
+/// What a request has to be; the first word says whether it is quiet, where it can be.
 #[derive(Clone, Copy, Debug)]
-enum What<'a> {
+enum Want<'a> {
     /// A verb, a key, flags and a block.
-    Store(Verb, &'a str, u32, &'a str),
+    Store(bool, Verb, &'a str, u32, &'a str),
     /// A key, flags, a block and a unique.
-    Cas(&'a str, u32, &'a str, u64),
+    Cas(bool, &'a str, u32, &'a str, u64),
     /// Keys, with spaces between them.
     Get(&'a str),
     Gets(&'a str),
-    Delete(&'a str),
-    Incr(&'a str, u64),
-    Decr(&'a str, u64),
-    Flush,
+    Delete(bool, &'a str),
+    Incr(bool, &'a str, u64),
+    Decr(bool, &'a str, u64),
+    Flush(bool),
+    Refusal(bool, WireNo),
     Version,
-    Refusal(WireNo),
-}
-
-/// What a request has to be.
-#[derive(Clone, Copy, Debug)]
-enum Want<'a> {
-    Answered(What<'a>),
-    Quiet(What<'a>),
     Quit,
     TooLong,
 }
 
+const ANSWERED: bool = false;
+
+const QUIET: bool = true;
+
 impl Want<'_> {
     /// Whether the request is what is wanted. Takes no memory, so that no failing allocation falls in here.
     fn is(&self, request: &Request) -> bool {
-        match (self, request) {
-            (
-                Want::Answered(what),
-                Request::Logged {
-                    command,
-                    quiet: false,
-                },
-            ) => what.is_command(command),
-            (
-                Want::Quiet(what),
-                Request::Logged {
-                    command,
-                    quiet: true,
-                },
-            ) => what.is_command(command),
-            (
-                Want::Answered(what),
-                Request::Local {
-                    reply,
-                    quiet: false,
-                },
-            ) => what.is_reply(reply),
-            (Want::Quiet(what), Request::Local { reply, quiet: true }) => what.is_reply(reply),
-            (Want::Quit, Request::Quit) => true,
-            (Want::TooLong, Request::TooLong) => true,
-            _ => false,
+        match request {
+            Request::Logged { command, quiet } => {
+                self.is_quiet() == *quiet && self.is_command(command)
+            }
+            Request::Local { reply, quiet } => self.is_quiet() == *quiet && self.is_reply(reply),
+            Request::Quit => matches!(self, Want::Quit),
+            Request::TooLong => matches!(self, Want::TooLong),
         }
     }
-}
 
-impl What<'_> {
+    fn is_quiet(&self) -> bool {
+        match self {
+            Want::Store(quiet, ..) => *quiet,
+            Want::Cas(quiet, ..) => *quiet,
+            Want::Delete(quiet, ..) => *quiet,
+            Want::Incr(quiet, ..) => *quiet,
+            Want::Decr(quiet, ..) => *quiet,
+            Want::Flush(quiet) => *quiet,
+            Want::Refusal(quiet, ..) => *quiet,
+            _ => ANSWERED,
+        }
+    }
+
     fn is_reply(&self, reply: &Reply) -> bool {
         match self {
-            What::Version => *reply == Reply::Version,
-            What::Refusal(refusal) => *reply == Reply::Refused(*refusal),
+            Want::Version => *reply == Reply::Version,
+            Want::Refusal(_, refusal) => *reply == Reply::Refused(*refusal),
             _ => false,
         }
     }
@@ -78,7 +67,7 @@ impl What<'_> {
     fn is_command(&self, command: &Command) -> bool {
         match (self, command) {
             (
-                What::Store(wanted, name, number, text),
+                Want::Store(_, wanted, name, number, text),
                 Command::Store {
                     verb,
                     key,
@@ -92,7 +81,7 @@ impl What<'_> {
                     && block.as_bytes() == text.as_bytes()
             }
             (
-                What::Cas(name, number, text, seen),
+                Want::Cas(_, name, number, text, seen),
                 Command::Cas {
                     key,
                     flags,
@@ -106,25 +95,25 @@ impl What<'_> {
                     && unique == seen
             }
             (
-                What::Get(names),
+                Want::Get(names),
                 Command::Get {
                     keys,
                     uniques: false,
                 },
             ) => are_keys(keys, names),
             (
-                What::Gets(names),
+                Want::Gets(names),
                 Command::Get {
                     keys,
                     uniques: true,
                 },
             ) => are_keys(keys, names),
-            (What::Delete(name), Command::Delete { key }) => is_key(key, name),
-            (What::Incr(name, delta), Command::Incr { key, by }) => is_key(key, name)
+            (Want::Delete(_, name), Command::Delete { key }) => is_key(key, name),
+            (Want::Incr(_, name, delta), Command::Incr { key, by }) => is_key(key, name)
                 && by == delta,
-            (What::Decr(name, delta), Command::Decr { key, by }) => is_key(key, name)
+            (Want::Decr(_, name, delta), Command::Decr { key, by }) => is_key(key, name)
                 && by == delta,
-            (What::Flush, Command::Flush) => true,
+            (Want::Flush(_), Command::Flush) => true,
             _ => false,
         }
     }
@@ -230,25 +219,25 @@ fn check(rt: &(impl AllocGlobal + Abort), text: &[u8], wants: &[Want]) -> Result
 #[derive(Clone, Copy)]
 struct Case<'a>(&'a str, &'a [Want<'a>]);
 
-const NO_COMMAND: Want<'static> = Want::Answered(What::Refusal(WireNo::E1));
+const NO_COMMAND: Want<'static> = Want::Refusal(ANSWERED, WireNo::E1);
 
-const BAD_LINE: Want<'static> = Want::Answered(What::Refusal(WireNo::E2));
+const BAD_LINE: Want<'static> = Want::Refusal(ANSWERED, WireNo::E2);
 
-const BAD_CHUNK: Want<'static> = Want::Answered(What::Refusal(WireNo::E3));
+const BAD_CHUNK: Want<'static> = Want::Refusal(ANSWERED, WireNo::E3);
 
-const EXPIRY: Want<'static> = Want::Answered(What::Refusal(WireNo::E4));
+const EXPIRY: Want<'static> = Want::Refusal(ANSWERED, WireNo::E4);
 
-const BAD_DELTA: Want<'static> = Want::Answered(What::Refusal(WireNo::E9));
+const BAD_DELTA: Want<'static> = Want::Refusal(ANSWERED, WireNo::E9);
 
-const VERSION: Want<'static> = Want::Answered(What::Version);
+const VERSION: Want<'static> = Want::Version;
 
-const GET_A: Want<'static> = Want::Answered(What::Get("a"));
+const GET_A: Want<'static> = Want::Get("a");
 
-const GETS_A: Want<'static> = Want::Answered(What::Gets("a"));
+const GETS_A: Want<'static> = Want::Gets("a");
 
-const GETS_N: Want<'static> = Want::Answered(What::Gets("n"));
+const GETS_N: Want<'static> = Want::Gets("n");
 
-const SET_A: Want<'static> = Want::Answered(What::Store(Verb::Set, "a", 0, "x"));
+const SET_A: Want<'static> = Want::Store(ANSWERED, Verb::Set, "a", 0, "x");
 
 fn check_all(rt: &(impl AllocGlobal + Abort), cases: &[Case]) -> Result<(), Fail> {
     for Case(text, wants) in cases {
@@ -262,23 +251,23 @@ fn blocks_and_what_follows_them(rt: HostRuntime) -> Result<(), Fail> {
     let cases = [
         Case(
             "set a 5 0 3\r\nabc\r\nget a\r\n",
-            &[Want::Answered(What::Store(Verb::Set, "a", 5, "abc")), GET_A],
+            &[Want::Store(ANSWERED, Verb::Set, "a", 5, "abc"), GET_A],
         ),
         Case(
             "set k 0 0 7\r\n\r\nEND\r\n\r\nget k\r\n",
             &[
-                Want::Answered(What::Store(Verb::Set, "k", 0, "\r\nEND\r\n")),
-                Want::Answered(What::Get("k")),
+                Want::Store(ANSWERED, Verb::Set, "k", 0, "\r\nEND\r\n"),
+                Want::Get("k"),
             ],
         ),
         Case(
             "set a 0 0 0\r\n\r\nget a\r\n",
-            &[Want::Answered(What::Store(Verb::Set, "a", 0, "")), GET_A],
+            &[Want::Store(ANSWERED, Verb::Set, "a", 0, ""), GET_A],
         ),
         Case("set a 0 0 2\r\nabcde\r\n", &[BAD_CHUNK, NO_COMMAND]),
         Case(
             "set a 0 0 1 noreply\r\nxyz\r\n",
-            &[Want::Quiet(What::Refusal(WireNo::E3)), NO_COMMAND],
+            &[Want::Refusal(QUIET, WireNo::E3), NO_COMMAND],
         ),
         Case("set a 0 60 3\r\nget\r\nget a\r\n", &[EXPIRY, GET_A]),
         Case("set a 0 0 3\r\nab", &[]),
@@ -295,11 +284,11 @@ fn lines_that_name_a_block(rt: HostRuntime) -> Result<(), Fail> {
         Case("set a 0 0 2147483646\r\nget a\r\n", &[BAD_LINE, GET_A]),
         Case(
             "set a 0 9 1 noreply\r\nx\r\nget a\r\n",
-            &[Want::Quiet(What::Refusal(WireNo::E4)), GET_A],
+            &[Want::Refusal(QUIET, WireNo::E4), GET_A],
         ),
         Case(
             "set a 0 0 1 noreply\r\nx\r\n",
-            &[Want::Quiet(What::Store(Verb::Set, "a", 0, "x"))],
+            &[Want::Store(QUIET, Verb::Set, "a", 0, "x")],
         ),
         Case("set a 0 0 1 noreply x\r\nget a\r\n", &[NO_COMMAND, GET_A]),
         Case("set a 0 0 1 norepl\r\nx\r\nget a\r\n", &[BAD_LINE, GET_A]),
@@ -310,7 +299,7 @@ fn lines_that_name_a_block(rt: HostRuntime) -> Result<(), Fail> {
         Case(
             "set a 4294967295 0 1\r\nx\r\nset a 4294967296 0 1\r\nx\r\nget a\r\n",
             &[
-                Want::Answered(What::Store(Verb::Set, "a", 4_294_967_295, "x")),
+                Want::Store(ANSWERED, Verb::Set, "a", 4_294_967_295, "x"),
                 BAD_LINE,
                 GET_A,
             ],
@@ -325,11 +314,11 @@ fn the_other_storage_commands(rt: HostRuntime) -> Result<(), Fail> {
         Case(
             "set p 4 0 2\r\nbc\r\nprepend p 9 0 1\r\na\r\nreplace q 0 0 1\r\nx\r\nadd p 0 0 1\r\nx\r\ngets p\r\n",
             &[
-                Want::Answered(What::Store(Verb::Set, "p", 4, "bc")),
-                Want::Answered(What::Store(Verb::Prepend, "p", 9, "a")),
-                Want::Answered(What::Store(Verb::Replace, "q", 0, "x")),
-                Want::Answered(What::Store(Verb::Add, "p", 0, "x")),
-                Want::Answered(What::Gets("p")),
+                Want::Store(ANSWERED, Verb::Set, "p", 4, "bc"),
+                Want::Store(ANSWERED, Verb::Prepend, "p", 9, "a"),
+                Want::Store(ANSWERED, Verb::Replace, "q", 0, "x"),
+                Want::Store(ANSWERED, Verb::Add, "p", 0, "x"),
+                Want::Gets("p"),
             ],
         ),
         Case(
@@ -337,15 +326,15 @@ fn the_other_storage_commands(rt: HostRuntime) -> Result<(), Fail> {
             &[
                 EXPIRY,
                 GET_A,
-                Want::Answered(What::Store(Verb::Set, "a", 7, "x")),
-                Want::Answered(What::Store(Verb::Append, "a", 9, "y")),
+                Want::Store(ANSWERED, Verb::Set, "a", 7, "x"),
+                Want::Store(ANSWERED, Verb::Append, "a", 9, "y"),
                 GETS_A,
             ],
         ),
         Case(
             "prepend a 0 -7 1 noreply\r\ny\r\nappend a 0 x 1\r\ny\r\nadd a 0 1 1\r\ny\r\nreplace a 0 1 1\r\ny\r\n",
             &[
-                Want::Quiet(What::Store(Verb::Prepend, "a", 0, "y")),
+                Want::Store(QUIET, Verb::Prepend, "a", 0, "y"),
                 BAD_LINE,
                 EXPIRY,
                 EXPIRY,
@@ -355,16 +344,16 @@ fn the_other_storage_commands(rt: HostRuntime) -> Result<(), Fail> {
             "set a 0 0 1\r\nx\r\ncas a 0 0 1 1\r\ny\r\ncas a 0 0 1 1\r\nz\r\ncas b 0 0 1 1\r\nw\r\ngets a\r\n",
             &[
                 SET_A,
-                Want::Answered(What::Cas("a", 0, "y", 1)),
-                Want::Answered(What::Cas("a", 0, "z", 1)),
-                Want::Answered(What::Cas("b", 0, "w", 1)),
+                Want::Cas(ANSWERED, "a", 0, "y", 1),
+                Want::Cas(ANSWERED, "a", 0, "z", 1),
+                Want::Cas(ANSWERED, "b", 0, "w", 1),
                 GETS_A,
             ],
         ),
         Case(
             "cas a 3 0 1 18446744073709551615 noreply\r\ny\r\ncas a 0 0 1 18446744073709551616\r\ny\r\nget a\r\n",
             &[
-                Want::Quiet(What::Cas("a", 3, "y", 18_446_744_073_709_551_615)),
+                Want::Cas(QUIET, "a", 3, "y", 18_446_744_073_709_551_615),
                 BAD_LINE,
                 GET_A,
             ],
@@ -376,11 +365,11 @@ fn the_other_storage_commands(rt: HostRuntime) -> Result<(), Fail> {
         Case(
             "set n 3 0 1\r\n1\r\nappend n 0 0 1\r\n0\r\nprepend n 0 0 1\r\n2\r\nincr n 5\r\nappend n 0 0 2\r\nab\r\ngets n\r\n",
             &[
-                Want::Answered(What::Store(Verb::Set, "n", 3, "1")),
-                Want::Answered(What::Store(Verb::Append, "n", 0, "0")),
-                Want::Answered(What::Store(Verb::Prepend, "n", 0, "2")),
-                Want::Answered(What::Incr("n", 5)),
-                Want::Answered(What::Store(Verb::Append, "n", 0, "ab")),
+                Want::Store(ANSWERED, Verb::Set, "n", 3, "1"),
+                Want::Store(ANSWERED, Verb::Append, "n", 0, "0"),
+                Want::Store(ANSWERED, Verb::Prepend, "n", 0, "2"),
+                Want::Incr(ANSWERED, "n", 5),
+                Want::Store(ANSWERED, Verb::Append, "n", 0, "ab"),
                 GETS_N,
             ],
         ),
@@ -394,36 +383,36 @@ fn numbers_that_change(rt: HostRuntime) -> Result<(), Fail> {
         Case(
             "set n 7 0 20\r\n18446744073709551615\r\nincr n 1\r\nset n 0 0 1\r\n5\r\ndecr n 9\r\nset n 0 0 2\r\n10\r\ndecr n 1\r\ngets n\r\n",
             &[
-                Want::Answered(What::Store(Verb::Set, "n", 7, "18446744073709551615")),
-                Want::Answered(What::Incr("n", 1)),
-                Want::Answered(What::Store(Verb::Set, "n", 0, "5")),
-                Want::Answered(What::Decr("n", 9)),
-                Want::Answered(What::Store(Verb::Set, "n", 0, "10")),
-                Want::Answered(What::Decr("n", 1)),
+                Want::Store(ANSWERED, Verb::Set, "n", 7, "18446744073709551615"),
+                Want::Incr(ANSWERED, "n", 1),
+                Want::Store(ANSWERED, Verb::Set, "n", 0, "5"),
+                Want::Decr(ANSWERED, "n", 9),
+                Want::Store(ANSWERED, Verb::Set, "n", 0, "10"),
+                Want::Decr(ANSWERED, "n", 1),
                 GETS_N,
             ],
         ),
         Case(
             "set n 0 0 20\r\n18446744073709551616\r\nincr n 1\r\nincr n x\r\nincr m 1\r\n",
             &[
-                Want::Answered(What::Store(Verb::Set, "n", 0, "18446744073709551616")),
-                Want::Answered(What::Incr("n", 1)),
+                Want::Store(ANSWERED, Verb::Set, "n", 0, "18446744073709551616"),
+                Want::Incr(ANSWERED, "n", 1),
                 BAD_DELTA,
-                Want::Answered(What::Incr("m", 1)),
+                Want::Incr(ANSWERED, "m", 1),
             ],
         ),
         Case(
             "set n 0 0 1\r\n9\r\nincr n 1\r\ndecr n 1\r\n",
             &[
-                Want::Answered(What::Store(Verb::Set, "n", 0, "9")),
-                Want::Answered(What::Incr("n", 1)),
-                Want::Answered(What::Decr("n", 1)),
+                Want::Store(ANSWERED, Verb::Set, "n", 0, "9"),
+                Want::Incr(ANSWERED, "n", 1),
+                Want::Decr(ANSWERED, "n", 1),
             ],
         ),
         Case(
             "incr n 18446744073709551615 noreply\r\ndecr n 18446744073709551616\r\ndecr n -1 noreply\r\n",
             &[
-                Want::Quiet(What::Incr("n", 18_446_744_073_709_551_615)),
+                Want::Incr(QUIET, "n", 18_446_744_073_709_551_615),
                 BAD_DELTA,
                 BAD_DELTA,
             ],
@@ -437,7 +426,7 @@ fn numbers_that_change(rt: HostRuntime) -> Result<(), Fail> {
                 BAD_DELTA,
                 NO_COMMAND,
                 NO_COMMAND,
-                Want::Answered(What::Decr("n", 2)),
+                Want::Decr(ANSWERED, "n", 2),
             ],
         ),
     ];
@@ -451,9 +440,9 @@ fn deletions_and_flushes(rt: HostRuntime) -> Result<(), Fail> {
             "set a 0 0 1\r\nx\r\nadd a 0 0 1 noreply\r\ny\r\ndelete a 0\r\ndelete a\r\n",
             &[
                 SET_A,
-                Want::Quiet(What::Store(Verb::Add, "a", 0, "y")),
-                Want::Answered(What::Delete("a")),
-                Want::Answered(What::Delete("a")),
+                Want::Store(QUIET, Verb::Add, "a", 0, "y"),
+                Want::Delete(ANSWERED, "a"),
+                Want::Delete(ANSWERED, "a"),
             ],
         ),
         Case(
@@ -462,7 +451,7 @@ fn deletions_and_flushes(rt: HostRuntime) -> Result<(), Fail> {
                 BAD_LINE,
                 EXPIRY,
                 BAD_LINE,
-                Want::Quiet(What::Flush),
+                Want::Flush(QUIET),
                 BAD_LINE,
                 NO_COMMAND,
             ],
@@ -471,17 +460,17 @@ fn deletions_and_flushes(rt: HostRuntime) -> Result<(), Fail> {
             "set a 0 0 1\r\nx\r\nflush_all 0\r\nappend a 0 0 1\r\ny\r\nset a 0 0 1\r\nz\r\ngets a a\r\n",
             &[
                 SET_A,
-                Want::Answered(What::Flush),
-                Want::Answered(What::Store(Verb::Append, "a", 0, "y")),
-                Want::Answered(What::Store(Verb::Set, "a", 0, "z")),
-                Want::Answered(What::Gets("a a")),
+                Want::Flush(ANSWERED),
+                Want::Store(ANSWERED, Verb::Append, "a", 0, "y"),
+                Want::Store(ANSWERED, Verb::Set, "a", 0, "z"),
+                Want::Gets("a a"),
             ],
         ),
         Case(
             "delete a noreply\r\ndelete a 0 noreply\r\ndelete a noreply 0\r\ndelete a 0 0\r\ndelete a 00\r\ndelete a 1 noreply\r\n",
             &[
-                Want::Quiet(What::Delete("a")),
-                Want::Quiet(What::Delete("a")),
+                Want::Delete(QUIET, "a"),
+                Want::Delete(QUIET, "a"),
                 BAD_LINE,
                 BAD_LINE,
                 BAD_LINE,
@@ -494,15 +483,15 @@ fn deletions_and_flushes(rt: HostRuntime) -> Result<(), Fail> {
                 NO_COMMAND,
                 NO_COMMAND,
                 BAD_LINE,
-                Want::Answered(What::Delete("noreply")),
+                Want::Delete(ANSWERED, "noreply"),
             ],
         ),
         Case(
             "flush_all\r\nflush_all -00 noreply\r\nflush_all 5 noreply\r\nflush_all noreply 0\r\nflush_all 0 0\r\nflush_all - noreply\r\nflush_all 0 noreply x\r\n",
             &[
-                Want::Answered(What::Flush),
-                Want::Quiet(What::Flush),
-                Want::Quiet(What::Refusal(WireNo::E4)),
+                Want::Flush(ANSWERED),
+                Want::Flush(QUIET),
+                Want::Refusal(QUIET, WireNo::E4),
                 BAD_LINE,
                 BAD_LINE,
                 BAD_LINE,
@@ -520,7 +509,7 @@ fn lines_alone(rt: HostRuntime) -> Result<(), Fail> {
             "stats\r\n\r\nGET a\r\nget\r\nget  a \n",
             &[NO_COMMAND, NO_COMMAND, NO_COMMAND, NO_COMMAND, GET_A],
         ),
-        Case("get a b a\n", &[Want::Answered(What::Get("a b a"))]),
+        Case("get a b a\n", &[Want::Get("a b a")]),
         Case(
             "get a\x01b\r\nget a \x7f\r\nget a\r\r\nget a\tb\r\n",
             &[BAD_LINE, BAD_LINE, BAD_LINE, BAD_LINE],
@@ -530,15 +519,15 @@ fn lines_alone(rt: HostRuntime) -> Result<(), Fail> {
             &[
                 NO_COMMAND,
                 BAD_LINE,
-                Want::Answered(What::Gets("noreply")),
-                Want::Answered(What::Gets("a b")),
+                Want::Gets("noreply"),
+                Want::Gets("a b"),
             ],
         ),
         Case(
             "set e 0 0 0\r\n\r\ngets e x\r\n",
             &[
-                Want::Answered(What::Store(Verb::Set, "e", 0, "")),
-                Want::Answered(What::Gets("e x")),
+                Want::Store(ANSWERED, Verb::Set, "e", 0, ""),
+                Want::Gets("e x"),
             ],
         ),
         Case(
@@ -558,7 +547,7 @@ fn nothing_is_read_after_quit(rt: HostRuntime) -> Result<(), Fail> {
     let cases = [
         Case(
             "set a 0 9 1 noreply\r\nx\r\nversion\r\nquit\r\nversion\r\n",
-            &[Want::Quiet(What::Refusal(WireNo::E4)), VERSION, Want::Quit],
+            &[Want::Refusal(QUIET, WireNo::E4), VERSION, Want::Quit],
         ),
         Case("quit\nset a 0 0 1\r\nx\r\n", &[Want::Quit]),
     ];
@@ -572,9 +561,9 @@ fn keys_at_their_bound(rt: HostRuntime) -> Result<(), Fail> {
         "set {name} 0 0 1\r\nx\r\nset {name}k 0 0 1\r\ny\r\nget {name}\r\n"
     )?;
     let wants = [
-        Want::Answered(What::Store(Verb::Set, name.as_str(), 0, "x")),
+        Want::Store(ANSWERED, Verb::Set, name.as_str(), 0, "x"),
         BAD_LINE,
-        Want::Answered(What::Get(name.as_str())),
+        Want::Get(name.as_str()),
     ];
     check(&rt, text.as_bytes(), &wants)
 }
@@ -587,8 +576,8 @@ fn blocks_at_their_bound(rt: HostRuntime) -> Result<(), Fail> {
         "set b 0 0 1048577\r\n{block}z\r\nset b 0 0 1048576\r\n{block}\r\n"
     )?;
     let wants = [
-        Want::Answered(What::Refusal(WireNo::E6)),
-        Want::Answered(What::Store(Verb::Set, "b", 0, block)),
+        Want::Refusal(ANSWERED, WireNo::E6),
+        Want::Store(ANSWERED, Verb::Set, "b", 0, block),
     ];
     check_pieces(&rt, text.as_bytes(), 4_000_000, &wants)?;
     check_pieces(&rt, text.as_bytes(), 16_384, &wants)
@@ -606,7 +595,7 @@ fn refused_block_takes_no_memory(rt: HostRuntime) -> Result<(), Fail> {
         assert_eq!(rt; reader.feed(&piece), Ok(()));
         assert!(rt; reader.next()?.is_none());
     }
-    let wants = [Want::Answered(What::Refusal(WireNo::E6)), GET_A];
+    let wants = [Want::Refusal(ANSWERED, WireNo::E6), GET_A];
     assert_eq!(rt; read(&rt, &mut reader, b"z\r\nget a\r\n", &wants, 0)?, 2);
     Ok(())
 }
