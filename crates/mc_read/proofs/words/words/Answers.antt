@@ -1,8 +1,8 @@
 use Rattle.std.proofs.Common.{◌<◌, length, map, ◌∙◌, rules}
 use Rattle.std.proofs.lemmas.List.{map-append}
-use Rattle.mc_read.specs.Line.{spaced_words}
+use Rattle.mc_read.specs.Word.{spaced_words}
 use Rattle.mc_read.proofs.Splits.{word_joins}
-use Rattle.mc_read.proofs.line.words.Goals as goal
+use Rattle.mc_read.proofs.words.words.Goals as goal
 
 pub loop-rest-preserved-in_ok-push : goal.loop-rest-preserved-in_ok-push
 loop-rest-preserved-in_ok-push c =

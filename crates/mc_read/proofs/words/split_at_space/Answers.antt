@@ -1,9 +1,9 @@
 use Rattle.std.proofs.Common.{◌+◌, length, take, drop, sym, ◌∙◌, ap, arith}
 use Rattle.std.proofs.lemmas.List.{drop_all, take_all, take_rest}
 use Rattle.std.specs.List.{position_or_len}
-use Rattle.mc_read.specs.Line.{is_space}
+use Rattle.mc_read.specs.Word.{is_space}
 use Rattle.mc_read.proofs.Splits.{position-from_no_place, position-from_search}
-use Rattle.mc_read.proofs.line.split_at_space.Goals as goal
+use Rattle.mc_read.proofs.words.split_at_space.Goals as goal
 
 pub returns-in-Some-clause-front : goal.returns-in-Some-clause-front
 returns-in-Some-clause-front c =

@@ -1,6 +1,6 @@
 use Rattle.std.proofs.Common.{◌≡◌, ◌++◌, length, map}
-use Rattle.mc_read.specs.Line.{spaced_words, words}
-use Rattle.mc_read.proofs.line.words.Given as goal
+use Rattle.mc_read.specs.Word.{spaced_words, words}
+use Rattle.mc_read.proofs.words.words.Given as goal
 
 -- the words so far and those of what is left are those of the line
 abbrev pub invariant-loop-rest : goal.invariant-loop-rest
