@@ -13,7 +13,7 @@ use Rattle.mc_model.specs.declared.key.Key.{Key}
 use Rattle.mc_model.specs.declared.reply.Reply.{Reply}
 use Rattle.mc_model.specs.declared.reply.Reply.TheVariants.{Stored, NotStored, Exists, NotFound, Number, Refused}
 use Rattle.mc_model.specs.declared.reply.WireNo.TheVariants.{E6, E8}
-use Rattle.mc_model.specs.Effect.{ActsOn, Effect, by_cases, counted, effect, is_acceptance, is_refusal, joined, stored, unchanged}
+use Rattle.mc_model.specs.Effect.{ActsOn, Effect, none_or_some, renumbered, effect, is_acceptance, is_refusal, joined, stored, unchanged}
 use Rattle.mc_model.specs.Number.{numeric_value}
 use Rattle.mc_model.specs.Table.{Table, key_cmp}
 use Rattle.mc_model.proofs.Tables.{taken_out_cases}
@@ -46,10 +46,10 @@ abbrev pub Shape : Table → ℕ → Command → Effect → Type 0
 Shape table unique command done = IsNothing table command done ⊎ (IsChange table unique command done ⊎ IsTakenOut table command done)
 
 -- a shape by the cases of what is there, and by a test
-shape_by_cases : {A : Type 0} (table : Table) (unique : ℕ) (command : Command) (there : Option A) (absent : Effect) (held : A → Effect) →
-    Shape table unique command absent → ((value : A) → Shape table unique command (held value)) → Shape table unique command (by_cases there absent held)
-shape_by_cases table unique command None absent held without with_it = without
-shape_by_cases table unique command (Some value) absent held without with_it = with_it value
+shape_none_or_some : {A : Type 0} (table : Table) (unique : ℕ) (command : Command) (there : Option A) (absent : Effect) (held : A → Effect) →
+    Shape table unique command absent → ((value : A) → Shape table unique command (held value)) → Shape table unique command (none_or_some there absent held)
+shape_none_or_some table unique command None absent held without with_it = without
+shape_none_or_some table unique command (Some value) absent held without with_it = with_it value
 
 shape_if : (table : Table) (unique : ℕ) (command : Command) (test : Bool) (done other : Effect) →
     Shape table unique command done → Shape table unique command other → Shape table unique command (if test then done else other)
@@ -74,47 +74,47 @@ module _ (table : Table) (unique : ℕ) where
   shape_joined command key flags block only acts =
       shape_if table unique command (nat_le (length block) DATA_BYTES) _ _ (put_under command key flags block Stored refl refl only acts) (kept command (Refused E6) refl refl)
 
-  shape_counted : (command : Command) (key : Key) (old : Item) (next : ℕ → ℕ) →
-      ((other : Key) → ActsOn other command → key ≡ other) → ActsOn key command → Shape table unique command (counted table unique key old next)
-  shape_counted command key old next only acts =
-      shape_by_cases table unique command (numeric_value old.block) _ _ (kept command (Refused E8) refl refl)
+  shape_renumbered : (command : Command) (key : Key) (old : Item) (next : ℕ → ℕ) →
+      ((other : Key) → ActsOn other command → key ≡ other) → ActsOn key command → Shape table unique command (renumbered table unique key old next)
+  shape_renumbered command key old next only acts =
+      shape_none_or_some table unique command (numeric_value old.block) _ _ (kept command (Refused E8) refl refl)
       (λ number. put_under command key old.flags (decimal (next number)) (Number (next number)) refl refl only acts)
 
   pub shape : (command : Command) → Shape table unique command (effect table unique command)
   shape (Store Set key flags block) = put_under (Store Set key flags block) key flags block Stored refl refl (λ other acts. acts) refl
   shape (Store Add key flags block) =
-      shape_by_cases table unique (Store Add key flags block) (map.get table key) _ _
+      shape_none_or_some table unique (Store Add key flags block) (map.get table key) _ _
       (put_under (Store Add key flags block) key flags block Stored refl refl (λ other acts. acts) refl)
       (λ old. kept (Store Add key flags block) NotStored refl refl)
   shape (Store Replace key flags block) =
-      shape_by_cases table unique (Store Replace key flags block) (map.get table key) _ _
+      shape_none_or_some table unique (Store Replace key flags block) (map.get table key) _ _
       (kept (Store Replace key flags block) NotStored refl refl)
       (λ old. put_under (Store Replace key flags block) key flags block Stored refl refl (λ other acts. acts) refl)
   shape (Store Append key flags block) =
-      shape_by_cases table unique (Store Append key flags block) (map.get table key) _ _
+      shape_none_or_some table unique (Store Append key flags block) (map.get table key) _ _
       (kept (Store Append key flags block) NotStored refl refl)
       (λ old. shape_joined (Store Append key flags block) key old.flags (old.block ++ block) (λ other acts. acts) refl)
   shape (Store Prepend key flags block) =
-      shape_by_cases table unique (Store Prepend key flags block) (map.get table key) _ _
+      shape_none_or_some table unique (Store Prepend key flags block) (map.get table key) _ _
       (kept (Store Prepend key flags block) NotStored refl refl)
       (λ old. shape_joined (Store Prepend key flags block) key old.flags (block ++ old.block) (λ other acts. acts) refl)
   shape (Cas key flags block seen) =
-      shape_by_cases table unique (Cas key flags block seen) (map.get table key) _ _
+      shape_none_or_some table unique (Cas key flags block seen) (map.get table key) _ _
       (kept (Cas key flags block seen) NotFound refl refl)
       (λ old. shape_if table unique (Cas key flags block seen) (old.unique == seen) _ _
       (put_under (Cas key flags block seen) key flags block Stored refl refl (λ other acts. acts) refl)
       (kept (Cas key flags block seen) Exists refl refl))
   shape (Get keys uniques) = inl (record { same = refl; no_change = refl; refused = λ other acts. absurd acts })
   shape (Delete key) =
-      shape_by_cases table unique (Delete key) (map.get table key) _ _
+      shape_none_or_some table unique (Delete key) (map.get table key) _ _
       (kept (Delete key) NotFound refl refl)
       (λ old. inr (inr (record { no_change = refl; granted = refl; left = taken_out_cases table key })))
   shape (Incr key by) =
-      shape_by_cases table unique (Incr key by) (map.get table key) _ _
+      shape_none_or_some table unique (Incr key by) (map.get table key) _ _
       (kept (Incr key by) NotFound refl refl)
-      (λ old. shape_counted (Incr key by) key old (λ number. (number + by) % (2 ^ 64)) (λ other acts. acts) refl)
+      (λ old. shape_renumbered (Incr key by) key old (λ number. (number + by) % (2 ^ 64)) (λ other acts. acts) refl)
   shape (Decr key by) =
-      shape_by_cases table unique (Decr key by) (map.get table key) _ _
+      shape_none_or_some table unique (Decr key by) (map.get table key) _ _
       (kept (Decr key by) NotFound refl refl)
-      (λ old. shape_counted (Decr key by) key old (λ number. number - by) (λ other acts. acts) refl)
+      (λ old. shape_renumbered (Decr key by) key old (λ number. number - by) (λ other acts. acts) refl)
   shape Flush = inr (inr (record { no_change = refl; granted = refl; left = λ key. inl (tt, get-empty key_cmp key) }))

@@ -1,5 +1,6 @@
 -- What a command does to a table and what it is answered, after memcached's doc/protocol.txt, "Storage commands",
--- "Retrieval command", "Deletion", "Increment/Decrement" and, for flush_all, "Other commands". One equation a command.
+-- "Retrieval command", "Deletion", "Increment/Decrement" and, for flush_all, "Other commands". One equation a command. The order
+-- of its refusals, a join that is too long and a decr without padding are this project's profile.
 use Rattle.std.specs.Prelude.{◌≡◌, ℕ, ◌+◌, ◌-◌, ◌%◌, ◌^◌, ◌==◌, nat_le, Bool, true, false, if◌then◌else◌, ◌++◌, length, decimal, Option, Some, None}
 use Rattle.std.specs.List.{filter_map}
 use Rattle.std.specs.Option.{option_map}
@@ -40,12 +41,12 @@ unchanged table reply = record { table = table; reply = reply }
 abbrev pub stored : Table → Key → Item → Reply → Effect
 stored table key item reply = record { table = map.insert table key item; reply = reply }
 
--- one effect where there is nothing, another of what is there
-abbrev pub by_cases : {A : Type 0} → Option A → Effect → (A → Effect) → Effect
-by_cases None absent held = absent
-by_cases (Some value) absent held = held value
+-- one effect where there is none, another of what is there
+abbrev pub none_or_some : {A : Type 0} → Option A → Effect → (A → Effect) → Effect
+none_or_some None none some = none
+none_or_some (Some value) none some = some value
 
--- joined data, as far as a block may have so many bytes
+-- joined data, where a block may have so many bytes
 abbrev pub joined : Table → ℕ → Key → ℕ → Data → Effect
 joined table unique key flags block =
     if nat_le (length block) DATA_BYTES
@@ -53,9 +54,9 @@ joined table unique key flags block =
     else unchanged table (Refused E6)
 
 -- the number under a key gives way to another, in decimal digits; the flags stay
-abbrev pub counted : Table → ℕ → Key → Item → (ℕ → ℕ) → Effect
-counted table unique key old next =
-    by_cases (numeric_value old.block) (unchanged table (Refused E8))
+abbrev pub renumbered : Table → ℕ → Key → Item → (ℕ → ℕ) → Effect
+renumbered table unique key old next =
+    none_or_some (numeric_value old.block) (unchanged table (Refused E8))
     (λ number. stored table key (record { flags = old.flags; block = decimal (next number); unique = unique }) (Number (next number)))
 
 -- A command on a table, where a change gets this unique. The subtraction of decr is that of natural numbers, which stops at 0.
@@ -63,34 +64,34 @@ abbrev pub effect : Table → ℕ → Command → Effect
 effect table unique (Store Set key flags block) =
     stored table key (record { flags = flags; block = block; unique = unique }) Stored
 effect table unique (Store Add key flags block) =
-    by_cases (map.get table key) (stored table key (record { flags = flags; block = block; unique = unique }) Stored)
+    none_or_some (map.get table key) (stored table key (record { flags = flags; block = block; unique = unique }) Stored)
     (λ old. unchanged table NotStored)
 effect table unique (Store Replace key flags block) =
-    by_cases (map.get table key) (unchanged table NotStored)
+    none_or_some (map.get table key) (unchanged table NotStored)
     (λ old. stored table key (record { flags = flags; block = block; unique = unique }) Stored)
-effect table unique (Store Append key flags block) =
-    by_cases (map.get table key) (unchanged table NotStored)
+effect table unique (Store Append key new_flags block) =
+    none_or_some (map.get table key) (unchanged table NotStored)
     (λ old. joined table unique key old.flags (old.block ++ block))
-effect table unique (Store Prepend key flags block) =
-    by_cases (map.get table key) (unchanged table NotStored)
+effect table unique (Store Prepend key new_flags block) =
+    none_or_some (map.get table key) (unchanged table NotStored)
     (λ old. joined table unique key old.flags (block ++ old.block))
 effect table unique (Cas key flags block seen) =
-    by_cases (map.get table key) (unchanged table NotFound)
+    none_or_some (map.get table key) (unchanged table NotFound)
     (λ old. if old.unique == seen
     then stored table key (record { flags = flags; block = block; unique = unique }) Stored
     else unchanged table Exists)
 effect table unique (Get keys uniques) =
     unchanged table (Values (filter_map (shown_at table uniques) keys))
 effect table unique (Delete key) =
-    by_cases (map.get table key) (unchanged table NotFound)
+    none_or_some (map.get table key) (unchanged table NotFound)
     (λ old. record { table = map.remove table key; reply = Deleted })
 effect table unique (Incr key by) =
-    by_cases (map.get table key) (unchanged table NotFound) (λ old. counted table unique key old (λ number. (number + by) % (2 ^ 64)))
+    none_or_some (map.get table key) (unchanged table NotFound) (λ old. renumbered table unique key old (λ number. (number + by) % (2 ^ 64)))
 effect table unique (Decr key by) =
-    by_cases (map.get table key) (unchanged table NotFound) (λ old. counted table unique key old (λ number. number - by))
+    none_or_some (map.get table key) (unchanged table NotFound) (λ old. renumbered table unique key old (λ number. number - by))
 effect table unique Flush = record { table = map.empty; reply = Ok }
 
--- whether a reply says that a command has changed an item
+-- whether a reply says that a command counts as a change: it has given an item a unique
 abbrev pub is_acceptance : Reply → Bool
 is_acceptance Stored = true
 is_acceptance (Number number) = true

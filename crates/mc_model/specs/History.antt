@@ -12,7 +12,7 @@ use Rattle.mc_model.specs.declared.reply.Reply.{Reply}
 use Rattle.mc_model.specs.Effect.{ActsOn, Effect, effect, is_acceptance, is_refusal}
 use Rattle.mc_model.specs.Table.{Table}
 
--- the effect of a command on a table after so many changes: a change gets the next unique
+-- the effect of a command on a table after so many changes: the latest unique is their number, and a change gets the next
 abbrev pub next_effect : Table → ℕ → Command → Effect
 next_effect table changes command = effect table (changes + 1) command
 

@@ -12,7 +12,7 @@ abbrev pub number_up_to : ℕ → List ℕ → Option ℕ
 number_up_to limit bytes =
     if is_numeral bytes && nat_le (digits_value 10 bytes) limit then Some (digits_value 10 bytes) else None
 
--- The number that data spell, where they are numeric: 1 to 20 decimal digits, a "decimal representation of a 64-bit
--- unsigned integer" ("Increment/Decrement").
+-- The number that data spell, where they are numeric: a "decimal representation of a 64-bit unsigned integer"
+-- ("Increment/Decrement") of at most 20 digits.
 abbrev pub numeric_value : List ℕ → Option ℕ
 numeric_value block = if nat_le (length block) 20 then number_up_to (2 ^ 64 - 1) block else None
