@@ -5,34 +5,22 @@ use Rattle.std.proofs.lemmas.Grind.{common_steps}
 use Rattle.std.proofs.lemmas.List.Quantifiers.{position-Some}
 use Rattle.std.proofs.lemmas.List.Sums.{fails_before_first}
 use Rattle.std.proofs.lemmas.Slice.Eq.{bytes_eq-Decides}
-use Rattle.std.specs.Cmp.{Equal-is, eq_by_cmp_equiv}
 use Rattle.std.specs.Cmp.Lexicographic.{pointwise}
 use Rattle.std.specs.FinMap as map
 use Rattle.std.specs.FinMap.{find, from_entries_push, get-from_entries, get-insert, get-remove, same_map}
 use Rattle.std.specs.List.{filter, position, position_or_len}
-use Rattle.std.specs.Ordering.{eq_by_cmp}
 use Rattle.std.specs.Prelude.{Option, nat_eq, not}
 use Rattle.mc_model.specs.declared.item.Item.{Item}
 use Rattle.mc_model.specs.declared.key.Key.{Key}
-use Rattle.mc_model.specs.Table.{key_cmp, key_cmp_exact, key_cmp_total}
+use Rattle.mc_model.specs.Table.{is_tied, key_cmp, key_cmp_exact, key_cmp_total, tied_itself, tied_keys}
 use Rattle.mc_items.specs.Held.{table_of_held}
 
 -- the entry has this key, as the code tests it
 abbrev pub has_key : Key → Key × Item → Bool
 has_key key entry = pointwise nat_eq entry.0 key
 
--- the map's own test of two keys
-abbrev tied : Key → Key → Bool
-tied = eq_by_cmp key_cmp
-
-tied_itself : (key : Key) → tied key key ≡ true
-tied_itself = (eq_by_cmp_equiv key_cmp_total).refl
-
-tied_same : (key other : Key) → tied key other ≡ true → key ≡ other
-tied_same key other tie = key_cmp_exact key other ((Equal-is (key_cmp key other)).0 tie)
-
-tied_apart : (key other : Key) → key ≢ other → tied key other ≡ false
-tied_apart key other apart = false_from_ne_true _ (λ tie. apart (tied_same key other tie))
+tied_apart : (key other : Key) → key ≢ other → is_tied key other ≡ false
+tied_apart key other apart = false_from_ne_true _ (λ tie. apart (tied_keys key other tie))
 
 -- a test that is repeated, and two tests that don't both pass
 shadowed : {A : Type 0} (b : Bool) (x y z : A) → cond b x z ≡ cond b x (cond b y z)
@@ -73,18 +61,18 @@ module _ (default : Key × Item) (key : Key) where
 
   find_first : (held : List (Key × Item)) (place : ℕ) → IsFirstAt default key held place → find key_cmp key held ≡ Some (get_or held place default).1
   find_first [] place first = absurd (omega (arith, first.inside))
-  find_first (entry ∷ held) zero first = cond-true _ _ _ (ap (tied key) first.here ∙ tied_itself key)
+  find_first (entry ∷ held) zero first = cond-true _ _ _ (ap (is_tied key) first.here ∙ tied_itself key)
   find_first (entry ∷ held) (suc place) first =
       cond-false _ _ _ (tied_apart key entry.0 (λ same. first.before 0 (omega arith) (sym same))) ∙ find_first held place (first_later entry held place first)
 
   find_replaced : (item : Item) (held : List (Key × Item)) (place : ℕ) → IsFirstAt default key held place → (q : Key) →
-      find key_cmp q (set held place (key, item)) ≡ cond (tied q key) (Some item) (find key_cmp q held)
+      find key_cmp q (set held place (key, item)) ≡ cond (is_tied q key) (Some item) (find key_cmp q held)
   find_replaced item [] place first q = absurd (omega (arith, first.inside))
   find_replaced item (entry ∷ held) zero first q =
-      shadowed (tied q key) _ _ _ ∙ ap (λ k. cond (tied q key) (Some item) (cond (tied q k) (Some entry.1) (find key_cmp q held))) (sym first.here)
+      shadowed (is_tied q key) _ _ _ ∙ ap (λ k. cond (is_tied q key) (Some item) (cond (is_tied q k) (Some entry.1) (find key_cmp q held))) (sym first.here)
   find_replaced item (entry ∷ held) (suc place) first q =
-      ap (cond (tied q entry.0) (Some entry.1)) (find_replaced item held place (first_later entry held place first) q)
-      ∙ swapped _ _ _ _ _ (λ ties ties_key. first.before 0 (omega arith) (sym (tied_same q entry.0 ties) ∙ tied_same q key ties_key))
+      ap (cond (is_tied q entry.0) (Some entry.1)) (find_replaced item held place (first_later entry held place first) q)
+      ∙ swapped _ _ _ _ _ (λ ties ties_key. first.before 0 (omega arith) (sym (tied_keys q entry.0 ties) ∙ tied_keys q key ties_key))
 
 -- an item to read past the end
 abbrev no_item : Item
@@ -120,7 +108,7 @@ table-replaced stored key item held place is at_place =
     ∙ ap (λ (k : Key). table_of_held (set held place (k, item))) first.here
     ∙ same_map key_cmp_total key_cmp_exact _ _ (λ q.
     get-from_entries key_cmp_total _ q ∙ find_replaced stored key item held place first q
-    ∙ sym (get-insert key_cmp_total (table_of_held held) key item q ∙ ap (cond (tied q key) (Some item)) (get-from_entries key_cmp_total held q)))
+    ∙ sym (get-insert key_cmp_total (table_of_held held) key item q ∙ ap (cond (is_tied q key) (Some item)) (get-from_entries key_cmp_total held q)))
 
 -- to push an entry of a key with no place is to insert
 pub table-pushed : (key : Key) (item : Item) (held : List (Key × Item)) → position (has_key key) held ≡ None →
@@ -136,17 +124,17 @@ gap_shadows : {A : Type 0} (b : Bool) (x : A) (y z : Option A) → y ≡ cond b 
 gap_shadows true x y z is = is
 gap_shadows false x y z is = is
 
-find_taken_out : (key q : Key) (held : List (Key × Item)) → find key_cmp q (filter (λ entry. not (has_key key entry)) held) ≡ cond (tied q key) None (find key_cmp q held)
-find_taken_out key q [] = gap_in_nothing (tied q key) None
+find_taken_out : (key q : Key) (held : List (Key × Item)) → find key_cmp q (filter (λ entry. not (has_key key entry)) held) ≡ cond (is_tied q key) None (find key_cmp q held)
+find_taken_out key q [] = gap_in_nothing (is_tied q key) None
 find_taken_out key q (entry ∷ held) =
     elim (has_key key entry) as (λ b. has_key key entry ≡ b →
-    find key_cmp q (cond (not b) (entry ∷ filter (λ other. not (has_key key other)) held) (filter (λ other. not (has_key key other)) held)) ≡ cond (tied q key) None (find key_cmp q (entry ∷ held))) [
+    find key_cmp q (cond (not b) (entry ∷ filter (λ other. not (has_key key other)) held) (filter (λ other. not (has_key key other)) held)) ≡ cond (is_tied q key) None (find key_cmp q (entry ∷ held))) [
       | true ↦ λ here.
-          gap_shadows (tied q key) entry.1 _ _ (find_taken_out key q held)
-          ∙ ap (λ k. cond (tied q key) None (cond (tied q k) (Some entry.1) (find key_cmp q held))) (sym (same_key key entry here))
+          gap_shadows (is_tied q key) entry.1 _ _ (find_taken_out key q held)
+          ∙ ap (λ k. cond (is_tied q key) None (cond (is_tied q k) (Some entry.1) (find key_cmp q held))) (sym (same_key key entry here))
       | false ↦ λ apart.
-          ap (cond (tied q entry.0) (Some entry.1)) (find_taken_out key q held)
-          ∙ swapped _ _ _ _ _ (λ ties ties_key. other_key key entry apart (sym (tied_same q entry.0 ties) ∙ tied_same q key ties_key))
+          ap (cond (is_tied q entry.0) (Some entry.1)) (find_taken_out key q held)
+          ∙ swapped _ _ _ _ _ (λ ties ties_key. other_key key entry apart (sym (tied_keys q entry.0 ties) ∙ tied_keys q key ties_key))
     ] refl
 
 -- to keep the entries of other keys is to take the key out
@@ -155,4 +143,4 @@ table-taken_out key held kept is =
     ap table_of_held is
     ∙ same_map key_cmp_total key_cmp_exact _ _ (λ q.
     get-from_entries key_cmp_total _ q ∙ find_taken_out key q held
-    ∙ sym (get-remove key_cmp_total (table_of_held held) key q ∙ ap (cond (tied q key) None) (get-from_entries key_cmp_total held q)))
+    ∙ sym (get-remove key_cmp_total (table_of_held held) key q ∙ ap (cond (is_tied q key) None) (get-from_entries key_cmp_total held q)))

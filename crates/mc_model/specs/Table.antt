@@ -1,10 +1,10 @@
 -- A tenant's table: what it holds under each key. In memcached's doc/protocol.txt an item is "identified with the help of a key".
-use Rattle.std.specs.Prelude.{ℕ, ◌+◌, List, length, sum_by, refl}
+use Rattle.std.specs.Prelude.{◌≡◌, ℕ, ◌+◌, Bool, true, List, length, sum_by, refl}
 use Rattle.std.specs.Coded.{Coded, code_by, coded×, coded_ℕ, coded_list}
-use Rattle.std.specs.Cmp.{IsTotalOrder}
+use Rattle.std.specs.Cmp.{Equal-is, IsTotalOrder, eq_by_cmp_equiv}
 use Rattle.std.specs.Cmp.Lexicographic.{nat_list_cmp_total, slice_cmp}
 use Rattle.std.specs.FinMap as map
-use Rattle.std.specs.Ordering.{nat_cmp}
+use Rattle.std.specs.Ordering.{eq_by_cmp, nat_cmp}
 use Rattle.std.specs.declared.cmp.Ordering.{Ordering}
 use Rattle.mc_model.specs.declared.item.Item.{Item}
 use Rattle.mc_model.specs.declared.key.Key.{Key}
@@ -19,6 +19,16 @@ key_cmp_total = nat_list_cmp_total
 -- keys that tie are one key
 pub key_cmp_exact : map.IsAntisymmetric key_cmp
 key_cmp_exact = map.slice_cmp-IsAntisymmetric map.nat_cmp-IsAntisymmetric
+
+-- the map's own test of two keys
+abbrev pub is_tied : Key → Key → Bool
+is_tied = eq_by_cmp key_cmp
+
+pub tied_keys : (key other : Key) → is_tied key other ≡ true → key ≡ other
+tied_keys key other tied = key_cmp_exact key other ((Equal-is (key_cmp key other)).0 tied)
+
+pub tied_itself : (key : Key) → is_tied key key ≡ true
+tied_itself = (eq_by_cmp_equiv key_cmp_total).refl
 
 -- a finite map from keys to items
 abbrev pub Table : Type 0
