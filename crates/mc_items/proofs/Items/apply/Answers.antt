@@ -1,4 +1,4 @@
-use Rattle.std.proofs.Common.{◌≡◌, ◌+◌, rules}
+use Rattle.std.proofs.Common.{◌≡◌, rules}
 use Rattle.mc_model.specs.History.{next_effect}
 use Rattle.mc_items.specs.Held.{table_of_held}
 use Rattle.mc_items.proofs.Stands.{OnOk-StandsFor, StandsFor-next, StandsFor-push, changes_with}
