@@ -1,2 +1,3 @@
+pub mod Commands
 pub mod Held
 pub mod TableState

@@ -3,7 +3,6 @@ use Rattle.std.specs.Prelude.{ℕ, ◌+◌, if◌then◌else◌, refl}
 use Rattle.std.specs.Coded.{Coded, code_by, coded×, coded_ℕ}
 use Rattle.std.specs.FinMap as map
 use Rattle.mc_model.specs.declared.command.Command.{Command}
-use Rattle.mc_model.specs.declared.command.Command.TheVariants.{Get, Delete, Flush}
 use Rattle.mc_model.specs.declared.item.Data.{Data}
 use Rattle.mc_model.specs.declared.key.Key.{Key}
 use Rattle.mc_model.specs.declared.reply.Reply.{Reply}
@@ -26,10 +25,11 @@ abbrev pub coded_state : Coded TableState
 coded_state =
     code_by (Limits × (Table × ℕ)) (coded× coded_limits (coded× coded_table coded_ℕ)) (λ s. (s.limits, (s.table, s.last_unique))) (λ p. record { limits = p.0; table = p.1.0; last_unique = p.1.1 }) (λ _. refl)
 
--- what a command does to a table, and what it is answered
+-- what a command is answered
 abbrev pub next_reply : TableState → Command → Reply
 next_reply state command = (next_effect state.table state.last_unique command).reply
 
+-- what it leaves: its table, and one more change where it is accepted
 abbrev pub next_state : TableState → Command → TableState
 next_state state command = record {
   limits = state.limits;
@@ -44,14 +44,3 @@ with_item state key flags block = record {
   table = map.insert state.table key (record { flags = flags; block = block; unique = state.last_unique + 1 });
   last_unique = state.last_unique + 1;
 }
-
--- the command only takes keys out
-abbrev pub TakesOut : Command → Type 0
-TakesOut (Delete key) = Unit {0}
-TakesOut Flush = Unit {0}
-TakesOut _ = ⊥
-
--- the command only reads
-abbrev pub Reads : Command → Type 0
-Reads (Get keys uniques) = Unit {0}
-Reads _ = ⊥

@@ -1,7 +1,6 @@
 //! Data that commands make of data: joined blocks, and numbers in decimal digits.
 ghost use Rattle.std.specs.Prelude.{◌≡◌, ◌++◌, ◌≤◌, length, nat_le, decimal, if◌then◌else◌, IfOk, OnErr, IsOkUnless};
 ghost use Rattle.mc_model.specs.Number.{numeric_value};
-ghost use Rattle.mc_model.specs.declared.item.TheConstants.{DATA_BYTES};
 
 use itoa::Buffer;
 use mc_model::item::DATA_BYTES;

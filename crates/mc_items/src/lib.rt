@@ -9,7 +9,8 @@ ghost use Rattle.mc_model.specs.declared.command.Command.TheVariants.{Store, Cas
 ghost use Rattle.mc_model.specs.declared.reply.Reply.TheVariants.{Number, Stored};
 ghost use Rattle.mc_model.specs.Effect.{is_acceptance};
 ghost use Rattle.mc_model.specs.History.{StandsFor, answer, next_effect};
-ghost use Rattle.mc_items.specs.TableState.{Reads, TakesOut, next_reply, next_state, with_item};
+ghost use Rattle.mc_items.specs.Commands.{Reads, TakesOut};
+ghost use Rattle.mc_items.specs.TableState.{next_reply, next_state, with_item};
 
 use crate::blocks::{digits_of, joined, number_in};
 use crate::held::{item_under, put, shown_values, take_out};
