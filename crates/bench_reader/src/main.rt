@@ -1,9 +1,13 @@
-//! Feeds a reader byte by byte and asks for a request after each byte, for streams of one request each. Prints how many
-//! bytes each has and how many requests came, and with `--time` the nanoseconds of the fastest of some passes.
+//! Measures the reader alone: fed byte by byte streams of one request each, and in pieces streams of many requests, beside a
+//! scan of the same bytes for line feeds. Prints the bytes of each stream and how many requests (of a scan, line feeds) came,
+//! and with `--time` the nanoseconds of the fastest of some passes.
 #![tactic(auto)]
+
+ghost use Rattle.std.specs.Prelude.{◌<◌};
 
 use mc_model::Fault;
 use mc_read::Reader;
+use memchr::memchr_iter;
 use std::alloc::{AllocError, Global};
 use std::rt::Clock;
 use std::time::{Duration, Instant};
@@ -12,50 +16,98 @@ use std::{env, io};
 /// How often a stream is read for its time.
 const PASSES: usize = 7;
 
-/// How many requests come of the stream, fed byte by byte.
-fn count_requests(alloc: Global, stream: &[u8]) -> Result<u64, Fault> {
+/// How many bytes a piece of a long stream has.
+const PIECE_BYTES: usize = 16_384;
+
+/// How many bytes a stream of many requests has, about.
+const STREAM_BYTES: usize = 4_194_304;
+
+/// What is done with a stream.
+#[derive(Clone, Copy)]
+enum Task {
+    /// Fed byte by byte, a request is asked for after each byte.
+    ReadBytes,
+    /// Fed in pieces, requests are asked for after each until there is none.
+    ReadPieces,
+    /// Searched for line feeds.
+    Scan,
+}
+
+/// How many requests come of the stream, fed in pieces of this size.
+fn count_requests(alloc: Global, stream: &[u8], size: usize) -> Result<u64, Fault>
+    requires { 0 < size }
+{
     let mut reader = Reader::new(alloc);
     let mut count = 0u64;
-    for byte in stream.chunks(1) {
-        reader.feed(byte)?;
-        if reader.next()?.is_some() {
+    for piece in stream.chunks(size) {
+        reader.feed(piece)?;
+        for _ in 0..u64::MAX {
+            if reader.next()?.is_none() {
+                break;
+            }
             count = count.saturating_add(1);
         }
     }
     Ok(count)
 }
 
-/// The same, where memory is all that can fail.
-fn read(alloc: Global, stream: &[u8]) -> io::Result<u64> {
-    Ok(count_requests(alloc, stream).map_err(|_| AllocError)?)
+/// What the task counts in the stream; memory is all that can fail.
+fn run(alloc: Global, task: Task, stream: &[u8]) -> io::Result<u64> {
+    let counted = match task {
+        Task::ReadBytes => count_requests(alloc, stream, 1),
+        Task::ReadPieces => count_requests(alloc, stream, PIECE_BYTES),
+        Task::Scan => Ok(memchr_iter(b'\n', stream).count() as u64),
+    };
+    Ok(counted.map_err(|_| AllocError)?)
 }
 
-/// The time of the fastest pass.
-fn fastest_pass(rt: &(impl AllocGlobal + Clock), stream: &[u8]) -> io::Result<Duration> {
+/// The time of the fastest pass. Each pass has to count as much as the first, so that the compiler can leave none out.
+fn fastest_pass(
+    rt: &(impl AllocGlobal + Clock),
+    task: Task,
+    stream: &[u8],
+    count: u64,
+) -> io::Result<Duration> {
     let mut fastest = Duration::MAX;
     for _ in 0..PASSES {
         let start = Instant::now(rt)?;
-        read(rt.alloc(), stream)?;
-        fastest = fastest.min(start.elapsed(rt)?);
+        let counted = run(rt.alloc(), task, stream)?;
+        let time = start.elapsed(rt)?;
+        if counted == count {
+            fastest = fastest.min(time);
+        }
     }
     Ok(fastest)
 }
 
-/// Reads a stream and prints a line on it.
+/// Does the task and prints a line on it.
 fn report(
     rt: &(impl AllocGlobal + Clock + Print),
     name: &str,
-    stream: &str,
+    task: Task,
+    stream: &[u8],
     timed: bool,
 ) -> io::Result<()> {
     let bytes = stream.len();
-    let requests = read(rt.alloc(), stream.as_bytes())?;
-    print!(rt; "{name}: {bytes} bytes, {requests} request")?;
+    let count = run(rt.alloc(), task, stream)?;
+    print!(rt; "{name}: {bytes} bytes, {count} counted")?;
     if timed {
-        let nanoseconds = fastest_pass(rt, stream.as_bytes())?.as_nanos();
+        let nanoseconds = fastest_pass(rt, task, stream, count)?.as_nanos();
         print!(rt; ", {nanoseconds} ns")?;
     }
     println!(rt)
+}
+
+/// Reads a stream of this request again and again, and scans the same bytes.
+fn report_many(
+    rt: &(impl AllocGlobal + Clock + Print),
+    name: &str,
+    request: &str,
+    timed: bool,
+) -> io::Result<()> {
+    let stream = request.repeat(rt.alloc(), STREAM_BYTES / request.len().max(1))?;
+    report(rt, name, Task::ReadPieces, stream.as_bytes(), timed)?;
+    report(rt, "scan", Task::Scan, stream.as_bytes(), timed)
 }
 
 fn main(rt: HostRuntime) -> io::Result<()> {
@@ -63,12 +115,18 @@ fn main(rt: HostRuntime) -> io::Result<()> {
     for size in [16_384, 65_536] {
         let line = "a".repeat(rt.alloc(), size)?;
         let stream = format!(in rt.alloc(); "{line}\n")?;
-        report(&rt, "line", stream.as_str(), timed)?;
+        report(&rt, "line", Task::ReadBytes, stream.as_bytes(), timed)?;
     }
     for size in [262_144, 1_048_576] {
         let block = "z".repeat(rt.alloc(), size)?;
         let stream = format!(in rt.alloc(); "set a 0 0 {size}\r\n{block}\r\n")?;
-        report(&rt, "block", stream.as_str(), timed)?;
+        report(&rt, "block", Task::ReadBytes, stream.as_bytes(), timed)?;
+    }
+    report_many(&rt, "get", "get key:00001234\r\n", timed)?;
+    for size in [100, 4_096] {
+        let block = "z".repeat(rt.alloc(), size)?;
+        let request = format!(in rt.alloc(); "set key:00001234 0 0 {size}\r\n{block}\r\n")?;
+        report_many(&rt, "set", request.as_str(), timed)?;
     }
     Ok(())
 }

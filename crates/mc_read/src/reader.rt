@@ -3,7 +3,6 @@ ghost use Rattle.std.specs.Bool.{OnTrue};
 ghost use Rattle.std.specs.Prelude.{◌≡◌, ℕ, ◌+◌, ◌-◌, ◌<◌, ◌≤◌, if◌then◌else◌, List, [], ◌∷◌, length, take, drop, IfOk, IfSome, IsOk, IsOkUnless, OnOk, OnErr};
 ghost use Rattle.mc_model.specs.declared.item.TheConstants.{DATA_BYTES};
 ghost use Rattle.mc_model.specs.declared.request.Request.{Request};
-ghost use Rattle.mc_read.specs.First.{line_length};
 ghost use Rattle.mc_read.specs.Reading.{ends_stream, Ended, IsFed, Kept, Swallowing};
 ghost use Rattle.mc_read.specs.State.{EndsInRefusal, IsAnswer, IsSearched, IsSought, IsStateOf, held_in, state_after};
 ghost use Rattle.mc_read.specs.Text.{stored_if};

@@ -1,6 +1,6 @@
 //! Lines with a block: `set`, `add`, `replace`, `append`, `prepend` and `cas`.
-ghost use Rattle.std.specs.Prelude.{◌≡◌, ◌||◌, IfOk, IsOkUnless, map};
-ghost use Rattle.mc_read.specs.Line.{HasLawfulBlock, asked_of_block, asked_of_cas, asked_of_storage, check_and_set, ends_in_noreply, first_failure, ignores_exptime, storage_checks};
+ghost use Rattle.std.specs.Prelude.{◌≡◌, IfOk, IsOkUnless, map};
+ghost use Rattle.mc_read.specs.Line.{HasLawfulBlock, asked_of_block, asked_of_cas, asked_of_storage, first_failure, ignores_exptime, storage_checks};
 
 use crate::line::{
     Asked, BLOCK_LENGTH, FLAGS, Header, Storage, UNIQUE, is_quiet_refusal, malformed, no_command,
