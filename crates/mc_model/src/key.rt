@@ -137,7 +137,7 @@ impl KeyList {
         ensures memory { IsOkUnless result Fault.Memory }
     {
         let mut keys = Vec::new(*self.keys.allocator());
-        for key in self.keys.as_slice() {
+        for key in self.as_slice() {
             keys.push(key.try_clone()?)?;
         }
         Ok(KeyList { keys })
