@@ -1,4 +1,5 @@
 pub mod Pieces
 pub mod Digits
+pub mod Owings
 pub mod Underway
 mod Rows

@@ -1,156 +1,373 @@
 -- What is true between the turns of the loop: what came reads on, and what was sent and is queued is what is owed so far.
-use Rattle.std.proofs.Common.{◌≡◌, ℕ, Bool, true, false, ◌||◌, ◌⊎◌, Option, List, [], ◌∷◌, ◌++◌, refl, sym, ◌∙◌, ap, subst, append-nil, append_assoc}
-use Rattle.std.proofs.Math.Bool.{or-true}
+use Rattle.std.proofs.Common.{◌≡◌, ℕ, zero, suc, ◌<◌, ◌≤◌, Bool, true, false, ◌||◌, ◌⊎◌, inl, inr, Option, Result, Ok, Err, List, [], ◌∷◌, ◌++◌, length, drop, refl, sym, ◌∙◌, ap, subst, ⊎_elim, append-nil, append_assoc, arith, length-append}
+use Rattle.std.specs.Bool.{MatchBool, nat_lt}
 use Rattle.std.specs.Io.KnownBytes.{Consumes, IsAtEnd, append_known}
 use Rattle.std.proofs.KnownBytes.{Consumes-nil, Consumes-trans}
 use Rattle.std.specs.List.{list_any}
-use Rattle.mc_model.specs.declared.command.Command.{Command}
+use Rattle.std.proofs.lemmas.List.Folds.{list_any-append}
+use Rattle.std.specs.Result.{IfErr}
+use Rattle.mc_model.specs.declared.fault.Fault.{Fault}
+use Rattle.mc_model.specs.declared.fault.Fault.TheVariants.{Memory, LogFull, Taken, Input, Output, BadEvent, BadSettings}
 use Rattle.mc_model.specs.declared.request.Request.{Request}
-use Rattle.mc_read.specs.Reading.{HasNone, Held, IsFed, IsNext, Kept, ReadAlike, Reads, ReadsAs, ReadsOn, ends_stream}
+use Rattle.mc_model.specs.declared.reply.Reply.TheVariants.{Refused}
+use Rattle.mc_model.specs.declared.reply.WireNo.TheVariants.{E11}
+use Rattle.mc_read.specs.Reading.{Ended, GoesOn, HasNone, Held, IsFed, IsNext, Kept, ReadAlike, Reads, ReadsAs, ReadsOn, Swallowing, ends_stream}
+use Rattle.mc_read.specs.Text.{IsRequestText}
+use Rattle.mc_read.proofs.Readings.{has_reading}
 use Rattle.mc_server.specs.declared.session.Session.{Session}
-use Rattle.mc_server.specs.Owed.{Serves, owed}
-use Rattle.mc_server.specs.Pump.{Moves}
-use Rattle.mc_server.specs.Session.{Responds, Stands}
+use Rattle.mc_server.specs.declared.serving.TheConstants.{PULL_BYTES}
+use Rattle.mc_server.specs.Owed.{applied_by, owed}
+use Rattle.mc_server.specs.Serving.{Comes, IsAllOrStopped, IsCaughtUp, Moves, PushesAtOnce, PushesFront, Serves, ServesInPart, ServesOn, ServesUntilStarved, StopsAt}
+use Rattle.mc_server.specs.Session.{IsStarved, Stands, TellsStarved}
+use Rattle.mc_server.specs.Stream.{Pushes, Streams}
+use Rattle.mc_server.specs.Text.{text}
+use Rattle.mc_server.proofs.Owings.{applied_by-append, owed-append}
 use Rattle.mc_server.proofs.Pieces.{append_known-more, append_known-nothing}
 
--- the requests answered so far, the commands applied so far, and what is still to be pushed
-pub record IsUnderway (pulled_before pulled left_before left pushed_before pushed : Option (List ℕ)) (held : Held) (session : Session) (closed : Bool) : Type 0 where
+-- the requests answered so far, what was sent, and what is still to be pushed
+pub record IsUnderway (before now : Streams) (held : Held) (session : Session) (closed : Bool) : Type 0 where
   pub came : List ℕ
   pub answered : List Request
   pub sent : List ℕ
-  pub applied : List Command
-  pub is_pulled : pulled ≡ append_known pulled_before came
-  pub is_consumed : Consumes left_before left came
-  pub is_pushed : pushed ≡ append_known pushed_before sent
-  pub stands : Stands applied session
+  pub is_pulled : now.pulled ≡ append_known before.pulled came
+  pub is_consumed : Consumes before.left now.left came
+  pub is_pushed : Pushes before now sent
+  pub stands : Stands (applied_by [] answered) session
   pub reads : (more : List ℕ) (requests : List Request) → ReadsOn held more requests → ReadsAs (came ++ more) (answered ++ requests)
-  pub owes : (requests : List Request) → owed [] (answered ++ requests) ≡ sent ++ (session.queue.items ++ owed applied requests)
-  pub closes : closed ≡ true → list_any ends_stream answered ≡ true
+  pub owes : owed [] answered ≡ sent ++ session.queue.items
+  pub closes : list_any ends_stream answered ≡ closed
+  pub caught_up : IsCaughtUp came sent
 
-pub underway_begins : (pulled left pushed : Option (List ℕ)) (session : Session) → Stands [] session → session.queue.items ≡ [] → IsUnderway pulled pulled left left pushed pushed (Kept []) session false
-underway_begins pulled left pushed session stands empty = record {
+-- what is held reads on, whatever follows
+swallowed_reads : (short : Bool) (request : Request) (bytes : List ℕ) → (requests : List Request) × MatchBool short (requests ≡ []) (GoesOn request (ReadsAs bytes) requests)
+swallowed_reads true request bytes = ([], refl)
+swallowed_reads false request bytes = let rest = has_reading bytes in (request ∷ rest.0, (refl, (rest.1, rest.2)))
+
+pub reads_on : (held : Held) (more : List ℕ) → (requests : List Request) × ReadsOn held more requests
+reads_on (Kept bytes) more = let reading = has_reading (bytes ++ more) in (reading.0, (reading.1, reading.2))
+reads_on (Swallowing request left bytes) more = swallowed_reads (nat_lt (length more) left) request (bytes ++ drop left more)
+reads_on Ended more = ([], refl)
+
+or_false : (b : Bool) → (b || false) ≡ b
+or_false true = refl
+or_false false = refl
+
+-- no text is empty, so nothing reads as nothing
+no_text_empty : (text more : List ℕ) (request : Request) → IsRequestText text request → [] ≡ text ++ more → ⊥
+no_text_empty text more request is empty =
+    ⊎_elim
+    (λ line. omega (arith, ap length empty, length-append text more, ap length line.in_text, length-append line.line (10 ∷ line.behind)))
+    (λ long. omega (arith, ap length empty, length-append text more, long.long))
+    is
+
+reads_nothing : ReadsAs [] []
+reads_nothing = ([], (refl, no_text_empty))
+
+-- more is sent, and a piece came
+more_sent : (bytes sent front : List ℕ) → IsCaughtUp bytes sent → IsCaughtUp bytes (sent ++ front)
+more_sent bytes sent front caught_up = record {
+  earlier = caught_up.earlier;
+  piece = caught_up.piece;
+  requests = caught_up.requests;
+  later = caught_up.later ++ front;
+  is_bytes = caught_up.is_bytes;
+  is_piece = caught_up.is_piece;
+  reads = caught_up.reads;
+  is_sent = ap (λ bytes. bytes ++ front) caught_up.is_sent ∙ append_assoc (owed [] caught_up.requests) caught_up.later front;
+}
+
+-- what is queued is nothing
+nothing_more : (bytes sent queue : List ℕ) → bytes ≡ sent ++ queue → queue ≡ [] → bytes ≡ sent
+nothing_more bytes sent queue is empty = is ∙ (ap (λ more. sent ++ more) empty ∙ append-nil sent)
+
+pub underway_begins : (before : Streams) (session : Session) → Stands [] session → session.queue.items ≡ [] → IsUnderway before before (Kept []) session false
+underway_begins before session stands empty = record {
   came = [];
   answered = [];
   sent = [];
-  applied = [];
-  is_pulled = sym (append_known-nothing pulled);
-  is_consumed = Consumes-nil left;
-  is_pushed = sym (append_known-nothing pushed);
+  is_pulled = sym (append_known-nothing before.pulled);
+  is_consumed = Consumes-nil before.left;
+  is_pushed = sym (append_known-nothing before.pushed);
   stands = stands;
   reads = λ more requests reads. reads;
-  owes = λ requests. ap (λ queue. queue ++ owed [] requests) (sym empty);
-  closes = λ closed. absurd (cc);
+  owes = sym empty;
+  closes = refl;
+  caught_up = record { earlier = []; piece = []; requests = []; later = []; is_bytes = refl; is_piece = omega arith; reads = reads_nothing; is_sent = refl };
 }
 
--- a request that ends the stream is one of those answered
-pub ends_with : (answered : List Request) (request : Request) → ends_stream request ≡ true → list_any ends_stream (answered ++ request ∷ []) ≡ true
-ends_with [] request ends = ap (λ b. b || false) ends
-ends_with (first ∷ answered) request ends = ap (λ b. ends_stream first || b) (ends_with answered request ends) ∙ or-true (ends_stream first)
-
-module _ (pulled_before pulled left_before left pushed_before pushed : Option (List ℕ)) (held : Held) (session : Session) (closed : Bool) (now : IsUnderway pulled_before pulled left_before left pushed_before pushed held session closed) where
+module _ (before now : Streams) (held : Held) (session : Session) (closed : Bool) (under : IsUnderway before now held session closed) where
   -- a request is answered
-  pub underway_next : (request : Request) (after : Held) (later : Session) (closes : Bool) → IsNext held request after → ((applied : List Command) → Stands applied session → Responds request session later applied) → closes ≡ ends_stream request → IsUnderway pulled_before pulled left_before left pushed_before pushed after later closes
-  underway_next request after later closes next responds is_end =
-      let done = responds now.applied now.stands in
-      record {
-        came = now.came;
-        answered = now.answered ++ request ∷ [];
-        sent = now.sent;
-        applied = done.later;
-        is_pulled = now.is_pulled;
-        is_consumed = now.is_consumed;
-        is_pushed = now.is_pushed;
-        stands = done.stands;
-        reads = λ more requests reads.
-            subst (ReadsAs (now.came ++ more)) (sym (append_assoc now.answered (request ∷ []) requests)) (now.reads more (request ∷ requests) ((next more (request ∷ requests)).1 (refl, reads)));
-        owes = λ requests.
-            ap (owed []) (append_assoc now.answered (request ∷ []) requests) ∙ (now.owes (request ∷ requests) ∙ ap (λ text. now.sent ++ text) (done.owes requests));
-        closes = λ closed. ends_with now.answered request (sym is_end ∙ closed);
-      }
+  pub underway_next : (request : Request) (after : Held) (later : Session) (closes : Bool) → closes ≡ (closed || ends_stream request) → IsNext held request after → Stands (applied_by (applied_by [] under.answered) (request ∷ [])) later
+      → later.queue.items ≡ session.queue.items ++ owed (applied_by [] under.answered) (request ∷ []) → IsUnderway before now after later closes
+  underway_next request after later closes is_closed next stands queued = record {
+    came = under.came;
+    answered = under.answered ++ request ∷ [];
+    sent = under.sent;
+    is_pulled = under.is_pulled;
+    is_consumed = under.is_consumed;
+    is_pushed = under.is_pushed;
+    stands = subst (λ applied. Stands applied later) (sym (applied_by-append [] under.answered (request ∷ []))) stands;
+    reads = λ more requests reads.
+        subst (ReadsAs (under.came ++ more)) (sym (append_assoc under.answered (request ∷ []) requests)) (under.reads more (request ∷ requests) ((next more (request ∷ requests)).1 (refl, reads)));
+    owes =
+        owed-append [] under.answered (request ∷ [])
+        ∙ (ap (λ bytes. bytes ++ owed (applied_by [] under.answered) (request ∷ [])) under.owes
+        ∙ (append_assoc under.sent session.queue.items (owed (applied_by [] under.answered) (request ∷ []))
+        ∙ ap (λ queue. under.sent ++ queue) (sym queued)));
+    closes =
+        list_any-append ends_stream under.answered (request ∷ [])
+        ∙ (ap (λ b. list_any ends_stream under.answered || b) (or_false (ends_stream request)) ∙ (ap (λ b. b || ends_stream request) under.closes ∙ sym is_closed));
+    caught_up = under.caught_up;
+  }
 
   -- a look that found no request
-  pub underway_alike : (after : Held) → ReadAlike held after → IsUnderway pulled_before pulled left_before left pushed_before pushed after session closed
-  underway_alike after alike = record {
-    came = now.came;
-    answered = now.answered;
-    sent = now.sent;
-    applied = now.applied;
-    is_pulled = now.is_pulled;
-    is_consumed = now.is_consumed;
-    is_pushed = now.is_pushed;
-    stands = now.stands;
-    reads = λ more requests reads. now.reads more requests ((alike more requests).1 reads);
-    owes = now.owes;
-    closes = now.closes;
-  }
-
-  -- a piece came
-  pub underway_fed : (piece : List ℕ) (later rest : Option (List ℕ)) (after : Held) → later ≡ append_known pulled piece → Consumes left rest piece → IsFed held piece after → IsUnderway pulled_before later left_before rest pushed_before pushed after session closed
-  underway_fed piece later rest after is_later consumed fed = record {
-    came = now.came ++ piece;
-    answered = now.answered;
-    sent = now.sent;
-    applied = now.applied;
-    is_pulled = is_later ∙ (ap (λ known. append_known known piece) now.is_pulled ∙ append_known-more pulled_before now.came piece);
-    is_consumed = Consumes-trans left_before left rest now.came piece now.is_consumed consumed;
-    is_pushed = now.is_pushed;
-    stands = now.stands;
-    reads = λ more requests reads.
-        subst (λ bytes. ReadsAs bytes (now.answered ++ requests)) (sym (append_assoc now.came piece more)) (now.reads (piece ++ more) requests ((fed more requests).0 reads));
-    owes = now.owes;
-    closes = now.closes;
-  }
+  pub underway_alike : (after : Held) → ReadAlike held after → IsUnderway before now after session closed
+  underway_alike after alike =
+      record {
+        came = under.came;
+        answered = under.answered;
+        sent = under.sent;
+        is_pulled = under.is_pulled;
+        is_consumed = under.is_consumed;
+        is_pushed = under.is_pushed;
+        stands = under.stands;
+        reads = λ more requests reads. under.reads more requests ((alike more requests).1 reads);
+        owes = under.owes;
+        closes = under.closes;
+        caught_up = under.caught_up;
+      }
 
   -- a front of the queue was pushed
-  pub underway_moved : (later : Session) (went : Option (List ℕ)) → later.items ≡ session.items → later.applied ≡ session.applied → Moves session.queue.items later.queue.items pushed went → IsUnderway pulled_before pulled left_before left pushed_before went held later closed
-  underway_moved later went same_items same_count moves = record {
-    came = now.came;
-    answered = now.answered;
-    sent = now.sent ++ moves.front;
-    applied = now.applied;
-    is_pulled = now.is_pulled;
-    is_consumed = now.is_consumed;
-    is_pushed = moves.went ∙ (ap (λ known. append_known known moves.front) now.is_pushed ∙ append_known-more pushed_before now.sent moves.front);
-    stands = record { table = rw same_items now.stands.table; count = same_count ∙ now.stands.count };
-    reads = now.reads;
-    owes = λ requests.
-        now.owes requests
-        ∙ (ap (λ queue. now.sent ++ (queue ++ owed now.applied requests)) moves.split
-        ∙ (ap (λ text. now.sent ++ text) (append_assoc moves.front later.queue.items (owed now.applied requests))
-        ∙ sym (append_assoc now.sent moves.front (later.queue.items ++ owed now.applied requests))));
-    closes = now.closes;
+  pub underway_moved : (later : Session) (went : Option (List ℕ)) (failures : ℕ) → later.items ≡ session.items → later.applied ≡ session.applied → Moves session.queue.items later.queue.items now.pushed went
+      → IsUnderway before (record now { pushed = went; output_failures = failures }) held later closed
+  underway_moved later went failures same_items same_count moves = record {
+    came = under.came;
+    answered = under.answered;
+    sent = under.sent ++ moves.front;
+    is_pulled = under.is_pulled;
+    is_consumed = under.is_consumed;
+    is_pushed = moves.went ∙ (ap (λ known. append_known known moves.front) under.is_pushed ∙ append_known-more before.pushed under.sent moves.front);
+    stands = record { table = rw same_items under.stands.table; count = same_count ∙ under.stands.count };
+    reads = under.reads;
+    owes = under.owes ∙ (ap (λ queue. under.sent ++ queue) moves.split ∙ sym (append_assoc under.sent moves.front later.queue.items));
+    closes = under.closes;
+    caught_up = more_sent under.came under.sent moves.front under.caught_up;
+  }
+
+  -- the requests of all that came
+  reads_with : (requests : List Request) → ReadsOn held [] requests → ReadsAs under.came (under.answered ++ requests)
+  reads_with requests reads =
+      subst (λ bytes. ReadsAs bytes (under.answered ++ requests)) (append-nil under.came) (under.reads [] requests reads)
+
+  reads_none : HasNone held → ReadsAs under.came under.answered
+  reads_none none = subst (ReadsAs under.came) (append-nil under.answered) (reads_with [] ((none []).1 refl))
+
+  pulled_more : HasNone held → session.queue.items ≡ [] → (piece : List ℕ) → length piece ≤ PULL_BYTES → IsCaughtUp (under.came ++ piece) under.sent
+  pulled_more none empty piece short = record {
+    earlier = under.came;
+    piece = piece;
+    requests = under.answered;
+    later = [];
+    is_bytes = refl;
+    is_piece = short;
+    reads = reads_none none;
+    is_sent = sym (append-nil (owed [] under.answered) ∙ nothing_more (owed [] under.answered) under.sent session.queue.items under.owes empty);
+  }
+
+  -- a piece came, after all that came before was answered and sent
+  pub underway_fed : (piece : List ℕ) (later rest : Option (List ℕ)) (failures : ℕ) (middle after : Held) → HasNone held → ReadAlike held middle → session.queue.items ≡ [] → length piece ≤ PULL_BYTES → later ≡ append_known now.pulled piece → Consumes now.left rest piece → IsFed middle piece after
+      → IsUnderway before (record now { pulled = later; left = rest; input_failures = failures }) after session closed
+  underway_fed piece later rest failures middle after none alike empty short is_later consumed fed = record {
+    came = under.came ++ piece;
+    answered = under.answered;
+    sent = under.sent;
+    is_pulled = is_later ∙ (ap (λ known. append_known known piece) under.is_pulled ∙ append_known-more before.pulled under.came piece);
+    is_consumed = Consumes-trans before.left now.left rest under.came piece under.is_consumed consumed;
+    is_pushed = under.is_pushed;
+    stands = under.stands;
+    reads = λ more requests reads.
+        subst (λ bytes. ReadsAs bytes (under.answered ++ requests)) (sym (append_assoc under.came piece more)) (under.reads (piece ++ more) requests ((alike (piece ++ more) requests).1 ((fed more requests).0 reads)));
+    owes = under.owes;
+    closes = under.closes;
+    caught_up = pulled_more none empty piece short;
   }
 
   -- nothing came
-  pub underway_waits : (later rest : Option (List ℕ)) → later ≡ append_known pulled [] → Consumes left rest [] → IsUnderway pulled_before later left_before rest pushed_before pushed held session closed
-  underway_waits later rest nothing none = record {
-    came = now.came;
-    answered = now.answered;
-    sent = now.sent;
-    applied = now.applied;
-    is_pulled = nothing ∙ (append_known-nothing pulled ∙ now.is_pulled);
-    is_consumed = subst (Consumes left_before rest) (append-nil now.came) (Consumes-trans left_before left rest now.came [] now.is_consumed none);
-    is_pushed = now.is_pushed;
-    stands = now.stands;
-    reads = now.reads;
-    owes = now.owes;
-    closes = now.closes;
+  pub underway_waits : (later rest : Option (List ℕ)) (failures : ℕ) → later ≡ append_known now.pulled [] → Consumes now.left rest [] → IsUnderway before (record now { pulled = later; left = rest; input_failures = failures }) held session closed
+  underway_waits later rest failures nothing none = record {
+    came = under.came;
+    answered = under.answered;
+    sent = under.sent;
+    is_pulled = nothing ∙ (append_known-nothing now.pulled ∙ under.is_pulled);
+    is_consumed = subst (Consumes before.left rest) (append-nil under.came) (Consumes-trans before.left now.left rest under.came [] under.is_consumed none);
+    is_pushed = under.is_pushed;
+    stands = under.stands;
+    reads = under.reads;
+    owes = under.owes;
+    closes = under.closes;
+    caught_up = under.caught_up;
   }
 
+  comes_all : HasNone held → Comes before now
+  comes_all none =
+      let whole = reads_none none in
+      record { bytes = under.came; requests = under.answered; rest = whole.0; came = under.is_pulled; consumed = under.is_consumed; reads = whole.1 }
+
+  sends_all : session.queue.items ≡ [] → Pushes before now (owed [] under.answered)
+  sends_all empty =
+      under.is_pushed ∙ ap (append_known before.pushed) (sym (nothing_more (owed [] under.answered) under.sent session.queue.items under.owes empty))
+
   -- all that was queued is pushed, and no request is held
-  pub serves_at_end : (has_ended : Type 0) (queued : List ℕ) (went : Option (List ℕ)) → Moves session.queue.items queued pushed went → queued ≡ [] → HasNone held → has_ended × IsAtEnd left ⊎ (list_any ends_stream now.answered ≡ true) → Serves pulled_before pulled left_before left pushed_before went has_ended
-  serves_at_end has_ended queued went moves empty none end =
-      let whole = now.reads [] [] ((none []).1 refl) in
-      let all : session.queue.items ≡ moves.front = moves.split ∙ (ap (λ queue. moves.front ++ queue) empty ∙ append-nil moves.front) in
-      let is_owed : owed [] now.answered ≡ now.sent ++ moves.front =
-      ap (owed []) (sym (append-nil now.answered)) ∙ (now.owes [] ∙ ap (λ queue. now.sent ++ queue) (append-nil session.queue.items ∙ all)) in
+  pub serves_at_end : (has_ended : Type 0) → HasNone held → session.queue.items ≡ [] → has_ended × IsAtEnd now.left ⊎ (closed ≡ true) → Serves before now has_ended
+  unfolding comes_all
+  serves_at_end has_ended none empty end = record {
+    comes = comes_all none;
+    went = sends_all empty;
+    end = ⊎_elim (λ ended. inl ended) (λ is_closed. inr (under.closes ∙ is_closed)) end;
+  }
+
+  pub serves_on : HasNone held → session.queue.items ≡ [] → closed ≡ false → ServesOn before now
+  unfolding comes_all
+  serves_on none empty is_open = record { comes = comes_all none; went = sends_all empty; goes_on = under.closes ∙ is_open }
+
+  -- a front of what is queued was pushed, and the output failed
+  pub serves_in_part : (went : Option (List ℕ)) (failures : ℕ) → PushesFront session.queue.items now.pushed went → ServesInPart before (record now { pushed = went; output_failures = failures })
+  serves_in_part went failures (rest, moves) =
+      let others = reads_on held [] in
+      let whole = reads_with others.0 others.1 in
+      let later = owed (applied_by [] under.answered) others.0 in
       record {
-        bytes = now.came;
-        requests = now.answered;
-        rest = whole.0;
-        came = now.is_pulled;
-        consumed = now.is_consumed;
-        reads = subst (λ requests. Reads now.came requests whole.0) (append-nil now.answered) (subst (λ bytes. Reads bytes (now.answered ++ []) whole.0) (append-nil now.came) whole.1);
-        went = moves.went ∙ (ap (λ known. append_known known moves.front) now.is_pushed ∙ (append_known-more pushed_before now.sent moves.front ∙ ap (append_known pushed_before) (sym is_owed)));
-        end = end;
+        comes = record { bytes = under.came; requests = under.answered ++ others.0; rest = whole.0; came = under.is_pulled; consumed = under.is_consumed; reads = whole.1 };
+        sent = under.sent ++ moves.front;
+        unsent = rest ++ later;
+        owes =
+            owed-append [] under.answered others.0
+            ∙ (ap (λ bytes. bytes ++ later) (under.owes ∙ ap (λ queue. under.sent ++ queue) moves.split)
+            ∙ simp append_assoc);
+        went = moves.went ∙ (ap (λ known. append_known known moves.front) under.is_pushed ∙ append_known-more before.pushed under.sent moves.front);
+        caught_up = more_sent under.came under.sent moves.front under.caught_up;
       }
+
+  -- a look for a request met want of memory
+  pub starved_looking : IsStarved before now session
+  starved_looking =
+      let others = reads_on held [] in
+      let whole = reads_with others.0 others.1 in
+      record {
+        comes = record { bytes = under.came; requests = under.answered ++ others.0; rest = whole.0; came = under.is_pulled; consumed = under.is_consumed; reads = whole.1 };
+        answered = under.answered;
+        met = [];
+        others = others.0;
+        split = refl;
+        at_most_one = omega arith;
+        stands = subst (λ requests. Stands (applied_by [] requests) session) (sym (append-nil under.answered)) under.stands;
+        sent = under.sent;
+        owes = under.owes;
+        went = under.is_pushed;
+        caught_up = under.caught_up;
+      }
+
+  -- the answer to a request met want of memory
+  pub starved_responding : (request : Request) (after : Held) (later : Session) → IsNext held request after → later.queue.items ≡ session.queue.items
+      → Stands (applied_by [] under.answered) later ⊎ Stands (applied_by (applied_by [] under.answered) (request ∷ [])) later → IsStarved before now later
+  starved_responding request after later next same stands =
+      let others = reads_on after [] in
+      let whole = reads_with (request ∷ others.0) ((next [] (request ∷ others.0)).1 (refl, others.1)) in
+      let comes : Comes before now =
+      record { bytes = under.came; requests = under.answered ++ request ∷ others.0; rest = whole.0; came = under.is_pulled; consumed = under.is_consumed; reads = whole.1 } in
+      let owes : owed [] under.answered ≡ under.sent ++ later.queue.items = under.owes ∙ ap (λ queue. under.sent ++ queue) (sym same) in
+      ⊎_elim
+      (λ before_it. record {
+        comes = comes;
+        answered = under.answered;
+        met = [];
+        others = request ∷ others.0;
+        split = refl;
+        at_most_one = omega arith;
+        stands = subst (λ requests. Stands (applied_by [] requests) later) (sym (append-nil under.answered)) before_it;
+        sent = under.sent;
+        owes = owes;
+        went = under.is_pushed;
+        caught_up = under.caught_up;
+      })
+      (λ with_it. record {
+        comes = comes;
+        answered = under.answered;
+        met = request ∷ [];
+        others = others.0;
+        split = refl;
+        at_most_one = omega arith;
+        stands = subst (λ applied. Stands applied later) (sym (applied_by-append [] under.answered (request ∷ []))) with_it;
+        sent = under.sent;
+        owes = owes;
+        went = under.is_pushed;
+        caught_up = under.caught_up;
+      })
+      stands
+
+  -- a piece that came met want of memory
+  pub starved_feeding : (piece : List ℕ) (later rest : Option (List ℕ)) (failures : ℕ) → HasNone held → session.queue.items ≡ [] → length piece ≤ PULL_BYTES → later ≡ append_known now.pulled piece → Consumes now.left rest piece
+      → IsStarved before (record now { pulled = later; left = rest; input_failures = failures }) session
+  starved_feeding piece later rest failures none empty short is_later consumed =
+      let others = reads_on held piece in
+      let whole = under.reads piece others.0 others.1 in
+      record {
+        comes = record {
+          bytes = under.came ++ piece;
+          requests = under.answered ++ others.0;
+          rest = whole.0;
+          came = is_later ∙ (ap (λ known. append_known known piece) under.is_pulled ∙ append_known-more before.pulled under.came piece);
+          consumed = Consumes-trans before.left now.left rest under.came piece under.is_consumed consumed;
+          reads = whole.1;
+        };
+        answered = under.answered;
+        met = [];
+        others = others.0;
+        split = refl;
+        at_most_one = omega arith;
+        stands = subst (λ requests. Stands (applied_by [] requests) session) (sym (append-nil under.answered)) under.stands;
+        sent = under.sent;
+        owes = under.owes;
+        went = under.is_pushed;
+        caught_up = pulled_more none empty piece short;
+      }
+
+-- the client is told
+pub tells : (before after : Streams) (is_full : Type 0) (session : Session) → TellsStarved before after is_full session → ServesUntilStarved before after is_full
+tells before after is_full session telling =
+    let starved = telling.starved in
+    let moves = telling.told.1 in
+    record {
+      comes = record {
+        bytes = starved.comes.bytes;
+        requests = starved.comes.requests;
+        rest = starved.comes.rest;
+        came = telling.same_pulled ∙ starved.comes.came;
+        consumed = rw telling.same_left starved.comes.consumed;
+        reads = starved.comes.reads;
+      };
+      answered = starved.answered;
+      others = starved.met ++ starved.others;
+      split = starved.split;
+      sent = starved.sent ++ moves.front;
+      unsent = telling.told.0;
+      owes =
+          ap (λ bytes. bytes ++ text (Refused E11)) starved.owes
+          ∙ (append_assoc starved.sent session.queue.items (text (Refused E11))
+          ∙ (ap (λ bytes. starved.sent ++ bytes) moves.split
+          ∙ sym (append_assoc starved.sent moves.front telling.told.0)));
+      went = moves.went ∙ (ap (λ known. append_known known moves.front) starved.went ∙ append_known-more before.pushed starved.sent moves.front);
+      stops = telling.told.2;
+      caught_up = more_sent starved.comes.bytes starved.sent moves.front starved.caught_up;
+    }
+
+pub stops_told : (result : Result (Unit {0}) Fault) (before after : Streams) (is_full : Type 0) (session : Session) → IfErr result (λ fault. StopsAt fault before after (TellsStarved before after is_full session))
+    → IfErr result (λ fault. StopsAt fault before after (ServesUntilStarved before after is_full))
+stops_told (Ok done) before after is_full session stops = stops
+stops_told (Err Memory) before after is_full session stops = tells before after is_full session stops
+stops_told (Err LogFull) before after is_full session stops = stops
+stops_told (Err Taken) before after is_full session stops = stops
+stops_told (Err Input) before after is_full session stops = stops
+stops_told (Err Output) before after is_full session stops = stops
+stops_told (Err BadEvent) before after is_full session stops = stops
+stops_told (Err BadSettings) before after is_full session stops = stops

@@ -3,7 +3,8 @@ use Rattle.std.specs.Prelude.{◌≡◌, ℕ, ◌≤◌, ◌+◌, List, ◌++◌
 use Rattle.std.specs.Io.KnownBytes.{append_known}
 use Rattle.mc_model.specs.declared.fault.Fault.{Fault}
 use Rattle.mc_model.specs.declared.fault.Fault.TheVariants.{Memory, LogFull, Taken, Input, Output, BadEvent, BadSettings}
-use Rattle.mc_server.specs.Pump.{CountsFailures}
+use Rattle.mc_server.specs.Serving.{CountsFailures, ServesUntilStarved, StopsAt}
+use Rattle.mc_server.specs.Stream.{Streams}
 
 -- the name of a fault
 abbrev pub fault_text : Fault → List ℕ
@@ -19,10 +20,11 @@ fault_text BadSettings = codes "bad settings"
 abbrev pub fault_line : List ℕ → Fault → List ℕ
 fault_line program fault = program ++ codes ": " ++ fault_text fault ++ codes "\n"
 
--- A run that failed met one fault, which the failures of the input and the output bear out, and said so, unless standard
--- error failed.
-pub record Fails (program : List ℕ) (input_before input output_before output errors_before errors : ℕ) (said_before said : Option (List ℕ)) : Type 0 where
+-- A run that failed met one fault, which the failures of the input and the output bear out, gave the client what it gives at
+-- that fault, and said so, unless standard error failed.
+pub record Fails (program : List ℕ) (before after : Streams) (is_full : Type 0) (errors_before errors : ℕ) (said_before said : Option (List ℕ)) : Type 0 where
   pub fault : Fault
-  pub counts : CountsFailures (Err fault) input_before input output_before output
+  pub counts : CountsFailures (Err fault) before after
+  pub stops : StopsAt fault before after (ServesUntilStarved before after is_full)
   pub told : errors ≡ errors_before → said ≡ append_known said_before (fault_line program fault)
   pub once : errors ≤ errors_before + 1

@@ -1,7 +1,7 @@
 pub mod Faults
 pub mod Memory
 pub mod Owed
-pub mod Pump
+pub mod Serving
 pub mod Session
 pub mod Standard
 pub mod Stream

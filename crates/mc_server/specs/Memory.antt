@@ -1,5 +1,5 @@
 -- What contracts see of an input and an output over memory, and what their steps do.
-use Rattle.std.specs.Prelude.{ℕ, zero, suc, min, max, Bool, true, false, List, [], ◌∷◌}
+use Rattle.std.specs.Prelude.{◌≡◌, ℕ, zero, suc, min, max, Bool, true, false, List, [], ◌∷◌, ◌++◌}
 use Rattle.mc_server.specs.declared.memory.InputStep.{InputStep}
 use Rattle.mc_server.specs.declared.memory.InputStep.TheVariants.{Give, Empty as GiveNothing, Fail as FailToGive}
 use Rattle.mc_server.specs.declared.memory.OutputStep.{OutputStep}
@@ -65,3 +65,7 @@ abbrev pub is_full_push : OutputStep → Bool
 is_full_push (Take most) = false
 is_full_push TakeNothing = true
 is_full_push FailToTake = false
+
+-- the last step took nothing
+abbrev pub EndsFull : List OutputStep → Type 0
+EndsFull used = (earlier : List OutputStep) × (used ≡ earlier ++ TakeNothing ∷ [])

@@ -1,31 +1,31 @@
 -- What contracts see of an input over a reader and an output over a writer.
 use Rattle.std.specs.Prelude.{◌≡◌, ℕ, true, List, take, Option}
 use Rattle.std.specs.Io.KnownBytes.{Appends, Keeps}
-use Rattle.mc_server.specs.declared.standard.Reading.{Reading}
-use Rattle.mc_server.specs.declared.standard.Writing.{Writing}
+use Rattle.mc_server.specs.declared.standard.ReadInput.{ReadInput}
+use Rattle.mc_server.specs.declared.standard.WriteOutput.{WriteOutput}
 use Rattle.mc_server.specs.declared.stream.Push.{Push}
 use Rattle.mc_server.specs.declared.stream.Push.TheVariants.{Taken, Full, Failed}
 
-abbrev pub reader_of : {R : Type 0} → Reading R → R
+abbrev pub reader_of : {R : Type 0} → ReadInput R → R
 reader_of input = input.reader
 
-abbrev pub failures_of_reading : {R : Type 0} → Reading R → ℕ
-failures_of_reading input = input.failures.count
+abbrev pub failures_of_input : {R : Type 0} → ReadInput R → ℕ
+failures_of_input input = input.failures.count
 
-abbrev pub waits_of_reading : {R : Type 0} → Reading R → ℕ
-waits_of_reading input = input.waits.count
+abbrev pub waits_of_input : {R : Type 0} → ReadInput R → ℕ
+waits_of_input input = input.waits.count
 
-abbrev pub has_reading_ended : {R : Type 0} → Reading R → Type 0
-has_reading_ended input = input.ended ≡ true
+abbrev pub has_input_ended : {R : Type 0} → ReadInput R → Type 0
+has_input_ended input = input.ended ≡ true
 
-abbrev pub writer_of : {W : Type 0} → Writing W → W
+abbrev pub writer_of : {W : Type 0} → WriteOutput W → W
 writer_of output = output.writer
 
-abbrev pub failures_of_writing : {W : Type 0} → Writing W → ℕ
-failures_of_writing output = output.failures.count
+abbrev pub failures_of_output : {W : Type 0} → WriteOutput W → ℕ
+failures_of_output output = output.failures.count
 
-abbrev pub waits_of_writing : {W : Type 0} → Writing W → ℕ
-waits_of_writing output = output.waits.count
+abbrev pub waits_of_output : {W : Type 0} → WriteOutput W → ℕ
+waits_of_output output = output.waits.count
 
 -- what a push took is written, and where it took nothing, nothing is; after a failure it is open what is
 abbrev pub WritesTaken : Option (List ℕ) → Option (List ℕ) → Push → List ℕ → Type 0

@@ -1,5 +1,6 @@
 -- What a pull gives and a push takes, and what each counts.
-use Rattle.std.specs.Prelude.{ℕ, ◌≤◌, List, [], take}
+use Rattle.std.specs.Prelude.{◌≡◌, ℕ, ◌≤◌, List, [], take, Option}
+use Rattle.std.specs.Io.KnownBytes.{append_known}
 use Rattle.mc_server.specs.declared.stream.Pull.{Pull}
 use Rattle.mc_server.specs.declared.stream.Pull.TheVariants.{Bytes, Empty, Ended, Failed as InputFailed}
 use Rattle.mc_server.specs.declared.stream.Push.{Push}
@@ -56,3 +57,25 @@ abbrev pub push_waits : Push → ℕ
 push_waits (Taken count) = 0
 push_waits Full = 1
 push_waits OutputFailed = 0
+
+-- what an input and an output tell of themselves
+pub record Streams : Type 0 where
+  pub pulled : Option (List ℕ)
+  pub left : Option (List ℕ)
+  pub input_failures : ℕ
+  pub pushed : Option (List ℕ)
+  pub output_failures : ℕ
+
+-- what these two tell, by the members of their traits
+abbrev pub streams_of : {I O : Type 0} → (I → Option (List ℕ)) → (I → Option (List ℕ)) → (I → ℕ) → (O → Option (List ℕ)) → (O → ℕ) → I → O → Streams
+streams_of pulled left input_failures pushed output_failures input output = record {
+  pulled = pulled input;
+  left = left input;
+  input_failures = input_failures input;
+  pushed = pushed output;
+  output_failures = output_failures output;
+}
+
+-- these bytes were pushed from the one to the other
+abbrev pub Pushes : Streams → Streams → List ℕ → Type 0
+Pushes before after bytes = after.pushed ≡ append_known before.pushed bytes

@@ -2,12 +2,13 @@
 #![tactic(auto)]
 
 pub use memory::{InputStep, MemoryInput, MemoryOutput, OutputStep};
-pub use standard::{Reading, Writing};
+pub use serving::pump;
+pub use standard::{ReadInput, WriteOutput};
 pub use stdin::run_stdin;
 pub use stream::{Input, Output, Pull, Push};
 
 pub mod memory;
-pub mod pump;
+mod serving;
 mod session;
 pub mod standard;
 mod stdin;

@@ -1,6 +1,6 @@
 //! An input and an output over memory, for tests and for a server inside another program.
 ghost use Rattle.std.specs.Prelude.{◌≡◌, ◌≤◌, ◌<◌, ◌+◌, ◌++◌, [], ◌∷◌, Some, take, drop, length, min, count_by, MatchOption};
-ghost use Rattle.mc_server.specs.Memory.{bytes_or_end, is_empty_pull, is_failing_pull, is_failing_push, is_full_push, pull_by, push_by};
+ghost use Rattle.mc_server.specs.Memory.{EndsFull, bytes_or_end, is_empty_pull, is_failing_pull, is_failing_push, is_full_push, pull_by, push_by};
 ghost use Rattle.mc_server.specs.Stream.{GivesAtMost, TakesAtMost, pull_failures, pull_waits, pulled_by, push_failures, push_waits, pushed_by};
 
 use crate::stream::{Input, Output, Pull, Push};
@@ -213,6 +213,8 @@ impl Output for MemoryOutput {
 
     ghost waits = { λ output. count_by is_full_push output.used };
 
+    ghost is_full = { λ output. EndsFull output.used };
+
     fn push(&mut self, bytes: &[u8]) -> Push
         // As of each output.
         requires { 0 < length bytes.now }
@@ -221,6 +223,7 @@ impl Output for MemoryOutput {
         ensures failed { count_by is_failing_push self.new.used + self.new.starved
             ≡ count_by is_failing_push self.old.used + self.old.starved + push_failures result }
         ensures waited { count_by is_full_push self.new.used ≡ count_by is_full_push self.old.used + push_waits result }
+        ensures full { result ≡ Push.Full → EndsFull self.new.used }
 
         // What this one takes, where memory isn't wanting.
         ensures answer { self.new.starved ≡ self.old.starved → result ≡ push_by self.old.steps (length bytes.now) }

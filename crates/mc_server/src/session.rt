@@ -1,8 +1,9 @@
 //! What requests do, one after another, and the replies that are to be pushed for them.
-ghost use Rattle.std.specs.Prelude.{◌≡◌, ℕ, ◌≤◌, ◌++◌, [], List, OnOk, OnErr, IsOkUnless};
+ghost use Rattle.std.specs.Prelude.{◌≡◌, ℕ, ◌≤◌, ◌⊎◌, ◌++◌, ◌∷◌, [], List, length, OnOk, OnErr, IsOkUnless};
 ghost use Rattle.mc_model.specs.declared.command.Command.{Command};
-ghost use Rattle.mc_server.specs.declared.session.TheConstants.{PLACES};
-ghost use Rattle.mc_server.specs.Owed.{answered, applied_with, logged_reply};
+ghost use Rattle.mc_server.specs.declared.session.TheConstants.{PLACES, QUEUE_BYTES};
+ghost use Rattle.mc_model.specs.declared.request.Request.{Request};
+ghost use Rattle.mc_server.specs.Owed.{answered, applied_by, applied_with, logged_reply, owed};
 
 use crate::text::write_reply;
 use mc_items::Items;
@@ -12,6 +13,9 @@ use std::alloc::Global;
 
 /// How many commands are applied. Every later one finds the log full.
 pub const PLACES: u64 = 65_536;
+
+/// How many bytes may be queued when a request is taken.
+pub const QUEUE_BYTES: usize = 1_048_576;
 
 /// One tenant's table, how many commands were applied to it, and the replies that are to be pushed.
 #[derive(Debug, Drop)]
@@ -36,7 +40,7 @@ fn queue_reply(reply: &Reply, quiet: bool, queue: &mut Vec<u8>) -> Result<(), Fa
 }
 
 impl Session {
-    ghost use Rattle.mc_server.specs.Session.{Responds, Stands};
+    ghost use Rattle.mc_server.specs.Session.{Stands};
 
     /// A session with an empty table.
     pub fn new(alloc: Global) -> Session
@@ -60,6 +64,9 @@ impl Session {
         ensures queued { OnOk result ((applied : List Command) → Stands applied self.old →
             self.new.queue.items ≡ self.old.queue.items ++ answered quiet (logged_reply applied command.now)) }
         ensures memory { IsOkUnless result Fault.Memory }
+        ensures unchanged { OnErr result (self.new.queue.items ≡ self.old.queue.items) }
+        ensures starved { OnErr result ((applied : List Command) → Stands applied self.old →
+            Stands applied self.new ⊎ Stands (applied_with applied command.now) self.new) }
     {
         if self.applied == PLACES {
             return queue_reply(&Reply::Refused(WireNo::E10), quiet, &mut self.queue);
@@ -69,10 +76,16 @@ impl Session {
         queue_reply(&reply, quiet, &mut self.queue)
     }
 
-    /// Does what a request asks for, and queues the reply.
+    /// Does what a request asks for, and queues the reply. At a fault no reply is queued, but the command may have been applied.
     pub fn respond(&mut self, request: Request) -> Result<(), Fault>
-        ensures owes { OnOk result ((applied : List Command) → Stands applied self.old → Responds request self.old self.new applied) }
+        requires room { length self.old.queue.items ≤ QUEUE_BYTES }
+        ensures stands { OnOk result ((applied : List Command) → Stands applied self.old → Stands (applied_by applied (request ∷ [])) self.new) }
+        ensures queued { OnOk result ((applied : List Command) → Stands applied self.old →
+            self.new.queue.items ≡ self.old.queue.items ++ owed applied (request ∷ [])) }
         ensures memory { IsOkUnless result Fault.Memory }
+        ensures unchanged { OnErr result (self.new.queue.items ≡ self.old.queue.items) }
+        ensures starved { OnErr result ((applied : List Command) → Stands applied self.old →
+            Stands applied self.new ⊎ Stands (applied_by applied (request ∷ [])) self.new) }
     {
         match request {
             Request::Logged { command, quiet } => self.respond_to_command(&command, quiet),

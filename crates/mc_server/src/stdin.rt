@@ -3,9 +3,10 @@ ghost use Rattle.std.specs.Io.KnownBytes.{append_known};
 ghost use Rattle.std.specs.Prelude.{◌≡◌, ◌+◌, ◌⊎◌, OnOk, MatchResult, codes};
 ghost use Rattle.mc_model.specs.declared.fault.Fault.{Fault};
 ghost use Rattle.mc_server.specs.Faults.{Fails, fault_line, fault_text};
-ghost use Rattle.mc_server.specs.Owed.{Serves};
+ghost use Rattle.mc_server.specs.Serving.{Serves};
+ghost use Rattle.mc_server.specs.Stream.{streams_of};
 
-use crate::pump::{pump, push_all};
+use crate::serving::{pump, push_all};
 use crate::stream::{Input, Output};
 use mc_model::Fault;
 use std::alloc::Global;
@@ -54,10 +55,10 @@ pub fn run_stdin<R: Wait, I: Input, O: Output, E: Output>(
 ) -> u8
     ensures status { (result ≡ 0) ⊎ (result ≡ 1) }
     // From the bytes that came in to the bytes that went out.
-    ensures serves { result ≡ 0 → Serves (I.pulled input.old) (I.pulled input.new) (I.left input.old) (I.left input.new) (O.pushed output.old) (O.pushed output.new) (I.has_ended input.new) }
+    ensures serves { result ≡ 0 → Serves (streams_of I.pulled I.left I.failures O.pushed O.failures input.old output.old) (streams_of I.pulled I.left I.failures O.pushed O.failures input.new output.new) (I.has_ended input.new) }
     ensures no_failure { result ≡ 0 → (I.failures input.new ≡ I.failures input.old) × (O.failures output.new ≡ O.failures output.old) }
     ensures silent { result ≡ 0 → (E.pushed errors.new ≡ E.pushed errors.old) × (E.failures errors.new ≡ E.failures errors.old) }
-    ensures fails { result ≡ 1 → Fails (codes "mc_stdin") (I.failures input.old) (I.failures input.new) (O.failures output.old) (O.failures output.new) (E.failures errors.old) (E.failures errors.new) (E.pushed errors.old) (E.pushed errors.new) }
+    ensures fails { result ≡ 1 → Fails (codes "mc_stdin") (streams_of I.pulled I.left I.failures O.pushed O.failures input.old output.old) (streams_of I.pulled I.left I.failures O.pushed O.failures input.new output.new) (O.is_full output.new) (E.failures errors.old) (E.failures errors.new) (E.pushed errors.old) (E.pushed errors.new) }
 {
     match pump(rt, alloc, input, output) {
         Ok(()) => 0,

@@ -67,13 +67,17 @@ pub trait Output {
     /// How often it could take nothing.
     ghost waits: { Self → ℕ };
 
+    /// It could take nothing when it was asked last, which a push that answers `Full` shows.
+    ghost is_full: { Self → Type 0 };
+
     /// Takes bytes from the front.
     fn push(&mut self, bytes: &[u8]) -> Push
         requires { 0 < length bytes.now }
         ensures count { TakesAtMost (length bytes.now) result }
         ensures bytes { pushed self.new ≡ append_known (pushed self.old) (pushed_by result bytes.now) }
         ensures failed { failures self.new ≡ failures self.old + push_failures result }
-        ensures waited { waits self.new ≡ waits self.old + push_waits result };
+        ensures waited { waits self.new ≡ waits self.old + push_waits result }
+        ensures full { result ≡ Push.Full → is_full self.new };
 }
 
 impl<I: Input> Input for &mut I {
@@ -98,6 +102,8 @@ impl<O: Output> Output for &mut O {
     ghost failures = { λ output. O.failures output.now };
 
     ghost waits = { λ output. O.waits output.now };
+
+    ghost is_full = { λ output. O.is_full output.now };
 
     fn push(&mut self, bytes: &[u8]) -> Push {
         Output::push(&mut **self, bytes)

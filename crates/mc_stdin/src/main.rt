@@ -1,15 +1,15 @@
 //! A memcached server for one client, from standard input to standard output.
 #![tactic(auto)]
 
-use mc_server::{Reading, Writing, run_stdin};
+use mc_server::{ReadInput, WriteOutput, run_stdin};
 use std::io;
 use std::process::ExitCode;
 
 fn main(rt: HostRuntime) -> io::Result<ExitCode> {
     let words = std::env::args(&rt)?.skip(1).collect(rt.alloc())?;
-    let mut input = Reading::new(rt.stdin());
-    let mut output = Writing::new(rt.stdout());
-    let mut errors = Writing::new(rt.stderr());
+    let mut input = ReadInput::new(rt.stdin());
+    let mut output = WriteOutput::new(rt.stdout());
+    let mut errors = WriteOutput::new(rt.stderr());
     let status = run_stdin(&rt, rt.alloc(), words, &mut input, &mut output, &mut errors);
     Ok(ExitCode::from(status))
 }

@@ -50,7 +50,7 @@ const AT_FLUSH: [Option<ErrorKind>; 4] = [
 
 #[test]
 fn reads_to_the_end(rt: HostRuntime) -> Result<(), Fail> {
-    let mut input = Reading::new(b"abcde".as_slice());
+    let mut input = ReadInput::new(b"abcde".as_slice());
     let mut buffer = [0u8; 2];
     for (want, bytes) in [
         (Pull::Bytes(2), "ab"),
@@ -67,9 +67,9 @@ fn reads_to_the_end(rt: HostRuntime) -> Result<(), Fail> {
 
 #[test]
 fn tells_waits_from_failures(rt: HostRuntime) -> Result<(), Fail> {
-    let mut input = Reading::new(Flawed { kinds: &AT_CALL });
-    let mut output = Writing::new(Flawed { kinds: &AT_CALL });
-    let mut unflushed = Writing::new(Flawed { kinds: &AT_FLUSH });
+    let mut input = ReadInput::new(Flawed { kinds: &AT_CALL });
+    let mut output = WriteOutput::new(Flawed { kinds: &AT_CALL });
+    let mut unflushed = WriteOutput::new(Flawed { kinds: &AT_FLUSH });
     let mut buffer = [0u8; 2];
     for (pull, push, flushed) in [
         (Pull::Empty, Push::Full, Push::Failed),
@@ -86,12 +86,12 @@ fn tells_waits_from_failures(rt: HostRuntime) -> Result<(), Fail> {
 #[test]
 fn writes_to_the_streams(rt: HostRuntime) -> Result<(), Fail> {
     let mut bytes = Vec::new(rt.alloc());
-    let mut output = Writing::new(&mut bytes);
+    let mut output = WriteOutput::new(&mut bytes);
     if output.push(b"abc") == Push::Failed {
         return Err(Fail::from("want of memory"));
     }
     assert_eq!(rt; bytes.as_slice(), b"abc".as_slice());
-    assert_eq!(rt; Writing::new(rt.stdout()).push(b"a\n"), Push::Taken(2));
-    assert_eq!(rt; Writing::new(rt.stderr()).push(b"a\n"), Push::Taken(2));
+    assert_eq!(rt; WriteOutput::new(rt.stdout()).push(b"a\n"), Push::Taken(2));
+    assert_eq!(rt; WriteOutput::new(rt.stderr()).push(b"a\n"), Push::Taken(2));
     Ok(())
 }

@@ -1,6 +1,6 @@
 use Rattle.std.proofs.Common.{◌≡◌, ◌≤◌, length, take}
 use Rattle.std.specs.Io.KnownBytes.{append_known}
-use Rattle.mc_server.proofs.pump.push_all.Given as goal
+use Rattle.mc_server.proofs.serving.push_all.Given as goal
 
 -- the bytes sent so far are a front of those to be pushed
 abbrev pub invariant-loop : goal.invariant-loop

@@ -1,7 +1,7 @@
 use Rattle.std.proofs.Common.{length, ◌∙◌, ap, add-zero, length-drop, arith}
 use Rattle.std.proofs.lemmas.List.{take_rest}
-use Rattle.mc_server.proofs.Pieces.{sent_more}
-use Rattle.mc_server.proofs.pump.push_all.Goals as goal
+use Rattle.mc_server.proofs.Pieces.{front_sent, sent_more}
+use Rattle.mc_server.proofs.serving.push_all.Goals as goal
 
 pub loop-preserved-in-Taken : goal.loop-preserved-in-Taken
 loop-preserved-in-Taken g c =
@@ -12,3 +12,6 @@ loop-preserved-in-Taken g c =
       pushed = sent_more _ _ _ c.args.bytes.now _ c.loop.sent c.in-Taken.count rest so_far.pushed c.in-Taken.ensures.bytes;
       failures = c.in-Taken.ensures.failed ∙ (add-zero _ ∙ so_far.failures);
     }
+
+pub returns-in-Failed-clause-front : goal.returns-in-Failed-clause-front
+returns-in-Failed-clause-front g c = front_sent _ _ _ c.args.bytes.now c.loop.sent c.loop.invariant.pushed c.in-Failed.ensures.bytes

@@ -1,0 +1,189 @@
+//! The loop between an input and an output.
+ghost use Rattle.std.specs.Bool.{OnFalse, OnTrue};
+ghost use Rattle.std.specs.Io.KnownBytes.{append_known};
+ghost use Rattle.std.specs.Prelude.{◌≡◌, ◌+◌, ◌≤◌, ◌++◌, [], length, OnErr, OnOk, IfErr, IsOkUnless, MatchResult};
+ghost use Rattle.mc_model.specs.declared.reply.Reply.TheVariants.{Refused};
+ghost use Rattle.mc_model.specs.declared.reply.WireNo.TheVariants.{E11};
+ghost use Rattle.mc_read.specs.Reading.{Kept};
+ghost use Rattle.mc_server.specs.declared.session.TheConstants.{QUEUE_BYTES};
+ghost use Rattle.mc_server.specs.Serving.{CountsFailures, IsStopped, Moves, PushesAtOnce, PushesFront, Serves, ServesUntilStarved, StopsAt};
+ghost use Rattle.mc_server.specs.Session.{IsStarved, Stands, TellsStarved};
+ghost use Rattle.mc_server.specs.Stream.{streams_of};
+ghost use Rattle.mc_server.specs.Text.{text};
+
+use crate::session::{QUEUE_BYTES, Session};
+use crate::stream::{Input, Output, Pull, Push};
+use crate::text::refusal_text;
+use mc_model::{Fault, WireNo};
+use mc_read::{Reader, ends_stream};
+use std::alloc::Global;
+use std::sync::Wait;
+
+/// How many bytes a pull asks for.
+const PULL_BYTES: usize = 16_384;
+
+/// Pushes all of the bytes. An output that is full is asked again.
+pub(crate) fn push_all<R: Wait, O: Output>(
+    rt: &R,
+    bytes: &[u8],
+    output: &mut O,
+) -> Result<(), Fault>
+    ensures pushed { OnOk result (O.pushed output.new ≡ append_known (O.pushed output.old) bytes.now) }
+    ensures front { OnErr result (PushesFront bytes.now (O.pushed output.old) (O.pushed output.new)) }
+    ensures fault { IsOkUnless result Fault.Output }
+    ensures failures { MatchResult result (λ _. O.failures output.new ≡ O.failures output.old) (λ _. O.failures output.new ≡ O.failures output.old + 1) }
+{
+    let mut sent = 0;
+    for _ in rt.forever() {
+        if sent == bytes.len() {
+            return Ok(());
+        }
+        match output.push(&bytes[sent..]) {
+            Push::Taken(count) => sent += count,
+            Push::Full => {}
+            Push::Failed => return Err(Fault::Output),
+        }
+    }
+    unreachable!()
+}
+
+/// Pushes all that is queued.
+fn flush<R: Wait, O: Output>(rt: &R, queue: &mut Vec<u8>, output: &mut O) -> Result<(), Fault>
+    ensures pushed { OnOk result (Moves queue.old.items queue.new.items (O.pushed output.old) (O.pushed output.new)) }
+    ensures front { OnErr result (PushesFront queue.old.items (O.pushed output.old) (O.pushed output.new)) }
+    ensures empty { OnOk result (queue.new.items ≡ []) }
+    ensures fault { IsOkUnless result Fault.Output }
+    ensures failures { MatchResult result (λ _. O.failures output.new ≡ O.failures output.old) (λ _. O.failures output.new ≡ O.failures output.old + 1) }
+{
+    push_all(rt, queue, output)?;
+    queue.clear();
+    Ok(())
+}
+
+/// Pushes what is queued where it is more than may be queued when a request is taken.
+fn make_room<R: Wait, O: Output>(rt: &R, queue: &mut Vec<u8>, output: &mut O) -> Result<(), Fault>
+    ensures pushed { OnOk result (Moves queue.old.items queue.new.items (O.pushed output.old) (O.pushed output.new)) }
+    ensures front { OnErr result (PushesFront queue.old.items (O.pushed output.old) (O.pushed output.new)) }
+    ensures room { OnOk result (length queue.new.items ≤ QUEUE_BYTES) }
+    ensures fault { IsOkUnless result Fault.Output }
+    ensures failures { MatchResult result (λ _. O.failures output.new ≡ O.failures output.old) (λ _. O.failures output.new ≡ O.failures output.old + 1) }
+{
+    if queue.len() <= QUEUE_BYTES {
+        return Ok(());
+    }
+    flush(rt, queue, output)
+}
+
+/// Reads requests from the input, does what they ask for, and pushes the replies, until the input ends or a request ends
+/// the stream. An input that has nothing is asked again.
+fn exchange<R: Wait, I: Input, O: Output>(
+    rt: &R,
+    reader: &mut Reader,
+    session: &mut Session,
+    input: &mut I,
+    output: &mut O,
+) -> Result<(), Fault>
+    requires begins { reader.old ≡ Kept [] }
+    requires stands { Stands [] session.old }
+    requires nothing_queued { session.old.queue.items ≡ [] }
+    ensures serves { OnOk result (Serves (streams_of I.pulled I.left I.failures O.pushed O.failures input.old output.old) (streams_of I.pulled I.left I.failures O.pushed O.failures input.new output.new) (I.has_ended input.new)) }
+    ensures stops { IfErr result (λ fault. StopsAt fault (streams_of I.pulled I.left I.failures O.pushed O.failures input.old output.old) (streams_of I.pulled I.left I.failures O.pushed O.failures input.new output.new) (IsStarved (streams_of I.pulled I.left I.failures O.pushed O.failures input.old output.old) (streams_of I.pulled I.left I.failures O.pushed O.failures input.new output.new) session.new × (O.failures output.new ≡ O.failures output.old))) }
+    ensures failures { CountsFailures result (streams_of I.pulled I.left I.failures O.pushed O.failures input.old output.old) (streams_of I.pulled I.left I.failures O.pushed O.failures input.new output.new) }
+{
+    let mut buffer = [0u8; PULL_BYTES];
+    let mut closed = false;
+    for _ in rt.forever() {
+        if let Some(request) = reader.next()? {
+            closed |= ends_stream(&request);
+            session.respond(request)?;
+            make_room(rt, &mut session.queue, output)?;
+            continue;
+        }
+        flush(rt, &mut session.queue, output)?;
+        if closed {
+            return Ok(());
+        }
+        match input.pull(&mut buffer) {
+            Pull::Bytes(count) => reader.feed(&buffer[..count])?,
+            Pull::Empty => continue,
+            Pull::Ended => return Ok(()),
+            Pull::Failed => return Err(Fault::Input),
+        }
+    }
+    unreachable!()
+}
+
+/// Pushes bytes until all are taken, or the output is full or fails. Says whether all were taken.
+fn push_while_taken<O: Output>(bytes: &[u8], output: &mut O) -> bool
+    ensures pushed { PushesAtOnce bytes.now (O.pushed output.old) (O.pushed output.new) (O.is_full output.new) (O.failures output.old) (O.failures output.new) }
+    ensures all { OnTrue result (O.pushed output.new ≡ append_known (O.pushed output.old) bytes.now) }
+    ensures taken { OnTrue result (O.failures output.new ≡ O.failures output.old) }
+    ensures stopped { OnFalse result (IsStopped (O.is_full output.new) (O.failures output.old) (O.failures output.new)) }
+{
+    let mut sent = 0;
+    while sent < bytes.len() {
+        match output.push(&bytes[sent..]) {
+            Push::Taken(count) => sent += count,
+            Push::Full => return false,
+            Push::Failed => return false,
+        }
+    }
+    true
+}
+
+/// Tells the client that memory is wanting, behind the replies that are queued, as far as the output takes it at once.
+fn tell_starved<O: Output>(queue: &[u8], output: &mut O)
+    ensures { PushesAtOnce (queue.now ++ text (Refused E11)) (O.pushed output.old) (O.pushed output.new) (O.is_full output.new) (O.failures output.old) (O.failures output.new) }
+{
+    if push_while_taken(queue, output) {
+        push_while_taken(refusal_text(WireNo::E11), output);
+    }
+}
+
+/// As `exchange`, and where memory is wanting the client is told.
+fn serve<R: Wait, I: Input, O: Output>(
+    rt: &R,
+    reader: &mut Reader,
+    session: &mut Session,
+    input: &mut I,
+    output: &mut O,
+) -> Result<(), Fault>
+    requires begins { reader.old ≡ Kept [] }
+    requires stands { Stands [] session.old }
+    requires nothing_queued { session.old.queue.items ≡ [] }
+    ensures serves { OnOk result (Serves (streams_of I.pulled I.left I.failures O.pushed O.failures input.old output.old) (streams_of I.pulled I.left I.failures O.pushed O.failures input.new output.new) (I.has_ended input.new)) }
+    ensures stops { IfErr result (λ fault. StopsAt fault (streams_of I.pulled I.left I.failures O.pushed O.failures input.old output.old) (streams_of I.pulled I.left I.failures O.pushed O.failures input.new output.new) (TellsStarved (streams_of I.pulled I.left I.failures O.pushed O.failures input.old output.old) (streams_of I.pulled I.left I.failures O.pushed O.failures input.new output.new) (O.is_full output.new) session.new)) }
+    ensures failures { CountsFailures result (streams_of I.pulled I.left I.failures O.pushed O.failures input.old output.old) (streams_of I.pulled I.left I.failures O.pushed O.failures input.new output.new) }
+{
+    let served = exchange(rt, reader, session, input, output);
+    if served == Err(Fault::Memory) {
+        tell_starved(&session.queue, output);
+    }
+    served
+}
+
+/// Serves one client: reads requests from the input, applies the first `PLACES` commands to one table, answers every later
+/// one `SERVER_ERROR log full`, and pushes the replies, until the input ends or a request ends the stream.
+///
+/// Where memory is wanting, the replies that are queued and then `SERVER_ERROR out of memory` are pushed, as far as the
+/// output takes them at once. After a failure of the input or the output nothing more is pushed.
+pub fn pump<R: Wait, I: Input, O: Output>(
+    rt: &R,
+    alloc: Global,
+    input: &mut I,
+    output: &mut O,
+) -> Result<(), Fault>
+    // From the bytes that came in to the bytes that went out.
+    ensures serves { OnOk result (Serves (streams_of I.pulled I.left I.failures O.pushed O.failures input.old output.old) (streams_of I.pulled I.left I.failures O.pushed O.failures input.new output.new) (I.has_ended input.new)) }
+    ensures stops { IfErr result (λ fault. StopsAt fault (streams_of I.pulled I.left I.failures O.pushed O.failures input.old output.old) (streams_of I.pulled I.left I.failures O.pushed O.failures input.new output.new) (ServesUntilStarved (streams_of I.pulled I.left I.failures O.pushed O.failures input.old output.old) (streams_of I.pulled I.left I.failures O.pushed O.failures input.new output.new) (O.is_full output.new))) }
+
+    // Which fault comes when.
+    ensures failures { CountsFailures result (streams_of I.pulled I.left I.failures O.pushed O.failures input.old output.old) (streams_of I.pulled I.left I.failures O.pushed O.failures input.new output.new) }
+{
+    let mut reader = Reader::new(alloc);
+    let mut session = Session::new(alloc);
+    serve(rt, &mut reader, &mut session, input, output)
+}
+
+#[cfg(test)]
+mod tests;
