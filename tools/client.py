@@ -46,12 +46,6 @@ expect("incr", client.incr("count", 41), 41)
 expect("decr", client.decr("count", 2), 39)
 expect("decr below zero", client.decr("count", 40), 0)
 expect("incr on no key", client.incr("third", 1), None)
-try:
-    client.incr("other", 1)
-    sys.exit("incr of text: no error")
-except MemcacheError:
-    tried += 1
-
 expect("delete", client.delete("other"), True)
 expect("delete of no key", client.delete("other"), False)
 expect("set of many", client.set_many({"a": "1", "b": "2"}), [])
@@ -62,6 +56,13 @@ expect("set of the largest block", client.set("large", block[: 1024 * 1024 - 102
 expect("get of the largest block", client.get("large"), block[: 1024 * 1024 - 1024])
 expect("flush_all at the end", client.flush_all(), True)
 expect("after the flush", client.get("quiet"), None)
+# The library closes its connection at an error; behind the relay the next one has a table of its own.
+expect("set of text", client.set("text", "abc"), True)
+try:
+    client.incr("text", 1)
+    sys.exit("incr of text: no error")
+except MemcacheError:
+    tried += 1
 print("version", client.version().decode())
 client.quit()
 print(f"{tried} calls answered as memcached answers them")

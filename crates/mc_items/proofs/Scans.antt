@@ -8,10 +8,10 @@ use Rattle.std.proofs.lemmas.Slice.Eq.{bytes_eq-Decides}
 use Rattle.std.specs.Cmp.{Equal-is, eq_by_cmp_equiv}
 use Rattle.std.specs.Cmp.Lexicographic.{pointwise}
 use Rattle.std.specs.FinMap as map
-use Rattle.std.specs.FinMap.{find, from_entries_push, get-from_entries, get-insert, same_map}
-use Rattle.std.specs.List.{position, position_or_len}
+use Rattle.std.specs.FinMap.{find, from_entries_push, get-from_entries, get-insert, get-remove, same_map}
+use Rattle.std.specs.List.{filter, position, position_or_len}
 use Rattle.std.specs.Ordering.{eq_by_cmp}
-use Rattle.std.specs.Prelude.{nat_eq}
+use Rattle.std.specs.Prelude.{Option, nat_eq, not}
 use Rattle.mc_model.specs.declared.item.Item.{Item}
 use Rattle.mc_model.specs.declared.key.Key.{Key}
 use Rattle.mc_model.specs.Table.{key_cmp, key_cmp_exact, key_cmp_total}
@@ -126,3 +126,33 @@ table-replaced stored key item held place is at_place =
 pub table-pushed : (key : Key) (item : Item) (held : List (Key × Item)) → position (has_key key) held ≡ None →
     table_of_held (held ++ (key, item) ∷ []) ≡ map.insert (table_of_held held) key item
 table-pushed key item held is = from_entries_push key_cmp_total key_cmp_exact held key item (find_absent key held is)
+
+-- a gap where there is nothing, and a gap before another value
+gap_in_nothing : {A : Type 0} (b : Bool) (nothing : Option A) → nothing ≡ cond b nothing nothing
+gap_in_nothing true nothing = refl
+gap_in_nothing false nothing = refl
+
+gap_shadows : {A : Type 0} (b : Bool) (x : A) (y z : Option A) → y ≡ cond b None z → y ≡ cond b None (cond b (Some x) z)
+gap_shadows true x y z is = is
+gap_shadows false x y z is = is
+
+find_taken_out : (key q : Key) (held : List (Key × Item)) → find key_cmp q (filter (λ entry. not (has_key key entry)) held) ≡ cond (tied q key) None (find key_cmp q held)
+find_taken_out key q [] = gap_in_nothing (tied q key) None
+find_taken_out key q (entry ∷ held) =
+    elim (has_key key entry) as (λ b. has_key key entry ≡ b →
+    find key_cmp q (cond (not b) (entry ∷ filter (λ other. not (has_key key other)) held) (filter (λ other. not (has_key key other)) held)) ≡ cond (tied q key) None (find key_cmp q (entry ∷ held))) [
+      | true ↦ λ here.
+          gap_shadows (tied q key) entry.1 _ _ (find_taken_out key q held)
+          ∙ ap (λ k. cond (tied q key) None (cond (tied q k) (Some entry.1) (find key_cmp q held))) (sym (same_key key entry here))
+      | false ↦ λ apart.
+          ap (cond (tied q entry.0) (Some entry.1)) (find_taken_out key q held)
+          ∙ swapped _ _ _ _ _ (λ ties ties_key. other_key key entry apart (sym (tied_same q entry.0 ties) ∙ tied_same q key ties_key))
+    ] refl
+
+-- to keep the entries of other keys is to take the key out
+pub table-taken_out : (key : Key) (held kept : List (Key × Item)) → kept ≡ filter (λ entry. not (has_key key entry)) held → table_of_held kept ≡ map.remove (table_of_held held) key
+table-taken_out key held kept is =
+    ap table_of_held is
+    ∙ same_map key_cmp_total key_cmp_exact _ _ (λ q.
+    get-from_entries key_cmp_total _ q ∙ find_taken_out key q held
+    ∙ sym (get-remove key_cmp_total (table_of_held held) key q ∙ ap (cond (tied q key) None) (get-from_entries key_cmp_total held q)))

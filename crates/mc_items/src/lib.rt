@@ -2,17 +2,19 @@
 #![tactic(auto)]
 
 ghost use Rattle.std.specs.FinMap as map;
-ghost use Rattle.std.specs.List.{filter_map, position};
 ghost use Rattle.std.specs.Option.{option_copied};
-ghost use Rattle.std.specs.Prelude.{◌≡◌, ◌+◌, ◌-◌, ◌^◌, ◌<◌, if◌then◌else◌, nat_eq, List, [], ◌∷◌, ◌++◌, IfOk, OnOk, OnErr, IsOkUnless};
-ghost use Rattle.std.specs.Cmp.Lexicographic.{pointwise};
+ghost use Rattle.std.specs.Prelude.{◌≡◌, ◌+◌, ◌-◌, ◌^◌, ◌<◌, if◌then◌else◌, List, [], ◌∷◌, ◌++◌, IfOk, OnOk, OnErr, decimal, IsOk, IsOkUnless};
 ghost use Rattle.mc_model.specs.declared.command.Command.{Command};
-ghost use Rattle.mc_model.specs.Effect.{is_acceptance, shown_at};
+ghost use Rattle.mc_model.specs.declared.command.Command.TheVariants.{Store, Cas, Delete, Incr, Decr};
+ghost use Rattle.mc_model.specs.declared.reply.Reply.TheVariants.{Number, Stored};
+ghost use Rattle.mc_model.specs.Effect.{is_acceptance};
 ghost use Rattle.mc_model.specs.History.{StandsFor, answer, next_effect};
-ghost use Rattle.mc_items.specs.Held.{table_of_held};
+ghost use Rattle.mc_items.specs.TableState.{Reads, TakesOut, next_reply, next_state, with_item};
 
+use crate::blocks::{digits_of, joined, number_in};
+use crate::held::{item_under, put, shown_values, take_out};
 pub use mc_model::Item;
-use mc_model::{Command, Data, Fault, Key, Limits, Reply, Value, ValueList, Verb};
+use mc_model::{Command, Data, Fault, Key, Limits, Reply, ValueList, Verb, WireNo};
 use std::alloc::Global;
 use std::marker::Model;
 
@@ -55,6 +57,7 @@ impl Items {
     }
 
     /// Does what the command says to the table, and answers it. Where memory runs out: `Memory`, and nothing changes.
+    /// A delete and a flush take no memory.
     pub fn apply(&mut self, command: &Command) -> Result<Reply, Fault>
         requires { self.old.last_unique < 2 ^ 64 - 1 }
 
@@ -73,21 +76,23 @@ impl Items {
         ensures answer { IfOk result (λ reply.
             (list : List Command) → StandsFor list self.old.table self.old.last_unique → reply ≡ answer list command.now) }
 
+        ensures takes_out { TakesOut command.now → IsOk result }
         ensures memory { IsOkUnless result Fault.Memory }
         ensures unchanged { OnErr result (self.new ≡ self.old) }
     {
         match command {
             Command::Store {
-                verb: Verb::Set,
+                verb,
                 key,
                 flags,
                 block,
-            } => {
-                let unique = self.last_unique + 1;
-                set(&mut self.held, key, *flags, block, unique)?;
-                self.last_unique = unique;
-                Ok(Reply::Stored)
-            }
+            } => self.store(*verb, key, *flags, block),
+            Command::Cas {
+                key,
+                flags,
+                block,
+                unique,
+            } => self.check_and_set(key, *flags, block, *unique),
             Command::Get { keys, uniques } => {
                 let values = shown_values(
                     self.alloc,
@@ -97,7 +102,42 @@ impl Items {
                 )?;
                 Ok(Reply::Values(ValueList::new(values)))
             }
+            Command::Delete { key } => Ok(self.delete(key)),
+            Command::Incr { key, by } => self.incr(key, *by),
+            Command::Decr { key, by } => self.decr(key, *by),
+            Command::Flush => {
+                self.held.clear();
+                Ok(Reply::Ok)
+            }
         }
+    }
+
+    /// Changes the table as `apply` does, and leaves the answer out. Where memory runs out: `Memory`, and nothing
+    /// changes. A get, a delete and a flush take no memory.
+    pub fn advance(&mut self, command: &Command) -> Result<(), Fault>
+        requires { self.old.last_unique < 2 ^ 64 - 1 }
+
+        // What the definitions say of this command, on this table.
+        ensures table { OnOk result
+            (self.new.table ≡ (next_effect self.old.table self.old.last_unique command.now).table) }
+        ensures unique { OnOk result (self.new.last_unique ≡ self.old.last_unique
+            + (if is_acceptance (next_effect self.old.table self.old.last_unique command.now).reply then 1 else 0)) }
+        ensures limits { OnOk result (self.new.limits ≡ self.old.limits) }
+
+        // The same of any list of commands that has led to this table.
+        ensures stands { OnOk result ((list : List Command) → StandsFor list self.old.table self.old.last_unique →
+            StandsFor (list ++ command.now ∷ []) self.new.table self.new.last_unique) }
+
+        ensures reads { Reads command.now → IsOk result }
+        ensures takes_out { TakesOut command.now → IsOk result }
+        ensures memory { IsOkUnless result Fault.Memory }
+        ensures unchanged { OnErr result (self.new ≡ self.old) }
+    {
+        if let Command::Get { .. } = command {
+            return Ok(());
+        }
+        self.apply(command)?;
+        Ok(())
     }
 
     /// The item under a key.
@@ -111,7 +151,8 @@ impl Items {
     pub fn last_unique(&self) -> u64
         ensures { result ≡ self.now.last_unique }
     {
-        self.last_unique
+        let Items { last_unique, .. } = self;
+        *last_unique
     }
 
     /// The tenant's quotas.
@@ -120,71 +161,139 @@ impl Items {
     {
         self.limits
     }
-}
 
-/// Where the key stands, at its first place.
-fn place_of(held: &[(Key, Item)], key: &Key) -> Option<usize>
-    ensures { result ≡ position (λ entry. pointwise nat_eq entry.0 key.now) held.now }
-{
-    held.iter().position(|(held_key, _)| held_key == key)
-}
-
-/// The item under a key.
-fn item_under<'a>(held: &'a [(Key, Item)], key: &Key) -> Option<&'a Item>
-    ensures { option_copied result ≡ map.get (table_of_held held.now) key.now }
-{
-    let place = place_of(held, key)?;
-    Some(&held[place].1)
-}
-
-/// Stores an item under a key, over what the key held. Copies before anything changes.
-fn set(
-    held: &mut Vec<(Key, Item)>,
-    key: &Key,
-    flags: u32,
-    block: &Data,
-    unique: u64,
-) -> Result<(), Fault>
-    ensures table { OnOk result
-        (table_of_held held.new.items ≡ map.insert (table_of_held held.old.items) key.now (record { flags = flags; block = block.now; unique = unique })) }
-    ensures memory { IsOkUnless result Fault.Memory }
-    ensures unchanged { OnErr result (held.new.items ≡ held.old.items) }
-{
-    let item = Item {
-        flags,
-        block: block.try_clone()?,
-        unique,
-    };
-    match place_of(held.as_slice(), key) {
-        Some(place) => held[place].1 = item,
-        None => held.push((key.try_clone()?, item))?,
-    }
-    Ok(())
-}
-
-/// What a retrieval shows of these keys, in their order; nothing of a key that isn't held.
-fn shown_values(
-    alloc: Global,
-    held: &[(Key, Item)],
-    keys: &[Key],
-    uniques: bool,
-) -> Result<Vec<Value>, Fault>
-    ensures values { IfOk result (λ values. values.items ≡ filter_map (shown_at (table_of_held held.now) uniques) keys.now) }
-    ensures memory { IsOkUnless result Fault.Memory }
-{
-    let mut values = Vec::new(alloc);
-    for key in keys {
-        if let Some(item) = item_under(held, key) {
-            values.push(Value {
-                key: key.try_clone()?,
-                flags: item.flags,
-                block: item.block.try_clone()?,
-                unique: if uniques { Some(item.unique) } else { None },
-            })?;
+    /// Stores as the verb says. Whether the key is held comes before the size of joined data.
+    fn store(&mut self, verb: Verb, key: &Key, flags: u32, block: &Data) -> Result<Reply, Fault>
+        requires { self.old.last_unique < 2 ^ 64 - 1 }
+        ensures reply { IfOk result (λ reply. reply ≡ next_reply self.old (Store verb key.now flags block.now)) }
+        ensures state { OnOk result (self.new ≡ next_state self.old (Store verb key.now flags block.now)) }
+        ensures memory { IsOkUnless result Fault.Memory }
+        ensures unchanged { OnErr result (self.new ≡ self.old) }
+    {
+        let Some(old) = self.get(key) else {
+            return match verb {
+                Verb::Set | Verb::Add => self.put(key, flags, block.try_clone()?),
+                Verb::Replace | Verb::Append | Verb::Prepend => Ok(Reply::NotStored),
+            };
+        };
+        let old_flags = old.flags;
+        let whole = match verb {
+            Verb::Set | Verb::Replace => return self.put(key, flags, block.try_clone()?),
+            Verb::Add => return Ok(Reply::NotStored),
+            Verb::Append => joined(self.alloc, &old.block, block)?,
+            Verb::Prepend => joined(self.alloc, block, &old.block)?,
+        };
+        match whole {
+            Some(whole) => self.put(key, old_flags, whole),
+            None => Ok(Reply::Refused(WireNo::E6)),
         }
     }
-    Ok(values)
+
+    /// Stores under a key whose item still has the unique that was seen.
+    fn check_and_set(
+        &mut self,
+        key: &Key,
+        flags: u32,
+        block: &Data,
+        seen: u64,
+    ) -> Result<Reply, Fault>
+        requires { self.old.last_unique < 2 ^ 64 - 1 }
+        ensures reply { IfOk result (λ reply. reply ≡ next_reply self.old (Cas key.now flags block.now seen)) }
+        ensures state { OnOk result (self.new ≡ next_state self.old (Cas key.now flags block.now seen)) }
+        ensures memory { IsOkUnless result Fault.Memory }
+        ensures unchanged { OnErr result (self.new ≡ self.old) }
+    {
+        let Some(old) = self.get(key) else {
+            return Ok(Reply::NotFound);
+        };
+        if old.unique != seen {
+            return Ok(Reply::Exists);
+        }
+        self.put(key, flags, block.try_clone()?)
+    }
+
+    /// Takes a key out. Takes no memory.
+    fn delete(&mut self, key: &Key) -> Reply
+        ensures reply { result ≡ next_reply self.old (Delete key.now) }
+        ensures state { self.new ≡ next_state self.old (Delete key.now) }
+    {
+        if self.get(key).is_none() {
+            return Reply::NotFound;
+        }
+        take_out(&mut self.held, key);
+        Reply::Deleted
+    }
+
+    /// Adds to the number under a key; at 2^64 it begins again from 0.
+    fn incr(&mut self, key: &Key, by: u64) -> Result<Reply, Fault>
+        requires { self.old.last_unique < 2 ^ 64 - 1 }
+        ensures reply { IfOk result (λ reply. reply ≡ next_reply self.old (Incr key.now by)) }
+        ensures state { OnOk result (self.new ≡ next_state self.old (Incr key.now by)) }
+        ensures memory { IsOkUnless result Fault.Memory }
+        ensures unchanged { OnErr result (self.new ≡ self.old) }
+    {
+        let Some(old) = self.get(key) else {
+            return Ok(Reply::NotFound);
+        };
+        let Some(number) = number_in(&old.block) else {
+            return Ok(Reply::Refused(WireNo::E8));
+        };
+        let old_flags = old.flags;
+        self.put_number(key, old_flags, number.wrapping_add(by))
+    }
+
+    /// Subtracts from the number under a key; at 0 it stops.
+    fn decr(&mut self, key: &Key, by: u64) -> Result<Reply, Fault>
+        requires { self.old.last_unique < 2 ^ 64 - 1 }
+        ensures reply { IfOk result (λ reply. reply ≡ next_reply self.old (Decr key.now by)) }
+        ensures state { OnOk result (self.new ≡ next_state self.old (Decr key.now by)) }
+        ensures memory { IsOkUnless result Fault.Memory }
+        ensures unchanged { OnErr result (self.new ≡ self.old) }
+    {
+        let Some(old) = self.get(key) else {
+            return Ok(Reply::NotFound);
+        };
+        let Some(number) = number_in(&old.block) else {
+            return Ok(Reply::Refused(WireNo::E8));
+        };
+        let old_flags = old.flags;
+        self.put_number(key, old_flags, number.saturating_sub(by))
+    }
+
+    /// Puts a number under a key in place of what it held.
+    fn put_number(&mut self, key: &Key, flags: u32, number: u64) -> Result<Reply, Fault>
+        requires { self.old.last_unique < 2 ^ 64 - 1 }
+        ensures reply { IfOk result (λ reply. reply ≡ Number number) }
+        ensures state { OnOk result (self.new ≡ with_item self.old key.now flags (decimal number)) }
+        ensures memory { IsOkUnless result Fault.Memory }
+        ensures unchanged { OnErr result (self.new ≡ self.old) }
+    {
+        let digits = digits_of(self.alloc, number)?;
+        self.put(key, flags, digits)?;
+        Ok(Reply::Number(number))
+    }
+
+    /// Puts an item with the next unique under a key, over what it held.
+    fn put(&mut self, key: &Key, flags: u32, block: Data) -> Result<Reply, Fault>
+        requires { self.old.last_unique < 2 ^ 64 - 1 }
+        ensures reply { IfOk result (λ reply. reply ≡ Stored) }
+        ensures state { OnOk result (self.new ≡ with_item self.old key.now flags block) }
+        ensures memory { IsOkUnless result Fault.Memory }
+        ensures unchanged { OnErr result (self.new ≡ self.old) }
+    {
+        let unique = self.last_unique + 1;
+        let item = Item {
+            flags,
+            block,
+            unique,
+        };
+        put(&mut self.held, key, item)?;
+        self.last_unique = unique;
+        Ok(Reply::Stored)
+    }
 }
 
+mod blocks;
+mod held;
 #[cfg(test)]
 mod tests;

@@ -1,5 +1,5 @@
 pub mod Splits
-pub mod Words
+pub mod WordTests
 pub mod Texts
 pub mod Readings
 pub mod Holdings

@@ -1,10 +1,11 @@
 -- Worked rows, tried on the definitions: what stands at the front of a stream.
 use Rattle.std.specs.Prelude.{codes}
 use Rattle.std.proofs.Common.{◌≡◌, true, false, [], ◌∷◌, None, refl}
-use Rattle.mc_model.specs.declared.command.Command.TheVariants.{Get, Store}
-use Rattle.mc_model.specs.declared.command.Verb.TheVariants.{Set}
-use Rattle.mc_model.specs.declared.reply.WireNo.TheVariants.{E1, E2, E3, E4}
-use Rattle.mc_model.specs.declared.request.Request.TheVariants.{Logged}
+use Rattle.mc_model.specs.declared.command.Command.TheVariants.{Cas, Decr, Delete, Flush, Get, Store}
+use Rattle.mc_model.specs.declared.command.Verb.TheVariants.{Append, Set}
+use Rattle.mc_model.specs.declared.reply.Reply.TheVariants.{Version}
+use Rattle.mc_model.specs.declared.reply.WireNo.TheVariants.{E1, E2, E3, E4, E9}
+use Rattle.mc_model.specs.declared.request.Request.TheVariants.{Local, Logged, Quit}
 use Rattle.mc_read.specs.First.{first_request, found}
 use Rattle.mc_read.specs.Line.{refused}
 
@@ -43,3 +44,47 @@ unreadable_length = refl
 -- names count in lower case alone
 upper_case : first_request (codes "GET a\r\n") ≡ found (refused E1 false) []
 upper_case = refl
+
+-- append ignores the value of its exptime, and not its spelling
+append_ignores_expiry : first_request (codes "append a 9 60 1\r\ny\r\n") ≡ found (Logged (Store Append (codes "a") 9 (codes "y")) false) []
+append_ignores_expiry = refl
+
+append_with_bad_expiry : first_request (codes "append a 9 x 1\r\ny\r\n") ≡ found (refused E2 false) []
+append_with_bad_expiry = refl
+
+check_and_set : first_request (codes "cas a 0 0 1 7 noreply\r\ny\r\n") ≡ found (Logged (Cas (codes "a") 0 (codes "y") 7) true) []
+check_and_set = refl
+
+-- the sixth word is the unique, and the block goes with the line
+noreply_for_unique : first_request (codes "cas a 0 0 1 noreply\r\ny\r\nquit\r\n") ≡ found (refused E2 false) (codes "quit\r\n")
+noreply_for_unique = refl
+
+gets_shows_uniques : first_request (codes "gets a a\r\n") ≡ found (Logged (Get (codes "a" ∷ codes "a" ∷ []) true) false) []
+gets_shows_uniques = refl
+
+delete_with_zero : first_request (codes "delete a 0 noreply\r\n") ≡ found (Logged (Delete (codes "a")) true) []
+delete_with_zero = refl
+
+delete_with_time : first_request (codes "delete a 1\r\n") ≡ found (refused E2 false) []
+delete_with_time = refl
+
+bad_delta_is_answered : first_request (codes "incr n x noreply\r\n") ≡ found (refused E9 false) []
+bad_delta_is_answered = refl
+
+decrement : first_request (codes "decr n 009\r\n") ≡ found (Logged (Decr (codes "n") 9) false) []
+decrement = refl
+
+flush_without_reply : first_request (codes "flush_all noreply\r\n") ≡ found (Logged Flush true) []
+flush_without_reply = refl
+
+quiet_flush_with_time : first_request (codes "flush_all 5 noreply\r\n") ≡ found (refused E4 true) []
+quiet_flush_with_time = refl
+
+version_alone : first_request (codes "version\r\nversion now\r\n") ≡ found (Local Version false) (codes "version now\r\n")
+version_alone = refl
+
+quit_alone : first_request (codes "quit\r\nget a\r\n") ≡ found Quit (codes "get a\r\n")
+quit_alone = refl
+
+quit_with_a_word : first_request (codes "quit now\r\n") ≡ found (refused E1 false) []
+quit_with_a_word = refl

@@ -6,7 +6,7 @@ use Rattle.std.proofs.lemmas.List.Splits.{slice_split_first, slice_split_none}
 use Rattle.std.proofs.lemmas.List.Sums.{fails_before_first, position_or_len_is}
 use Rattle.std.specs.List.{after_first, before_first, position_or_len, slice_split}
 use Rattle.memchr.specs.Find.{IsFirstByte, is_byte}
-use Rattle.mc_read.specs.Line.{is_space, spaced_words}
+use Rattle.mc_read.specs.Word.{is_space, spaced_words}
 
 -- the place that a search gives is the first one
 pub position-from_search : (byte : ℕ) (text : List ℕ) (place : ℕ) → IsFirstByte (is_byte byte) text (Some place) → (place < length text) × (position_or_len (is_byte byte) text ≡ place)

@@ -4,21 +4,21 @@ use Rattle.std.proofs.lemmas.Bool.{cond-false, cond-true, eqb-true, le-leb, le-l
 use Rattle.std.proofs.lemmas.List.{drop-drop}
 use Rattle.std.proofs.lemmas.List.Sums.{passes_at_first, split_at_first}
 use Rattle.mc_model.specs.declared.item.TheConstants.{DATA_BYTES}
-use Rattle.mc_model.specs.declared.command.Command.TheVariants.{Store}
+use Rattle.mc_model.specs.declared.item.Data.{Data}
 use Rattle.mc_model.specs.declared.reply.WireNo.{WireNo}
-use Rattle.mc_model.specs.declared.reply.WireNo.TheVariants.{E3}
 use Rattle.mc_model.specs.declared.request.Request.{Request}
-use Rattle.mc_model.specs.declared.request.Request.TheVariants.{Logged, TooLong}
+use Rattle.mc_model.specs.declared.request.Request.TheVariants.{TooLong}
 use Rattle.mc_read.specs.declared.line.Asked.{Asked}
 use Rattle.mc_read.specs.declared.line.Asked.TheVariants.{Line, Refused, Stored}
 use Rattle.mc_read.specs.declared.line.Header.{Header}
 use Rattle.mc_read.specs.declared.line.TheConstants.{LINE_BYTES}
 use Rattle.mc_read.specs.declared.reader.State.TheVariants as state
 use Rattle.mc_read.specs.First.{first_behind, first_request, found, is_line_feed, line_length}
-use Rattle.mc_read.specs.Line.{asked, is_word, refused}
+use Rattle.mc_read.specs.Line.{asked, refused}
 use Rattle.mc_read.specs.Reading.{Ended, HasNone, Kept, ReadAlike, Swallowing, ends_stream}
-use Rattle.mc_read.specs.State.{EndsInRefusal, IsAnswer, IsLineAt, held_in, state_after}
-use Rattle.mc_read.specs.Text.{IsUnbroken, length_behind, request_of, stored}
+use Rattle.mc_read.specs.State.{EndsInRefusal, IsAnswer, IsLineAt, IsStateOf, held_in, state_after}
+use Rattle.mc_read.specs.Text.{IsUnbroken, length_behind, request_of, stored, stored_if}
+use Rattle.mc_read.specs.Word.{is_word}
 use Rattle.mc_read.proofs.Holdings.{has_none, held_after, next_is_first, reads_alike, refused_alike, refused_has_none}
 use Rattle.mc_read.proofs.Texts.{before_first-unbroken}
 
@@ -121,17 +121,21 @@ module _ (bytes : List ℕ) (request : Request) (left : ℕ) (ends : EndsInRefus
   pub no_other : (a : Asked) → asked (take line bytes) ≡ a → IsRefusal a
   no_other a is = subst IsRefusal (sym asks_refusal ∙ is) tt
 
--- the state after a request holds what follows it
-pub held_in_state_after : (request : Request) (left : List ℕ) → held_in (state_after request) left ≡ held_after request left
+-- the state after a request, with what follows it or nothing at the end of the stream
+pub held_in_state_after : (request : Request) (left : List ℕ) → held_in (state_after request) (cond (ends_stream request) [] left) ≡ held_after request left
 held_in_state_after request left =
-    elim (ends_stream request) as (λ b. held_in (cond b state.Ended (state.Line 0)) left ≡ cond b Ended (Kept left)) [ true ↦ refl | false ↦ refl ]
+    elim (ends_stream request) as (λ b. held_in (cond b state.Ended (state.Line 0)) (cond b [] left) ≡ cond b Ended (Kept left)) [ true ↦ refl | false ↦ refl ]
+
+pub is_state_after : (request : Request) (left : List ℕ) → IsStateOf (state_after request) (cond (ends_stream request) [] left)
+is_state_after request left =
+    elim (ends_stream request) as (λ b. IsStateOf (cond b state.Ended (state.Line 0)) (cond b [] left)) [ true ↦ refl | false ↦ record { in_vain = omega arith; few = omega arith } ]
 
 -- after a block the stream goes on
 pub stored_goes_on : (header : Header) (behind left : List ℕ) → held_after (stored header behind) left ≡ Kept left
 stored_goes_on header behind left =
-    elim (is_word (13 ∷ 10 ∷ []) (drop header.length behind)) as (λ b. held_after (cond b (Logged (Store header.verb header.key header.flags (take header.length behind)) header.quiet) (refused E3 header.quiet)) left ≡ Kept left) [ true ↦ refl | false ↦ refl ]
+    elim (is_word (13 ∷ 10 ∷ []) (drop header.length behind)) as (λ b. held_after (stored_if b header (take header.length behind)) left ≡ Kept left) [ true ↦ refl | false ↦ refl ]
 
 -- a block that was copied from the bytes behind its line is stored as they say
-pub stored_from_copy : (header : Header) (slice behind block : List ℕ) (ends_well : Bool) → slice ≡ behind → block ≡ take header.length slice → ends_well ≡ is_word (13 ∷ 10 ∷ []) (drop header.length slice)
-    → cond ends_well (Logged (Store header.verb header.key header.flags block) header.quiet) (refused E3 header.quiet) ≡ stored header behind
+pub stored_from_copy : (header : Header) (slice behind : List ℕ) (block : Data) (ends_well : Bool) → slice ≡ behind → block ≡ take header.length slice → ends_well ≡ is_word (13 ∷ 10 ∷ []) (drop header.length slice)
+    → stored_if ends_well header block ≡ stored header behind
 stored_from_copy header slice behind block ends_well same is_block is_end = rw (is_block, is_end) (ap (stored header) same)

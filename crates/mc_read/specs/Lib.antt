@@ -1,3 +1,4 @@
+pub mod Word
 pub mod Line
 pub mod Words
 pub mod Text

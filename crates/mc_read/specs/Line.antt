@@ -1,58 +1,41 @@
--- What a line asks for: one function of its words, in which the first check that fails decides.
--- After memcached's doc/protocol.txt, "Storage commands", "Retrieval command" and "Error strings". The order of the
--- checks and what a refusal takes with it are this project's profile.
-use Rattle.std.specs.Prelude.{ℕ, ◌-◌, ◌≤◌, Bool, true, false, ◌==◌, ◌&&◌, nat_eq, nat_lt, nat_le, if◌then◌else◌, List, [], ◌∷◌, length, take, filter, slice_index, Option, Some, None, is_some, unwrap_or, codes}
-use Rattle.std.specs.Cmp.Lexicographic.{pointwise}
-use Rattle.std.specs.List.{list_all, slice_split}
-use Rattle.mc_model.specs.declared.command.Command.TheVariants.{Get}
+-- What a line asks for: one function of its words, in which the first check that fails decides. After memcached's
+-- doc/protocol.txt, "Storage commands", "Retrieval command", "Deletion", "Increment/Decrement", "Other commands" and
+-- "Error strings". The order of the checks and what a refusal takes with it are this project's profile.
+use Rattle.std.specs.Prelude.{ℕ, ◌≤◌, Bool, true, false, ◌&&◌, ◌||◌, nat_le, if◌then◌else◌, List, [], ◌∷◌, Option, Some, None, is_some, unwrap_or, option_map, codes}
+use Rattle.std.specs.List.{list_all}
+use Rattle.mc_model.specs.declared.command.Command.{Command}
+use Rattle.mc_model.specs.declared.command.Command.TheVariants.{Decr, Delete, Flush, Get, Incr}
 use Rattle.mc_model.specs.declared.command.Verb.{Verb}
-use Rattle.mc_model.specs.declared.command.Verb.TheVariants.{Set}
+use Rattle.mc_model.specs.declared.command.Verb.TheVariants.{Add, Append, Prepend, Replace, Set}
 use Rattle.mc_model.specs.declared.item.TheConstants.{DATA_BYTES}
-use Rattle.mc_model.specs.declared.reply.Reply.TheVariants.{Refused as RefusedWith}
+use Rattle.mc_model.specs.declared.key.Key.{Key}
+use Rattle.mc_model.specs.declared.reply.Reply.TheVariants.{Version, Refused as RefusedWith}
 use Rattle.mc_model.specs.declared.reply.WireNo.{WireNo}
 use Rattle.mc_model.specs.declared.reply.WireNo.TheVariants.{E1, E2, E4, E6, E9}
 use Rattle.mc_model.specs.declared.request.Request.{Request}
-use Rattle.mc_model.specs.declared.request.Request.TheVariants.{Local, Logged}
+use Rattle.mc_model.specs.declared.request.Request.TheVariants.{Local, Logged, Quit}
 use Rattle.mc_model.specs.Key.{is_lawful_key}
-use Rattle.mc_model.specs.Number.{is_numeral, number_up_to}
+use Rattle.mc_model.specs.Number.{number_up_to}
 use Rattle.mc_read.specs.declared.line.Asked.{Asked}
 use Rattle.mc_read.specs.declared.line.Asked.TheVariants.{Line, Refused, Stored}
-use Rattle.mc_read.specs.declared.line.TheConstants.{BLOCK_LENGTH, FLAGS}
-
--- a line without the one carriage return that may stand at its end; std's `slice_index` is 0 where nothing stands
-abbrev pub without_return : List ℕ → List ℕ
-without_return line = if slice_index line (length line - 1) == 13 then take (length line - 1) line else line
-
-abbrev pub is_space : ℕ → Bool
-is_space byte = byte == 32
-
--- what runs of the space byte separate; no other byte does
-abbrev pub spaced_words : List ℕ → List (List ℕ)
-spaced_words text = filter (λ piece. nat_lt 0 (length piece)) (slice_split is_space text)
-
-abbrev pub words : List ℕ → List (List ℕ)
-words line = spaced_words (without_return line)
-
--- byte for byte
-abbrev pub is_word : List ℕ → List ℕ → Bool
-is_word name word = pointwise nat_eq word name
+use Rattle.mc_read.specs.declared.alone.Change.{Change}
+use Rattle.mc_read.specs.declared.alone.Change.TheVariants as change
+use Rattle.mc_read.specs.declared.line.Storage.{Storage}
+use Rattle.mc_read.specs.declared.line.Storage.TheVariants.{CheckAndSet, Plain}
+use Rattle.mc_read.specs.declared.line.TheConstants.{BLOCK_LENGTH, DELTA, FLAGS, UNIQUE}
+use Rattle.mc_read.specs.Word.{is_exptime, is_noreply, is_word, is_zero, words}
 
 -- a refusal, which is answered without the log
 abbrev pub refused : WireNo → Bool → Request
 refused refusal quiet = Local (RefusedWith refusal) quiet
 
--- an exptime without its sign
-abbrev pub without_minus : List ℕ → List ℕ
-without_minus [] = []
-without_minus (byte ∷ bytes) = if byte == 45 then bytes else byte ∷ bytes
+-- no name that is known, or another number of words than its lines have
+abbrev pub no_command : Asked
+no_command = Line (refused E1 false)
 
--- an optional minus and one or more digits
-abbrev pub is_exptime : List ℕ → Bool
-is_exptime word = is_numeral (without_minus word)
-
--- an exptime whose digits are all 0
-abbrev pub is_zero : List ℕ → Bool
-is_zero word = list_all (λ byte. byte == 48) (without_minus word)
+-- words that aren't as they must be, without a block
+abbrev pub malformed : Asked
+malformed = Line (refused E2 false)
 
 -- checks in their order, each with its refusal
 abbrev pub Checks : Type 0
@@ -70,8 +53,71 @@ is_quiet_refusal E2 = false
 is_quiet_refusal E9 = false
 is_quiet_refusal other = true
 
--- the words of a storage line behind its name; a last word is there in the longer form
+-- Lines alone.
+-- a command that is quiet where its line says noreply, or the refusal
+abbrev pub asked_unless : Option WireNo → Command → Bool → Asked
+asked_unless None command noreply = Line (Logged command noreply)
+asked_unless (Some refusal) command noreply = Line (refused refusal (is_quiet_refusal refusal && noreply))
+
+abbrev pub asked_after : Checks → Command → Bool → Asked
+asked_after checks command noreply = asked_unless (first_failure checks) command noreply
+
+-- one unlawful key refuses the line
+abbrev pub asked_of_retrieval : Bool → List (List ℕ) → Asked
+asked_of_retrieval uniques [] = no_command
+asked_of_retrieval uniques (key ∷ keys) =
+    asked_after ((list_all is_lawful_key (key ∷ keys), E2) ∷ []) (Get (key ∷ keys) uniques) false
+
+-- a key; behind it a 0, noreply, or both in this order
+abbrev pub asked_of_delete : List (List ℕ) → Asked
+asked_of_delete (key ∷ []) = asked_after ((is_lawful_key key, E2) ∷ []) (Delete key) false
+asked_of_delete (key ∷ last ∷ []) =
+    asked_after ((is_word (codes "0") last || is_noreply last, E2) ∷ (is_lawful_key key, E2) ∷ []) (Delete key) (is_noreply last)
+asked_of_delete (key ∷ time ∷ last ∷ []) =
+    asked_after ((is_word (codes "0") time, E2) ∷ (is_noreply last, E2) ∷ (is_lawful_key key, E2) ∷ []) (Delete key) true
+asked_of_delete arguments = no_command
+
+-- a change of a key's number by a delta
+abbrev pub changed : Change → Key → ℕ → Command
+changed change.Incr key by = Incr key by
+changed change.Decr key by = Decr key by
+
+abbrev pub is_delta : List ℕ → Bool
+is_delta word = is_some (number_up_to DELTA word)
+
+-- where no check failed, the delta is a number
+abbrev pub delta_of : List ℕ → ℕ
+delta_of word = unwrap_or (number_up_to DELTA word) 0
+
+abbrev pub asked_of_change : Change → List (List ℕ) → Asked
+asked_of_change change (key ∷ delta ∷ []) =
+    asked_after ((is_lawful_key key, E2) ∷ (is_delta delta, E9) ∷ []) (changed change key (delta_of delta)) false
+asked_of_change change (key ∷ delta ∷ last ∷ []) =
+    asked_after ((is_noreply last, E2) ∷ (is_lawful_key key, E2) ∷ (is_delta delta, E9) ∷ []) (changed change key (delta_of delta)) true
+asked_of_change change arguments = no_command
+
+-- an exptime that is spelled as one, and is zero
+abbrev pub exptime_checks : List ℕ → Checks
+exptime_checks exptime = (is_exptime exptime, E2) ∷ (is_zero exptime, E4) ∷ []
+
+-- an exptime, noreply, or both in this order
+abbrev pub asked_of_flush : List (List ℕ) → Asked
+asked_of_flush [] = asked_after [] Flush false
+asked_of_flush (word ∷ []) =
+    if is_noreply word then asked_after [] Flush true else asked_after (exptime_checks word) Flush false
+asked_of_flush (exptime ∷ last ∷ []) = asked_after ((is_noreply last, E2) ∷ exptime_checks exptime) Flush true
+asked_of_flush arguments = no_command
+
+-- a name alone
+abbrev pub asked_of_name : Request → List (List ℕ) → Asked
+asked_of_name request [] = Line request
+asked_of_name request arguments = no_command
+
+-- Lines with a block.
+-- the words of a storage line behind its name: how the block is stored, which is open where the unique of cas can't be
+-- read, and a last word in the longer form
 pub record StorageLine : Type 0 where
+  pub storage : Option Storage
   pub key : List ℕ
   pub flags : List ℕ
   pub exptime : List ℕ
@@ -79,63 +125,89 @@ pub record StorageLine : Type 0 where
   pub last : Option (List ℕ)
 
 -- the last word of the longer form
-abbrev pub is_noreply : Option (List ℕ) → Bool
-is_noreply None = true
-is_noreply (Some word) = is_word (codes "noreply") word
+abbrev pub ends_in_noreply : Option (List ℕ) → Bool
+ends_in_noreply None = true
+ends_in_noreply (Some word) = is_noreply word
+
+-- append and prepend leave the item's exptime as it is, and ignore the value of theirs
+abbrev pub ignores_exptime : Option Storage → Bool
+ignores_exptime (Some (Plain Append)) = true
+ignores_exptime (Some (Plain Prepend)) = true
+ignores_exptime other = false
 
 -- the checks of a storage line whose block has this length, but for the two bytes behind the block
 abbrev pub storage_checks : StorageLine → ℕ → Checks
 storage_checks line length =
-    (is_noreply line.last, E2)
+    (ends_in_noreply line.last, E2)
     ∷ (is_lawful_key line.key, E2)
     ∷ (is_some (number_up_to FLAGS line.flags), E2)
     ∷ (is_exptime line.exptime, E2)
-    ∷ (is_zero line.exptime, E4)
+    ∷ (is_some line.storage, E2)
+    ∷ (ignores_exptime line.storage || is_zero line.exptime, E4)
     ∷ (nat_le length DATA_BYTES, E6)
     ∷ []
 
--- what becomes of a block of this length; where no check failed, the flags are a number
-abbrev pub asked_with : Verb → StorageLine → ℕ → Option WireNo → Asked
-asked_with verb line length None =
+-- what becomes of a block of this length; where no check failed, the storage is known and the flags are a number
+abbrev pub asked_with : StorageLine → ℕ → Option WireNo → Asked
+asked_with line length None =
     Stored (record {
       length = length;
-      verb = verb;
+      storage = unwrap_or line.storage (Plain Set);
       key = line.key;
       flags = unwrap_or (number_up_to FLAGS line.flags) 0;
       quiet = is_some line.last;
     })
-asked_with verb line length (Some refusal) =
-    Refused length refusal (is_some line.last && is_quiet_refusal refusal)
+asked_with line length (Some refusal) = Refused length refusal (is_quiet_refusal refusal && is_some line.last)
 
 -- without a readable length there is no block, and the format is refused
-abbrev pub asked_of_length : Verb → StorageLine → Option ℕ → Asked
-asked_of_length verb line None = Line (refused E2 false)
-asked_of_length verb line (Some length) = asked_with verb line length (first_failure (storage_checks line length))
+abbrev pub asked_of_length : StorageLine → Option ℕ → Asked
+asked_of_length line None = malformed
+asked_of_length line (Some length) = asked_with line length (first_failure (storage_checks line length))
 
-abbrev pub asked_of_block : Verb → StorageLine → Asked
-asked_of_block verb line = asked_of_length verb line (number_up_to BLOCK_LENGTH line.size)
+abbrev pub asked_of_block : StorageLine → Asked
+asked_of_block line = asked_of_length line (number_up_to BLOCK_LENGTH line.size)
 
+-- a line of set, add, replace, append or prepend
 abbrev pub asked_of_storage : Verb → List (List ℕ) → Asked
 asked_of_storage verb (key ∷ flags ∷ exptime ∷ size ∷ []) =
-    asked_of_block verb (record { key = key; flags = flags; exptime = exptime; size = size; last = None })
+    asked_of_block (record { storage = Some (Plain verb); key = key; flags = flags; exptime = exptime; size = size; last = None })
 asked_of_storage verb (key ∷ flags ∷ exptime ∷ size ∷ last ∷ []) =
-    asked_of_block verb (record { key = key; flags = flags; exptime = exptime; size = size; last = Some last })
-asked_of_storage verb arguments = Line (refused E1 false)
+    asked_of_block (record { storage = Some (Plain verb); key = key; flags = flags; exptime = exptime; size = size; last = Some last })
+asked_of_storage verb arguments = no_command
 
--- one unlawful key refuses the line
-abbrev pub asked_of_retrieval : Bool → List (List ℕ) → Asked
-asked_of_retrieval uniques [] = Line (refused E1 false)
-asked_of_retrieval uniques (key ∷ keys) =
-    if list_all is_lawful_key (key ∷ keys) then Line (Logged (Get (key ∷ keys) uniques) false) else Line (refused E2 false)
+-- cas with its unique, where that is a number
+abbrev pub check_and_set : List ℕ → Option Storage
+check_and_set unique = option_map CheckAndSet (number_up_to UNIQUE unique)
 
--- by the name of the command; any other name and a line without words are an error
+abbrev pub asked_of_cas : List (List ℕ) → Asked
+asked_of_cas (key ∷ flags ∷ exptime ∷ size ∷ unique ∷ []) =
+    asked_of_block (record { storage = check_and_set unique; key = key; flags = flags; exptime = exptime; size = size; last = None })
+asked_of_cas (key ∷ flags ∷ exptime ∷ size ∷ unique ∷ last ∷ []) =
+    asked_of_block (record { storage = check_and_set unique; key = key; flags = flags; exptime = exptime; size = size; last = Some last })
+asked_of_cas arguments = no_command
+
+-- All lines.
+-- by the name of the command, byte for byte; a line without words names none
 abbrev pub asked_by : List (List ℕ) → Asked
-asked_by [] = Line (refused E1 false)
+asked_by [] = no_command
 asked_by (name ∷ arguments) =
     if is_word (codes "set") name then asked_of_storage Set arguments
+    else if is_word (codes "add") name then asked_of_storage Add arguments
+    else if is_word (codes "replace") name then asked_of_storage Replace arguments
+    else if is_word (codes "append") name then asked_of_storage Append arguments
+    else if is_word (codes "prepend") name then asked_of_storage Prepend arguments
+    else if is_word (codes "cas") name then asked_of_cas arguments
     else if is_word (codes "get") name then asked_of_retrieval false arguments
-    else Line (refused E1 false)
+    else if is_word (codes "gets") name then asked_of_retrieval true arguments
+    else if is_word (codes "delete") name then asked_of_delete arguments
+    else if is_word (codes "incr") name then asked_of_change change.Incr arguments
+    else if is_word (codes "decr") name then asked_of_change change.Decr arguments
+    else if is_word (codes "flush_all") name then asked_of_flush arguments
+    else if is_word (codes "version") name then asked_of_name (Local Version false) arguments
+    else if is_word (codes "quit") name then asked_of_name Quit arguments
+    else no_command
 
+-- the line is without its line feed
 abbrev pub asked : List ℕ → Asked
 asked line = asked_by (words line)
 

@@ -36,7 +36,7 @@ abbrev pub IsStateOf : State → List ℕ → Type 0
 IsStateOf (state.Line searched) bytes = IsSearched searched bytes
 IsStateOf (state.Block line header) bytes = IsLineAt bytes line × (asked (take line bytes) ≡ Stored header) × (header.length ≤ DATA_BYTES)
 IsStateOf (state.Refused refusal quiet left) bytes = 0 < left → bytes ≡ []
-IsStateOf state.Ended bytes = Unit {0}
+IsStateOf state.Ended bytes = bytes ≡ []
 
 -- how many bytes are kept
 abbrev pub kept_length : Held → ℕ

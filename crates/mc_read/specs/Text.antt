@@ -1,15 +1,21 @@
 -- The text of a request, after memcached's doc/protocol.txt, "Protocol" and "Storage commands": a line, and behind the
 -- line of a storage command a block and two bytes. How long a line may be is this project's profile.
-use Rattle.std.specs.Prelude.{◌≡◌, ◌≢◌, ℕ, ◌+◌, ◌≤◌, ◌⊎◌, if◌then◌else◌, List, [], ◌∷◌, ◌++◌, length, take, drop, All}
-use Rattle.mc_model.specs.declared.command.Command.TheVariants.{Store}
+use Rattle.std.specs.Prelude.{◌≡◌, ◌≢◌, ℕ, ◌+◌, ◌≤◌, ◌⊎◌, Bool, if◌then◌else◌, List, [], ◌∷◌, ◌++◌, length, take, drop, All}
+use Rattle.mc_model.specs.declared.command.Command.{Command}
+use Rattle.mc_model.specs.declared.command.Command.TheVariants.{Cas, Store}
+use Rattle.mc_model.specs.declared.item.Data.{Data}
+use Rattle.mc_model.specs.declared.key.Key.{Key}
 use Rattle.mc_model.specs.declared.reply.WireNo.TheVariants.{E3}
 use Rattle.mc_model.specs.declared.request.Request.{Request}
 use Rattle.mc_model.specs.declared.request.Request.TheVariants.{Logged, TooLong}
 use Rattle.mc_read.specs.declared.line.Asked.{Asked}
 use Rattle.mc_read.specs.declared.line.Asked.TheVariants.{Line, Refused, Stored}
 use Rattle.mc_read.specs.declared.line.Header.{Header}
+use Rattle.mc_read.specs.declared.line.Storage.TheVariants.{CheckAndSet, Plain}
+use Rattle.mc_read.specs.declared.line.Storage.{Storage}
 use Rattle.mc_read.specs.declared.line.TheConstants.{LINE_BYTES}
-use Rattle.mc_read.specs.Line.{asked, is_word, refused}
+use Rattle.mc_read.specs.Line.{asked, refused}
+use Rattle.mc_read.specs.Word.{is_word}
 
 -- how many bytes behind its line belong to a request: none, or a block and two more
 abbrev pub length_behind : Asked → ℕ
@@ -17,12 +23,19 @@ length_behind (Line request) = 0
 length_behind (Refused length refusal quiet) = length + 2
 length_behind (Stored header) = header.length + 2
 
+-- the command that stores a block
+abbrev pub storing : Storage → Key → ℕ → Data → Command
+storing (Plain verb) key flags block = Store verb key flags block
+storing (CheckAndSet unique) key flags block = Cas key flags block unique
+
+-- a block is stored where it ends well
+abbrev pub stored_if : Bool → Header → Data → Request
+stored_if ends_well header block =
+    if ends_well then Logged (storing header.storage header.key header.flags block) header.quiet else refused E3 header.quiet
+
 -- a block and the two bytes behind it, which must be a carriage return and a line feed
 abbrev pub stored : Header → List ℕ → Request
-stored header behind =
-    if is_word (13 ∷ 10 ∷ []) (drop header.length behind)
-    then Logged (Store header.verb header.key header.flags (take header.length behind)) header.quiet
-    else refused E3 header.quiet
+stored header behind = stored_if (is_word (13 ∷ 10 ∷ []) (drop header.length behind)) header (take header.length behind)
 
 -- the request of a line with these bytes behind it
 abbrev pub request_of : Asked → List ℕ → Request

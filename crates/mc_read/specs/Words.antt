@@ -1,10 +1,11 @@
 -- The words of the code as the definitions see them.
 use Rattle.std.specs.Option.{option_copied}
-use Rattle.mc_read.specs.declared.line.StorageLine as code
+use Rattle.mc_read.specs.declared.storage.StorageLine as code
 use Rattle.mc_read.specs.Line.{StorageLine}
 
 abbrev pub storage_line : code.StorageLine → StorageLine
 storage_line line = record {
+  storage = line.storage;
   key = line.key.now;
   flags = line.flags.now;
   exptime = line.exptime.now;

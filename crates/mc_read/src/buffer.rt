@@ -1,12 +1,12 @@
 //! Bytes that come at the end and are taken from the front.
-ghost use Rattle.std.specs.Prelude.{◌≡◌, ℕ, ◌≤◌, List, [], ◌++◌, drop, length, vec_len, IsOkUnless, OnOk, OnErr};
+ghost use Rattle.std.specs.Prelude.{◌≡◌, ℕ, ◌+◌, ◌≤◌, List, [], ◌++◌, drop, length, vec_len, IsOkUnless, OnOk, OnErr};
 
 use mc_model::Fault;
 use std::alloc::Global;
 use std::marker::Model;
 
 /// A queue of bytes in one vector. What was taken stays in front until it is half of the vector or more, so that
-/// moving the rest costs no more than the bytes that were taken.
+/// moving the rest costs no more than the bytes that were taken. The vector has at most twice the bytes that are there.
 #[derive(Debug, Drop)]
 pub struct Buffer {
     bytes: Vec<u8>,
@@ -18,7 +18,7 @@ impl Model for Buffer {
 
     ghost view = { λ buffer. drop buffer.taken buffer.bytes.items };
 
-    ghost invariant = { λ buffer. buffer.taken ≤ vec_len buffer.bytes };
+    ghost invariant = { λ buffer. buffer.taken + buffer.taken ≤ vec_len buffer.bytes };
 }
 
 impl Buffer {

@@ -6,9 +6,12 @@
 
 pub use reader::{Reader, ends_stream};
 
+mod alone;
 mod buffer;
 pub mod laws;
 mod line;
 mod reader;
+mod storage;
 #[cfg(test)]
 mod tests;
+mod words;

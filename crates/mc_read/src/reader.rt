@@ -2,19 +2,16 @@
 ghost use Rattle.std.specs.Bool.{OnTrue};
 ghost use Rattle.std.specs.Prelude.{◌≡◌, ℕ, ◌+◌, ◌-◌, ◌<◌, ◌≤◌, if◌then◌else◌, List, [], ◌∷◌, length, take, drop, IfOk, IfSome, IsOk, IsOkUnless, OnOk, OnErr};
 ghost use Rattle.mc_model.specs.declared.item.TheConstants.{DATA_BYTES};
-ghost use Rattle.mc_model.specs.declared.command.Command.TheVariants.{Store};
-ghost use Rattle.mc_model.specs.declared.reply.WireNo.TheVariants.{E3};
 ghost use Rattle.mc_model.specs.declared.request.Request.{Request};
-ghost use Rattle.mc_model.specs.declared.request.Request.TheVariants.{Logged};
 ghost use Rattle.mc_read.specs.First.{line_length};
-ghost use Rattle.mc_read.specs.Line.{is_word, refused};
 ghost use Rattle.mc_read.specs.Reading.{ends_stream, Ended, IsFed, Kept, Swallowing};
 ghost use Rattle.mc_read.specs.State.{EndsInRefusal, IsAnswer, IsSearched, IsSought, IsStateOf, held_in, state_after};
-ghost use Rattle.mc_read.specs.Text.{stored};
+ghost use Rattle.mc_read.specs.Text.{stored_if};
+ghost use Rattle.mc_read.specs.Word.{is_word};
 
 use crate::buffer::Buffer;
 use crate::line::{Asked, Header, LINE_BYTES, ask, refused};
-use mc_model::{Command, Data, Fault, Request, WireNo};
+use mc_model::{Data, Fault, Request, WireNo};
 use memchr::memchr;
 use std::alloc::Global;
 use std::marker::Model;
@@ -75,18 +72,13 @@ pub fn ends_stream(request: &Request) -> bool
 
 /// The request of a block that has come whole, with the two bytes behind it.
 fn stored(header: Header, block: Data, ends_well: bool) -> Request
-    ensures { result ≡ (if ends_well then Logged (Store header.verb header.key header.flags block) header.quiet else refused E3 header.quiet) }
+    ensures { result ≡ stored_if ends_well header block }
 {
     if !ends_well {
         return refused(WireNo::E3, header.quiet);
     }
     Request::Logged {
-        command: Command::Store {
-            verb: header.verb,
-            key: header.key,
-            flags: header.flags,
-            block,
-        },
+        command: header.storage.command(header.key, header.flags, block),
         quiet: header.quiet,
     }
 }
@@ -106,13 +98,18 @@ fn copy_block(alloc: Global, size: usize, behind: &[u8]) -> Result<(Data, bool),
     }
 }
 
-/// The state in which the reader goes on after a request.
-fn state_after(request: &Request) -> State
-    ensures { result ≡ state_after request.now }
+/// Takes a request of `count` bytes off the front, and gives the state in which the reader goes on. At the end of the
+/// stream nothing is kept.
+fn move_on(buffer: &mut Buffer, count: usize, request: &Request) -> State
+    requires { count ≤ length buffer.old }
+    ensures state { result ≡ state_after request.now }
+    ensures bytes { buffer.new ≡ (if ends_stream request.now then [] else drop count buffer.old) }
 {
     if ends_stream(request) {
+        buffer.clear();
         State::Ended
     } else {
+        buffer.take(count);
         State::Line { searched: 0 }
     }
 }
@@ -149,8 +146,7 @@ fn next_line(
     let behind = bytes.len() - start;
     match ask(alloc, &bytes[..line])? {
         Asked::Line(request) => {
-            buffer.take(start);
-            let state = state_after(&request);
+            let state = move_on(buffer, start, &request);
             Ok((Some(request), state))
         }
         Asked::Refused {

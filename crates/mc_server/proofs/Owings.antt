@@ -6,7 +6,7 @@ use Rattle.mc_model.specs.declared.request.Request.TheVariants.{Local, Logged, Q
 use Rattle.mc_model.specs.declared.reply.Reply.TheVariants.{Refused}
 use Rattle.mc_model.specs.declared.reply.WireNo.TheVariants.{E5}
 use Rattle.mc_server.specs.Owed.{answered, applied_by, applied_with, logged_reply, owed}
-use Rattle.mc_server.specs.Text.{text}
+use Rattle.mc_write.specs.Text.{text}
 
 pub owed-append : (applied : List Command) (first second : List Request) → owed applied (first ++ second) ≡ owed applied first ++ owed (applied_by applied first) second
 owed-append applied [] second = refl

@@ -9,7 +9,7 @@ use Rattle.mc_model.specs.declared.request.Request.TheVariants.{Logged, TooLong}
 use Rattle.mc_read.specs.Line.{refused}
 use Rattle.mc_server.specs.declared.session.TheConstants.{PLACES}
 use Rattle.mc_server.specs.Owed.{owed}
-use Rattle.mc_server.specs.Text.{text}
+use Rattle.mc_write.specs.Text.{text}
 
 -- a get that shows no item
 no_item : text (Values []) ≡ codes "END\r\n"

@@ -5,4 +5,3 @@ pub mod Serving
 pub mod Session
 pub mod Standard
 pub mod Stream
-pub mod Text

@@ -10,7 +10,7 @@ use Rattle.mc_model.specs.declared.request.Request.{Request}
 use Rattle.mc_model.specs.declared.request.Request.TheVariants.{Local, Logged, Quit, TooLong}
 use Rattle.mc_model.specs.History.{answer}
 use Rattle.mc_server.specs.declared.session.TheConstants.{PLACES}
-use Rattle.mc_server.specs.Text.{text}
+use Rattle.mc_write.specs.Text.{text}
 
 -- the text of a reply, or nothing where the request is quiet
 abbrev pub answered : Bool → Reply → List ℕ

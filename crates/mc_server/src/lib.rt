@@ -14,4 +14,3 @@ pub mod standard;
 mod stdin;
 pub mod stream;
 mod tally;
-mod text;

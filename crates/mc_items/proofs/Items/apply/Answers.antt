@@ -1,17 +1,32 @@
 use Rattle.std.proofs.Common.{◌≡◌, ◌+◌, rules}
 use Rattle.mc_model.specs.History.{next_effect}
 use Rattle.mc_items.specs.Held.{table_of_held}
-use Rattle.mc_items.proofs.Stands.{StandsFor-push, changes_with}
+use Rattle.mc_items.proofs.Stands.{OnOk-StandsFor, StandsFor-next, StandsFor-push, changes_with}
 use Rattle.mc_items.proofs.Items.apply.Goals as goal
 
-pub returns-in_ok-set-in-Store-Set-default-default-default-clause-stands : goal.returns-in_ok-set-in-Store-Set-default-default-default-clause-stands
-returns-in_ok-set-in-Store-Set-default-default-default-clause-stands c =
-    let is_table : table_of_held c.set.new.held.items ≡ (next_effect c.args.self.now.table c.args.self.now.last_unique c.args.command.now).table = search rules in
-    let is_number : c.self.inside.last_unique + 1 ≡ changes_with c.args.self.now.table c.args.self.now.last_unique c.args.command.now = search rules in
-    λ list. StandsFor-push list c.args.command.now c.args.self.now.table _ c.args.self.now.last_unique _ is_table is_number
+pub returns-in-Store-clause-stands : goal.returns-in-Store-clause-stands
+returns-in-Store-clause-stands c = rw c.in-Store.is (OnOk-StandsFor c.store.result _ c.args.self.now c.store.new.self c.store.ensures.state)
+
+pub returns-in-Cas-clause-stands : goal.returns-in-Cas-clause-stands
+returns-in-Cas-clause-stands c = rw c.in-Cas.is (OnOk-StandsFor c.check_and_set.result _ c.args.self.now c.check_and_set.new.self c.check_and_set.ensures.state)
 
 pub returns-in_ok-values-in-Get-clause-stands : goal.returns-in_ok-values-in-Get-clause-stands
 returns-in_ok-values-in-Get-clause-stands c =
     let is_table : c.args.self.now.table ≡ (next_effect c.args.self.now.table c.args.self.now.last_unique c.args.command.now).table = search rules in
     let is_number : c.args.self.now.last_unique ≡ changes_with c.args.self.now.table c.args.self.now.last_unique c.args.command.now = search rules in
+    λ list. StandsFor-push list c.args.command.now c.args.self.now.table _ c.args.self.now.last_unique _ is_table is_number
+
+pub returns-in-Delete-clause-stands : goal.returns-in-Delete-clause-stands
+returns-in-Delete-clause-stands c = rw c.in-Delete.is (StandsFor-next _ c.args.self.now c.delete.new.self c.delete.ensures.state)
+
+pub returns-in-Incr-clause-stands : goal.returns-in-Incr-clause-stands
+returns-in-Incr-clause-stands c = rw c.in-Incr.is (OnOk-StandsFor c.incr.result _ c.args.self.now c.incr.new.self c.incr.ensures.state)
+
+pub returns-in-Decr-clause-stands : goal.returns-in-Decr-clause-stands
+returns-in-Decr-clause-stands c = rw c.in-Decr.is (OnOk-StandsFor c.decr.result _ c.args.self.now c.decr.new.self c.decr.ensures.state)
+
+pub returns-in-Flush-clause-stands : goal.returns-in-Flush-clause-stands
+returns-in-Flush-clause-stands c =
+    let is_table : table_of_held c.clear.new.self.items ≡ (next_effect c.args.self.now.table c.args.self.now.last_unique c.args.command.now).table = search rules in
+    let is_number : c.self-in-Flush.inside.last_unique ≡ changes_with c.args.self.now.table c.args.self.now.last_unique c.args.command.now = search rules in
     λ list. StandsFor-push list c.args.command.now c.args.self.now.table _ c.args.self.now.last_unique _ is_table is_number

@@ -6,7 +6,7 @@ use Rattle.mc_read.specs.Reading.{Kept, Swallowing}
 use Rattle.mc_read.specs.State.{IsAnswer, IsLineAt, held_in}
 use Rattle.mc_read.specs.Text.{stored}
 use Rattle.mc_read.proofs.Holdings.{held_after}
-use Rattle.mc_read.proofs.Steps.{answer_first, answer_none, answer_swallowing, answer_whole, first_open, first_partial, first_too_long, held_in_state_after, no_other, stored_from_copy, stored_goes_on, that_refusal}
+use Rattle.mc_read.proofs.Steps.{answer_first, answer_none, answer_swallowing, answer_whole, first_open, first_partial, first_too_long, held_in_state_after, is_state_after, no_other, stored_from_copy, stored_goes_on, that_refusal}
 use Rattle.mc_read.proofs.reader.next_line.Goals as goal
 
 pub returns-in-TooLong-clause-answer : goal.returns-in-TooLong-clause-answer
@@ -78,11 +78,16 @@ returns-in-Line-2-clause-answer c =
     let bytes = c.args.buffer.now in
     let is_line : IsLineAt bytes c.in-Line.line = rw c.as_slice-bytes.ensures at c.in-Line.ensures in
     let is_asked : asked (take c.in-Line.line bytes) ≡ Line c.in-Line-2.request = sym (rw c.as_slice-bytes.ensures at c.in_ok-request.ensures.asked) ∙ c.in-Line-2.is in
-    let left : c.take.new.self ≡ drop (c.in-Line.line + 1 + 0) bytes = c.take.ensures ∙ ap (λ n. drop n bytes) (sym (add-zero (c.in-Line.line + 1))) in
-    let answer = answer_whole bytes c.in-Line.line is_line (Line c.in-Line-2.request) is_asked (omega (arith, is_line.ends)) c.in-Line-2.request c.take.new.self refl left in
-    let held : held_in c.state_after-state.result c.take.new.self ≡ held_after c.in-Line-2.request c.take.new.self =
-    ap (λ state. held_in state c.take.new.self) c.state_after-state.ensures ∙ held_in_state_after c.in-Line-2.request c.take.new.self in
+    let left = drop (c.in-Line.line + 1) bytes in
+    let same_left : left ≡ drop (c.in-Line.line + 1 + 0) bytes = ap (λ n. drop n bytes) (sym (add-zero (c.in-Line.line + 1))) in
+    let answer = answer_whole bytes c.in-Line.line is_line (Line c.in-Line-2.request) is_asked (omega (arith, is_line.ends)) c.in-Line-2.request left refl same_left in
+    let held : held_in c.move_on-state.result c.move_on-state.new.buffer ≡ held_after c.in-Line-2.request left =
+    (λ i. held_in (c.move_on-state.ensures.state i) (c.move_on-state.ensures.bytes i)) ∙ held_in_state_after c.in-Line-2.request left in
     subst (λ h. IsAnswer (Kept bytes) (Some c.in-Line-2.request) h) (sym held) answer
+
+pub returns-in-Line-2-clause-state : goal.returns-in-Line-2-clause-state
+returns-in-Line-2-clause-state c =
+    rw (c.move_on-state.ensures.state, c.move_on-state.ensures.bytes) (is_state_after c.in-Line-2.request (drop (c.in-Line.line + 1) c.args.buffer.now))
 
 pub returns-in-Line-2-clause-refused : goal.returns-in-Line-2-clause-refused
 returns-in-Line-2-clause-refused c = λ request left ends.
@@ -99,7 +104,7 @@ returns-else-come-size-clause-answer c =
     sym (rw c.as_slice-bytes.ensures at c.in_ok-request.ensures.asked) ∙ c.in-Refused.is in
     let same = ap length c.as_slice-bytes.ensures in
     let answer = answer_whole bytes c.in-Line.line is_line (Refused c.in-Refused.length c.in-Refused.refusal c.in-Refused.quiet) is_asked
-    (omega (arith, same, is_line.ends, c.if-come-size.false)) (refused c.in-Refused.refusal c.in-Refused.quiet) c.take-in-Refused.new.self refl c.take-in-Refused.ensures in
+    (omega (arith, same, is_line.ends, c.if-come-size.false)) (refused c.in-Refused.refusal c.in-Refused.quiet) c.take.new.self refl c.take.ensures in
     rw c.refused.ensures answer
 
 pub returns-else-come-size-clause-refused : goal.returns-else-come-size-clause-refused

@@ -1,0 +1,182 @@
+//! Lines alone: `get`, `gets`, `delete`, `incr`, `decr`, `flush_all`, and names without words behind them.
+ghost use Rattle.std.specs.List.{list_all};
+ghost use Rattle.std.specs.Prelude.{◌≡◌, [], ◌∷◌, IfOk, IfSome, IsOkUnless, is_some, map};
+ghost use Rattle.mc_model.specs.declared.command.Command.TheVariants.{Delete, Flush};
+ghost use Rattle.mc_model.specs.declared.reply.WireNo.TheVariants.{E2, E9};
+ghost use Rattle.mc_model.specs.declared.request.Request.TheVariants.{Logged};
+ghost use Rattle.mc_model.specs.Key.{is_lawful_key};
+ghost use Rattle.mc_read.specs.declared.line.Asked.TheVariants.{Line};
+ghost use Rattle.mc_read.specs.Line.{HasLawfulBlock, asked_after, asked_of_change, asked_of_delete, asked_of_flush, asked_of_name, asked_of_retrieval, changed, delta_of, exptime_checks, is_delta};
+
+use crate::line::{Asked, DELTA, malformed, no_command, refused};
+use crate::words::{is_exptime, is_noreply, is_word, is_zero};
+use mc_model::{Command, Fault, Key, KeyList, Request, WireNo, read_number};
+use std::alloc::Global;
+
+/// The line alone is this command.
+fn logged(command: Command, quiet: bool) -> Asked
+    ensures { result ≡ Line (Logged command quiet) }
+{
+    Asked::Line(Request::Logged { command, quiet })
+}
+
+/// The keys of a retrieval, or `None` where a word is no lawful key.
+fn read_keys(alloc: Global, words: &[&[u8]]) -> Result<Option<Vec<Key>>, Fault>
+    ensures lawful { IfOk result (λ keys. is_some keys ≡ list_all is_lawful_key (map (λ word. word.now) words.now)) }
+    ensures keys { IfOk result (λ keys. IfSome keys (λ keys. keys.items ≡ map (λ word. word.now) words.now)) }
+    ensures memory { IsOkUnless result Fault.Memory }
+{
+    let mut keys = Vec::new(alloc);
+    for word in words {
+        let Some(key) = Key::new(alloc, word)? else {
+            return Ok(None);
+        };
+        keys.push(key)?;
+    }
+    Ok(Some(keys))
+}
+
+/// What a retrieval asks for, by the words behind its name.
+pub fn ask_retrieval(alloc: Global, uniques: bool, arguments: &[&[u8]]) -> Result<Asked, Fault>
+    ensures asked { IfOk result (λ asked. asked ≡ asked_of_retrieval uniques (map (λ word. word.now) arguments.now)) }
+    ensures memory { IsOkUnless result Fault.Memory }
+{
+    if arguments.is_empty() {
+        return Ok(no_command());
+    }
+    let Some(keys) = read_keys(alloc, arguments)? else {
+        return Ok(malformed());
+    };
+    match KeyList::new(keys) {
+        Some(keys) => Ok(logged(Command::Get { keys, uniques }, false)),
+        None => unreachable!(),
+    }
+}
+
+/// The deletion of a key, where the words behind it are lawful.
+fn delete(alloc: Global, key: &[u8], are_lawful: bool, quiet: bool) -> Result<Asked, Fault>
+    ensures asked { IfOk result (λ asked. asked ≡ asked_after ((are_lawful, E2) ∷ (is_lawful_key key.now, E2) ∷ []) (Delete key.now) quiet) }
+    ensures memory { IsOkUnless result Fault.Memory }
+{
+    if !are_lawful {
+        return Ok(malformed());
+    }
+    match Key::new(alloc, key)? {
+        Some(key) => Ok(logged(Command::Delete { key }, quiet)),
+        None => Ok(malformed()),
+    }
+}
+
+/// What a deletion asks for, by the words behind its name.
+pub fn ask_delete(alloc: Global, arguments: &[&[u8]]) -> Result<Asked, Fault>
+    ensures asked { IfOk result (λ asked. asked ≡ asked_of_delete (map (λ word. word.now) arguments.now)) }
+    ensures memory { IsOkUnless result Fault.Memory }
+{
+    match arguments {
+        [key] => delete(alloc, key, true, false),
+        [key, last] => {
+            let noreply = is_noreply(last);
+            delete(alloc, key, noreply || is_word(last, b"0"), noreply)
+        }
+        [key, time, last] => delete(alloc, key, is_word(time, b"0") && is_noreply(last), true),
+        _ => Ok(no_command()),
+    }
+}
+
+/// A change of the number under a key.
+#[derive(Clone, Copy, Debug, PartialEq, Eq)]
+pub enum Change {
+    /// Adds.
+    Incr,
+    /// Subtracts.
+    Decr,
+}
+
+impl Change {
+    /// The command that changes a key's number by so much.
+    fn command(self, key: Key, by: u64) -> Command
+        ensures { result ≡ changed self key by }
+    {
+        match self {
+            Change::Incr => Command::Incr { key, by },
+            Change::Decr => Command::Decr { key, by },
+        }
+    }
+
+    /// The change of a key's number by a delta, where the word behind these is lawful.
+    fn ask(
+        self,
+        alloc: Global,
+        key: &[u8],
+        delta: &[u8],
+        is_lawful: bool,
+        quiet: bool,
+    ) -> Result<Asked, Fault>
+        ensures asked { IfOk result (λ asked. asked ≡ asked_after ((is_lawful, E2) ∷ (is_lawful_key key.now, E2) ∷ (is_delta delta.now, E9) ∷ [])
+            (changed self key.now (delta_of delta.now)) quiet) }
+        ensures memory { IsOkUnless result Fault.Memory }
+    {
+        if !is_lawful {
+            return Ok(malformed());
+        }
+        let Some(key) = Key::new(alloc, key)? else {
+            return Ok(malformed());
+        };
+        match read_number(delta, DELTA) {
+            Some(by) => Ok(logged(self.command(key, by), quiet)),
+            None => Ok(Asked::Line(refused(WireNo::E9, false))),
+        }
+    }
+}
+
+/// What a line of `incr` or `decr` asks for, by the words behind its name.
+pub fn ask_change(alloc: Global, change: Change, arguments: &[&[u8]]) -> Result<Asked, Fault>
+    ensures asked { IfOk result (λ asked. asked ≡ asked_of_change change (map (λ word. word.now) arguments.now)) }
+    ensures memory { IsOkUnless result Fault.Memory }
+{
+    match arguments {
+        [key, delta] => change.ask(alloc, key, delta, true, false),
+        [key, delta, last] => change.ask(alloc, key, delta, is_noreply(last), true),
+        _ => Ok(no_command()),
+    }
+}
+
+/// The emptying of the table, where the exptime is lawful.
+fn flush(exptime: &[u8], quiet: bool) -> Asked
+    ensures asked { result ≡ asked_after (exptime_checks exptime.now) Flush quiet }
+    ensures lawful { HasLawfulBlock result }
+{
+    if !is_exptime(exptime) {
+        malformed()
+    } else if !is_zero(exptime) {
+        Asked::Line(refused(WireNo::E4, quiet))
+    } else {
+        logged(Command::Flush, quiet)
+    }
+}
+
+/// What a line of `flush_all` asks for, by the words behind its name.
+pub fn ask_flush(arguments: &[&[u8]]) -> Asked
+    ensures asked { result ≡ asked_of_flush (map (λ word. word.now) arguments.now) }
+    ensures lawful { HasLawfulBlock result }
+{
+    match arguments {
+        [] => flush(b"0", false),
+        [word] if is_noreply(word) => flush(b"0", true),
+        [exptime] => flush(exptime, false),
+        [exptime, last] if is_noreply(last) => flush(exptime, true),
+        [_, _] => malformed(),
+        _ => no_command(),
+    }
+}
+
+/// What a name that stands alone asks for; `arguments` are the words behind it.
+pub fn ask_name(request: Request, arguments: &[&[u8]]) -> Asked
+    ensures { result ≡ asked_of_name request (map (λ word. word.now) arguments.now) }
+{
+    if arguments.is_empty() {
+        Asked::Line(request)
+    } else {
+        no_command()
+    }
+}

@@ -1,0 +1,134 @@
+//! Lines with a block: `set`, `add`, `replace`, `append`, `prepend` and `cas`.
+ghost use Rattle.std.specs.Prelude.{◌≡◌, ◌||◌, IfOk, IsOkUnless, map};
+ghost use Rattle.mc_read.specs.Line.{HasLawfulBlock, asked_of_block, asked_of_cas, asked_of_storage, check_and_set, ends_in_noreply, first_failure, ignores_exptime, storage_checks};
+
+use crate::line::{
+    Asked, BLOCK_LENGTH, FLAGS, Header, Storage, UNIQUE, is_quiet_refusal, malformed, no_command,
+};
+use crate::words::{is_exptime, is_noreply, is_zero};
+use mc_model::item::DATA_BYTES;
+use mc_model::{Fault, Key, Verb, WireNo, read_number};
+use std::alloc::Global;
+
+/// The words of a storage line behind its name.
+#[derive(Clone, Copy)]
+struct StorageLine<'a> {
+    /// How the block is stored; it is open where the unique of `cas` can't be read.
+    storage: Option<Storage>,
+    key: &'a [u8],
+    flags: &'a [u8],
+    exptime: &'a [u8],
+    size: &'a [u8],
+    /// The last word of the longer form.
+    last: Option<&'a [u8]>,
+}
+
+/// Whether the value of the exptime is ignored, for the item's own stays.
+fn ignores_exptime(storage: Option<Storage>) -> bool
+    ensures { result ≡ ignores_exptime storage }
+{
+    matches!(storage, Some(Storage::Plain(Verb::Append | Verb::Prepend)))
+}
+
+impl StorageLine<'_> {
+    ghost use Rattle.mc_read.specs.Words.{storage_line};
+
+    /// The refusal of the first check that fails, for a block of this length.
+    fn refusal(&self, length: u64) -> Option<WireNo>
+        ensures { result ≡ first_failure (storage_checks (storage_line self.now) length) }
+    {
+        let is_well_formed = self.last.is_none_or(|word| is_noreply(word))
+            && Key::is_lawful(self.key)
+            && read_number(self.flags, FLAGS).is_some()
+            && is_exptime(self.exptime)
+            && self.storage.is_some();
+        if !is_well_formed {
+            Some(WireNo::E2)
+        } else if !ignores_exptime(self.storage) && !is_zero(self.exptime) {
+            Some(WireNo::E4)
+        } else if length > DATA_BYTES as u64 {
+            Some(WireNo::E6)
+        } else {
+            None
+        }
+    }
+
+    /// What the line asks for.
+    fn ask(&self, alloc: Global) -> Result<Asked, Fault>
+        ensures asked { IfOk result (λ asked. asked ≡ asked_of_block (storage_line self.now)) }
+        ensures lawful { IfOk result HasLawfulBlock }
+        ensures memory { IsOkUnless result Fault.Memory }
+    {
+        let Some(length) = read_number(self.size, BLOCK_LENGTH) else {
+            return Ok(malformed());
+        };
+        let noreply = self.last.is_some();
+        if let Some(refusal) = self.refusal(length) {
+            return Ok(Asked::Refused {
+                length,
+                refusal,
+                quiet: noreply && is_quiet_refusal(refusal),
+            });
+        }
+        match (
+            self.storage,
+            Key::new(alloc, self.key)?,
+            read_number(self.flags, FLAGS),
+        ) {
+            (Some(storage), Some(key), Some(flags)) => Ok(Asked::Stored(Header {
+                length,
+                storage,
+                key,
+                flags: flags as u32,
+                quiet: noreply,
+            })),
+            _ => unreachable!(),
+        }
+    }
+}
+
+/// What a line of `set`, `add`, `replace`, `append` or `prepend` asks for, by the words behind its name.
+pub fn ask_storage(alloc: Global, verb: Verb, arguments: &[&[u8]]) -> Result<Asked, Fault>
+    ensures asked { IfOk result (λ asked. asked ≡ asked_of_storage verb (map (λ word. word.now) arguments.now)) }
+    ensures lawful { IfOk result HasLawfulBlock }
+    ensures memory { IsOkUnless result Fault.Memory }
+{
+    let (key, flags, exptime, size, last) = match arguments {
+        [key, flags, exptime, size] => (*key, *flags, *exptime, *size, None),
+        [key, flags, exptime, size, last] => (*key, *flags, *exptime, *size, Some(*last)),
+        _ => return Ok(no_command()),
+    };
+    let line = StorageLine {
+        storage: Some(Storage::Plain(verb)),
+        key,
+        flags,
+        exptime,
+        size,
+        last,
+    };
+    line.ask(alloc)
+}
+
+/// What a line of `cas` asks for, by the words behind its name.
+pub fn ask_cas(alloc: Global, arguments: &[&[u8]]) -> Result<Asked, Fault>
+    ensures asked { IfOk result (λ asked. asked ≡ asked_of_cas (map (λ word. word.now) arguments.now)) }
+    ensures lawful { IfOk result HasLawfulBlock }
+    ensures memory { IsOkUnless result Fault.Memory }
+{
+    let (key, flags, exptime, size, unique, last) = match arguments {
+        [key, flags, exptime, size, unique] => (*key, *flags, *exptime, *size, *unique, None),
+        [key, flags, exptime, size, unique, last] => {
+            (*key, *flags, *exptime, *size, *unique, Some(*last))
+        }
+        _ => return Ok(no_command()),
+    };
+    let line = StorageLine {
+        storage: read_number(unique, UNIQUE).map(Storage::CheckAndSet),
+        key,
+        flags,
+        exptime,
+        size,
+        last,
+    };
+    line.ask(alloc)
+}

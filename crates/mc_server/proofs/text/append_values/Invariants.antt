@@ -1,7 +1,0 @@
-use Rattle.std.proofs.Common.{◌≡◌, ◌++◌, take}
-use Rattle.std.specs.Prelude.{flat_map}
-use Rattle.mc_server.specs.Text.{value_text}
-use Rattle.mc_server.proofs.text.append_values.Given as goal
-
-abbrev pub invariant-loop-value : goal.invariant-loop-value
-invariant-loop-value l = l.out.items ≡ l.initial.out.items ++ flat_map value_text (take l.value-index l.values)
