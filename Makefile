@@ -1,9 +1,10 @@
 # `make run` and `make test` do all set-up on a machine that has the kit (`rt` on the PATH).
-.PHONY: help run test bench kit
+.PHONY: help run test memory bench kit
 
 help:
 	@echo 'make run    proves, builds and runs mc_stdin on its first run, and prints what it prints'
 	@echo 'make test   the gate: every proof from nothing, the edits that must be refused, the tests, the programs'
+	@echo 'make memory runs mc_stdin with less and less memory, and looks at what it answers then'
 	@echo 'make bench  measures the built programs; the figures of docs/BENCHMARKS.md come from it'
 
 run: kit
@@ -14,6 +15,9 @@ run: kit
 
 test: kit
 	@rt ci
+
+memory: kit
+	@tests/memory.sh
 
 bench: kit
 	@bench/stdin.sh

@@ -1,5 +1,5 @@
 -- What is owed for requests, one part after another.
-use Rattle.std.proofs.Common.{◌≡◌, List, [], ◌∷◌, ◌++◌, refl, sym, ◌∙◌, ap, append_assoc}
+use Rattle.std.proofs.Common.{◌≡◌, ℕ, List, [], ◌∷◌, ◌++◌, refl, sym, ◌∙◌, ap, append_assoc}
 use Rattle.mc_model.specs.declared.command.Command.{Command}
 use Rattle.mc_model.specs.declared.request.Request.{Request}
 use Rattle.mc_model.specs.declared.request.Request.TheVariants.{Local, Logged, Quit, TooLong}
@@ -8,22 +8,22 @@ use Rattle.mc_model.specs.declared.reply.WireNo.TheVariants.{E5}
 use Rattle.mc_server.specs.Owed.{answered, applied_by, applied_with, logged_reply, owed}
 use Rattle.mc_write.specs.Text.{text}
 
-pub owed-append : (applied : List Command) (first second : List Request) → owed applied (first ++ second) ≡ owed applied first ++ owed (applied_by applied first) second
-owed-append applied [] second = refl
-owed-append applied (Logged command quiet ∷ first) second =
-    ap (λ rest. answered quiet (logged_reply applied command) ++ rest) (owed-append (applied_with applied command) first second)
-    ∙ sym (append_assoc (answered quiet (logged_reply applied command)) (owed (applied_with applied command) first) (owed (applied_by (applied_with applied command) first) second))
-owed-append applied (Local reply quiet ∷ first) second =
-    ap (λ rest. answered quiet reply ++ rest) (owed-append applied first second)
-    ∙ sym (append_assoc (answered quiet reply) (owed applied first) (owed (applied_by applied first) second))
-owed-append applied (Quit ∷ first) second = owed-append applied first second
-owed-append applied (TooLong ∷ first) second =
-    ap (λ rest. text (Refused E5) ++ rest) (owed-append applied first second)
-    ∙ sym (append_assoc (text (Refused E5)) (owed applied first) (owed (applied_by applied first) second))
+pub owed-append : (places : ℕ) (applied : List Command) (first second : List Request) → owed places applied (first ++ second) ≡ owed places applied first ++ owed places (applied_by places applied first) second
+owed-append places applied [] second = refl
+owed-append places applied (Logged command quiet ∷ first) second =
+    ap (λ rest. answered quiet (logged_reply places applied command) ++ rest) (owed-append places (applied_with places applied command) first second)
+    ∙ sym (append_assoc (answered quiet (logged_reply places applied command)) (owed places (applied_with places applied command) first) (owed places (applied_by places (applied_with places applied command) first) second))
+owed-append places applied (Local reply quiet ∷ first) second =
+    ap (λ rest. answered quiet reply ++ rest) (owed-append places applied first second)
+    ∙ sym (append_assoc (answered quiet reply) (owed places applied first) (owed places (applied_by places applied first) second))
+owed-append places applied (Quit ∷ first) second = owed-append places applied first second
+owed-append places applied (TooLong ∷ first) second =
+    ap (λ rest. text (Refused E5) ++ rest) (owed-append places applied first second)
+    ∙ sym (append_assoc (text (Refused E5)) (owed places applied first) (owed places (applied_by places applied first) second))
 
-pub applied_by-append : (applied : List Command) (first second : List Request) → applied_by applied (first ++ second) ≡ applied_by (applied_by applied first) second
-applied_by-append applied [] second = refl
-applied_by-append applied (Logged command quiet ∷ first) second = applied_by-append (applied_with applied command) first second
-applied_by-append applied (Local reply quiet ∷ first) second = applied_by-append applied first second
-applied_by-append applied (Quit ∷ first) second = applied_by-append applied first second
-applied_by-append applied (TooLong ∷ first) second = applied_by-append applied first second
+pub applied_by-append : (places : ℕ) (applied : List Command) (first second : List Request) → applied_by places applied (first ++ second) ≡ applied_by places (applied_by places applied first) second
+applied_by-append places applied [] second = refl
+applied_by-append places applied (Logged command quiet ∷ first) second = applied_by-append places (applied_with places applied command) first second
+applied_by-append places applied (Local reply quiet ∷ first) second = applied_by-append places applied first second
+applied_by-append places applied (Quit ∷ first) second = applied_by-append places applied first second
+applied_by-append places applied (TooLong ∷ first) second = applied_by-append places applied first second

@@ -1,13 +1,15 @@
 -- Worked rows, tried on the definitions: reply text, and what is owed where no table is asked.
 use Rattle.std.specs.Prelude.{codes}
 use Rattle.std.proofs.Common.{◌≡◌, true, false, [], ◌∷◌, refl}
-use Rattle.mc_model.specs.declared.command.Command.TheVariants.{Store}
+use Rattle.mc_model.specs.declared.command.Command.TheVariants.{Get, Store}
 use Rattle.mc_model.specs.declared.command.Verb.TheVariants.{Set}
 use Rattle.mc_model.specs.declared.reply.Reply.TheVariants.{Values}
 use Rattle.mc_model.specs.declared.reply.WireNo.TheVariants.{E1, E4}
 use Rattle.mc_model.specs.declared.request.Request.TheVariants.{Logged, TooLong}
 use Rattle.mc_read.specs.Line.{refused}
-use Rattle.mc_server.specs.declared.session.TheConstants.{PLACES}
+use Rattle.mc_server.specs.declared.serving.TheConstants.{PULL_BYTES}
+use Rattle.mc_server.specs.declared.session.TheConstants.{QUEUE_BYTES}
+use Rattle.mc_server.specs.declared.stdin.TheConstants.{PLACES}
 use Rattle.mc_server.specs.Owed.{owed}
 use Rattle.mc_write.specs.Text.{text}
 
@@ -16,14 +18,25 @@ no_item : text (Values []) ≡ codes "END\r\n"
 no_item = refl
 
 -- quiet requests aren't answered, others are, and so is a line that is too long
-refusals : owed [] (refused E4 true ∷ Logged (Store Set (codes "a") 0 []) true ∷ refused E1 false ∷ TooLong ∷ [])
+refusals : owed 65536 [] (refused E4 true ∷ Logged (Store Set (codes "a") 0 []) true ∷ refused E1 false ∷ TooLong ∷ [])
     ≡ codes "ERROR\r\nCLIENT_ERROR line too long\r\n"
 refusals = refl
 
 -- a set is answered
-a_set : owed [] (Logged (Store Set (codes "a") 5 (codes "abc")) false ∷ []) ≡ codes "STORED\r\n"
+a_set : owed 65536 [] (Logged (Store Set (codes "a") 5 (codes "abc")) false ∷ []) ≡ codes "STORED\r\n"
 a_set = refl
 
--- how many commands find a place
+-- behind the last place nothing is done, and a quiet command is not answered
+full_log : owed 1 [] (Logged (Store Set (codes "a") 0 []) true ∷ Logged (Get (codes "a" ∷ []) false) false ∷ Logged (Store Set (codes "a") 0 []) true ∷ refused E1 false ∷ [])
+    ≡ codes "SERVER_ERROR log full\r\nERROR\r\n"
+full_log = refl
+
+-- how many commands find a place, how much may be queued when a request is taken, and how much is pulled at once
 places : PLACES ≡ 65536
 places = refl
+
+queue_bytes : QUEUE_BYTES ≡ 1048576
+queue_bytes = refl
+
+pull_bytes : PULL_BYTES ≡ 16384
+pull_bytes = refl

@@ -22,9 +22,9 @@ fault_line program fault = program ++ codes ": " ++ fault_text fault ++ codes "\
 
 -- A run that failed met one fault, which the failures of the input and the output bear out, gave the client what it gives at
 -- that fault, and said so, unless standard error failed.
-pub record Fails (program : List ℕ) (before after : Streams) (is_full : Type 0) (errors_before errors : ℕ) (said_before said : Option (List ℕ)) : Type 0 where
+pub record Fails (program : List ℕ) (places : ℕ) (before after : Streams) (is_full : Type 0) (errors_before errors : ℕ) (said_before said : Option (List ℕ)) : Type 0 where
   pub fault : Fault
   pub counts : CountsFailures (Err fault) before after
-  pub stops : StopsAt fault before after (ServesUntilStarved before after is_full)
+  pub stops : StopsAt places fault before after (ServesUntilStarved places before after is_full)
   pub told : errors ≡ errors_before → said ≡ append_known said_before (fault_line program fault)
   pub once : errors ≤ errors_before + 1

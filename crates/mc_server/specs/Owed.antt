@@ -9,34 +9,33 @@ use Rattle.mc_model.specs.declared.reply.WireNo.TheVariants.{E5, E10}
 use Rattle.mc_model.specs.declared.request.Request.{Request}
 use Rattle.mc_model.specs.declared.request.Request.TheVariants.{Local, Logged, Quit, TooLong}
 use Rattle.mc_model.specs.History.{answer}
-use Rattle.mc_server.specs.declared.session.TheConstants.{PLACES}
 use Rattle.mc_write.specs.Text.{text}
 
 -- the text of a reply, or nothing where the request is quiet
 abbrev pub answered : Bool → Reply → List ℕ
 answered quiet reply = if quiet then [] else text reply
 
--- the reply to a command after those that were applied
-abbrev pub logged_reply : List Command → Command → Reply
-logged_reply applied command = if nat_lt (length applied) PLACES then answer applied command else Refused E10
+-- the reply to a command after those that were applied, in a log with so many places
+abbrev pub logged_reply : ℕ → List Command → Command → Reply
+logged_reply places applied command = if nat_lt (length applied) places then answer applied command else Refused E10
 
 -- the commands that were applied with this one
-abbrev pub applied_with : List Command → Command → List Command
-applied_with applied command = if nat_lt (length applied) PLACES then applied ++ command ∷ [] else applied
+abbrev pub applied_with : ℕ → List Command → Command → List Command
+applied_with places applied command = if nat_lt (length applied) places then applied ++ command ∷ [] else applied
 
 -- what is owed for requests after the commands that were applied
-abbrev pub owed : List Command → List Request → List ℕ
-owed applied [] = []
-owed applied (Logged command quiet ∷ requests) =
-    answered quiet (logged_reply applied command) ++ owed (applied_with applied command) requests
-owed applied (Local reply quiet ∷ requests) = answered quiet reply ++ owed applied requests
-owed applied (Quit ∷ requests) = owed applied requests
-owed applied (TooLong ∷ requests) = text (Refused E5) ++ owed applied requests
+abbrev pub owed : ℕ → List Command → List Request → List ℕ
+owed places applied [] = []
+owed places applied (Logged command quiet ∷ requests) =
+    answered quiet (logged_reply places applied command) ++ owed places (applied_with places applied command) requests
+owed places applied (Local reply quiet ∷ requests) = answered quiet reply ++ owed places applied requests
+owed places applied (Quit ∷ requests) = owed places applied requests
+owed places applied (TooLong ∷ requests) = text (Refused E5) ++ owed places applied requests
 
 -- the commands that were applied with those requests
-abbrev pub applied_by : List Command → List Request → List Command
-applied_by applied [] = applied
-applied_by applied (Logged command quiet ∷ requests) = applied_by (applied_with applied command) requests
-applied_by applied (Local reply quiet ∷ requests) = applied_by applied requests
-applied_by applied (Quit ∷ requests) = applied_by applied requests
-applied_by applied (TooLong ∷ requests) = applied_by applied requests
+abbrev pub applied_by : ℕ → List Command → List Request → List Command
+applied_by places applied [] = applied
+applied_by places applied (Logged command quiet ∷ requests) = applied_by places (applied_with places applied command) requests
+applied_by places applied (Local reply quiet ∷ requests) = applied_by places applied requests
+applied_by places applied (Quit ∷ requests) = applied_by places applied requests
+applied_by places applied (TooLong ∷ requests) = applied_by places applied requests

@@ -4,6 +4,8 @@ ghost use Rattle.std.specs.Io.KnownBytes.{append_known};
 ghost use Rattle.std.specs.Prelude.{◌≡◌, ◌+◌, ◌≤◌, ◌++◌, [], length, OnErr, OnOk, IfErr, IsOkUnless, MatchResult};
 ghost use Rattle.mc_model.specs.declared.reply.Reply.TheVariants.{Refused};
 ghost use Rattle.mc_model.specs.declared.reply.WireNo.TheVariants.{E11};
+ghost use Rattle.mc_model.specs.Settings.{IsBetween};
+ghost use Rattle.mc_model.specs.declared.settings.TheConstants.{MAX_PLACES};
 ghost use Rattle.mc_read.specs.Reading.{Kept};
 ghost use Rattle.mc_server.specs.declared.session.TheConstants.{QUEUE_BYTES};
 ghost use Rattle.mc_server.specs.Serving.{CountsFailures, IsStopped, Moves, PushesAtOnce, PushesFront, Serves, ServesUntilStarved, StopsAt};
@@ -84,10 +86,10 @@ fn exchange<R: Wait, I: Input, O: Output>(
     output: &mut O,
 ) -> Result<(), Fault>
     requires begins { reader.old ≡ Kept [] }
-    requires stands { Stands [] session.old }
+    requires stands { Stands session.old.places [] session.old }
     requires nothing_queued { session.old.queue.items ≡ [] }
-    ensures serves { OnOk result (Serves (streams_of I.pulled I.left I.failures O.pushed O.failures input.old output.old) (streams_of I.pulled I.left I.failures O.pushed O.failures input.new output.new) (I.has_ended input.new)) }
-    ensures stops { IfErr result (λ fault. StopsAt fault (streams_of I.pulled I.left I.failures O.pushed O.failures input.old output.old) (streams_of I.pulled I.left I.failures O.pushed O.failures input.new output.new) (IsStarved (streams_of I.pulled I.left I.failures O.pushed O.failures input.old output.old) (streams_of I.pulled I.left I.failures O.pushed O.failures input.new output.new) session.new × (O.failures output.new ≡ O.failures output.old))) }
+    ensures serves { OnOk result (Serves session.old.places (streams_of I.pulled I.left I.failures O.pushed O.failures input.old output.old) (streams_of I.pulled I.left I.failures O.pushed O.failures input.new output.new) (I.has_ended input.new)) }
+    ensures stops { IfErr result (λ fault. StopsAt session.old.places fault (streams_of I.pulled I.left I.failures O.pushed O.failures input.old output.old) (streams_of I.pulled I.left I.failures O.pushed O.failures input.new output.new) (IsStarved session.old.places (streams_of I.pulled I.left I.failures O.pushed O.failures input.old output.old) (streams_of I.pulled I.left I.failures O.pushed O.failures input.new output.new) session.new × (O.failures output.new ≡ O.failures output.old))) }
     ensures failures { CountsFailures result (streams_of I.pulled I.left I.failures O.pushed O.failures input.old output.old) (streams_of I.pulled I.left I.failures O.pushed O.failures input.new output.new) }
 {
     let mut buffer = [0u8; PULL_BYTES];
@@ -149,10 +151,10 @@ fn serve<R: Wait, I: Input, O: Output>(
     output: &mut O,
 ) -> Result<(), Fault>
     requires begins { reader.old ≡ Kept [] }
-    requires stands { Stands [] session.old }
+    requires stands { Stands session.old.places [] session.old }
     requires nothing_queued { session.old.queue.items ≡ [] }
-    ensures serves { OnOk result (Serves (streams_of I.pulled I.left I.failures O.pushed O.failures input.old output.old) (streams_of I.pulled I.left I.failures O.pushed O.failures input.new output.new) (I.has_ended input.new)) }
-    ensures stops { IfErr result (λ fault. StopsAt fault (streams_of I.pulled I.left I.failures O.pushed O.failures input.old output.old) (streams_of I.pulled I.left I.failures O.pushed O.failures input.new output.new) (TellsStarved (streams_of I.pulled I.left I.failures O.pushed O.failures input.old output.old) (streams_of I.pulled I.left I.failures O.pushed O.failures input.new output.new) (O.is_full output.new) session.new)) }
+    ensures serves { OnOk result (Serves session.old.places (streams_of I.pulled I.left I.failures O.pushed O.failures input.old output.old) (streams_of I.pulled I.left I.failures O.pushed O.failures input.new output.new) (I.has_ended input.new)) }
+    ensures stops { IfErr result (λ fault. StopsAt session.old.places fault (streams_of I.pulled I.left I.failures O.pushed O.failures input.old output.old) (streams_of I.pulled I.left I.failures O.pushed O.failures input.new output.new) (TellsStarved session.old.places (streams_of I.pulled I.left I.failures O.pushed O.failures input.old output.old) (streams_of I.pulled I.left I.failures O.pushed O.failures input.new output.new) (O.is_full output.new) session.new)) }
     ensures failures { CountsFailures result (streams_of I.pulled I.left I.failures O.pushed O.failures input.old output.old) (streams_of I.pulled I.left I.failures O.pushed O.failures input.new output.new) }
 {
     let served = exchange(rt, reader, session, input, output);
@@ -162,7 +164,7 @@ fn serve<R: Wait, I: Input, O: Output>(
     served
 }
 
-/// Serves one client: reads requests from the input, applies the first `PLACES` commands to one table, answers every later
+/// Serves one client: reads requests from the input, applies the first `places` commands to one table, answers every later
 /// one `SERVER_ERROR log full`, and pushes the replies, until the input ends or a request ends the stream.
 ///
 /// Where memory is wanting, the replies that are queued and then `SERVER_ERROR out of memory` are pushed, as far as the
@@ -170,18 +172,21 @@ fn serve<R: Wait, I: Input, O: Output>(
 pub fn pump<R: Wait, I: Input, O: Output>(
     rt: &R,
     alloc: Global,
+    places: u64,
     input: &mut I,
     output: &mut O,
 ) -> Result<(), Fault>
+    requires { IsBetween 1 MAX_PLACES places }
+
     // From the bytes that came in to the bytes that went out.
-    ensures serves { OnOk result (Serves (streams_of I.pulled I.left I.failures O.pushed O.failures input.old output.old) (streams_of I.pulled I.left I.failures O.pushed O.failures input.new output.new) (I.has_ended input.new)) }
-    ensures stops { IfErr result (λ fault. StopsAt fault (streams_of I.pulled I.left I.failures O.pushed O.failures input.old output.old) (streams_of I.pulled I.left I.failures O.pushed O.failures input.new output.new) (ServesUntilStarved (streams_of I.pulled I.left I.failures O.pushed O.failures input.old output.old) (streams_of I.pulled I.left I.failures O.pushed O.failures input.new output.new) (O.is_full output.new))) }
+    ensures serves { OnOk result (Serves places (streams_of I.pulled I.left I.failures O.pushed O.failures input.old output.old) (streams_of I.pulled I.left I.failures O.pushed O.failures input.new output.new) (I.has_ended input.new)) }
+    ensures stops { IfErr result (λ fault. StopsAt places fault (streams_of I.pulled I.left I.failures O.pushed O.failures input.old output.old) (streams_of I.pulled I.left I.failures O.pushed O.failures input.new output.new) (ServesUntilStarved places (streams_of I.pulled I.left I.failures O.pushed O.failures input.old output.old) (streams_of I.pulled I.left I.failures O.pushed O.failures input.new output.new) (O.is_full output.new))) }
 
     // Which fault comes when.
     ensures failures { CountsFailures result (streams_of I.pulled I.left I.failures O.pushed O.failures input.old output.old) (streams_of I.pulled I.left I.failures O.pushed O.failures input.new output.new) }
 {
     let mut reader = Reader::new(alloc);
-    let mut session = Session::new(alloc);
+    let mut session = Session::new(alloc, places);
     serve(rt, &mut reader, &mut session, input, output)
 }
 

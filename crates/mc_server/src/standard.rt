@@ -24,6 +24,7 @@ impl<R> ReadInput<R> {
         ensures reader { reader_of result ≡ reader }
         ensures failures { failures_of_input result ≡ 0 }
         ensures waits { waits_of_input result ≡ 0 }
+        ensures open { has_input_ended result → ⊥ }
     {
         ReadInput {
             reader,

@@ -2,6 +2,7 @@
 ghost use Rattle.std.specs.Io.KnownBytes.{append_known};
 ghost use Rattle.std.specs.Prelude.{◌≡◌, ◌+◌, ◌⊎◌, OnOk, MatchResult, codes};
 ghost use Rattle.mc_model.specs.declared.fault.Fault.{Fault};
+ghost use Rattle.mc_server.specs.declared.stdin.TheConstants.{PLACES};
 ghost use Rattle.mc_server.specs.Faults.{Fails, fault_line, fault_text};
 ghost use Rattle.mc_server.specs.Serving.{Serves};
 ghost use Rattle.mc_server.specs.Stream.{streams_of};
@@ -11,6 +12,9 @@ use crate::stream::{Input, Output};
 use mc_model::Fault;
 use std::alloc::Global;
 use std::sync::Wait;
+
+/// How many commands are applied. Every later one finds the log full.
+const PLACES: u64 = 65_536;
 
 fn fault_text(fault: Fault) -> &'static [u8]
     ensures { result.now ≡ fault_text fault }
@@ -55,12 +59,12 @@ pub fn run_stdin<R: Wait, I: Input, O: Output, E: Output>(
 ) -> u8
     ensures status { (result ≡ 0) ⊎ (result ≡ 1) }
     // From the bytes that came in to the bytes that went out.
-    ensures serves { result ≡ 0 → Serves (streams_of I.pulled I.left I.failures O.pushed O.failures input.old output.old) (streams_of I.pulled I.left I.failures O.pushed O.failures input.new output.new) (I.has_ended input.new) }
+    ensures serves { result ≡ 0 → Serves PLACES (streams_of I.pulled I.left I.failures O.pushed O.failures input.old output.old) (streams_of I.pulled I.left I.failures O.pushed O.failures input.new output.new) (I.has_ended input.new) }
     ensures no_failure { result ≡ 0 → (I.failures input.new ≡ I.failures input.old) × (O.failures output.new ≡ O.failures output.old) }
     ensures silent { result ≡ 0 → (E.pushed errors.new ≡ E.pushed errors.old) × (E.failures errors.new ≡ E.failures errors.old) }
-    ensures fails { result ≡ 1 → Fails (codes "mc_stdin") (streams_of I.pulled I.left I.failures O.pushed O.failures input.old output.old) (streams_of I.pulled I.left I.failures O.pushed O.failures input.new output.new) (O.is_full output.new) (E.failures errors.old) (E.failures errors.new) (E.pushed errors.old) (E.pushed errors.new) }
+    ensures fails { result ≡ 1 → Fails (codes "mc_stdin") PLACES (streams_of I.pulled I.left I.failures O.pushed O.failures input.old output.old) (streams_of I.pulled I.left I.failures O.pushed O.failures input.new output.new) (O.is_full output.new) (E.failures errors.old) (E.failures errors.new) (E.pushed errors.old) (E.pushed errors.new) }
 {
-    match pump(rt, alloc, input, output) {
+    match pump(rt, alloc, PLACES, input, output) {
         Ok(()) => 0,
         Err(fault) => {
             let _ = tell(rt, b"mc_stdin", fault, errors);
