@@ -7,9 +7,12 @@ use Rattle.mc_model.specs.declared.reply.Reply.TheVariants.{Values}
 use Rattle.mc_model.specs.declared.reply.WireNo.TheVariants.{E1, E4}
 use Rattle.mc_model.specs.declared.request.Request.TheVariants.{Logged, TooLong}
 use Rattle.mc_read.specs.Line.{refused}
+use Rattle.clap.specs.Faults.{fault_of}
+use Rattle.clap.specs.declared.error.kind.ErrorKind.TheVariants as kind
+use Rattle.clap.proofs.OnLiterals.{clap_on_literals}
 use Rattle.mc_server.specs.declared.serving.TheConstants.{PULL_BYTES}
 use Rattle.mc_server.specs.declared.session.TheConstants.{QUEUE_BYTES}
-use Rattle.mc_server.specs.declared.stdin.TheConstants.{PLACES}
+use Rattle.mc_server.specs.Options.{places_asked, stdin_app}
 use Rattle.mc_server.specs.Owed.{owed}
 use Rattle.mc_write.specs.Text.{text}
 
@@ -31,12 +34,42 @@ full_log : owed 1 [] (Logged (Store Set (codes "a") 0 []) true ∷ Logged (Get (
     ≡ codes "SERVER_ERROR log full\r\nERROR\r\n"
 full_log = refl
 
--- how many commands find a place, how much may be queued when a request is taken, and how much is pulled at once
-places : PLACES ≡ 65536
-places = refl
-
+-- how much may be queued when a request is taken, and how much is pulled at once
 queue_bytes : QUEUE_BYTES ≡ 1048576
 queue_bytes = refl
 
 pull_bytes : PULL_BYTES ≡ 16384
 pull_bytes = refl
+
+-- what words ask for
+no_words : places_asked [] ≡ 65536
+unfolding clap_on_literals
+no_words = refl
+
+two_places : places_asked (codes "--places" ∷ codes "2" ∷ []) ≡ 2
+unfolding clap_on_literals
+two_places = refl
+
+three_places : places_asked (codes "--places=3" ∷ []) ≡ 3
+unfolding clap_on_literals
+three_places = refl
+
+taken : fault_of stdin_app (codes "--places" ∷ codes "0" ∷ []) ≡ []
+unfolding clap_on_literals
+taken = refl
+
+no_number : fault_of stdin_app (codes "--places" ∷ codes "x" ∷ []) ≡ kind.ValueValidation ∷ []
+unfolding clap_on_literals
+no_number = refl
+
+unknown : fault_of stdin_app (codes "--bogus" ∷ []) ≡ kind.UnknownArgument ∷ []
+unfolding clap_on_literals
+unknown = refl
+
+help : fault_of stdin_app (codes "--help" ∷ []) ≡ kind.DisplayHelp ∷ []
+unfolding clap_on_literals
+help = refl
+
+version : fault_of stdin_app (codes "-V" ∷ []) ≡ kind.DisplayVersion ∷ []
+unfolding clap_on_literals
+version = refl

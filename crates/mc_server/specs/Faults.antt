@@ -20,11 +20,15 @@ fault_text BadSettings = codes "bad settings"
 abbrev pub fault_line : List ℕ → Fault → List ℕ
 fault_line program fault = program ++ codes ": " ++ fault_text fault ++ codes "\n"
 
+-- These bytes were written to standard error, unless it failed.
+pub record Tells (bytes : List ℕ) (errors_before errors : ℕ) (said_before said : Option (List ℕ)) : Type 0 where
+  pub told : errors ≡ errors_before → said ≡ append_known said_before bytes
+  pub once : errors ≤ errors_before + 1
+
 -- A run that failed met one fault, which the failures of the input and the output bear out, gave the client what it gives at
--- that fault, and said so, unless standard error failed.
+-- that fault, and said so.
 pub record Fails (program : List ℕ) (places : ℕ) (before after : Streams) (is_full : Type 0) (errors_before errors : ℕ) (said_before said : Option (List ℕ)) : Type 0 where
   pub fault : Fault
   pub counts : CountsFailures (Err fault) before after
   pub stops : StopsAt places fault before after (ServesUntilStarved places before after is_full)
-  pub told : errors ≡ errors_before → said ≡ append_known said_before (fault_line program fault)
-  pub once : errors ≤ errors_before + 1
+  pub tells : Tells (fault_line program fault) errors_before errors said_before said

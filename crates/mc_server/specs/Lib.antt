@@ -1,5 +1,6 @@
 pub mod Faults
 pub mod Memory
+pub mod Options
 pub mod Owed
 pub mod Serving
 pub mod Session

@@ -8,6 +8,7 @@ pub use stdin::run_stdin;
 pub use stream::{Input, Output, Pull, Push};
 
 pub mod memory;
+mod options;
 mod serving;
 mod session;
 pub mod standard;

@@ -15,9 +15,9 @@ ghost use Rattle.mc_write.specs.Text.{text};
 
 use crate::session::{QUEUE_BYTES, Session};
 use crate::stream::{Input, Output, Pull, Push};
-use mc_write::refusal_text;
 use mc_model::{Fault, WireNo};
 use mc_read::{Reader, ends_stream};
+use mc_write::refusal_text;
 use std::alloc::Global;
 use std::sync::Wait;
 

@@ -5,10 +5,10 @@ ghost use Rattle.mc_server.specs.declared.session.TheConstants.{QUEUE_BYTES};
 ghost use Rattle.mc_model.specs.declared.request.Request.{Request};
 ghost use Rattle.mc_server.specs.Owed.{answered, applied_by, applied_with, logged_reply, owed};
 
-use mc_write::write_reply;
 use mc_items::Items;
 use mc_model::settings::{MAX_BYTES, MAX_ITEMS};
 use mc_model::{Command, Fault, Limits, Reply, Request, WireNo};
+use mc_write::write_reply;
 use std::alloc::Global;
 
 /// How many bytes may be queued when a request is taken.

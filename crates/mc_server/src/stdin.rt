@@ -1,20 +1,22 @@
 //! What the program over standard input does.
 ghost use Rattle.std.specs.Io.KnownBytes.{append_known};
-ghost use Rattle.std.specs.Prelude.{◌≡◌, ◌+◌, ◌⊎◌, OnOk, MatchResult, codes};
+ghost use Rattle.clap.specs.Words.{kind_of};
+ghost use Rattle.std.specs.Prelude.{◌≡◌, ◌≢◌, ◌+◌, ◌⊎◌, ℕ, List, OnOk, MatchResult, codes, map, string_bytes};
 ghost use Rattle.mc_model.specs.declared.fault.Fault.{Fault};
-ghost use Rattle.mc_server.specs.declared.stdin.TheConstants.{PLACES};
-ghost use Rattle.mc_server.specs.Faults.{Fails, fault_line, fault_text};
+ghost use Rattle.mc_server.specs.Faults.{Fails, Tells, fault_line, fault_text};
+ghost use Rattle.mc_server.specs.Options.{AsksInRange, AsksOutOfRange, FailsToAnswer, FailsToShow, IsShown, Shows, TellsMistake, places_asked};
 ghost use Rattle.mc_server.specs.Serving.{Serves};
 ghost use Rattle.mc_server.specs.Stream.{streams_of};
 
+use crate::options::asked_places;
 use crate::serving::{pump, push_all};
 use crate::stream::{Input, Output};
+use clap::Error;
+use clap::error::ErrorKind;
 use mc_model::Fault;
+use mc_model::settings::MAX_PLACES;
 use std::alloc::Global;
 use std::sync::Wait;
-
-/// How many commands are applied. Every later one finds the log full.
-const PLACES: u64 = 65_536;
 
 fn fault_text(fault: Fault) -> &'static [u8]
     ensures { result.now ≡ fault_text fault }
@@ -46,30 +48,92 @@ fn tell<R: Wait, E: Output>(
     push_all(rt, b"\n", errors)
 }
 
-/// Serves one client from the input to the output, and answers the status that the program ends with: 0 where the input
-/// ended or a request ended the stream, and 1 where a fault ended it, which is told on `errors` by `mc_stdin: TEXT` and a line
-/// feed. A failure of `errors` is passed over. The words of the command line aren't looked at.
+/// As `tell`, of mc_stdin, and the status that it ends with then. A failure of `errors` is passed over.
+fn fail<R: Wait, E: Output>(rt: &R, fault: Fault, errors: &mut E) -> u8
+    ensures status { result ≡ 1 }
+    ensures tells { Tells (fault_line (codes "mc_stdin") fault) (E.failures errors.old) (E.failures errors.new) (E.pushed errors.old) (E.pushed errors.new) }
+{
+    let _ = tell(rt, b"mc_stdin", fault, errors);
+    1
+}
+
+/// Answers words that ask for no service, by clap's text: help and the version on `output` and with status 0, a mistake on
+/// `errors` and with status 2. A failure of `errors` is passed over.
+fn answer_words<R: Wait, O: Output, E: Output>(
+    rt: &R,
+    alloc: Global,
+    error: &Error,
+    output: &mut O,
+    errors: &mut E,
+) -> u8
+    ensures status { (result ≡ 0) ⊎ (result ≡ 1) ⊎ (result ≡ 2) }
+    ensures shown { result ≡ 0 → (text : List ℕ) × (O.pushed output.new ≡ append_known (O.pushed output.old) text) }
+    ensures shown_kind { result ≡ 0 → (kind_of error.now ≢ ErrorKind.OutOfMemory) × IsShown (kind_of error.now) }
+    ensures shown_whole { result ≡ 0 → O.failures output.new ≡ O.failures output.old }
+    ensures silent { result ≡ 0 → (E.pushed errors.new ≡ E.pushed errors.old) × (E.failures errors.new ≡ E.failures errors.old) }
+    ensures fails { result ≡ 1 → FailsToAnswer (kind_of error.now) (O.pushed output.old) (O.pushed output.new) (O.failures output.old) (O.failures output.new) (E.failures errors.old) (E.failures errors.new) (E.pushed errors.old) (E.pushed errors.new) }
+    ensures told { result ≡ 2 → (text : List ℕ) × Tells text (E.failures errors.old) (E.failures errors.new) (E.pushed errors.old) (E.pushed errors.new) }
+    ensures told_kind { result ≡ 2 → (kind_of error.now ≢ ErrorKind.OutOfMemory) × ¬ (IsShown (kind_of error.now)) }
+    ensures untouched { result ≡ 2 → (O.pushed output.new ≡ O.pushed output.old) × (O.failures output.new ≡ O.failures output.old) }
+{
+    if error.kind() == ErrorKind::OutOfMemory {
+        return fail(rt, Fault::Memory, errors);
+    }
+    let Ok(text) = format!(in alloc; "{error}") else {
+        return fail(rt, Fault::Memory, errors);
+    };
+    if error.use_stderr() {
+        let _ = push_all(rt, text.as_bytes(), errors);
+        return 2;
+    }
+    match push_all(rt, text.as_bytes(), output) {
+        Ok(()) => 0,
+        Err(fault) => fail(rt, fault, errors),
+    }
+}
+
+/// Does what the words ask for, which are those behind the program's name, and answers the status that the program ends with.
+///
+/// `--places N` serves one client from the input to the output, in a log of so many places, 65,536 where it isn't given: 0
+/// where the input ended or a request ended the stream, and 1 where a fault ended it, which is told on `errors` by
+/// `mc_stdin: TEXT` and a line feed. A number out of the range of 1 to `MAX_PLACES` is told so too, as `bad settings`, with 2.
+///
+/// Help and the version go to the output, with 0, and a mistake in the words to `errors`, with 2, by clap's text; want of memory
+/// and a failure of the output are faults there too. Nothing is pulled then. A failure of `errors` is passed over.
 pub fn run_stdin<R: Wait, I: Input, O: Output, E: Output>(
     rt: &R,
     alloc: Global,
-    _words: Vec<String>,
+    words: Vec<String>,
     input: &mut I,
     output: &mut O,
     errors: &mut E,
 ) -> u8
-    ensures status { (result ≡ 0) ⊎ (result ≡ 1) }
-    // From the bytes that came in to the bytes that went out.
-    ensures serves { result ≡ 0 → Serves PLACES (streams_of I.pulled I.left I.failures O.pushed O.failures input.old output.old) (streams_of I.pulled I.left I.failures O.pushed O.failures input.new output.new) (I.has_ended input.new) }
+    ensures status { (result ≡ 0) ⊎ (result ≡ 1) ⊎ (result ≡ 2) }
+    // From the bytes that came in to the bytes that went out, for the number of places that the words ask for.
+    ensures serves { result ≡ 0 → AsksInRange (map string_bytes words.items)
+        × Serves (places_asked (map string_bytes words.items)) (streams_of I.pulled I.left I.failures O.pushed O.failures input.old output.old) (streams_of I.pulled I.left I.failures O.pushed O.failures input.new output.new) (I.has_ended input.new)
+        ⊎ Shows (map string_bytes words.items) (streams_of I.pulled I.left I.failures O.pushed O.failures input.old output.old) (streams_of I.pulled I.left I.failures O.pushed O.failures input.new output.new) }
     ensures no_failure { result ≡ 0 → (I.failures input.new ≡ I.failures input.old) × (O.failures output.new ≡ O.failures output.old) }
     ensures silent { result ≡ 0 → (E.pushed errors.new ≡ E.pushed errors.old) × (E.failures errors.new ≡ E.failures errors.old) }
-    ensures fails { result ≡ 1 → Fails (codes "mc_stdin") PLACES (streams_of I.pulled I.left I.failures O.pushed O.failures input.old output.old) (streams_of I.pulled I.left I.failures O.pushed O.failures input.new output.new) (O.is_full output.new) (E.failures errors.old) (E.failures errors.new) (E.pushed errors.old) (E.pushed errors.new) }
+    ensures fails { result ≡ 1 → AsksInRange (map string_bytes words.items)
+        × Fails (codes "mc_stdin") (places_asked (map string_bytes words.items)) (streams_of I.pulled I.left I.failures O.pushed O.failures input.old output.old) (streams_of I.pulled I.left I.failures O.pushed O.failures input.new output.new) (O.is_full output.new) (E.failures errors.old) (E.failures errors.new) (E.pushed errors.old) (E.pushed errors.new)
+        ⊎ FailsToShow (map string_bytes words.items) (streams_of I.pulled I.left I.failures O.pushed O.failures input.old output.old) (streams_of I.pulled I.left I.failures O.pushed O.failures input.new output.new) (E.failures errors.old) (E.failures errors.new) (E.pushed errors.old) (E.pushed errors.new) }
+    ensures refuses { result ≡ 2 → AsksOutOfRange (map string_bytes words.items)
+        × Tells (fault_line (codes "mc_stdin") Fault.BadSettings) (E.failures errors.old) (E.failures errors.new) (E.pushed errors.old) (E.pushed errors.new)
+        ⊎ TellsMistake (map string_bytes words.items) (E.failures errors.old) (E.failures errors.new) (E.pushed errors.old) (E.pushed errors.new) }
+    ensures untouched { result ≡ 2 → streams_of I.pulled I.left I.failures O.pushed O.failures input.new output.new ≡ streams_of I.pulled I.left I.failures O.pushed O.failures input.old output.old }
 {
-    match pump(rt, alloc, PLACES, input, output) {
+    let places = match asked_places(alloc, &words) {
+        Ok(places) => places,
+        Err(error) => return answer_words(rt, alloc, &error, output, errors),
+    };
+    if places < 1 || places > MAX_PLACES {
+        let _ = tell(rt, b"mc_stdin", Fault::BadSettings, errors);
+        return 2;
+    }
+    match pump(rt, alloc, places, input, output) {
         Ok(()) => 0,
-        Err(fault) => {
-            let _ = tell(rt, b"mc_stdin", fault, errors);
-            1
-        }
+        Err(fault) => fail(rt, fault, errors),
     }
 }
 

@@ -32,10 +32,25 @@ fn run_over<R: Wait>(
     takes: Vec<OutputStep>,
     tells: Vec<OutputStep>,
 ) -> Result<Ran, Fail> {
+    run_with(rt, alloc, &[], stream, steps, takes, tells)
+}
+
+fn run_with<R: Wait>(
+    rt: &R,
+    alloc: Global,
+    texts: &[&str],
+    stream: &[u8],
+    steps: Vec<InputStep>,
+    takes: Vec<OutputStep>,
+    tells: Vec<OutputStep>,
+) -> Result<Ran, Fail> {
+    let mut words = Vec::new(alloc);
+    for text in texts {
+        words.push(String::from_str(alloc, text)?)?;
+    }
     let mut input = MemoryInput::new(Vec::from_slice(alloc, stream)?, steps);
     let mut output = MemoryOutput::new(alloc, takes);
     let mut errors = MemoryOutput::new(alloc, tells);
-    let words = Vec::new(alloc);
     let status = run_stdin(rt, alloc, words, &mut input, &mut output, &mut errors);
     Ok(Ran {
         status,
@@ -144,5 +159,109 @@ fn serves_worked_runs_however_they_are_cut(rt: HostRuntime) -> Result<(), Fail> 
             assert_eq!(rt; run.errors.as_bytes(), b"".as_slice());
         }
     }
+    Ok(())
+}
+
+const FOUR_REQUESTS: &[u8] = b"set a 0 0 1\r\nx\r\nset b 0 0 1\r\ny\r\nget a\r\nversion\r\n";
+
+const HELP: &[u8] = b"A memcached server for one client, from standard input to standard output
+
+Usage: mc_stdin [OPTIONS]
+
+Options:
+      --places <N>  How many commands are applied, from 1 to 1048576 [default: 65536]
+  -h, --help        Print help
+  -V, --version     Print version
+";
+
+#[test]
+fn applies_as_many_commands_as_are_asked_for(rt: HostRuntime) -> Result<(), Fail> {
+    let alloc = rt.alloc();
+    for texts in [["--places", "2"].as_slice(), ["--places=2"].as_slice()] {
+        let run = run_with(
+            &rt,
+            alloc,
+            texts,
+            FOUR_REQUESTS,
+            Vec::new(alloc),
+            Vec::new(alloc),
+            Vec::new(alloc),
+        )?;
+        assert_eq!(rt; run.status, 0);
+        assert_eq!(rt;
+            run.output.as_bytes(),
+            b"STORED\r\nSTORED\r\nSERVER_ERROR log full\r\nVERSION 1.0.0\r\n".as_slice()
+        );
+        assert_eq!(rt; run.errors.as_bytes(), b"".as_slice());
+    }
+    Ok(())
+}
+
+#[test]
+fn answers_words_that_ask_for_no_service(rt: HostRuntime) -> Result<(), Fail> {
+    let alloc = rt.alloc();
+    let nothing = b"".as_slice();
+    let bad_settings = b"mc_stdin: bad settings\n".as_slice();
+    let not_a_number = b"error: invalid value 'x' for '--places <N>': invalid digit found in string
+
+For more information, try '--help'.
+"
+        .as_slice();
+    let unknown = b"error: unexpected argument '--bogus' found
+
+Usage: mc_stdin [OPTIONS]
+
+For more information, try '--help'.
+"
+        .as_slice();
+    for (texts, status, output, errors) in [
+        (["--places", "0"].as_slice(), 2, nothing, bad_settings),
+        (["--places", "1048577"].as_slice(), 2, nothing, bad_settings),
+        (["--places", "x"].as_slice(), 2, nothing, not_a_number),
+        (["--bogus"].as_slice(), 2, nothing, unknown),
+        (["--help"].as_slice(), 0, HELP, nothing),
+        (["-h"].as_slice(), 0, HELP, nothing),
+        (
+            ["--version"].as_slice(),
+            0,
+            b"mc_stdin 1.0.0\n".as_slice(),
+            nothing,
+        ),
+    ] {
+        let run = run_with(
+            &rt,
+            alloc,
+            texts,
+            FOUR_REQUESTS,
+            Vec::new(alloc),
+            Vec::new(alloc),
+            Vec::new(alloc),
+        )?;
+        assert_eq!(rt; run.status, status);
+        assert_eq!(rt; run.output.as_bytes(), output);
+        assert_eq!(rt; run.errors.as_bytes(), errors);
+    }
+    Ok(())
+}
+
+#[test]
+fn tells_a_failed_output_at_help(rt: HostRuntime) -> Result<(), Fail> {
+    let alloc = rt.alloc();
+    let takes = vec![in alloc; OutputStep::Take(10), OutputStep::Fail]?;
+    let run = run_with(
+        &rt,
+        alloc,
+        &["--help"],
+        FOUR_REQUESTS,
+        Vec::new(alloc),
+        takes,
+        Vec::new(alloc),
+    )?;
+    assert_eq!(rt; run.status, 1);
+    assert_eq!(rt; run.output.as_bytes(), b"A memcache".as_slice());
+    assert_eq!(rt;
+        run.errors.as_bytes(),
+        b"mc_stdin: output failed\n".as_slice()
+    );
     Ok(())
 }

@@ -1,0 +1,102 @@
+-- What the words of mc_stdin's command line ask for, by clap's own definitions of a command; this project's profile.
+use Rattle.std.specs.Prelude.{◌≡◌, ◌≢◌, ◌⊎◌, ◌+◌, ◌-◌, ◌^◌, ℕ, true, List, [], ◌∷◌, Option, Some, codes, option_and_then, unwrap_or}
+use Rattle.std.specs.Str.Parse.{without_leading_plus}
+use Rattle.clap.specs.Faults.{fault_of}
+use Rattle.clap.specs.Kinds.{IsAmong}
+use Rattle.clap.specs.Simple.{App, matches_of, new_app, new_rule, on_top, with_rule}
+use Rattle.clap.specs.Walk.{Rule, Text, one_of}
+use Rattle.clap.specs.declared.builder.value_parser.ValueParser.TheVariants.{Unsigned}
+use Rattle.clap.specs.declared.error.kind.ErrorKind.{ErrorKind}
+use Rattle.clap.specs.declared.error.kind.ErrorKind.TheVariants.{DisplayHelp, DisplayVersion, OutOfMemory}
+use Rattle.mc_model.specs.Number.{number_up_to}
+use Rattle.mc_model.specs.Settings.{IsBetween}
+use Rattle.mc_model.specs.declared.fault.Fault.{Fault}
+use Rattle.mc_model.specs.declared.fault.Fault.TheVariants.{Memory, Output}
+use Rattle.mc_model.specs.declared.settings.TheConstants.{MAX_PLACES}
+use Rattle.mc_server.specs.Faults.{Tells, fault_line}
+use Rattle.mc_server.specs.Serving.{PushesFront}
+use Rattle.mc_server.specs.Stream.{Pushes, Streams}
+
+-- `--places N`, a number of 64 bits
+abbrev pub places_rule : Rule
+places_rule = record (new_rule (codes "places")) {
+  long = Some (codes "places");
+  value_names = 1;
+  parser = Some (Unsigned 0 (2 ^ 64 - 1));
+}
+
+-- the command: that option, `--help` and `--version`
+abbrev pub stdin_app : App
+stdin_app =
+    with_rule (on_top (λ shape. record shape { no_binary_name = true; has_version = true }) (new_app (codes "mc_stdin"))) places_rule
+
+-- the number of 64 bits that a text spells; a plus may stand first
+abbrev pub u64_of : Text → Option ℕ
+u64_of text = number_up_to (2 ^ 64 - 1) (without_leading_plus text)
+
+-- how many places words ask for that the command takes: the number behind `--places`, and 65,536 where there is none
+abbrev pub places_asked : List Text → ℕ
+places_asked words = unwrap_or (option_and_then u64_of (one_of (codes "places") (matches_of stdin_app words))) 65536
+
+-- the command takes the words, and the number of places is in its range
+abbrev pub AsksInRange : List Text → Type 0
+AsksInRange words = (fault_of stdin_app words ≡ []) × IsBetween 1 MAX_PLACES (places_asked words)
+
+-- the command takes the words, and the number of places is out of its range
+abbrev pub AsksOutOfRange : List Text → Type 0
+AsksOutOfRange words = (fault_of stdin_app words ≡ []) × ¬ (IsBetween 1 MAX_PLACES (places_asked words))
+
+-- clap answers the words by an error of this kind
+abbrev pub IsAnswered : List Text → ErrorKind → Type 0
+IsAnswered words kind = IsAmong kind (fault_of stdin_app words)
+
+-- help or the version, which are no mistakes
+abbrev pub IsShown : ErrorKind → Type 0
+IsShown kind = (kind ≡ DisplayHelp) ⊎ (kind ≡ DisplayVersion)
+
+-- the words ask for help or the version
+abbrev pub AsksToShow : List Text → Type 0
+AsksToShow words = (kind : ErrorKind) × IsAnswered words kind × IsShown kind
+
+-- the words are a mistake
+abbrev pub IsMistaken : List Text → Type 0
+IsMistaken words = (kind : ErrorKind) × IsAnswered words kind × ¬ (IsShown kind)
+
+-- nothing was pulled from the input, and it didn't fail
+pub record IsUnread (before after : Streams) : Type 0 where
+  pub pulled : after.pulled ≡ before.pulled
+  pub left : after.left ≡ before.left
+  pub failures : after.input_failures ≡ before.input_failures
+
+-- The words ask for help or the version. A text was pushed, and nothing was pulled.
+pub record Shows (words : List Text) (before after : Streams) : Type 0 where
+  pub asked : AsksToShow words
+  pub unread : IsUnread before after
+  pub text : List ℕ
+  pub went : Pushes before after text
+
+-- what went to the output before a fault: at want of memory nothing, and at a failure of the output a front of what is shown
+abbrev pub StopsShowing : Fault → Type 0 → Option (List ℕ) → Option (List ℕ) → ℕ → ℕ → Type 0
+StopsShowing Memory is_shown pushed_before pushed failures_before failures = (pushed ≡ pushed_before) × (failures ≡ failures_before)
+StopsShowing Output is_shown pushed_before pushed failures_before failures =
+    is_shown × ((text : List ℕ) × PushesFront text pushed_before pushed) × (failures ≡ failures_before + 1)
+StopsShowing fault is_shown pushed_before pushed failures_before failures = ⊥
+
+-- A fault kept words from being answered, and was told.
+pub record FailsToAnswer (kind : ErrorKind) (pushed_before pushed : Option (List ℕ)) (failures_before failures : ℕ) (errors_before errors : ℕ) (said_before said : Option (List ℕ)) : Type 0 where
+  pub fault : Fault
+  pub stops : StopsShowing fault ((kind ≢ OutOfMemory) × IsShown kind) pushed_before pushed failures_before failures
+  pub tells : Tells (fault_line (codes "mc_stdin") fault) errors_before errors said_before said
+
+-- A fault kept the words from being read or answered, and was told. Nothing was pulled.
+pub record FailsToShow (words : List Text) (before after : Streams) (errors_before errors : ℕ) (said_before said : Option (List ℕ)) : Type 0 where
+  pub fault : Fault
+  pub unread : IsUnread before after
+  pub stops : StopsShowing fault (AsksToShow words) before.pushed after.pushed before.output_failures after.output_failures
+  pub tells : Tells (fault_line (codes "mc_stdin") fault) errors_before errors said_before said
+
+-- the words are a mistake, on which a text was told
+pub record TellsMistake (words : List Text) (errors_before errors : ℕ) (said_before said : Option (List ℕ)) : Type 0 where
+  pub mistaken : IsMistaken words
+  pub text : List ℕ
+  pub tells : Tells text errors_before errors said_before said
