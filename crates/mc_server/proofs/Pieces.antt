@@ -4,7 +4,7 @@ use Rattle.std.specs.Io.KnownBytes.{append_known}
 use Rattle.std.proofs.Math.Seq.{take-add, take-append_seam}
 use Rattle.std.proofs.lemmas.List.{drop-drop, take-append-drop, take-take, take_at}
 use Rattle.std.specs.Io.{StartsWith}
-use Rattle.mc_server.specs.Serving.{IsAllOrStopped, IsStopped, Moves, PushesAtOnce, PushesFront}
+use Rattle.mc_server.specs.Serving.{IsAllOrStopped, IsStopped, PushesAtOnce, PushesFront}
 
 -- what is given joins what was given before
 pub given_more : (bytes buffer piece : List ℕ) (given count : ℕ) → length piece ≡ count → piece ≡ take count (drop given bytes) →

@@ -1,5 +1,5 @@
 -- What is true between the turns of the loop: what came reads on, and what was sent and is queued is what is owed so far.
-use Rattle.std.proofs.Common.{◌≡◌, ℕ, zero, suc, ◌<◌, ◌≤◌, Bool, true, false, ◌||◌, ◌⊎◌, inl, inr, Option, Result, Ok, Err, List, [], ◌∷◌, ◌++◌, length, drop, refl, sym, ◌∙◌, ap, subst, ⊎_elim, append-nil, append_assoc, arith, length-append}
+use Rattle.std.proofs.Common.{◌≡◌, ℕ, ◌≤◌, Bool, true, false, ◌||◌, ◌⊎◌, inl, inr, Option, Result, Ok, Err, List, [], ◌∷◌, ◌++◌, length, drop, refl, sym, ◌∙◌, ap, subst, ⊎_elim, append-nil, append_assoc, arith, length-append}
 use Rattle.std.specs.Bool.{MatchBool, nat_lt}
 use Rattle.std.specs.Io.KnownBytes.{Consumes, IsAtEnd, append_known}
 use Rattle.std.proofs.KnownBytes.{Consumes-nil, Consumes-trans}
@@ -12,13 +12,13 @@ use Rattle.mc_model.specs.declared.fault.Fault.TheVariants.{Memory, LogFull, Tak
 use Rattle.mc_model.specs.declared.request.Request.{Request}
 use Rattle.mc_model.specs.declared.reply.Reply.TheVariants.{Refused}
 use Rattle.mc_model.specs.declared.reply.WireNo.TheVariants.{E11}
-use Rattle.mc_read.specs.Reading.{Ended, GoesOn, HasNone, Held, IsFed, IsNext, Kept, ReadAlike, Reads, ReadsAs, ReadsOn, Swallowing, ends_stream}
+use Rattle.mc_read.specs.Reading.{Ended, GoesOn, HasNone, Held, IsFed, IsNext, Kept, ReadAlike, ReadsAs, ReadsOn, Swallowing, ends_stream}
 use Rattle.mc_read.specs.Text.{IsRequestText}
 use Rattle.mc_read.proofs.Readings.{has_reading}
 use Rattle.mc_server.specs.declared.session.Session.{Session}
 use Rattle.mc_server.specs.declared.serving.TheConstants.{PULL_BYTES}
 use Rattle.mc_server.specs.Owed.{applied_by, owed}
-use Rattle.mc_server.specs.Serving.{Comes, IsAllOrStopped, IsCaughtUp, Moves, PushesAtOnce, PushesFront, Serves, ServesInPart, ServesOn, ServesUntilStarved, StopsAt}
+use Rattle.mc_server.specs.Serving.{Comes, IsCaughtUp, Moves, PushesFront, Serves, ServesInPart, ServesOn, ServesUntilStarved, StopsAt}
 use Rattle.mc_server.specs.Session.{IsStarved, Stands, TellsStarved}
 use Rattle.mc_server.specs.Stream.{Pushes, Streams}
 use Rattle.mc_write.specs.Text.{text}

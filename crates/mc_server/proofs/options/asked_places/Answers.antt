@@ -1,7 +1,7 @@
-use Rattle.std.proofs.Common.{rules, arith, ap, ap₂, refl, sym, codes, true, map, string_bytes, ℕ, ◌-◌, ◌^◌, List, Option, Some, None, ◌≡◌, ◌∙◌, Result, Ok, Err}
+use Rattle.std.proofs.Common.{arith, ap, refl, sym, codes, true, map, string_bytes, ℕ, ◌-◌, ◌^◌, Option, Some, None, ◌≡◌, ◌∙◌, Result, Ok, Err}
 use Rattle.std.specs.Prelude.{option_and_then, unwrap_or}
 use Rattle.std.specs.Str.Parse.{ExplainsUnsignedError, HasUnsignedDigitsIfOk, ParsesUnsigned, without_leading_plus}
-use Rattle.clap.specs.Words.{App, ReadsOne, Text, app_of, fault_of, found_of, is_simple, is_simple_and_free, matches_of, one_of, one_text}
+use Rattle.clap.specs.Words.{ReadsOne, Text, app_of, fault_of, found_of, is_simple, is_simple_and_free, matches_of, one_of, one_text}
 use Rattle.clap.proofs.OnLiterals.{clap_on_literals}
 use Rattle.clap.proofs.WalkLemmas.{one_text-rows}
 use Rattle.mc_model.proofs.Numerals.{number_up_to-some, number_up_to-none}

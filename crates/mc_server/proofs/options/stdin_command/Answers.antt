@@ -1,8 +1,7 @@
 use Rattle.std.proofs.Common.{ap, ap₂, codes, true, ◌≡◌, ◌∙◌}
 use Rattle.std.proofs.lemmas.Result.{IfOk-weaker}
-use Rattle.clap.specs.Words.{App, Shape, app_of, new_app, with_rule}
+use Rattle.clap.specs.Words.{App, app_of, new_app, with_rule}
 use Rattle.clap.specs.Simple.{app_of_fields, on_top}
-use Rattle.mc_server.specs.Options.{stdin_app}
 use Rattle.mc_server.proofs.options.stdin_command.Goals as goal
 
 abbrev versioned : App → App

@@ -1,4 +1,4 @@
-use Rattle.std.proofs.Common.{◌≡◌, ◌≤◌, ◌||◌, Result, Err, length, take, refl, sym, ap, ◌∙◌, inl, inr, add-zero, arith, rules}
+use Rattle.std.proofs.Common.{◌≡◌, ◌≤◌, ◌||◌, Result, Err, length, take, refl, ap, ◌∙◌, inl, inr, add-zero, arith, rules}
 use Rattle.std.proofs.lemmas.List.{length-take-le}
 use Rattle.mc_model.specs.declared.fault.Fault.{Fault}
 use Rattle.mc_model.specs.declared.fault.Fault.TheVariants.{Memory, Output}
