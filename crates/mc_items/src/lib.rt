@@ -3,11 +3,11 @@
 
 ghost use Rattle.std.specs.FinMap as map;
 ghost use Rattle.std.specs.Option.{option_copied};
-ghost use Rattle.std.specs.Prelude.{◌≡◌, ◌+◌, ◌-◌, ◌^◌, ◌<◌, if◌then◌else◌, List, [], ◌∷◌, ◌++◌, IfOk, OnOk, OnErr, decimal, IsOk, IsOkUnless};
+ghost use Rattle.std.specs.Prelude.{◌≡◌, ◌+◌, ◌-◌, ◌^◌, ◌<◌, true, false, if◌then◌else◌, List, [], ◌∷◌, ◌++◌, IfOk, OnOk, OnErr, decimal, IsOk, IsOkUnless};
 ghost use Rattle.mc_model.specs.declared.command.Command.{Command};
 ghost use Rattle.mc_model.specs.declared.command.Command.TheVariants.{Store, Cas, Delete, Incr, Decr};
 ghost use Rattle.mc_model.specs.declared.reply.Reply.TheVariants.{Number, Stored};
-ghost use Rattle.mc_model.specs.Effect.{is_acceptance};
+ghost use Rattle.mc_model.specs.Effect.{is_acceptance, is_refusal};
 ghost use Rattle.mc_model.specs.History.{StandsFor, answer, next_effect};
 ghost use Rattle.mc_items.specs.Commands.{Reads, TakesOut};
 ghost use Rattle.mc_items.specs.TableState.{next_reply, next_state, with_item};
@@ -61,7 +61,7 @@ impl Items {
     }
 
     /// Does what the command says to the table, and answers it. Where memory runs out: `Memory`, and nothing changes.
-    /// A delete and a flush take no memory.
+    /// A command that is refused takes no memory, nor does a delete or a flush.
     pub fn apply(&mut self, command: &Command) -> Result<Reply, Fault>
         requires { self.old.last_unique < 2 ^ 64 - 1 }
 
@@ -81,6 +81,7 @@ impl Items {
             (list : List Command) → StandsFor list self.old.table self.old.last_unique → reply ≡ answer list command.now) }
 
         ensures takes_out { TakesOut command.now → IsOk result }
+        ensures refused { is_refusal (next_effect self.old.table self.old.last_unique command.now).reply ≡ true → IsOk result }
         ensures memory { IsOkUnless result Fault.Memory }
         ensures unchanged { OnErr result (self.new ≡ self.old) }
     {
@@ -117,7 +118,7 @@ impl Items {
     }
 
     /// Changes the table as `apply` does, and leaves the answer out. Where memory runs out: `Memory`, and nothing
-    /// changes. A get, a delete and a flush take no memory.
+    /// changes. A command that is refused takes no memory, nor does a get, a delete or a flush.
     pub fn advance(&mut self, command: &Command) -> Result<(), Fault>
         requires { self.old.last_unique < 2 ^ 64 - 1 }
 
@@ -134,6 +135,7 @@ impl Items {
 
         ensures reads { Reads command.now → IsOk result }
         ensures takes_out { TakesOut command.now → IsOk result }
+        ensures refused { is_refusal (next_effect self.old.table self.old.last_unique command.now).reply ≡ true → IsOk result }
         ensures memory { IsOkUnless result Fault.Memory }
         ensures unchanged { OnErr result (self.new ≡ self.old) }
     {
@@ -171,6 +173,7 @@ impl Items {
         requires { self.old.last_unique < 2 ^ 64 - 1 }
         ensures reply { IfOk result (λ reply. reply ≡ next_reply self.old (Store verb key.now flags block.now)) }
         ensures state { OnOk result (self.new ≡ next_state self.old (Store verb key.now flags block.now)) }
+        ensures granted { OnErr result (is_refusal (next_reply self.old (Store verb key.now flags block.now)) ≡ false) }
         ensures memory { IsOkUnless result Fault.Memory }
         ensures unchanged { OnErr result (self.new ≡ self.old) }
     {
@@ -204,6 +207,7 @@ impl Items {
         requires { self.old.last_unique < 2 ^ 64 - 1 }
         ensures reply { IfOk result (λ reply. reply ≡ next_reply self.old (Cas key.now flags block.now seen)) }
         ensures state { OnOk result (self.new ≡ next_state self.old (Cas key.now flags block.now seen)) }
+        ensures granted { OnErr result (is_refusal (next_reply self.old (Cas key.now flags block.now seen)) ≡ false) }
         ensures memory { IsOkUnless result Fault.Memory }
         ensures unchanged { OnErr result (self.new ≡ self.old) }
     {
@@ -233,6 +237,7 @@ impl Items {
         requires { self.old.last_unique < 2 ^ 64 - 1 }
         ensures reply { IfOk result (λ reply. reply ≡ next_reply self.old (Incr key.now by)) }
         ensures state { OnOk result (self.new ≡ next_state self.old (Incr key.now by)) }
+        ensures granted { OnErr result (is_refusal (next_reply self.old (Incr key.now by)) ≡ false) }
         ensures memory { IsOkUnless result Fault.Memory }
         ensures unchanged { OnErr result (self.new ≡ self.old) }
     {
@@ -251,6 +256,7 @@ impl Items {
         requires { self.old.last_unique < 2 ^ 64 - 1 }
         ensures reply { IfOk result (λ reply. reply ≡ next_reply self.old (Decr key.now by)) }
         ensures state { OnOk result (self.new ≡ next_state self.old (Decr key.now by)) }
+        ensures granted { OnErr result (is_refusal (next_reply self.old (Decr key.now by)) ≡ false) }
         ensures memory { IsOkUnless result Fault.Memory }
         ensures unchanged { OnErr result (self.new ≡ self.old) }
     {
