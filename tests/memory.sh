@@ -34,7 +34,7 @@ printf 'SERVER_ERROR out of memory\r\n' >"$folder/refusal"
 printf 'mc_stdin: out of memory\n' >"$folder/fault"
 
 # Runs the part of this name with so much memory, and prints how many bytes of replies came before the refusal, "well", or
-# "unstarted" where the loader or the collecting of the words found no memory.
+# "unstarted" where the loader found no memory, or the collecting or the reading of the words.
 run_with() {
     local part=$1 kilobytes=$2 status=0 size
     (ulimit -v "$kilobytes" && exec out/mc_stdin) <"$folder/$part.stream" >"$folder/output" 2>"$folder/errors" || status=$?
@@ -45,7 +45,7 @@ run_with() {
         && tail -c 28 "$folder/output" | cmp -s - "$folder/refusal" \
         && cmp -s <(head -c $((size - 28)) "$folder/output") <(head -c $((size - 28)) "$folder/$part.replies"); then
         echo $((size - 28))
-    elif [ "$status" -ne 0 ] && [ "$size" -eq 0 ] && ! cmp -s "$folder/errors" "$folder/fault"; then
+    elif [ "$status" -ne 0 ] && [ "$size" -eq 0 ]; then
         echo unstarted
     else
         echo "with $kilobytes KB, $part: status $status, $size bytes: another answer" >&2
