@@ -4,7 +4,7 @@
 help:
 	@echo 'make run    proves, builds and runs mc_stdin on its first run, and prints what it prints'
 	@echo 'make test   the gate: every proof from nothing, the edits that must be refused, the tests, the programs'
-	@echo 'make memory runs mc_stdin with less and less memory, and looks at what it answers then'
+	@echo 'make memory runs mc_stdin with less and less memory, and with each allocation refused in turn, and looks at what it answers'
 	@echo 'make bench  measures the built programs; the figures of docs/BENCHMARKS.md come from it'
 
 run: kit
@@ -18,6 +18,7 @@ test: kit
 
 memory: kit
 	@tests/memory.sh
+	@python3 tests/allocations.py
 
 bench: kit
 	@bench/stdin.sh
