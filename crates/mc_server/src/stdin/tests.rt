@@ -1,5 +1,6 @@
 use super::*;
 use crate::memory::{InputStep, MemoryInput, MemoryOutput, OutputStep};
+use std::process::Abort;
 use std::test::Fail;
 
 const FIRST_RUN: &[u8] = b"set a 5 0 3\r\nabc\r\nget a\r\n";
@@ -133,33 +134,247 @@ fn names_faults_as_they_are_displayed(rt: HostRuntime) -> Result<(), Fail> {
     Ok(())
 }
 
-#[test]
-fn serves_worked_runs_however_they_are_cut(rt: HostRuntime) -> Result<(), Fail> {
-    let alloc = rt.alloc();
-    for (stream, replies) in [
-        (FIRST_RUN, FIRST_REPLIES),
-        (
-            b"set k 0 0 7\r\n\r\nEND\r\n\r\nget k\r\n".as_slice(),
-            b"STORED\r\nVALUE k 0 7\r\n\r\nEND\r\n\r\nEND\r\n".as_slice(),
-        ),
-        (b"set a 0 0 3\r\nab".as_slice(), b"".as_slice()),
+/// Runs: the words that ask for them, what a client sends, and the replies.
+const RUNS: [(&[&str], &str, &str); 19] = [
+    // A stored value is given back with its flags and length.
+    (
+        &[],
+        "set a 5 0 3\r\nabc\r\nget a\r\n",
+        "STORED\r\nVALUE a 5 3\r\nabc\r\nEND\r\n",
+    ),
+    // Gets shows the unique; empty data; an absent key gives no value.
+    (
+        &[],
+        "set e 0 0 0\r\n\r\ngets e x\r\n",
+        "STORED\r\nVALUE e 0 0 1\r\n\r\nEND\r\n",
+    ),
+    // Line ends inside a data block do not end it.
+    (
+        &[],
+        "set k 0 0 7\r\n\r\nEND\r\n\r\nget k\r\n",
+        "STORED\r\nVALUE k 0 7\r\n\r\nEND\r\n\r\nEND\r\n",
+    ),
+    // A block without its line end is refused; line, block and two bytes are consumed.
+    (
+        &[],
+        "set a 0 0 2\r\nabcde\r\n",
+        "CLIENT_ERROR bad data chunk\r\nERROR\r\n",
+    ),
+    // Cas stores, finds another unique, finds no key.
+    (
+        &[],
+        "set a 0 0 1\r\nx\r\ncas a 0 0 1 1\r\ny\r\ncas a 0 0 1 1\r\nz\r\ncas b 0 0 1 1\r\nw\r\ngets a\r\n",
+        "STORED\r\nSTORED\r\nEXISTS\r\nNOT_FOUND\r\nVALUE a 0 1 2\r\ny\r\nEND\r\n",
+    ),
+    // Incr wraps at 2^64, decr stops at 0 and does not pad.
+    (
+        &[],
+        "set n 7 0 20\r\n18446744073709551615\r\nincr n 1\r\nset n 0 0 1\r\n5\r\ndecr n 9\r\nset n 0 0 2\r\n10\r\ndecr n 1\r\ngets n\r\n",
+        "STORED\r\n0\r\nSTORED\r\n0\r\nSTORED\r\n9\r\nVALUE n 0 1 6\r\n9\r\nEND\r\n",
+    ),
+    // A nonzero exptime is refused and its block swallowed; append ignores it and keeps the old flags.
+    (
+        &[],
+        "set a 0 60 3\r\nget\r\nget a\r\nset a 7 0 1\r\nx\r\nappend a 9 60 1\r\ny\r\ngets a\r\n",
+        "CLIENT_ERROR expiry is not supported\r\nEND\r\nSTORED\r\nSTORED\r\nVALUE a 7 2 2\r\nxy\r\nEND\r\n",
+    ),
+    // Noreply sends nothing; delete takes an optional 0.
+    (
+        &[],
+        "set a 0 0 1\r\nx\r\nadd a 0 0 1 noreply\r\ny\r\ndelete a 0\r\ndelete a\r\n",
+        "STORED\r\nDELETED\r\nNOT_FOUND\r\n",
+    ),
+    // A full log refuses table commands and nothing else; the connection stays.
+    (
+        &["--places", "2"],
+        "set a 0 0 1\r\nx\r\nset b 0 0 1\r\ny\r\nget a\r\nversion\r\n",
+        "STORED\r\nSTORED\r\nSERVER_ERROR log full\r\nVERSION 1.0.0\r\n",
+    ),
+    // An input that ends inside a block gives nothing.
+    (&[], "set a 0 0 3\r\nab", ""),
+    // A bad line with noreply is answered, and its block swallowed.
+    (
+        &[],
+        "set a x 0 1 noreply\r\ny\r\nget a\r\n",
+        "CLIENT_ERROR bad command line format\r\nEND\r\n",
+    ),
+    // Where the length is unreadable the line alone is consumed.
+    (
+        &[],
+        "set a 0 0 x\r\nabc\r\n",
+        "CLIENT_ERROR bad command line format\r\nERROR\r\n",
+    ),
+    // Unknown, empty, upper-case and short lines; runs of spaces; a bare line feed.
+    (
+        &[],
+        "stats\r\n\r\nGET a\r\nget\r\nget  a \n",
+        "ERROR\r\nERROR\r\nERROR\r\nERROR\r\nEND\r\n",
+    ),
+    // Incr of a value above 2^64 - 1, by an unreadable delta, of an absent key.
+    (
+        &[],
+        "set n 0 0 20\r\n18446744073709551616\r\nincr n 1\r\nincr n x\r\nincr m 1\r\n",
+        "STORED\r\nCLIENT_ERROR cannot increment or decrement non-numeric value\r\nCLIENT_ERROR invalid numeric delta argument\r\nNOT_FOUND\r\n",
+    ),
+    // Flush_all empties the table and does not reset the uniques; a key twice is answered twice.
+    (
+        &[],
+        "set a 0 0 1\r\nx\r\nflush_all 0\r\nappend a 0 0 1\r\ny\r\nset a 0 0 1\r\nz\r\ngets a a\r\n",
+        "STORED\r\nOK\r\nNOT_STORED\r\nSTORED\r\nVALUE a 0 1 2\r\nz\r\nVALUE a 0 1 2\r\nz\r\nEND\r\n",
+    ),
+    // A refused expiry with noreply is quiet; nothing is read after quit.
+    (
+        &[],
+        "set a 0 9 1 noreply\r\nx\r\nversion\r\nquit\r\nversion\r\n",
+        "VERSION 1.0.0\r\n",
+    ),
+    // Prepend keeps the old flags; replace of an absent and add of a held key store nothing.
+    (
+        &[],
+        "set p 4 0 2\r\nbc\r\nprepend p 9 0 1\r\na\r\nreplace q 0 0 1\r\nx\r\nadd p 0 0 1\r\nx\r\ngets p\r\n",
+        "STORED\r\nSTORED\r\nNOT_STORED\r\nNOT_STORED\r\nVALUE p 4 3 2\r\nabc\r\nEND\r\n",
+    ),
+    // Wrong words of delete, flush_all, cas and incr, each with its refusal.
+    (
+        &[],
+        "delete a 1\r\nflush_all 5\r\nflush_all x\r\nflush_all noreply\r\ncas a 0 0 1 x\r\ny\r\nincr a\r\n",
+        "CLIENT_ERROR bad command line format\r\nCLIENT_ERROR expiry is not supported\r\nCLIENT_ERROR bad command line format\r\nCLIENT_ERROR bad command line format\r\nERROR\r\n",
+    ),
+    // Append, prepend and incr on one item are seen joined.
+    (
+        &[],
+        "set n 3 0 1\r\n1\r\nappend n 0 0 1\r\n0\r\nprepend n 0 0 1\r\n2\r\nincr n 5\r\nappend n 0 0 2\r\nab\r\ngets n\r\n",
+        "STORED\r\nSTORED\r\nSTORED\r\n215\r\nSTORED\r\nVALUE n 3 5 5\r\n215ab\r\nEND\r\n",
+    ),
+];
+
+/// So many pulls of pieces of this size, with an empty one between.
+fn pulls_of(alloc: Global, size: usize, count: usize) -> Result<Vec<InputStep>, Fail> {
+    let mut steps = Vec::new(alloc);
+    for _ in 0..count {
+        steps.push(InputStep::Give(size))?;
+        steps.push(InputStep::Empty)?;
+    }
+    Ok(steps)
+}
+
+/// Pushes of one byte each, with a full one between.
+fn single_pushes(alloc: Global, count: usize) -> Result<Vec<OutputStep>, Fail> {
+    let mut steps = Vec::new(alloc);
+    for _ in 0..count {
+        steps.push(OutputStep::Take(1))?;
+        steps.push(OutputStep::Full)?;
+    }
+    Ok(steps)
+}
+
+/// Runs a stream whole, a piece of this size a pull, a byte a push, and both.
+fn assert_serves(
+    rt: &(impl Wait + Abort),
+    alloc: Global,
+    texts: &[&str],
+    stream: &[u8],
+    size: usize,
+    replies: &[u8],
+) -> Result<(), Fail> {
+    let pieces = stream.len() / size.max(1) + 1;
+    for (pulls, pushes) in [
+        (0, 0),
+        (pieces, 0),
+        (0, replies.len()),
+        (pieces, replies.len()),
     ] {
-        for (pull, push) in [(65_536, 65_536), (1, 65_536), (65_536, 1), (1, 1)] {
-            let mut steps = Vec::new(alloc);
-            let mut takes = Vec::new(alloc);
-            for _ in 0..64 {
-                steps.push(InputStep::Give(pull))?;
-                steps.push(InputStep::Empty)?;
-                takes.push(OutputStep::Take(push))?;
-                takes.push(OutputStep::Full)?;
-            }
-            let run = run_over(&rt, alloc, stream, steps, takes, Vec::new(alloc))?;
-            assert_eq!(rt; run.status, 0);
-            assert_eq!(rt; run.output.as_bytes(), replies);
-            assert_eq!(rt; run.errors.as_bytes(), b"".as_slice());
-        }
+        let steps = pulls_of(alloc, size, pulls)?;
+        let takes = single_pushes(alloc, pushes)?;
+        let run = run_with(rt, alloc, texts, stream, steps, takes, Vec::new(alloc))?;
+        assert_eq!(rt; run.status, 0);
+        assert!(rt; run.output.as_bytes() == replies, "other replies");
+        assert_eq!(rt; run.errors.as_bytes(), b"".as_slice());
     }
     Ok(())
+}
+
+#[test]
+fn serves_worked_runs_however_they_are_cut(rt: HostRuntime) -> Result<(), Fail> {
+    for (texts, stream, replies) in RUNS {
+        assert_serves(
+            &rt,
+            rt.alloc(),
+            texts,
+            stream.as_bytes(),
+            1,
+            replies.as_bytes(),
+        )?;
+    }
+    Ok(())
+}
+
+/// Pieces behind one another.
+fn joined(alloc: Global, pieces: &[&[u8]]) -> Result<Vec<u8>, Fail> {
+    let mut bytes = Vec::new(alloc);
+    for piece in pieces {
+        bytes.extend_from_slice(piece)?;
+    }
+    Ok(bytes)
+}
+
+#[test]
+fn a_key_has_at_most_250_bytes(rt: HostRuntime) -> Result<(), Fail> {
+    let alloc = rt.alloc();
+    let key = vec![in alloc; b'k'; 250]?;
+    let key = key.as_slice();
+    let stream = joined(
+        alloc,
+        &[
+            b"set ",
+            key,
+            b" 0 0 1\r\nx\r\nset ",
+            key,
+            b"k 0 0 1\r\ny\r\nget ",
+            key,
+            b"\r\n",
+        ],
+    )?;
+    let replies = joined(
+        alloc,
+        &[
+            b"STORED\r\nCLIENT_ERROR bad command line format\r\nVALUE ",
+            key,
+            b" 0 1\r\nx\r\nEND\r\n",
+        ],
+    )?;
+    assert_serves(&rt, alloc, &[], &stream, 1, &replies)
+}
+
+#[test]
+fn a_line_has_at_most_65_536_bytes(rt: HostRuntime) -> Result<(), Fail> {
+    let alloc = rt.alloc();
+    let line = vec![in alloc; b'a'; 65_535]?;
+    let line = line.as_slice();
+    let stream = joined(alloc, &[line, b"\r\n", line, b"a\r\nversion\r\n"])?;
+    let replies = b"ERROR\r\nCLIENT_ERROR line too long\r\n";
+    assert_serves(&rt, alloc, &[], &stream, 1, replies)
+}
+
+#[test]
+fn data_have_at_most_1_048_576_bytes(rt: HostRuntime) -> Result<(), Fail> {
+    let alloc = rt.alloc();
+    let block = vec![in alloc; b'z'; 1_048_576]?;
+    let block = block.as_slice();
+    let stream = joined(
+        alloc,
+        &[
+            b"set b 0 0 1048577\r\n",
+            block,
+            b"z\r\nset b 0 0 1048576\r\n",
+            block,
+            b"\r\nappend b 0 0 1\r\nz\r\n",
+        ],
+    )?;
+    // A byte a pull would keep the input in memory at its list of steps for minutes.
+    let replies =
+        b"SERVER_ERROR object too large for cache\r\nSTORED\r\nSERVER_ERROR object too large for cache\r\n";
+    assert_serves(&rt, alloc, &[], &stream, 997, replies)
 }
 
 const FOUR_REQUESTS: &[u8] = b"set a 0 0 1\r\nx\r\nset b 0 0 1\r\ny\r\nget a\r\nversion\r\n";
