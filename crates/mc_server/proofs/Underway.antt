@@ -20,7 +20,7 @@ use Rattle.mc_server.specs.declared.serving.TheConstants.{PULL_BYTES}
 use Rattle.mc_server.specs.Owed.{applied_by, owed}
 use Rattle.mc_server.specs.Serving.{Comes, IsCaughtUp, Moves, PushesFront, Serves, ServesInPart, ServesOn, ServesUntilStarved, StopsAt}
 use Rattle.mc_server.specs.Session.{IsStarved, Stands, TellsStarved}
-use Rattle.mc_server.specs.Stream.{Pushes, Streams}
+use Rattle.mc_stream.specs.Stream.{Pushes, Streams}
 use Rattle.mc_write.specs.Text.{text}
 use Rattle.mc_server.proofs.Owings.{applied_by-append, owed-append}
 use Rattle.mc_server.proofs.Pieces.{append_known-more, append_known-nothing}

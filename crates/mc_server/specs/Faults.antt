@@ -4,7 +4,7 @@ use Rattle.std.specs.Io.KnownBytes.{append_known}
 use Rattle.mc_model.specs.declared.fault.Fault.{Fault}
 use Rattle.mc_model.specs.declared.fault.Fault.TheVariants.{Memory, LogFull, Taken, Input, Output, BadEvent, BadSettings}
 use Rattle.mc_server.specs.Serving.{CountsFailures, ServesUntilStarved, StopsAt}
-use Rattle.mc_server.specs.Stream.{Streams}
+use Rattle.mc_stream.specs.Stream.{Streams}
 
 -- the name of a fault
 abbrev pub fault_text : Fault → List ℕ

@@ -15,7 +15,7 @@ use Rattle.mc_model.specs.declared.fault.Fault.TheVariants.{Memory, Output}
 use Rattle.mc_model.specs.declared.settings.TheConstants.{MAX_PLACES}
 use Rattle.mc_server.specs.Faults.{Tells, fault_line}
 use Rattle.mc_server.specs.Serving.{PushesFront}
-use Rattle.mc_server.specs.Stream.{Pushes, Streams}
+use Rattle.mc_stream.specs.Stream.{Pushes, Streams}
 
 -- `--places N`, a number of 64 bits
 abbrev pub places_rule : Rule

@@ -10,7 +10,7 @@ use Rattle.mc_model.specs.declared.request.Request.{Request}
 use Rattle.mc_read.specs.Reading.{Reads, ReadsAs, ends_stream}
 use Rattle.mc_server.specs.declared.serving.TheConstants.{PULL_BYTES}
 use Rattle.mc_server.specs.Owed.{owed}
-use Rattle.mc_server.specs.Stream.{Pushes, Streams}
+use Rattle.mc_stream.specs.Stream.{Pushes, Streams}
 use Rattle.mc_write.specs.Text.{text}
 
 -- The bytes that came read as these requests and a rest. An input that knows what is left has lost them from its front.

@@ -8,7 +8,7 @@ use Rattle.mc_model.specs.History.{StandsFor}
 use Rattle.mc_server.specs.declared.session.Session.{Session}
 use Rattle.mc_server.specs.Owed.{applied_by, owed}
 use Rattle.mc_server.specs.Serving.{Comes, IsCaughtUp, PushesAtOnce}
-use Rattle.mc_server.specs.Stream.{Pushes, Streams}
+use Rattle.mc_stream.specs.Stream.{Pushes, Streams}
 use Rattle.mc_write.specs.Text.{text}
 
 -- the table and the count are those after these commands, of a log with so many places

@@ -10,13 +10,13 @@ ghost use Rattle.mc_read.specs.Reading.{Kept};
 ghost use Rattle.mc_server.specs.declared.session.TheConstants.{QUEUE_BYTES};
 ghost use Rattle.mc_server.specs.Serving.{CountsFailures, IsStopped, Moves, PushesAtOnce, PushesFront, Serves, ServesUntilStarved, StopsAt};
 ghost use Rattle.mc_server.specs.Session.{IsStarved, Stands, TellsStarved};
-ghost use Rattle.mc_server.specs.Stream.{streams_of};
+ghost use Rattle.mc_stream.specs.Stream.{streams_of};
 ghost use Rattle.mc_write.specs.Text.{text};
 
 use crate::session::{QUEUE_BYTES, Session};
-use crate::stream::{Input, Output, Pull, Push};
 use mc_model::{Fault, WireNo};
 use mc_read::{Reader, ends_stream};
+use mc_stream::{Input, Output, Pull, Push};
 use mc_write::refusal_text;
 use std::alloc::Global;
 use std::sync::Wait;

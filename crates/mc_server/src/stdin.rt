@@ -6,15 +6,15 @@ ghost use Rattle.mc_model.specs.declared.fault.Fault.{Fault};
 ghost use Rattle.mc_server.specs.Faults.{Fails, Tells, fault_line, fault_text};
 ghost use Rattle.mc_server.specs.Options.{AsksInRange, AsksOutOfRange, FailsToAnswer, FailsToShow, IsShown, Shows, TellsMistake, places_asked};
 ghost use Rattle.mc_server.specs.Serving.{Serves};
-ghost use Rattle.mc_server.specs.Stream.{streams_of};
+ghost use Rattle.mc_stream.specs.Stream.{streams_of};
 
 use crate::options::asked_places;
 use crate::serving::{pump, push_all};
-use crate::stream::{Input, Output};
 use clap::Error;
 use clap::error::ErrorKind;
 use mc_model::Fault;
 use mc_model::settings::MAX_PLACES;
+use mc_stream::{Input, Output};
 use std::alloc::Global;
 use std::sync::Wait;
 

@@ -1,5 +1,5 @@
 use super::*;
-use crate::memory::{InputStep, MemoryInput, MemoryOutput, OutputStep};
+use mc_stream::{InputStep, MemoryInput, MemoryOutput, OutputStep};
 use std::process::Abort;
 use std::test::Fail;
 

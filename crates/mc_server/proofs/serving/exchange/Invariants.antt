@@ -1,7 +1,7 @@
 use Rattle.std.proofs.Common.{◌≡◌, ◌≤◌, length}
 use Rattle.mc_server.specs.declared.session.TheConstants.{QUEUE_BYTES}
 use Rattle.mc_server.specs.declared.serving.TheConstants.{PULL_BYTES}
-use Rattle.mc_server.specs.Stream.{streams_of}
+use Rattle.mc_stream.specs.Stream.{streams_of}
 use Rattle.mc_server.proofs.Underway.{IsUnderway}
 use Rattle.mc_server.proofs.serving.exchange.Given as goal
 

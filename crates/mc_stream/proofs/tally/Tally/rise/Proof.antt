@@ -25,12 +25,12 @@ use denote.Triple.Entry.{on_entry}
 use denote.Triple.Spec.{Meets, triple_of}
 use denote.Triple.Table.{entered}
 use denote.Triple.Walked.{says, Stays, stay_ref, walk_of, AllGo, Goes-ref, Walks, ends_at, walked, walk_Meets}
-use Rattle.mc_server.specs.declared.tally.Tally.{Tally}
-use Rattle.mc_server.specs.contracts.tally.Tally as tally
-use Rattle.mc_server.specs.contracts.tally.Tally.rise as f
-use Rattle.mc_server.specs.contracts.tally.Tally.rise.Key.{name as key}
-use Rattle.mc_server.proofs.tally.Tally.rise.Statement as stated
-use Rattle.mc_server.proofs.tally.Tally.rise.Code as code
+use Rattle.mc_stream.specs.declared.tally.Tally.{Tally}
+use Rattle.mc_stream.specs.contracts.tally.Tally as tally
+use Rattle.mc_stream.specs.contracts.tally.Tally.rise as f
+use Rattle.mc_stream.specs.contracts.tally.Tally.rise.Key.{name as key}
+use Rattle.mc_stream.proofs.tally.Tally.rise.Statement as stated
+use Rattle.mc_stream.proofs.tally.Tally.rise.Code as code
 
 abbrev Arg : Type 0
 Arg = MutBor Tally × Unit {0}

@@ -1,8 +1,8 @@
 //! Inputs and outputs over std's readers and writers, as the standard streams.
 ghost use Rattle.std.specs.Io.KnownBytes.{Consumes, IsAtEnd};
 ghost use Rattle.std.specs.Prelude.{◌≡◌, ◌+◌, ◌<◌, ◌≤◌, None, length};
-ghost use Rattle.mc_server.specs.Standard.{WritesTaken, failures_of_input, failures_of_output, has_input_ended, reader_of, waits_of_input, waits_of_output, writer_of};
-ghost use Rattle.mc_server.specs.Stream.{GivesAtMost, TakesAtMost, pull_failures, pull_waits, pulled_by, push_failures, push_waits};
+ghost use Rattle.mc_stream.specs.Standard.{WritesTaken, failures_of_input, failures_of_output, has_input_ended, reader_of, waits_of_input, waits_of_output, writer_of};
+ghost use Rattle.mc_stream.specs.Stream.{GivesAtMost, TakesAtMost, pull_failures, pull_waits, pulled_by, push_failures, push_waits};
 
 use crate::stream::{Input, Output, Pull, Push};
 use crate::tally::Tally;

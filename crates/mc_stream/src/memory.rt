@@ -1,7 +1,7 @@
 //! An input and an output over memory, for tests and for a server inside another program.
 ghost use Rattle.std.specs.Prelude.{◌≡◌, ◌≤◌, ◌<◌, ◌+◌, ◌++◌, [], ◌∷◌, Some, take, drop, length, min, count_by, MatchOption};
-ghost use Rattle.mc_server.specs.Memory.{EndsFull, bytes_or_end, is_empty_pull, is_failing_pull, is_failing_push, is_full_push, pull_by, push_by};
-ghost use Rattle.mc_server.specs.Stream.{GivesAtMost, TakesAtMost, pull_failures, pull_waits, pulled_by, push_failures, push_waits, pushed_by};
+ghost use Rattle.mc_stream.specs.Memory.{EndsFull, bytes_or_end, is_empty_pull, is_failing_pull, is_failing_push, is_full_push, pull_by, push_by};
+ghost use Rattle.mc_stream.specs.Stream.{GivesAtMost, TakesAtMost, pull_failures, pull_waits, pulled_by, push_failures, push_waits, pushed_by};
 
 use crate::stream::{Input, Output, Pull, Push};
 use crate::tally::Tally;
@@ -41,7 +41,7 @@ pub struct MemoryInput {
 
 impl Model for MemoryInput {
     ghost use Rattle.std.specs.Prelude.{◌≤◌, take, drop, vec_len};
-    ghost use Rattle.mc_server.specs.Memory.{Source};
+    ghost use Rattle.mc_stream.specs.Memory.{Source};
 
     ghost Value = { Source };
 
@@ -150,7 +150,7 @@ pub struct MemoryOutput {
 
 impl Model for MemoryOutput {
     ghost use Rattle.std.specs.Prelude.{◌≤◌, take, drop, vec_len};
-    ghost use Rattle.mc_server.specs.Memory.{Sink};
+    ghost use Rattle.mc_stream.specs.Memory.{Sink};
 
     ghost Value = { Sink };
 

@@ -1,7 +1,7 @@
 //! What gives bytes and what takes them.
 ghost use Rattle.std.specs.Io.KnownBytes.{Consumes, IsAtEnd, append_known};
 ghost use Rattle.std.specs.Prelude.{◌≡◌, ℕ, ◌+◌, ◌<◌, Option, List, length};
-ghost use Rattle.mc_server.specs.Stream.{GivesAtMost, TakesAtMost, pull_failures, pull_waits, pulled_by, push_failures, push_waits, pushed_by};
+ghost use Rattle.mc_stream.specs.Stream.{GivesAtMost, TakesAtMost, pull_failures, pull_waits, pulled_by, push_failures, push_waits, pushed_by};
 
 /// What a pull gave.
 #[derive(Clone, Copy, Debug, PartialEq, Eq)]

@@ -1,10 +1,10 @@
 -- What a pull gives and a push takes, and what each counts.
 use Rattle.std.specs.Prelude.{◌≡◌, ℕ, ◌≤◌, List, [], take, Option}
 use Rattle.std.specs.Io.KnownBytes.{append_known}
-use Rattle.mc_server.specs.declared.stream.Pull.{Pull}
-use Rattle.mc_server.specs.declared.stream.Pull.TheVariants.{Bytes, Empty, Ended, Failed as InputFailed}
-use Rattle.mc_server.specs.declared.stream.Push.{Push}
-use Rattle.mc_server.specs.declared.stream.Push.TheVariants.{Taken, Full, Failed as OutputFailed}
+use Rattle.mc_stream.specs.declared.stream.Pull.{Pull}
+use Rattle.mc_stream.specs.declared.stream.Pull.TheVariants.{Bytes, Empty, Ended, Failed as InputFailed}
+use Rattle.mc_stream.specs.declared.stream.Push.{Push}
+use Rattle.mc_stream.specs.declared.stream.Push.TheVariants.{Taken, Full, Failed as OutputFailed}
 
 -- the bytes that a pull gave, at the front of the buffer
 abbrev pub pulled_by : Pull → List ℕ → List ℕ

@@ -20,11 +20,11 @@ use denote.Triple.Entry.{on_entry, alive}
 use denote.Triple.Spec.{Meets, triple_of}
 use denote.Triple.Table.{entered}
 use denote.Triple.Walked.{says, Stays, walk_of, Walks, ends_at, walked, walk_Meets}
-use Rattle.mc_server.specs.contracts.tally.Tally as tally
-use Rattle.mc_server.specs.contracts.tally.Tally.new as f
-use Rattle.mc_server.specs.contracts.tally.Tally.new.Key.{name as key}
-use Rattle.mc_server.proofs.tally.Tally.new.Statement as stated
-use Rattle.mc_server.proofs.tally.Tally.new.Code as code
+use Rattle.mc_stream.specs.contracts.tally.Tally as tally
+use Rattle.mc_stream.specs.contracts.tally.Tally.new as f
+use Rattle.mc_stream.specs.contracts.tally.Tally.new.Key.{name as key}
+use Rattle.mc_stream.proofs.tally.Tally.new.Statement as stated
+use Rattle.mc_stream.proofs.tally.Tally.new.Code as code
 
 abbrev stayed : Stays (f.ended).signature.params (f.ended).kept
 stayed = tt

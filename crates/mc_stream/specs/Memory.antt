@@ -1,13 +1,13 @@
 -- What contracts see of an input and an output over memory, and what their steps do.
 use Rattle.std.specs.Prelude.{◌≡◌, ℕ, zero, suc, min, max, Bool, true, false, List, [], ◌∷◌, ◌++◌}
-use Rattle.mc_server.specs.declared.memory.InputStep.{InputStep}
-use Rattle.mc_server.specs.declared.memory.InputStep.TheVariants.{Give, Empty as GiveNothing, Fail as FailToGive}
-use Rattle.mc_server.specs.declared.memory.OutputStep.{OutputStep}
-use Rattle.mc_server.specs.declared.memory.OutputStep.TheVariants.{Take, Full as TakeNothing, Fail as FailToTake}
-use Rattle.mc_server.specs.declared.stream.Pull.{Pull}
-use Rattle.mc_server.specs.declared.stream.Pull.TheVariants.{Bytes, Empty, Ended, Failed as InputFailed}
-use Rattle.mc_server.specs.declared.stream.Push.{Push}
-use Rattle.mc_server.specs.declared.stream.Push.TheVariants.{Taken, Full, Failed as OutputFailed}
+use Rattle.mc_stream.specs.declared.memory.InputStep.{InputStep}
+use Rattle.mc_stream.specs.declared.memory.InputStep.TheVariants.{Give, Empty as GiveNothing, Fail as FailToGive}
+use Rattle.mc_stream.specs.declared.memory.OutputStep.{OutputStep}
+use Rattle.mc_stream.specs.declared.memory.OutputStep.TheVariants.{Take, Full as TakeNothing, Fail as FailToTake}
+use Rattle.mc_stream.specs.declared.stream.Pull.{Pull}
+use Rattle.mc_stream.specs.declared.stream.Pull.TheVariants.{Bytes, Empty, Ended, Failed as InputFailed}
+use Rattle.mc_stream.specs.declared.stream.Push.{Push}
+use Rattle.mc_stream.specs.declared.stream.Push.TheVariants.{Taken, Full, Failed as OutputFailed}
 
 -- the bytes given and those left, and the steps used and those left
 pub record Source : Type 0 where

@@ -1,7 +1,7 @@
 use Rattle.std.proofs.Common.{◌≡◌, take, drop, length, ◌∙◌, arith}
 use Rattle.std.proofs.lemmas.List.{length-take-le, take_rest}
-use Rattle.mc_server.proofs.Pieces.{given_more, left_less}
-use Rattle.mc_server.proofs.memory.MemoryInput.give.Goals as goal
+use Rattle.mc_stream.proofs.Pieces.{given_more, left_less}
+use Rattle.mc_stream.proofs.memory.MemoryInput.give.Goals as goal
 
 pub returns-clause-given : goal.returns-clause-given
 returns-clause-given c =

@@ -1,10 +1,10 @@
 -- What contracts see of an input over a reader and an output over a writer.
 use Rattle.std.specs.Prelude.{◌≡◌, ℕ, true, List, take, Option}
 use Rattle.std.specs.Io.KnownBytes.{Appends, Keeps}
-use Rattle.mc_server.specs.declared.standard.ReadInput.{ReadInput}
-use Rattle.mc_server.specs.declared.standard.WriteOutput.{WriteOutput}
-use Rattle.mc_server.specs.declared.stream.Push.{Push}
-use Rattle.mc_server.specs.declared.stream.Push.TheVariants.{Taken, Full, Failed}
+use Rattle.mc_stream.specs.declared.standard.ReadInput.{ReadInput}
+use Rattle.mc_stream.specs.declared.standard.WriteOutput.{WriteOutput}
+use Rattle.mc_stream.specs.declared.stream.Push.{Push}
+use Rattle.mc_stream.specs.declared.stream.Push.TheVariants.{Taken, Full, Failed}
 
 abbrev pub reader_of : {R : Type 0} → ReadInput R → R
 reader_of input = input.reader
