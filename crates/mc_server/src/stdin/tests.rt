@@ -248,11 +248,11 @@ const RUNS: [(&[&str], &str, &str); 19] = [
     ),
 ];
 
-/// So many pulls of pieces of this size, with an empty one between.
-fn pulls_of(alloc: Global, size: usize, count: usize) -> Result<Vec<InputStep>, Fail> {
+/// Pulls of one byte each, with an empty one between.
+fn single_pulls(alloc: Global, count: usize) -> Result<Vec<InputStep>, Fail> {
     let mut steps = Vec::new(alloc);
     for _ in 0..count {
-        steps.push(InputStep::Give(size))?;
+        steps.push(InputStep::Give(1))?;
         steps.push(InputStep::Empty)?;
     }
     Ok(steps)
@@ -268,23 +268,21 @@ fn single_pushes(alloc: Global, count: usize) -> Result<Vec<OutputStep>, Fail> {
     Ok(steps)
 }
 
-/// Runs a stream whole, a piece of this size a pull, a byte a push, and both.
+/// Runs a stream whole, a byte a pull, a byte a push, and both.
 fn assert_serves(
     rt: &(impl Wait + Abort),
     alloc: Global,
     texts: &[&str],
     stream: &[u8],
-    size: usize,
     replies: &[u8],
 ) -> Result<(), Fail> {
-    let pieces = stream.len() / size.max(1) + 1;
     for (pulls, pushes) in [
         (0, 0),
-        (pieces, 0),
+        (stream.len(), 0),
         (0, replies.len()),
-        (pieces, replies.len()),
+        (stream.len(), replies.len()),
     ] {
-        let steps = pulls_of(alloc, size, pulls)?;
+        let steps = single_pulls(alloc, pulls)?;
         let takes = single_pushes(alloc, pushes)?;
         let run = run_with(rt, alloc, texts, stream, steps, takes, Vec::new(alloc))?;
         assert_eq!(rt; run.status, 0);
@@ -302,7 +300,6 @@ fn serves_worked_runs_however_they_are_cut(rt: HostRuntime) -> Result<(), Fail> 
             rt.alloc(),
             texts,
             stream.as_bytes(),
-            1,
             replies.as_bytes(),
         )?;
     }
@@ -343,7 +340,7 @@ fn a_key_has_at_most_250_bytes(rt: HostRuntime) -> Result<(), Fail> {
             b" 0 1\r\nx\r\nEND\r\n",
         ],
     )?;
-    assert_serves(&rt, alloc, &[], &stream, 1, &replies)
+    assert_serves(&rt, alloc, &[], &stream, &replies)
 }
 
 #[test]
@@ -353,9 +350,10 @@ fn a_line_has_at_most_65_536_bytes(rt: HostRuntime) -> Result<(), Fail> {
     let line = line.as_slice();
     let stream = joined(alloc, &[line, b"\r\n", line, b"a\r\nversion\r\n"])?;
     let replies = b"ERROR\r\nCLIENT_ERROR line too long\r\n";
-    assert_serves(&rt, alloc, &[], &stream, 1, replies)
+    assert_serves(&rt, alloc, &[], &stream, replies)
 }
 
+// A byte a pull is quick as the gate runs it; under `rt try` this one takes more than its minute.
 #[test]
 fn data_have_at_most_1_048_576_bytes(rt: HostRuntime) -> Result<(), Fail> {
     let alloc = rt.alloc();
@@ -371,10 +369,9 @@ fn data_have_at_most_1_048_576_bytes(rt: HostRuntime) -> Result<(), Fail> {
             b"\r\nappend b 0 0 1\r\nz\r\n",
         ],
     )?;
-    // A byte a pull would keep the input in memory at its list of steps for minutes.
     let replies =
         b"SERVER_ERROR object too large for cache\r\nSTORED\r\nSERVER_ERROR object too large for cache\r\n";
-    assert_serves(&rt, alloc, &[], &stream, 997, replies)
+    assert_serves(&rt, alloc, &[], &stream, replies)
 }
 
 const FOUR_REQUESTS: &[u8] = b"set a 0 0 1\r\nx\r\nset b 0 0 1\r\ny\r\nget a\r\nversion\r\n";
