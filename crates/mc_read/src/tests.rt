@@ -1,13 +1,13 @@
-//! The requests of worked examples: each stream is read whole, byte by byte, and cut in two at every place.
-ghost use Rattle.std.specs.Prelude.{◌<◌, ◌≤◌, length};
+//! The requests of worked rows and of further streams: each is read whole, byte by byte, and cut in two at every place.
+ghost use Rattle.std.specs.Prelude.{◌<◌};
 
 use super::*;
-use mc_model::{Command, Fault, Key, KeyList, Reply, Request, Verb, WireNo};
+use mc_model::{Command, Data, Fault, Key, KeyList, Reply, Request, Verb, WireNo};
 use std::process::Abort;
 use std::test::Fail;
 
 /// What a request has to be; the first word says whether it is quiet, where it can be.
-#[derive(Clone, Copy, Debug)]
+#[derive(Clone, Copy)]
 enum Want<'a> {
     /// A verb, a key, flags and a block.
     Store(bool, Verb, &'a str, u32, &'a str),
@@ -65,58 +65,78 @@ impl Want<'_> {
     }
 
     fn is_command(&self, command: &Command) -> bool {
-        match (self, command) {
-            (
-                Want::Store(_, wanted, name, number, text),
-                Command::Store {
-                    verb,
-                    key,
-                    flags,
-                    block,
-                },
-            ) => {
-                verb == wanted
-                    && is_key(key, name)
-                    && flags == number
-                    && block.as_bytes() == text.as_bytes()
+        match self {
+            Want::Store(_, verb, name, flags, text) => {
+                is_store(command, *verb, name, *flags, text)
             }
-            (
-                Want::Cas(_, name, number, text, seen),
-                Command::Cas {
-                    key,
-                    flags,
-                    block,
-                    unique,
-                },
-            ) => {
-                is_key(key, name)
-                    && flags == number
-                    && block.as_bytes() == text.as_bytes()
-                    && unique == seen
+            Want::Cas(_, name, flags, text, unique) => {
+                is_cas(command, name, *flags, text, *unique)
             }
-            (
-                Want::Get(names),
-                Command::Get {
-                    keys,
-                    uniques: false,
-                },
-            ) => are_keys(keys, names),
-            (
-                Want::Gets(names),
-                Command::Get {
-                    keys,
-                    uniques: true,
-                },
-            ) => are_keys(keys, names),
-            (Want::Delete(_, name), Command::Delete { key }) => is_key(key, name),
-            (Want::Incr(_, name, delta), Command::Incr { key, by }) => is_key(key, name)
-                && by == delta,
-            (Want::Decr(_, name, delta), Command::Decr { key, by }) => is_key(key, name)
-                && by == delta,
-            (Want::Flush(_), Command::Flush) => true,
+            Want::Get(names) => is_get(command, names, false),
+            Want::Gets(names) => is_get(command, names, true),
+            Want::Delete(_, name) => is_delete(command, name),
+            Want::Incr(_, name, delta) => is_incr(command, name, *delta),
+            Want::Decr(_, name, delta) => is_decr(command, name, *delta),
+            Want::Flush(_) => matches!(command, Command::Flush),
             _ => false,
         }
     }
+}
+
+fn is_store(command: &Command, wanted: Verb, name: &str, number: u32, text: &str) -> bool {
+    match command {
+        Command::Store {
+            verb,
+            key,
+            flags,
+            block,
+        } => *verb == wanted && *flags == number && is_item(key, name, block, text),
+        _ => false,
+    }
+}
+
+fn is_cas(command: &Command, name: &str, number: u32, text: &str, seen: u64) -> bool {
+    match command {
+        Command::Cas {
+            key,
+            flags,
+            block,
+            unique,
+        } => *unique == seen && *flags == number && is_item(key, name, block, text),
+        _ => false,
+    }
+}
+
+fn is_get(command: &Command, names: &str, shows: bool) -> bool {
+    match command {
+        Command::Get { keys, uniques } => *uniques == shows && are_keys(keys, names),
+        _ => false,
+    }
+}
+
+fn is_delete(command: &Command, name: &str) -> bool {
+    match command {
+        Command::Delete { key } => is_key(key, name),
+        _ => false,
+    }
+}
+
+fn is_incr(command: &Command, name: &str, delta: u64) -> bool {
+    match command {
+        Command::Incr { key, by } => *by == delta && is_key(key, name),
+        _ => false,
+    }
+}
+
+fn is_decr(command: &Command, name: &str, delta: u64) -> bool {
+    match command {
+        Command::Decr { key, by } => *by == delta && is_key(key, name),
+        _ => false,
+    }
+}
+
+fn is_item(key: &Key, name: &str, block: &Data, text: &str) -> bool {
+    is_key(key, name) && block.as_bytes() == text.as_bytes()
 }
 
 fn is_key(key: &Key, name: &str) -> bool {
@@ -132,6 +152,38 @@ fn are_keys(keys: &KeyList, names: &str) -> bool {
             .zip(names.split(' '))
             .all(|(key, name)| is_key(key, name))
 }
+
+/// A stream under its name, and the requests that it reads as.
+#[derive(Clone, Copy)]
+struct Case<'a>(&'a str, &'a str, &'a [Want<'a>]);
+
+const NO_COMMAND: Want<'static> = Want::Refusal(ANSWERED, WireNo::E1);
+
+const BAD_LINE: Want<'static> = Want::Refusal(ANSWERED, WireNo::E2);
+
+const BAD_CHUNK: Want<'static> = Want::Refusal(ANSWERED, WireNo::E3);
+
+const EXPIRY: Want<'static> = Want::Refusal(ANSWERED, WireNo::E4);
+
+const QUIET_EXPIRY: Want<'static> = Want::Refusal(QUIET, WireNo::E4);
+
+const TOO_LARGE: Want<'static> = Want::Refusal(ANSWERED, WireNo::E6);
+
+const BAD_DELTA: Want<'static> = Want::Refusal(ANSWERED, WireNo::E9);
+
+const VERSION: Want<'static> = Want::Version;
+
+const GET_A: Want<'static> = Want::Get("a");
+
+const GETS_A: Want<'static> = Want::Gets("a");
+
+const GETS_A_B: Want<'static> = Want::Gets("a b");
+
+const GETS_N: Want<'static> = Want::Gets("n");
+
+const SET_A: Want<'static> = Want::Store(ANSWERED, Verb::Set, "a", 0, "x");
+
+const SET_B: Want<'static> = Want::Store(ANSWERED, Verb::Set, "b", 0, "y");
 
 /// Feeds a piece, once more where that fails.
 fn feed(reader: &mut Reader, piece: &[u8]) -> Result<(), Fault> {
@@ -149,111 +201,102 @@ fn next(reader: &mut Reader) -> Result<Option<Request>, Fault> {
     }
 }
 
-/// Feeds a piece and asks for requests until there is none. They are those wanted, from the one behind the first `done`.
-/// Gives how many have come then.
-fn read(
-    rt: &impl Abort,
-    reader: &mut Reader,
-    piece: &[u8],
-    wants: &[Want],
-    done: usize,
-) -> Result<usize, Fail> {
+impl Case<'_> {
+    /// How many of the requests wanted have come with this one behind the first `done`; the greatest number for good, once
+    /// another has come.
+    fn count(&self, done: usize, request: &Request) -> usize {
+        match self.2.get(done) {
+            Some(want) if want.is(request) => done + 1,
+            _ => usize::MAX,
+        }
+    }
+}
+
+/// Feeds a piece, asks for requests until there is none, and counts them.
+fn read(reader: &mut Reader, piece: &[u8], case: &Case, done: usize) -> Result<usize, Fault> {
     feed(reader, piece)?;
     let mut done = done;
     for _ in 0..u64::MAX {
-        let Some(request) = next(reader)? else {
-            break;
-        };
-        let want = wants.get(done).ok_or("a request too many")?;
-        assert!(rt; want.is(&request), "{request:?} is not {want:?}");
-        done += 1;
+        match next(reader)? {
+            Some(request) => done = case.count(done, &request),
+            None => break,
+        }
     }
     Ok(done)
 }
 
-/// The stream in pieces of this size reads as the requests wanted.
+/// Reads the stream in a first piece of `first` bytes and further pieces of `size`.
+fn read_pieces(reader: &mut Reader, case: &Case, first: usize, size: usize) -> Result<usize, Fault>
+    requires { 0 < size }
+{
+    let text = case.1.as_bytes();
+    let (front, others) = text.split_at(first.min(text.len()));
+    let mut done = read(reader, front, case, 0)?;
+    for piece in others.chunks(size) {
+        done = read(reader, piece, case, done)?;
+    }
+    Ok(done)
+}
+
+/// The stream in such pieces reads as the requests of its case.
 fn check_pieces(
     rt: &(impl AllocGlobal + Abort),
-    text: &[u8],
+    case: &Case,
+    first: usize,
     size: usize,
-    wants: &[Want],
 ) -> Result<(), Fail>
     requires { 0 < size }
 {
     let mut reader = Reader::new(rt.alloc());
-    let mut done = 0;
-    for piece in text.chunks(size) {
-        done = read(rt, &mut reader, piece, wants, done)?;
-    }
-    assert_eq!(rt; done, wants.len(), "in pieces of {size}");
+    let done = read_pieces(&mut reader, case, first, size)?;
+    let Case(name, _, wants) = case;
+    assert!(rt;
+        done == wants.len(),
+        "{name}: {first} bytes, then {size} a piece"
+    );
     Ok(())
 }
 
-/// The stream in two pieces, the first of `cut` bytes, reads as the requests wanted.
-fn check_cut(
+/// The stream reads as the requests of the case, cut in two at each place from one to another.
+fn check_cuts(
     rt: &(impl AllocGlobal + Abort),
-    text: &[u8],
-    cut: usize,
-    wants: &[Want],
-) -> Result<(), Fail>
-    requires { cut ≤ length text.now }
-{
-    let mut reader = Reader::new(rt.alloc());
-    let (front, back) = text.split_at(cut);
-    let done = read(rt, &mut reader, front, wants, 0)?;
-    let done = read(rt, &mut reader, back, wants, done)?;
-    assert_eq!(rt; done, wants.len(), "cut after {cut}");
-    Ok(())
-}
-
-/// The stream reads as the requests wanted, whole, byte by byte, and cut in two at every place.
-fn check(rt: &(impl AllocGlobal + Abort), text: &[u8], wants: &[Want]) -> Result<(), Fail> {
-    check_pieces(rt, text, 1, wants)?;
-    for cut in 0..=text.len() {
-        check_cut(rt, text, cut, wants)?;
+    case: &Case,
+    from: usize,
+    to: usize,
+) -> Result<(), Fail> {
+    for cut in from..=to {
+        check_pieces(rt, case, cut, usize::MAX)?;
     }
     Ok(())
 }
 
-/// A stream, and the requests that it reads as.
-#[derive(Clone, Copy)]
-struct Case<'a>(&'a str, &'a [Want<'a>]);
-
-const NO_COMMAND: Want<'static> = Want::Refusal(ANSWERED, WireNo::E1);
-
-const BAD_LINE: Want<'static> = Want::Refusal(ANSWERED, WireNo::E2);
-
-const BAD_CHUNK: Want<'static> = Want::Refusal(ANSWERED, WireNo::E3);
-
-const EXPIRY: Want<'static> = Want::Refusal(ANSWERED, WireNo::E4);
-
-const BAD_DELTA: Want<'static> = Want::Refusal(ANSWERED, WireNo::E9);
-
-const VERSION: Want<'static> = Want::Version;
-
-const GET_A: Want<'static> = Want::Get("a");
-
-const GETS_A: Want<'static> = Want::Gets("a");
-
-const GETS_N: Want<'static> = Want::Gets("n");
-
-const SET_A: Want<'static> = Want::Store(ANSWERED, Verb::Set, "a", 0, "x");
-
+/// Each stream reads as the requests of its case, byte by byte, and cut in two at every place, its end among them.
 fn check_all(rt: &(impl AllocGlobal + Abort), cases: &[Case]) -> Result<(), Fail> {
-    for Case(text, wants) in cases {
-        check(rt, text.as_bytes(), wants)?;
+    for case in cases {
+        check_pieces(rt, case, 0, 1)?;
+        check_cuts(rt, case, 0, case.1.len())?;
     }
     Ok(())
 }
 
 #[test]
-fn blocks_and_what_follows_them(rt: HostRuntime) -> Result<(), Fail> {
+fn worked_rows_of_few_commands(rt: HostRuntime) -> Result<(), Fail> {
     let cases = [
         Case(
+            "set-then-get",
             "set a 5 0 3\r\nabc\r\nget a\r\n",
             &[Want::Store(ANSWERED, Verb::Set, "a", 5, "abc"), GET_A],
         ),
         Case(
+            "gets-shows-unique",
+            "set e 0 0 0\r\n\r\ngets e x\r\n",
+            &[
+                Want::Store(ANSWERED, Verb::Set, "e", 0, ""),
+                Want::Gets("e x"),
+            ],
+        ),
+        Case(
+            "block-holds-line-ends",
             "set k 0 0 7\r\n\r\nEND\r\n\r\nget k\r\n",
             &[
                 Want::Store(ANSWERED, Verb::Set, "k", 0, "\r\nEND\r\n"),
@@ -261,86 +304,62 @@ fn blocks_and_what_follows_them(rt: HostRuntime) -> Result<(), Fail> {
             ],
         ),
         Case(
-            "set a 0 0 0\r\n\r\nget a\r\n",
-            &[Want::Store(ANSWERED, Verb::Set, "a", 0, ""), GET_A],
+            "bad-data-chunk",
+            "set a 0 0 2\r\nabcde\r\n",
+            &[BAD_CHUNK, NO_COMMAND],
         ),
-        Case("set a 0 0 2\r\nabcde\r\n", &[BAD_CHUNK, NO_COMMAND]),
         Case(
-            "set a 0 0 1 noreply\r\nxyz\r\n",
-            &[Want::Refusal(QUIET, WireNo::E3), NO_COMMAND],
+            "noreply-and-delete",
+            "set a 0 0 1\r\nx\r\nadd a 0 0 1 noreply\r\ny\r\ndelete a 0\r\ndelete a\r\n",
+            &[
+                SET_A,
+                Want::Store(QUIET, Verb::Add, "a", 0, "y"),
+                Want::Delete(ANSWERED, "a"),
+                Want::Delete(ANSWERED, "a"),
+            ],
         ),
-        Case("set a 0 60 3\r\nget\r\nget a\r\n", &[EXPIRY, GET_A]),
-        Case("set a 0 0 3\r\nab", &[]),
-        Case("set a 0 0 2147483645\r\nab\r\nget a\r\n", &[]),
+        Case("input-ends-inside-block", "set a 0 0 3\r\nab", &[]),
+        Case(
+            "noreply-on-a-bad-line",
+            "set a x 0 1 noreply\r\ny\r\nget a\r\n",
+            &[BAD_LINE, GET_A],
+        ),
+        Case(
+            "unreadable-length",
+            "set a 0 0 x\r\nabc\r\n",
+            &[BAD_LINE, NO_COMMAND],
+        ),
+        Case(
+            "unknown-lines-and-words",
+            "stats\r\n\r\nGET a\r\nget\r\nget  a \n",
+            &[NO_COMMAND, NO_COMMAND, NO_COMMAND, NO_COMMAND, GET_A],
+        ),
+        Case(
+            "quit-and-quiet-refusal",
+            "set a 0 9 1 noreply\r\nx\r\nversion\r\nquit\r\nversion\r\n",
+            &[QUIET_EXPIRY, VERSION, Want::Quit],
+        ),
+        Case(
+            "delete-flush-cas-words",
+            "delete a 1\r\nflush_all 5\r\nflush_all x\r\nflush_all noreply\r\ncas a 0 0 1 x\r\ny\r\nincr a\r\n",
+            &[
+                BAD_LINE,
+                EXPIRY,
+                BAD_LINE,
+                Want::Flush(QUIET),
+                BAD_LINE,
+                NO_COMMAND,
+            ],
+        ),
     ];
     check_all(&rt, &cases)
 }
 
 #[test]
-fn lines_that_name_a_block(rt: HostRuntime) -> Result<(), Fail> {
-    let cases = [
-        Case("set a x 0 1 noreply\r\ny\r\nget a\r\n", &[BAD_LINE, GET_A]),
-        Case("set a 0 0 x\r\nabc\r\n", &[BAD_LINE, NO_COMMAND]),
-        Case("set a 0 0 2147483646\r\nget a\r\n", &[BAD_LINE, GET_A]),
-        Case(
-            "set a 0 9 1 noreply\r\nx\r\nget a\r\n",
-            &[Want::Refusal(QUIET, WireNo::E4), GET_A],
-        ),
-        Case(
-            "set a 0 0 1 noreply\r\nx\r\n",
-            &[Want::Store(QUIET, Verb::Set, "a", 0, "x")],
-        ),
-        Case("set a 0 0 1 noreply x\r\nget a\r\n", &[NO_COMMAND, GET_A]),
-        Case("set a 0 0 1 norepl\r\nx\r\nget a\r\n", &[BAD_LINE, GET_A]),
-        Case(
-            "set a 0 -0 1\r\nx\r\nset a 0 -1 1\r\nx\r\nset a 0 - 1\r\nx\r\n",
-            &[SET_A, EXPIRY, BAD_LINE],
-        ),
-        Case(
-            "set a 4294967295 0 1\r\nx\r\nset a 4294967296 0 1\r\nx\r\nget a\r\n",
-            &[
-                Want::Store(ANSWERED, Verb::Set, "a", 4_294_967_295, "x"),
-                BAD_LINE,
-                GET_A,
-            ],
-        ),
-    ];
-    check_all(&rt, &cases)
-}
-
-#[test]
-fn the_other_storage_commands(rt: HostRuntime) -> Result<(), Fail> {
+fn worked_rows_of_changes(rt: HostRuntime) -> Result<(), Fail> {
     let cases = [
         Case(
-            "set p 4 0 2\r\nbc\r\nprepend p 9 0 1\r\na\r\nreplace q 0 0 1\r\nx\r\nadd p 0 0 1\r\nx\r\ngets p\r\n",
-            &[
-                Want::Store(ANSWERED, Verb::Set, "p", 4, "bc"),
-                Want::Store(ANSWERED, Verb::Prepend, "p", 9, "a"),
-                Want::Store(ANSWERED, Verb::Replace, "q", 0, "x"),
-                Want::Store(ANSWERED, Verb::Add, "p", 0, "x"),
-                Want::Gets("p"),
-            ],
-        ),
-        Case(
-            "set a 0 60 3\r\nget\r\nget a\r\nset a 7 0 1\r\nx\r\nappend a 9 60 1\r\ny\r\ngets a\r\n",
-            &[
-                EXPIRY,
-                GET_A,
-                Want::Store(ANSWERED, Verb::Set, "a", 7, "x"),
-                Want::Store(ANSWERED, Verb::Append, "a", 9, "y"),
-                GETS_A,
-            ],
-        ),
-        Case(
-            "prepend a 0 -7 1 noreply\r\ny\r\nappend a 0 x 1\r\ny\r\nadd a 0 1 1\r\ny\r\nreplace a 0 1 1\r\ny\r\n",
-            &[
-                Want::Store(QUIET, Verb::Prepend, "a", 0, "y"),
-                BAD_LINE,
-                EXPIRY,
-                EXPIRY,
-            ],
-        ),
-        Case(
+            "cas-outcomes",
             "set a 0 0 1\r\nx\r\ncas a 0 0 1 1\r\ny\r\ncas a 0 0 1 1\r\nz\r\ncas b 0 0 1 1\r\nw\r\ngets a\r\n",
             &[
                 SET_A,
@@ -351,18 +370,63 @@ fn the_other_storage_commands(rt: HostRuntime) -> Result<(), Fail> {
             ],
         ),
         Case(
-            "cas a 3 0 1 18446744073709551615 noreply\r\ny\r\ncas a 0 0 1 18446744073709551616\r\ny\r\nget a\r\n",
+            "arithmetic-wraps-and-stops-at-zero",
+            "set n 7 0 20\r\n18446744073709551615\r\nincr n 1\r\nset n 0 0 1\r\n5\r\ndecr n 9\r\nset n 0 0 2\r\n10\r\ndecr n 1\r\ngets n\r\n",
             &[
-                Want::Cas(QUIET, "a", 3, "y", 18_446_744_073_709_551_615),
-                BAD_LINE,
-                GET_A,
+                Want::Store(ANSWERED, Verb::Set, "n", 7, "18446744073709551615"),
+                Want::Incr(ANSWERED, "n", 1),
+                Want::Store(ANSWERED, Verb::Set, "n", 0, "5"),
+                Want::Decr(ANSWERED, "n", 9),
+                Want::Store(ANSWERED, Verb::Set, "n", 0, "10"),
+                Want::Decr(ANSWERED, "n", 1),
+                GETS_N,
             ],
         ),
         Case(
-            "cas a 0 0 1 noreply\r\ny\r\ncas a 0 0 1\r\ncas a 0 0 1 1 noreply x\r\ncas a 0 60 1 1\r\ny\r\nget a\r\n",
-            &[BAD_LINE, NO_COMMAND, NO_COMMAND, EXPIRY, GET_A],
+            "expiry-refused",
+            "set a 0 60 3\r\nget\r\nget a\r\nset a 7 0 1\r\nx\r\nappend a 9 60 1\r\ny\r\ngets a\r\n",
+            &[
+                EXPIRY,
+                GET_A,
+                Want::Store(ANSWERED, Verb::Set, "a", 7, "x"),
+                Want::Store(ANSWERED, Verb::Append, "a", 9, "y"),
+                GETS_A,
+            ],
         ),
         Case(
+            "arithmetic-refusals",
+            "set n 0 0 20\r\n18446744073709551616\r\nincr n 1\r\nincr n x\r\nincr m 1\r\n",
+            &[
+                Want::Store(ANSWERED, Verb::Set, "n", 0, "18446744073709551616"),
+                Want::Incr(ANSWERED, "n", 1),
+                BAD_DELTA,
+                Want::Incr(ANSWERED, "m", 1),
+            ],
+        ),
+        Case(
+            "flush-keeps-uniques",
+            "set a 0 0 1\r\nx\r\nflush_all 0\r\nappend a 0 0 1\r\ny\r\nset a 0 0 1\r\nz\r\ngets a a\r\n",
+            &[
+                SET_A,
+                Want::Flush(ANSWERED),
+                Want::Store(ANSWERED, Verb::Append, "a", 0, "y"),
+                Want::Store(ANSWERED, Verb::Set, "a", 0, "z"),
+                Want::Gets("a a"),
+            ],
+        ),
+        Case(
+            "prepend-replace-add",
+            "set p 4 0 2\r\nbc\r\nprepend p 9 0 1\r\na\r\nreplace q 0 0 1\r\nx\r\nadd p 0 0 1\r\nx\r\ngets p\r\n",
+            &[
+                Want::Store(ANSWERED, Verb::Set, "p", 4, "bc"),
+                Want::Store(ANSWERED, Verb::Prepend, "p", 9, "a"),
+                Want::Store(ANSWERED, Verb::Replace, "q", 0, "x"),
+                Want::Store(ANSWERED, Verb::Add, "p", 0, "x"),
+                Want::Gets("p"),
+            ],
+        ),
+        Case(
+            "fragments-joined",
             "set n 3 0 1\r\n1\r\nappend n 0 0 1\r\n0\r\nprepend n 0 0 1\r\n2\r\nincr n 5\r\nappend n 0 0 2\r\nab\r\ngets n\r\n",
             &[
                 Want::Store(ANSWERED, Verb::Set, "n", 3, "1"),
@@ -377,31 +441,28 @@ fn the_other_storage_commands(rt: HostRuntime) -> Result<(), Fail> {
     check_all(&rt, &cases)
 }
 
+/// The programs of these rows are given quotas, places or generations; the reader reads their input as any other.
 #[test]
-fn numbers_that_change(rt: HostRuntime) -> Result<(), Fail> {
+fn worked_rows_with_options(rt: HostRuntime) -> Result<(), Fail> {
     let cases = [
         Case(
-            "set n 7 0 20\r\n18446744073709551615\r\nincr n 1\r\nset n 0 0 1\r\n5\r\ndecr n 9\r\nset n 0 0 2\r\n10\r\ndecr n 1\r\ngets n\r\n",
+            "item-quota",
+            "set a 0 0 1\r\nx\r\ngets a\r\nset b 0 0 1\r\ny\r\nset a 0 0 1\r\nz\r\ngets a b\r\n",
             &[
-                Want::Store(ANSWERED, Verb::Set, "n", 7, "18446744073709551615"),
-                Want::Incr(ANSWERED, "n", 1),
-                Want::Store(ANSWERED, Verb::Set, "n", 0, "5"),
-                Want::Decr(ANSWERED, "n", 9),
-                Want::Store(ANSWERED, Verb::Set, "n", 0, "10"),
-                Want::Decr(ANSWERED, "n", 1),
-                GETS_N,
+                SET_A,
+                GETS_A,
+                SET_B,
+                Want::Store(ANSWERED, Verb::Set, "a", 0, "z"),
+                GETS_A_B,
             ],
         ),
         Case(
-            "set n 0 0 20\r\n18446744073709551616\r\nincr n 1\r\nincr n x\r\nincr m 1\r\n",
-            &[
-                Want::Store(ANSWERED, Verb::Set, "n", 0, "18446744073709551616"),
-                Want::Incr(ANSWERED, "n", 1),
-                BAD_DELTA,
-                Want::Incr(ANSWERED, "m", 1),
-            ],
+            "log-full",
+            "set a 0 0 1\r\nx\r\nset b 0 0 1\r\ny\r\nget a\r\nversion\r\n",
+            &[SET_A, SET_B, GET_A, VERSION],
         ),
         Case(
+            "byte-quota-on-arithmetic",
             "set n 0 0 1\r\n9\r\nincr n 1\r\ndecr n 1\r\n",
             &[
                 Want::Store(ANSWERED, Verb::Set, "n", 0, "9"),
@@ -410,6 +471,121 @@ fn numbers_that_change(rt: HostRuntime) -> Result<(), Fail> {
             ],
         ),
         Case(
+            "byte-quota",
+            "set ab 0 0 2\r\nxy\r\nset ab 0 0 3\r\nxyz\r\nreplace ab 0 0 1\r\nx\r\nset c 0 0 1\r\ny\r\ndelete ab\r\nset c 0 0 3\r\nyyy\r\ngets ab c\r\n",
+            &[
+                Want::Store(ANSWERED, Verb::Set, "ab", 0, "xy"),
+                Want::Store(ANSWERED, Verb::Set, "ab", 0, "xyz"),
+                Want::Store(ANSWERED, Verb::Replace, "ab", 0, "x"),
+                Want::Store(ANSWERED, Verb::Set, "c", 0, "y"),
+                Want::Delete(ANSWERED, "ab"),
+                Want::Store(ANSWERED, Verb::Set, "c", 0, "yyy"),
+                Want::Gets("ab c"),
+            ],
+        ),
+        Case(
+            "generations",
+            "set a 0 0 1\r\nx\r\nset b 0 0 1\r\ny\r\ngets a b\r\ncas a 0 0 1 1\r\nz\r\ngets a\r\nincr c 1\r\nget a\r\nversion\r\n",
+            &[
+                SET_A,
+                SET_B,
+                GETS_A_B,
+                Want::Cas(ANSWERED, "a", 0, "z", 1),
+                GETS_A,
+                Want::Incr(ANSWERED, "c", 1),
+                GET_A,
+                VERSION,
+            ],
+        ),
+    ];
+    check_all(&rt, &cases)
+}
+
+#[test]
+fn lines_that_name_a_block(rt: HostRuntime) -> Result<(), Fail> {
+    let cases = [
+        Case(
+            "empty-block",
+            "set a 0 0 0\r\n\r\nget a\r\n",
+            &[Want::Store(ANSWERED, Verb::Set, "a", 0, ""), GET_A],
+        ),
+        Case(
+            "quiet-bad-chunk",
+            "set a 0 0 1 noreply\r\nxyz\r\n",
+            &[Want::Refusal(QUIET, WireNo::E3), NO_COMMAND],
+        ),
+        Case(
+            "greatest-length",
+            "set a 0 0 2147483645\r\nab\r\nget a\r\n",
+            &[],
+        ),
+        Case(
+            "length-above-the-greatest",
+            "set a 0 0 2147483646\r\nget a\r\n",
+            &[BAD_LINE, GET_A],
+        ),
+        Case(
+            "quiet-set",
+            "set a 0 0 1 noreply\r\nx\r\n",
+            &[Want::Store(QUIET, Verb::Set, "a", 0, "x")],
+        ),
+        Case(
+            "words-behind-noreply",
+            "set a 0 0 1 noreply x\r\nget a\r\n",
+            &[NO_COMMAND, GET_A],
+        ),
+        Case(
+            "another-last-word",
+            "set a 0 0 1 norepl\r\nx\r\nget a\r\n",
+            &[BAD_LINE, GET_A],
+        ),
+        Case(
+            "negative-exptimes",
+            "set a 0 -0 1\r\nx\r\nset a 0 -1 1\r\nx\r\nset a 0 - 1\r\nx\r\n",
+            &[SET_A, EXPIRY, BAD_LINE],
+        ),
+        Case(
+            "greatest-flags",
+            "set a 4294967295 0 1\r\nx\r\nset a 4294967296 0 1\r\nx\r\nget a\r\n",
+            &[
+                Want::Store(ANSWERED, Verb::Set, "a", 4_294_967_295, "x"),
+                BAD_LINE,
+                GET_A,
+            ],
+        ),
+        Case(
+            "exptimes-of-other-verbs",
+            "prepend a 0 -7 1 noreply\r\ny\r\nappend a 0 x 1\r\ny\r\nadd a 0 1 1\r\ny\r\nreplace a 0 1 1\r\ny\r\n",
+            &[
+                Want::Store(QUIET, Verb::Prepend, "a", 0, "y"),
+                BAD_LINE,
+                EXPIRY,
+                EXPIRY,
+            ],
+        ),
+        Case(
+            "greatest-unique",
+            "cas a 3 0 1 18446744073709551615 noreply\r\ny\r\ncas a 0 0 1 18446744073709551616\r\ny\r\nget a\r\n",
+            &[
+                Want::Cas(QUIET, "a", 3, "y", 18_446_744_073_709_551_615),
+                BAD_LINE,
+                GET_A,
+            ],
+        ),
+        Case(
+            "words-of-cas",
+            "cas a 0 0 1 noreply\r\ny\r\ncas a 0 0 1\r\ncas a 0 0 1 1 noreply x\r\ncas a 0 60 1 1\r\ny\r\nget a\r\n",
+            &[BAD_LINE, NO_COMMAND, NO_COMMAND, EXPIRY, GET_A],
+        ),
+    ];
+    check_all(&rt, &cases)
+}
+
+#[test]
+fn lines_alone(rt: HostRuntime) -> Result<(), Fail> {
+    let cases = [
+        Case(
+            "greatest-delta",
             "incr n 18446744073709551615 noreply\r\ndecr n 18446744073709551616\r\ndecr n -1 noreply\r\n",
             &[
                 Want::Incr(QUIET, "n", 18_446_744_073_709_551_615),
@@ -418,6 +594,7 @@ fn numbers_that_change(rt: HostRuntime) -> Result<(), Fail> {
             ],
         ),
         Case(
+            "words-of-arithmetic",
             "incr n 1 x\r\nincr n x x\r\nincr \x01 x noreply\r\nincr n noreply\r\ndecr n\r\nincr n 1 noreply x\r\ndecr n 02\r\n",
             &[
                 BAD_LINE,
@@ -429,44 +606,8 @@ fn numbers_that_change(rt: HostRuntime) -> Result<(), Fail> {
                 Want::Decr(ANSWERED, "n", 2),
             ],
         ),
-    ];
-    check_all(&rt, &cases)
-}
-
-#[test]
-fn deletions_and_flushes(rt: HostRuntime) -> Result<(), Fail> {
-    let cases = [
         Case(
-            "set a 0 0 1\r\nx\r\nadd a 0 0 1 noreply\r\ny\r\ndelete a 0\r\ndelete a\r\n",
-            &[
-                SET_A,
-                Want::Store(QUIET, Verb::Add, "a", 0, "y"),
-                Want::Delete(ANSWERED, "a"),
-                Want::Delete(ANSWERED, "a"),
-            ],
-        ),
-        Case(
-            "delete a 1\r\nflush_all 5\r\nflush_all x\r\nflush_all noreply\r\ncas a 0 0 1 x\r\ny\r\nincr a\r\n",
-            &[
-                BAD_LINE,
-                EXPIRY,
-                BAD_LINE,
-                Want::Flush(QUIET),
-                BAD_LINE,
-                NO_COMMAND,
-            ],
-        ),
-        Case(
-            "set a 0 0 1\r\nx\r\nflush_all 0\r\nappend a 0 0 1\r\ny\r\nset a 0 0 1\r\nz\r\ngets a a\r\n",
-            &[
-                SET_A,
-                Want::Flush(ANSWERED),
-                Want::Store(ANSWERED, Verb::Append, "a", 0, "y"),
-                Want::Store(ANSWERED, Verb::Set, "a", 0, "z"),
-                Want::Gets("a a"),
-            ],
-        ),
-        Case(
+            "last-words-of-delete",
             "delete a noreply\r\ndelete a 0 noreply\r\ndelete a noreply 0\r\ndelete a 0 0\r\ndelete a 00\r\ndelete a 1 noreply\r\n",
             &[
                 Want::Delete(QUIET, "a"),
@@ -478,6 +619,7 @@ fn deletions_and_flushes(rt: HostRuntime) -> Result<(), Fail> {
             ],
         ),
         Case(
+            "keys-of-delete",
             "delete\r\ndelete a 0 noreply x\r\ndelete \x7f\r\ndelete noreply\r\n",
             &[
                 NO_COMMAND,
@@ -487,132 +629,149 @@ fn deletions_and_flushes(rt: HostRuntime) -> Result<(), Fail> {
             ],
         ),
         Case(
+            "words-of-flush",
             "flush_all\r\nflush_all -00 noreply\r\nflush_all 5 noreply\r\nflush_all noreply 0\r\nflush_all 0 0\r\nflush_all - noreply\r\nflush_all 0 noreply x\r\n",
             &[
                 Want::Flush(ANSWERED),
                 Want::Flush(QUIET),
-                Want::Refusal(QUIET, WireNo::E4),
+                QUIET_EXPIRY,
                 BAD_LINE,
                 BAD_LINE,
                 BAD_LINE,
                 NO_COMMAND,
             ],
         ),
-    ];
-    check_all(&rt, &cases)
-}
-
-#[test]
-fn lines_alone(rt: HostRuntime) -> Result<(), Fail> {
-    let cases = [
+        Case("key-named-twice", "get a b a\n", &[Want::Get("a b a")]),
         Case(
-            "stats\r\n\r\nGET a\r\nget\r\nget  a \n",
-            &[NO_COMMAND, NO_COMMAND, NO_COMMAND, NO_COMMAND, GET_A],
-        ),
-        Case("get a b a\n", &[Want::Get("a b a")]),
-        Case(
+            "unlawful-keys",
             "get a\x01b\r\nget a \x7f\r\nget a\r\r\nget a\tb\r\n",
             &[BAD_LINE, BAD_LINE, BAD_LINE, BAD_LINE],
         ),
         Case(
+            "keys-of-gets",
             "gets\r\ngets a \x1f b\r\ngets noreply\r\ngets  a b\r\n",
-            &[
-                NO_COMMAND,
-                BAD_LINE,
-                Want::Gets("noreply"),
-                Want::Gets("a b"),
-            ],
+            &[NO_COMMAND, BAD_LINE, Want::Gets("noreply"), GETS_A_B],
         ),
         Case(
-            "set e 0 0 0\r\n\r\ngets e x\r\n",
-            &[
-                Want::Store(ANSWERED, Verb::Set, "e", 0, ""),
-                Want::Gets("e x"),
-            ],
-        ),
-        Case(
+            "words-behind-version-and-quit",
             "version\r\nversion noreply\r\nquit now\r\n version \n",
             &[VERSION, NO_COMMAND, NO_COMMAND, VERSION],
         ),
         Case(
+            "unknown-names",
             "se a 0 0 1\r\nsets a 0 0 1\r\nflush\r\ntouch a 0\r\nmg a\r\n",
             &[NO_COMMAND, NO_COMMAND, NO_COMMAND, NO_COMMAND, NO_COMMAND],
         ),
-    ];
-    check_all(&rt, &cases)
-}
-
-#[test]
-fn nothing_is_read_after_quit(rt: HostRuntime) -> Result<(), Fail> {
-    let cases = [
         Case(
-            "set a 0 9 1 noreply\r\nx\r\nversion\r\nquit\r\nversion\r\n",
-            &[Want::Refusal(QUIET, WireNo::E4), VERSION, Want::Quit],
+            "nothing-is-read-after-quit",
+            "quit\nset a 0 0 1\r\nx\r\n",
+            &[Want::Quit],
         ),
-        Case("quit\nset a 0 0 1\r\nx\r\n", &[Want::Quit]),
     ];
     check_all(&rt, &cases)
 }
 
 #[test]
-fn keys_at_their_bound(rt: HostRuntime) -> Result<(), Fail> {
-    let name = format!(in rt.alloc(); "{:k<250}", "")?;
+fn key_of_250_bytes(rt: HostRuntime) -> Result<(), Fail> {
+    let name = "k".repeat(rt.alloc(), 250)?;
+    let name = name.as_str();
     let text = format!(in rt.alloc();
         "set {name} 0 0 1\r\nx\r\nset {name}k 0 0 1\r\ny\r\nget {name}\r\n"
     )?;
     let wants = [
-        Want::Store(ANSWERED, Verb::Set, name.as_str(), 0, "x"),
+        Want::Store(ANSWERED, Verb::Set, name, 0, "x"),
         BAD_LINE,
-        Want::Get(name.as_str()),
+        Want::Get(name),
     ];
-    check(&rt, text.as_bytes(), &wants)
+    check_all(&rt, &[Case("key-of-250-bytes", text.as_str(), &wants)])
 }
 
-#[test]
-fn blocks_at_their_bound(rt: HostRuntime) -> Result<(), Fail> {
-    let block = "z".repeat(rt.alloc(), 1_048_576)?;
-    let block = block.as_str();
-    let text = format!(in rt.alloc();
-        "set b 0 0 1048577\r\n{block}z\r\nset b 0 0 1048576\r\n{block}\r\n"
-    )?;
-    let wants = [
-        Want::Refusal(ANSWERED, WireNo::E6),
-        Want::Store(ANSWERED, Verb::Set, "b", 0, block),
-    ];
-    check_pieces(&rt, text.as_bytes(), 4_000_000, &wants)?;
-    check_pieces(&rt, text.as_bytes(), 16_384, &wants)
-}
-
-#[test]
-fn refused_block_takes_no_memory(rt: HostRuntime) -> Result<(), Fail> {
-    let piece = [b'z'; 1_024];
-    let mut reader = Reader::new(rt.alloc());
-    feed(&mut reader, b"set b 0 0 1048577\r\n")?;
-    assert!(rt; next(&mut reader)?.is_none());
-
-    // Fed once only: these calls take no memory, so none of them can fail.
-    for _ in 0..1_024 {
-        assert_eq!(rt; reader.feed(&piece), Ok(()));
-        assert!(rt; reader.next()?.is_none());
+/// The stream reads as the requests of its case, byte by byte, in two at each place of the spans and at 128 others, and cut at
+/// every place. To read two million bytes anew for each of them would take hours, so each place is a cut of one of 64
+/// readings, which have one at each 64th place.
+fn check_long(
+    rt: &(impl AllocGlobal + Abort),
+    case: &Case,
+    spans: &[(usize, usize)],
+    stride: u16,
+) -> Result<(), Fail> {
+    check_pieces(rt, case, 0, 1)?;
+    for first in 1..=64 {
+        check_pieces(rt, case, first, 64)?;
     }
-    let wants = [Want::Refusal(ANSWERED, WireNo::E6), GET_A];
-    assert_eq!(rt; read(&rt, &mut reader, b"z\r\nget a\r\n", &wants, 0)?, 2);
+    for (from, to) in spans {
+        check_cuts(rt, case, *from, *to)?;
+    }
+    let mut cut = 0;
+    for _ in 0..128 {
+        check_pieces(rt, case, cut, usize::MAX)?;
+        cut = cut.saturating_add(stride as usize);
+    }
     Ok(())
 }
 
 #[test]
-fn lines_at_their_bound(rt: HostRuntime) -> Result<(), Fail> {
-    let line = "a".repeat(rt.alloc(), 65_535)?;
-    let text = format!(in rt.alloc(); "{line}\r\n{line}a\r\nget a\r\n")?;
-    let wants = [NO_COMMAND, Want::TooLong];
-    check_pieces(&rt, text.as_bytes(), 1, &wants)?;
-    check_pieces(&rt, text.as_bytes(), 16_384, &wants)?;
-    check_pieces(&rt, text.as_bytes(), 200_000, &wants)?;
+fn object_too_large(rt: HostRuntime) -> Result<(), Fail> {
+    let block = "z".repeat(rt.alloc(), 1_048_576)?;
+    let block = block.as_str();
+    let text = format!(in rt.alloc();
+        "set b 0 0 1048577\r\n{block}z\r\nset b 0 0 1048576\r\n{block}\r\nappend b 0 0 1\r\nz\r\n"
+    )?;
+    let wants = [
+        TOO_LARGE,
+        Want::Store(ANSWERED, Verb::Set, "b", 0, block),
+        Want::Store(ANSWERED, Verb::Append, "b", 0, "z"),
+    ];
+    let spans = [(0, 24), (1_048_592, 1_048_620), (2_097_190, 2_097_214)];
+    let case = Case("object-too-large", text.as_str(), &wants);
+    check_long(&rt, &case, &spans, 16_381)
+}
 
-    // After the end whatever comes is dropped.
+#[test]
+fn longest_line(rt: HostRuntime) -> Result<(), Fail> {
+    let line = "a".repeat(rt.alloc(), 65_535)?;
+    let text = format!(in rt.alloc(); "{line}\r\n{line}a\r\nversion\r\n")?;
+    let spans = [(0, 20), (65_525, 65_545), (131_060, 131_084)];
+    let case = Case("longest-line", text.as_str(), &[NO_COMMAND, Want::TooLong]);
+    check_long(&rt, &case, &spans, 1_021)
+}
+
+/// Feeds a piece, once only. Whether no request has come then.
+fn brings_nothing(reader: &mut Reader, piece: &[u8]) -> Result<bool, Fault> {
+    reader.feed(piece)?;
+    Ok(reader.next()?.is_none())
+}
+
+/// Whether 1 MiB brings nothing, piece by piece.
+fn is_swallowed(reader: &mut Reader) -> Result<bool, Fault> {
+    let piece = [b'z'; 1_024];
+    for _ in 0..1_024 {
+        if !brings_nothing(reader, &piece)? {
+            return Ok(false);
+        }
+    }
+    Ok(true)
+}
+
+/// The bytes of the block are fed once only: these calls take no memory, so none of them can fail.
+#[test]
+fn refused_block_takes_no_memory(rt: HostRuntime) -> Result<(), Fail> {
+    let case = Case("refused-block", "z\r\nget a\r\n", &[TOO_LARGE, GET_A]);
     let mut reader = Reader::new(rt.alloc());
-    assert_eq!(rt; read(&rt, &mut reader, text.as_bytes(), &wants, 0)?, 2);
-    assert_eq!(rt; reader.feed(b"get a\r\n"), Ok(()));
-    assert!(rt; reader.next()?.is_none());
+    let line = read(&mut reader, "set b 0 0 1048577\r\n".as_bytes(), &case, 0)?;
+    let is_swallowed = is_swallowed(&mut reader)?;
+    let done = read(&mut reader, case.1.as_bytes(), &case, line)?;
+    assert!(rt; line == 0 && is_swallowed && done == 2);
+    Ok(())
+}
+
+/// After the end whatever comes is dropped, and takes no memory.
+#[test]
+fn nothing_is_kept_after_the_end(rt: HostRuntime) -> Result<(), Fail> {
+    let case = Case("quit", "quit\r\n", &[Want::Quit]);
+    let mut reader = Reader::new(rt.alloc());
+    let done = read(&mut reader, case.1.as_bytes(), &case, 0)?;
+    let is_dropped = brings_nothing(&mut reader, "get a\r\n".as_bytes())?;
+    assert!(rt; done == 1 && is_dropped);
     Ok(())
 }
