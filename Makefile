@@ -22,6 +22,7 @@ memory: kit
 
 bench: kit
 	@bench/stdin.sh
+	@python3 bench/items.py
 	@bench/reader.sh
 
 # A clear word where the kit is missing, in place of the shell's.

@@ -1,9 +1,10 @@
 #!/usr/bin/env python3
-"""Runs mc_stdin over a stream of every command, each allocation refused in turn.
+"""Runs mc_stdin over a stream of every command, each allocation refused in turn, alone and with all later ones.
 
 A run ends well, with all replies; or it writes the first of them, whole and in order, then "SERVER_ERROR out of memory", tells
-the fault on standard error and ends with status 1; or it ends with status 1 and no reply, before it has read anything. All
-requests come in one piece, and in a second pass each once the one before is answered. Needs gcc. Prints how the runs ended,
+the fault on standard error and ends with status 1; or it ends with status 1 and no reply, while it reads its words. From the
+first allocation of its opening on, which reserves the history and is the first large one, the client has to be told. All
+requests come in one piece, and in other passes each once the one before is answered. Needs gcc. Prints how the runs ended,
 and fails at any other end.
 """
 
@@ -14,6 +15,8 @@ import sys
 import tempfile
 
 PROGRAM = "crates/mc_stdin/out/mc_stdin"
+WORDS = ["--items", "2", "--bytes", "3100"]
+QUOTA = b"SERVER_ERROR out of memory storing object\r\n"
 REFUSAL = b"SERVER_ERROR out of memory\r\n"
 FAULT = b"mc_stdin: out of memory\n"
 
@@ -34,6 +37,14 @@ EXCHANGE = [
     (b"decr b 6\r\n", b"9\r\n"),
     (b"incr a 1\r\n", b"CLIENT_ERROR cannot increment or decrement non-numeric value\r\n"),
     (b"incr b x\r\n", b"CLIENT_ERROR invalid numeric delta argument\r\n"),
+    (b"set c 0 0 1\r\nx\r\n", QUOTA),
+    (b"add c 0 0 1\r\nx\r\n", QUOTA),
+    (b"append a 0 0 3095\r\n" + 3095 * b"z" + b"\r\n", QUOTA),
+    (b"cas a 0 0 3098 7\r\n" + 3098 * b"z" + b"\r\n", b"EXISTS\r\n"),
+    (b"cas a 0 0 3098 5\r\n" + 3098 * b"z" + b"\r\n", QUOTA),
+    (b"set a 0 0 3097\r\n" + 3097 * b"n" + b"\r\n", b"STORED\r\n"),
+    (b"incr b 1\r\n", QUOTA),
+    (b"gets b\r\n", b"VALUE b 0 1 7\r\n9\r\nEND\r\n"),
     (b"set a 0 1 3\r\nget\r\n", b"CLIENT_ERROR expiry is not supported\r\n"),
     (b"set a 0 0 1 noreply\r\ny\r\n", b""),
     (b"delete a\r\n", b"DELETED\r\n"),
@@ -52,7 +63,7 @@ def at_once(preload, **variables):
     """All requests in one piece: status, replies and standard error."""
     environment = dict(os.environ, LD_PRELOAD=preload, **variables)
     stream = b"".join(request for request, _ in EXCHANGE)
-    ended = subprocess.run([PROGRAM], input=stream, capture_output=True, env=environment, timeout=60)
+    ended = subprocess.run([PROGRAM, *WORDS], input=stream, capture_output=True, env=environment, timeout=60)
     return ended.returncode, ended.stdout, ended.stderr
 
 
@@ -61,7 +72,12 @@ def by_turns(preload, **variables):
     environment = dict(os.environ, LD_PRELOAD=preload, **variables)
     replies = b""
     with subprocess.Popen(
-        [PROGRAM], stdin=subprocess.PIPE, stdout=subprocess.PIPE, stderr=subprocess.PIPE, env=environment, bufsize=0
+        [PROGRAM, *WORDS],
+        stdin=subprocess.PIPE,
+        stdout=subprocess.PIPE,
+        stderr=subprocess.PIPE,
+        env=environment,
+        bufsize=0,
     ) as program:
         for request, reply in EXCHANGE:
             try:
@@ -93,10 +109,12 @@ def fronts():
 def judge(status, replies, errors, starts):
     if (status, replies, errors) == (0, b"".join(reply for _, reply in EXCHANGE), b""):
         return "well"
+    if status == 1 and errors == FAULT and replies == REFUSAL:
+        return "told before any reply"
     if status == 1 and errors == FAULT and replies.endswith(REFUSAL) and replies[: -len(REFUSAL)] in starts:
-        return "told"
+        return "told behind replies"
     if status == 1 and replies == b"":
-        return "before anything was read"
+        return "at the words"
     sys.exit(f"another end: {status}, {replies[-200:]!r}, {errors!r}")
 
 
@@ -109,11 +127,14 @@ def main():
         preload = os.path.join(folder, "refuse.so")
         subprocess.run(["gcc", "-shared", "-fPIC", "-O1", "-o", preload, "tests/refuse.c", "-ldl"], check=True)
         for name, run in (("at once", at_once), ("by turns", by_turns)):
-            count = int(run(preload, COUNTED="1")[2])
-            ends = [judge(*run(preload, REFUSED=str(number)), starts) for number in range(1, count + 2)]
-            print(f"{name}: " + ", ".join(f"{ends.count(end)} {end}" for end in sorted(set(ends))))
-            if "told" not in ends or ends[-1] != "well":
-                sys.exit("no run met want of memory while it served, or the last one didn't end well")
+            count, opening = map(int, run(preload, COUNTED="1")[2].split())
+            for which, more in (("one", {}), ("all from one on", {"ONWARD": "1"})):
+                ends = [judge(*run(preload, REFUSED=str(number), **more), starts) for number in range(1, count + 2)]
+                print(f"{name}, {which} refused: " + ", ".join(f"{ends.count(end)} {end}" for end in sorted(set(ends))))
+                if ends[opening - 1] != "told before any reply" or "at the words" in ends[opening - 1 :]:
+                    sys.exit("the client wasn't told of want of memory at the opening or behind it")
+                if "told behind replies" not in ends or ends[-1] != "well":
+                    sys.exit("no run met want of memory while it served, or the last one didn't end well")
 
 
 main()

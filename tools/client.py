@@ -1,12 +1,13 @@
 """Speaks to a memcached server as a program would: by pymemcache, a client library of Debian's.
 
-Usage: client.py PORT. Each call's answer is held against what memcached's protocol document says of the command.
+Usage: client.py PORT [PORT OF A TABLE FOR ONE ITEM]. Each call's answer is held against what memcached's protocol document says
+of the command. The second server has to refuse a second item, where memcached would drop the first.
 """
 
 import sys
 
 from pymemcache.client.base import Client
-from pymemcache.exceptions import MemcacheError
+from pymemcache.exceptions import MemcacheError, MemcacheServerError
 
 tried = 0
 
@@ -66,3 +67,14 @@ except MemcacheError:
 print("version", client.version().decode())
 client.quit()
 print(f"{tried} calls answered as memcached answers them")
+
+if len(sys.argv) > 2:
+    client = Client(("127.0.0.1", int(sys.argv[2])), default_noreply=False, connect_timeout=5, timeout=5)
+    expect("set within the quota", client.set("a", "1"), True)
+    expect("set of the same key", client.set("a", "2"), True)
+    try:
+        client.set("b", "3")
+        sys.exit("set above the quota: no error")
+    except MemcacheServerError as error:
+        expect("set above the quota", error.args[0], b"out of memory storing object")
+    print("an item above the quota is refused")

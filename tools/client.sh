@@ -16,18 +16,25 @@ if [ -n "$missing" ]; then
     fi
 fi
 
-port=${1:-}
-if [ -z "$port" ]; then
-    program=crates/mc_stdin/out/mc_stdin
-    [ -x "$program" ] || { echo "$program isn't built: make run" >&2; exit 1; }
-    port=11311
-    # Each connection gets an mc_stdin, and so a table, of its own.
-    socat "TCP-LISTEN:$port,bind=127.0.0.1,reuseaddr,fork" "EXEC:$program" &
-    relay=$!
-    trap 'kill $relay' EXIT
+# A relay on this port: each connection gets an mc_stdin with these words, and so a table, of its own.
+relays=
+relay() {
+    port=$1
+    socat "TCP-LISTEN:$port,bind=127.0.0.1,reuseaddr,fork" "EXEC:$program${2:+ $2}" &
+    relays="$relays $!"
     for _ in $(seq 50); do
         (exec 3<>"/dev/tcp/127.0.0.1/$port") 2>/dev/null && break
         sleep 0.1
     done
+}
+
+if [ $# -gt 0 ]; then
+    /usr/bin/python3 tools/client.py "$1"
+else
+    program=crates/mc_stdin/out/mc_stdin
+    [ -x "$program" ] || { echo "$program isn't built: make run" >&2; exit 1; }
+    trap 'kill $relays' EXIT
+    relay 11311
+    relay 11312 "--items 1"
+    /usr/bin/python3 tools/client.py 11311 11312
 fi
-/usr/bin/python3 tools/client.py "$port"

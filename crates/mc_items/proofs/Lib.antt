@@ -1,2 +1,3 @@
-pub mod Scans
+pub mod Maps
+pub mod Quotas
 pub mod Stands

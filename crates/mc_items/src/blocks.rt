@@ -1,6 +1,7 @@
 //! Data that commands make of data: joined blocks, and numbers in decimal digits.
-ghost use Rattle.std.specs.Prelude.{◌≡◌, ◌++◌, ◌≤◌, length, nat_le, decimal, if◌then◌else◌, IfOk, OnErr, IsOkUnless};
+ghost use Rattle.std.specs.Prelude.{◌≡◌, ◌++◌, ◌≤◌, length, decimal, IfOk, IsOkUnless};
 ghost use Rattle.mc_model.specs.Number.{numeric_value};
+ghost use Rattle.mc_model.specs.declared.item.TheConstants.{DATA_BYTES};
 
 use itoa::Buffer;
 use mc_model::item::DATA_BYTES;
@@ -10,22 +11,17 @@ use std::alloc::Global;
 /// How many bytes a number in data may have.
 const NUMBER_BYTES: usize = 20;
 
-/// One block after another, or `None` where they are too long together, which takes no memory.
-pub(crate) fn joined(alloc: Global, front: &Data, back: &Data) -> Result<Option<Data>, Fault>
-    ensures joined { IfOk result (λ joined.
-        joined ≡ (if nat_le (length (front.now ++ back.now)) DATA_BYTES then Some (front.now ++ back.now) else None)) }
+/// One block after another.
+pub(crate) fn joined(alloc: Global, front: &Data, back: &Data) -> Result<Data, Fault>
+    requires { length (front.now ++ back.now) ≤ DATA_BYTES }
+    ensures joined { IfOk result (λ joined. joined ≡ front.now ++ back.now) }
     ensures memory { IsOkUnless result Fault.Memory }
-    ensures few { OnErr result (length (front.now ++ back.now) ≤ DATA_BYTES) }
 {
     let (front, back) = (front.as_bytes(), back.as_bytes());
-    let len = front.len() + back.len();
-    if len > DATA_BYTES {
-        return Ok(None);
-    }
-    let mut bytes = Vec::with_capacity(alloc, len)?;
+    let mut bytes = Vec::with_capacity(alloc, front.len() + back.len())?;
     bytes.extend_from_slice(front)?;
     bytes.extend_from_slice(back)?;
-    Ok(Data::new(bytes))
+    Ok(Data::new(bytes).unwrap())
 }
 
 /// The number that data spell, or `None` where they aren't numeric.
@@ -48,4 +44,13 @@ pub(crate) fn digits_of(alloc: Global, number: u64) -> Result<Data, Fault>
     let mut buffer = Buffer::new();
     let digits = Vec::from_slice(alloc, buffer.format(number).as_bytes())?;
     Ok(Data::new(digits).unwrap())
+}
+
+/// How many digits a number has, without leading zeros.
+pub(crate) fn count_of_digits(number: u64) -> usize
+    ensures count { result ≡ length (decimal number) }
+    ensures few { result ≤ 20 }
+{
+    let mut buffer = Buffer::new();
+    buffer.format(number).len()
 }

@@ -1,55 +1,93 @@
-//! The list of keys and items that a table is kept in, in no order that matters.
-ghost use Rattle.std.specs.Cmp.Lexicographic.{pointwise};
+//! The ordered map of keys and items that a table is kept in.
 ghost use Rattle.std.specs.FinMap as map;
-ghost use Rattle.std.specs.List.{filter_map, position};
+ghost use Rattle.std.specs.List.{filter_map};
 ghost use Rattle.std.specs.Option.{option_copied};
-ghost use Rattle.std.specs.Prelude.{◌≡◌, nat_eq, IfOk, OnOk, OnErr, IsOkUnless};
+ghost use Rattle.std.specs.Prelude.{◌≡◌, ◌+◌, ◌≤◌, length, IfNone, IfOk, OnOk, OnErr, IsOkUnless};
 ghost use Rattle.mc_model.specs.Effect.{shown_at};
+ghost use Rattle.mc_model.specs.Use.{weight_of};
+ghost use Rattle.mc_model.specs.declared.item.TheConstants.{DATA_BYTES};
 ghost use Rattle.mc_items.specs.Held.{table_of_held};
 
 use mc_model::{Fault, Item, Key, Value};
 use std::alloc::Global;
-
-/// Where the key stands, at its first place.
-fn place_of(held: &[(Key, Item)], key: &Key) -> Option<usize>
-    ensures { result ≡ position (λ entry. pointwise nat_eq entry.0 key.now) held.now }
-{
-    held.iter().position(|(held_key, _)| held_key == key)
-}
+use std::collections::BTreeMap;
+use std::mem;
 
 /// The item under a key.
-pub(crate) fn item_under<'a>(held: &'a [(Key, Item)], key: &Key) -> Option<&'a Item>
+pub(crate) fn item_under<'a>(held: &'a BTreeMap<Key, Item>, key: &Key) -> Option<&'a Item>
     ensures { option_copied result ≡ map.get (table_of_held held.now) key.now }
 {
-    let place = place_of(held, key)?;
-    Some(&held[place].1)
+    held.get(key)
 }
 
-/// Puts an item under a key, over what the key held. Only a key that isn't held takes memory.
-pub(crate) fn put(held: &mut Vec<(Key, Item)>, key: &Key, item: Item) -> Result<(), Fault>
-    ensures table { OnOk result
-        (table_of_held held.new.items ≡ map.insert (table_of_held held.old.items) key.now item) }
+/// Puts an item under a key, and gives back what the key held. Only a key that isn't held takes memory.
+pub(crate) fn put(
+    held: &mut BTreeMap<Key, Item>,
+    key: &Key,
+    item: Item,
+) -> Result<Option<Item>, Fault>
+    ensures old { IfOk result (λ old. old ≡ map.get (table_of_held held.old) key.now) }
+    ensures table { OnOk result (table_of_held held.new ≡ map.insert (table_of_held held.old) key.now item) }
     ensures memory { IsOkUnless result Fault.Memory }
-    ensures unchanged { OnErr result (held.new.items ≡ held.old.items) }
+    ensures unchanged { OnErr result (held.new.entries ≡ held.old.entries) }
 {
-    match place_of(held.as_slice(), key) {
-        Some(place) => held[place].1 = item,
-        None => held.push((key.try_clone()?, item))?,
+    if let Some(place) = held.get_mut(key) {
+        return Ok(Some(mem::replace(place, item)));
     }
-    Ok(())
+    Ok(held.insert(key.try_clone()?, item)?)
 }
 
-/// Takes a key out with what it held.
-pub(crate) fn take_out(held: &mut Vec<(Key, Item)>, key: &Key)
-    ensures { table_of_held held.new.items ≡ map.remove (table_of_held held.old.items) key.now }
+/// Takes a key out, and gives back what it held.
+pub(crate) fn take_out(held: &mut BTreeMap<Key, Item>, key: &Key) -> Option<Item>
+    ensures old { result ≡ map.get (table_of_held held.old) key.now }
+    ensures table { table_of_held held.new ≡ map.remove (table_of_held held.old) key.now }
+    ensures unchanged { IfNone result (held.new.entries ≡ held.old.entries) }
 {
-    held.retain(|(held_key, _)| held_key != key);
+    held.remove(key)
+}
+
+/// How many bytes a key has with a block of this length.
+pub(crate) fn weight_with(key: &Key, len: usize) -> u64
+    requires { len ≤ DATA_BYTES }
+    ensures { result ≡ length key.now + len }
+{
+    (key.as_bytes().len() + len) as u64
+}
+
+/// How many bytes a key has with what it holds; 0 where it isn't held.
+pub(crate) fn weight_under(key: &Key, item: Option<&Item>) -> u64
+    ensures { result ≡ weight_of key.now (option_copied item.entry) }
+{
+    match item {
+        Some(item) => weight_with(key, item.block.as_bytes().len()),
+        None => 0,
+    }
+}
+
+/// The same keys and items in memory of their own.
+pub(crate) fn copy_of(
+    alloc: Global,
+    held: &BTreeMap<Key, Item>,
+) -> Result<BTreeMap<Key, Item>, Fault>
+    ensures same { IfOk result (λ copy. copy.entries ≡ held.now.entries) }
+    ensures memory { IsOkUnless result Fault.Memory }
+{
+    let mut copy = BTreeMap::new(alloc);
+    for (key, original) in held {
+        let item = Item {
+            flags: original.flags,
+            block: original.block.try_clone()?,
+            unique: original.unique,
+        };
+        copy.insert(key.try_clone()?, item)?;
+    }
+    Ok(copy)
 }
 
 /// What a retrieval shows of these keys, in their order; nothing of a key that isn't held.
 pub(crate) fn shown_values(
     alloc: Global,
-    held: &[(Key, Item)],
+    held: &BTreeMap<Key, Item>,
     keys: &[Key],
     uniques: bool,
 ) -> Result<Vec<Value>, Fault>

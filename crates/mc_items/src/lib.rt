@@ -3,45 +3,53 @@
 
 ghost use Rattle.std.specs.FinMap as map;
 ghost use Rattle.std.specs.Option.{option_copied};
-ghost use Rattle.std.specs.Prelude.{◌≡◌, ◌+◌, ◌-◌, ◌^◌, ◌<◌, true, false, if◌then◌else◌, List, [], ◌∷◌, ◌++◌, IfOk, OnOk, OnErr, decimal, IsOk, IsOkUnless};
+ghost use Rattle.std.specs.Prelude.{◌≡◌, ℕ, ◌+◌, ◌-◌, ◌^◌, ◌<◌, ◌≤◌, true, false, if◌then◌else◌, List, [], ◌∷◌, ◌++◌, length, IfOk, OnOk, OnErr, decimal, IsOk, IsOkUnless};
 ghost use Rattle.mc_model.specs.declared.command.Command.{Command};
 ghost use Rattle.mc_model.specs.declared.command.Command.TheVariants.{Store, Cas, Delete, Incr, Decr};
+ghost use Rattle.mc_model.specs.declared.item.Item.{Item};
+ghost use Rattle.mc_model.specs.declared.item.TheConstants.{DATA_BYTES};
 ghost use Rattle.mc_model.specs.declared.reply.Reply.TheVariants.{Number, Stored};
 ghost use Rattle.mc_model.specs.Effect.{is_acceptance, is_refusal};
 ghost use Rattle.mc_model.specs.History.{StandsFor, answer, next_effect};
+ghost use Rattle.mc_model.specs.Table.{count_of, is_within, use_of};
 ghost use Rattle.mc_items.specs.Commands.{Reads, TakesOut};
-ghost use Rattle.mc_items.specs.TableState.{next_reply, next_state, with_item};
+ghost use Rattle.mc_items.specs.TableState.{allows, joined_or_refusal, next_reply, next_state, state_after, stored_in, with_item};
 
-use crate::blocks::{digits_of, joined, number_in};
-use crate::held::{item_under, put, shown_values, take_out};
+use crate::blocks::{count_of_digits, digits_of, joined, number_in};
+use crate::held::{copy_of, item_under, put, shown_values, take_out, weight_under, weight_with};
 pub use mc_model::Item;
+use mc_model::item::DATA_BYTES;
 use mc_model::{Command, Data, Fault, Key, Limits, Reply, ValueList, Verb, WireNo};
 use std::alloc::Global;
+use std::collections::BTreeMap;
 use std::marker::Model;
 
 mod blocks;
 mod held;
 
-/// A tenant's table as a list of its keys and items, in no order that matters.
+/// A tenant's table as an ordered map of its keys and items. It is within the tenant's quotas at all times.
 #[derive(Debug, Drop)]
 pub struct Items {
     alloc: Global,
-    /// The quotas, which no command looks at yet.
     limits: Limits,
-    held: Vec<(Key, Item)>,
+    held: BTreeMap<Key, Item>,
+    /// How many bytes the keys and the data have in sum.
+    used: u64,
     /// The unique of the latest change, and 0 before the first.
     last_unique: u64,
 }
 
 impl Model for Items {
     ghost use Rattle.mc_items.specs.TableState.{TableState, coded_state};
-    ghost use Rattle.mc_items.specs.Held.{table_of_held};
+    ghost use Rattle.mc_items.specs.Held.{IsWithin, table_of_held};
 
     ghost Value = { TableState };
 
     ghost coded = { coded_state };
 
-    ghost view = { λ s. record { limits = s.limits; table = table_of_held s.held.items; last_unique = s.last_unique } };
+    ghost view = { λ s. record { limits = s.limits; table = table_of_held s.held; last_unique = s.last_unique } };
+
+    ghost invariant = { λ s. IsWithin s.limits (table_of_held s.held) s.used };
 }
 
 impl Items {
@@ -50,12 +58,13 @@ impl Items {
         ensures limits { result.limits ≡ limits }
         ensures table { result.table ≡ map.empty }
         ensures unique { result.last_unique ≡ 0 }
-        ensures stands { StandsFor [] result.table result.last_unique }
+        ensures stands { StandsFor result.limits [] result.table result.last_unique }
     {
         Items {
             alloc,
             limits,
-            held: Vec::new(alloc),
+            held: BTreeMap::new(alloc),
+            used: 0,
             last_unique: 0,
         }
     }
@@ -67,21 +76,21 @@ impl Items {
 
         // What the definitions say of this command, on this table.
         ensures reply { IfOk result (λ reply.
-            reply ≡ (next_effect self.old.table self.old.last_unique command.now).reply) }
+            reply ≡ (next_effect self.old.limits self.old.table self.old.last_unique command.now).reply) }
         ensures table { OnOk result
-            (self.new.table ≡ (next_effect self.old.table self.old.last_unique command.now).table) }
+            (self.new.table ≡ (next_effect self.old.limits self.old.table self.old.last_unique command.now).table) }
         ensures unique { IfOk result (λ reply.
             self.new.last_unique ≡ self.old.last_unique + (if is_acceptance reply then 1 else 0)) }
         ensures limits { OnOk result (self.new.limits ≡ self.old.limits) }
 
         // The same of any list of commands that has led to this table.
-        ensures stands { OnOk result ((list : List Command) → StandsFor list self.old.table self.old.last_unique →
-            StandsFor (list ++ command.now ∷ []) self.new.table self.new.last_unique) }
+        ensures stands { OnOk result ((list : List Command) → StandsFor self.old.limits list self.old.table self.old.last_unique →
+            StandsFor self.old.limits (list ++ command.now ∷ []) self.new.table self.new.last_unique) }
         ensures answer { IfOk result (λ reply.
-            (list : List Command) → StandsFor list self.old.table self.old.last_unique → reply ≡ answer list command.now) }
+            (list : List Command) → StandsFor self.old.limits list self.old.table self.old.last_unique → reply ≡ answer self.old.limits list command.now) }
 
         ensures takes_out { TakesOut command.now → IsOk result }
-        ensures refused { is_refusal (next_effect self.old.table self.old.last_unique command.now).reply ≡ true → IsOk result }
+        ensures refused { is_refusal (next_effect self.old.limits self.old.table self.old.last_unique command.now).reply ≡ true → IsOk result }
         ensures memory { IsOkUnless result Fault.Memory }
         ensures unchanged { OnErr result (self.new ≡ self.old) }
     {
@@ -99,12 +108,7 @@ impl Items {
                 unique,
             } => self.check_and_set(key, *flags, block, *unique),
             Command::Get { keys, uniques } => {
-                let values = shown_values(
-                    self.alloc,
-                    self.held.as_slice(),
-                    keys.as_slice(),
-                    *uniques,
-                )?;
+                let values = shown_values(self.alloc, &self.held, keys.as_slice(), *uniques)?;
                 Ok(Reply::Values(ValueList::new(values)))
             }
             Command::Delete { key } => Ok(self.delete(key)),
@@ -112,6 +116,7 @@ impl Items {
             Command::Decr { key, by } => self.decr(key, *by),
             Command::Flush => {
                 self.held.clear();
+                self.used = 0;
                 Ok(Reply::Ok)
             }
         }
@@ -124,18 +129,18 @@ impl Items {
 
         // What the definitions say of this command, on this table.
         ensures table { OnOk result
-            (self.new.table ≡ (next_effect self.old.table self.old.last_unique command.now).table) }
+            (self.new.table ≡ (next_effect self.old.limits self.old.table self.old.last_unique command.now).table) }
         ensures unique { OnOk result (self.new.last_unique ≡ self.old.last_unique
-            + (if is_acceptance (next_effect self.old.table self.old.last_unique command.now).reply then 1 else 0)) }
+            + (if is_acceptance (next_effect self.old.limits self.old.table self.old.last_unique command.now).reply then 1 else 0)) }
         ensures limits { OnOk result (self.new.limits ≡ self.old.limits) }
 
         // The same of any list of commands that has led to this table.
-        ensures stands { OnOk result ((list : List Command) → StandsFor list self.old.table self.old.last_unique →
-            StandsFor (list ++ command.now ∷ []) self.new.table self.new.last_unique) }
+        ensures stands { OnOk result ((list : List Command) → StandsFor self.old.limits list self.old.table self.old.last_unique →
+            StandsFor self.old.limits (list ++ command.now ∷ []) self.new.table self.new.last_unique) }
 
         ensures reads { Reads command.now → IsOk result }
         ensures takes_out { TakesOut command.now → IsOk result }
-        ensures refused { is_refusal (next_effect self.old.table self.old.last_unique command.now).reply ≡ true → IsOk result }
+        ensures refused { is_refusal (next_effect self.old.limits self.old.table self.old.last_unique command.now).reply ≡ true → IsOk result }
         ensures memory { IsOkUnless result Fault.Memory }
         ensures unchanged { OnErr result (self.new ≡ self.old) }
     {
@@ -150,7 +155,7 @@ impl Items {
     pub fn get(&self, key: &Key) -> Option<&Item>
         ensures { option_copied result ≡ map.get self.now.table key.now }
     {
-        item_under(self.held.as_slice(), key)
+        item_under(&self.held, key)
     }
 
     /// The unique of the latest change, and 0 before the first.
@@ -165,10 +170,35 @@ impl Items {
     pub fn limits(&self) -> Limits
         ensures { result ≡ self.now.limits }
     {
-        self.limits
+        let Items { limits: quotas, .. } = self;
+        *quotas
     }
 
-    /// Stores as the verb says. Whether the key is held comes before the size of joined data.
+    /// How many bytes the keys and the data have in sum.
+    pub fn used(&self) -> u64
+        ensures { result ≡ use_of self.now.table }
+    {
+        let Items { used, .. } = self;
+        *used
+    }
+
+    /// How many items there are.
+    pub fn count(&self) -> u64
+        ensures { result ≡ count_of self.now.table }
+    {
+        self.held.len() as u64
+    }
+
+    /// The same table in memory of its own.
+    pub fn try_clone(&self) -> Result<Items, Fault>
+        ensures same { IfOk result (λ items. items ≡ self.now) }
+        ensures memory { IsOkUnless result Fault.Memory }
+    {
+        let held = copy_of(self.alloc, &self.held)?;
+        Ok(Items { held, ..*self })
+    }
+
+    /// Stores as the verb says. Whether the key is held comes before the size of joined data, and that before the quotas.
     fn store(&mut self, verb: Verb, key: &Key, flags: u32, block: &Data) -> Result<Reply, Fault>
         requires { self.old.last_unique < 2 ^ 64 - 1 }
         ensures reply { IfOk result (λ reply. reply ≡ next_reply self.old (Store verb key.now flags block.now)) }
@@ -179,21 +209,39 @@ impl Items {
     {
         let Some(old) = self.get(key) else {
             return match verb {
-                Verb::Set | Verb::Add => self.put_block(key, flags, block.try_clone()?),
+                Verb::Set | Verb::Add => self.put_copy(key, flags, block),
                 Verb::Replace | Verb::Append | Verb::Prepend => Ok(Reply::NotStored),
             };
         };
         let old_flags = old.flags;
         let whole = match verb {
-            Verb::Set | Verb::Replace => return self.put_block(key, flags, block.try_clone()?),
+            Verb::Set | Verb::Replace => return self.put_copy(key, flags, block),
             Verb::Add => return Ok(Reply::NotStored),
-            Verb::Append => joined(self.alloc, &old.block, block)?,
-            Verb::Prepend => joined(self.alloc, block, &old.block)?,
+            Verb::Append => self.join(key, &old.block, block)?,
+            Verb::Prepend => self.join(key, block, &old.block)?,
         };
         match whole {
-            Some(whole) => self.put_block(key, old_flags, whole),
-            None => Ok(Reply::Refused(WireNo::E6)),
+            Ok(whole) => self.put_block(key, old_flags, whole),
+            Err(refusal) => Ok(Reply::Refused(refusal)),
         }
+    }
+
+    /// One block after another for a key, or what refuses them, which takes no memory.
+    fn join(&self, key: &Key, front: &Data, back: &Data) -> Result<Result<Data, WireNo>, Fault>
+        ensures joined { (flags : ℕ) → IfOk result (λ joined.
+            joined ≡ joined_or_refusal self.now key.now flags (front.now ++ back.now)) }
+        ensures granted { (flags : ℕ) → OnErr result (
+            joined_or_refusal self.now key.now flags (front.now ++ back.now) ≡ Ok (front.now ++ back.now)) }
+        ensures memory { IsOkUnless result Fault.Memory }
+    {
+        let len = front.as_bytes().len() + back.as_bytes().len();
+        if len > DATA_BYTES {
+            return Ok(Err(WireNo::E6));
+        }
+        if !self.fits(key, len) {
+            return Ok(Err(WireNo::E7));
+        }
+        Ok(Ok(joined(self.alloc, front, back)?))
     }
 
     /// Stores under a key whose item still has the unique that was seen.
@@ -217,7 +265,7 @@ impl Items {
         if old.unique != seen {
             return Ok(Reply::Exists);
         }
-        self.put_block(key, flags, block.try_clone()?)
+        self.put_copy(key, flags, block)
     }
 
     /// Takes a key out. Takes no memory.
@@ -225,10 +273,10 @@ impl Items {
         ensures reply { result ≡ next_reply self.old (Delete key.now) }
         ensures state { self.new ≡ next_state self.old (Delete key.now) }
     {
-        if self.get(key).is_none() {
+        let Some(old) = take_out(&mut self.held, key) else {
             return Reply::NotFound;
-        }
-        take_out(&mut self.held, key);
+        };
+        self.used -= weight_under(key, Some(&old));
         Reply::Deleted
     }
 
@@ -270,36 +318,71 @@ impl Items {
         self.put_number(key, old_flags, number.saturating_sub(by))
     }
 
-    /// Puts a number under a key in place of what it held.
+    /// Puts a number under a key in place of what it held, where the quotas allow it.
     fn put_number(&mut self, key: &Key, flags: u32, number: u64) -> Result<Reply, Fault>
         requires { self.old.last_unique < 2 ^ 64 - 1 }
-        ensures reply { IfOk result (λ reply. reply ≡ Number number) }
-        ensures state { OnOk result (self.new ≡ with_item self.old key.now flags (decimal number)) }
+        ensures reply { IfOk result (λ reply. reply ≡ (stored_in self.old key.now flags (decimal number) (Number number)).reply) }
+        ensures state { OnOk result (self.new ≡ state_after self.old (stored_in self.old key.now flags (decimal number) (Number number))) }
+        ensures granted { OnErr result (allows self.old key.now flags (decimal number) ≡ true) }
         ensures memory { IsOkUnless result Fault.Memory }
         ensures unchanged { OnErr result (self.new ≡ self.old) }
     {
+        if !self.fits(key, count_of_digits(number)) {
+            return Ok(Reply::Refused(WireNo::E7));
+        }
         let digits = digits_of(self.alloc, number)?;
         self.put_block(key, flags, digits)?;
         Ok(Reply::Number(number))
     }
 
-    /// Puts an item with the next unique under a key, over what it held.
-    fn put_block(&mut self, key: &Key, flags: u32, block: Data) -> Result<Reply, Fault>
+    /// Puts a copy of the block under a key, where the quotas allow it.
+    fn put_copy(&mut self, key: &Key, flags: u32, block: &Data) -> Result<Reply, Fault>
         requires { self.old.last_unique < 2 ^ 64 - 1 }
+        ensures reply { IfOk result (λ reply. reply ≡ (stored_in self.old key.now flags block.now Stored).reply) }
+        ensures state { OnOk result (self.new ≡ state_after self.old (stored_in self.old key.now flags block.now Stored)) }
+        ensures granted { OnErr result (allows self.old key.now flags block.now ≡ true) }
+        ensures memory { IsOkUnless result Fault.Memory }
+        ensures unchanged { OnErr result (self.new ≡ self.old) }
+    {
+        if !self.fits(key, block.as_bytes().len()) {
+            return Ok(Reply::Refused(WireNo::E7));
+        }
+        self.put_block(key, flags, block.try_clone()?)
+    }
+
+    /// Puts an item with the next unique under a key, over what it held. The quotas have to allow it.
+    fn put_block(&mut self, key: &Key, flags: u32, block: Data) -> Result<Reply, Fault>
+        requires next { self.old.last_unique < 2 ^ 64 - 1 }
+        requires fits { allows self.old key.now flags block ≡ true }
         ensures reply { IfOk result (λ reply. reply ≡ Stored) }
         ensures state { OnOk result (self.new ≡ with_item self.old key.now flags block) }
         ensures memory { IsOkUnless result Fault.Memory }
         ensures unchanged { OnErr result (self.new ≡ self.old) }
     {
         let unique = self.last_unique + 1;
+        let added = weight_with(key, block.as_bytes().len());
         let item = Item {
             flags,
             block,
             unique,
         };
-        put(&mut self.held, key, item)?;
+        let old = put(&mut self.held, key, item)?;
+        self.used = self.used - weight_under(key, old.as_ref()) + added;
         self.last_unique = unique;
         Ok(Reply::Stored)
+    }
+
+    /// Whether the quotas allow a block of this length under the key, by the totals and one look-up.
+    fn fits(&self, key: &Key, len: usize) -> bool
+        requires { len ≤ DATA_BYTES }
+        ensures { (item : Item) → length item.block ≡ len →
+            result ≡ is_within self.now.limits (map.insert self.now.table key.now item) }
+    {
+        let needed = weight_with(key, len);
+        match self.get(key) {
+            Some(old) => needed <= self.limits.bytes - (self.used - weight_under(key, Some(old))),
+            None => needed <= self.limits.bytes - self.used && self.count() < self.limits.items,
+        }
     }
 }
 

@@ -5,9 +5,10 @@ use mc_model::{KeyList, Value};
 use std::process::Abort;
 use std::test::Fail;
 
+/// Room for the largest block under a key of one letter.
 const QUOTAS: Limits = Limits {
     items: 3,
-    bytes: 100,
+    bytes: 1_048_577,
 };
 
 /// A command; the keys of a `Get` have one letter each, and their uniques are shown.
@@ -32,6 +33,7 @@ enum Want<'a> {
     Deleted,
     Ok,
     TooLarge,
+    Full,
     NonNumeric,
     Number(u64),
     Nothing,
@@ -109,6 +111,7 @@ fn reply_of(rt: &(impl Abort + AllocGlobal), want: Want) -> Result<Reply, Fail> 
         Want::Deleted => Reply::Deleted,
         Want::Ok => Reply::Ok,
         Want::TooLarge => Reply::Refused(WireNo::E6),
+        Want::Full => Reply::Refused(WireNo::E7),
         Want::NonNumeric => Reply::Refused(WireNo::E8),
         Want::Number(number) => Reply::Number(number),
         Want::Nothing => Reply::Values(ValueList::new(Vec::new(rt.alloc()))),
@@ -133,12 +136,25 @@ fn assert_alike(rt: &impl Abort, items: &Items, other: &Items) {
     assert_eq!(rt; items.held, other.held);
     assert_eq!(rt; items.last_unique(), other.last_unique());
     assert_eq!(rt; items.limits(), other.limits());
+    assert_eq!(rt;
+        (items.used(), items.count()),
+        (other.used(), other.count())
+    );
 }
 
 /// Each command in turn gets its reply, and a table that is advanced stays like one that answers.
 fn assert_answers(rt: &(impl Abort + AllocGlobal), rows: &[(Ask, Want)]) -> Result<Items, Fail> {
-    let mut items = Items::new(rt.alloc(), QUOTAS);
-    let mut advanced = Items::new(rt.alloc(), QUOTAS);
+    assert_answers_within(rt, QUOTAS, rows)
+}
+
+/// The same within these quotas.
+fn assert_answers_within(
+    rt: &(impl Abort + AllocGlobal),
+    quotas: Limits,
+    rows: &[(Ask, Want)],
+) -> Result<Items, Fail> {
+    let mut items = Items::new(rt.alloc(), quotas);
+    let mut advanced = Items::new(rt.alloc(), quotas);
     for (ask, want) in rows {
         let command = command_of(rt, *ask)?;
         assert_eq!(rt; apply(rt, &mut items, &command)?, reply_of(rt, *want)?);
@@ -320,6 +336,90 @@ fn object_too_large(rt: HostRuntime) -> Result<(), Fail> {
         (Ask::Get(b"b"), Want::One(b'b', 0, largest, 3)),
     ];
     let _ = assert_answers(&rt, &rows)?;
+    Ok(())
+}
+
+/// A key that is held may be stored again where the count is at its quota.
+#[test]
+fn quota_of_items(rt: HostRuntime) -> Result<(), Fail> {
+    let rows = [
+        (Ask::Store(Verb::Set, b"a", 0, b"x"), Want::Stored),
+        (Ask::Store(Verb::Set, b"b", 0, b"y"), Want::Full),
+        (Ask::Store(Verb::Add, b"b", 0, b"y"), Want::Full),
+        (Ask::Store(Verb::Set, b"a", 0, b"yz"), Want::Stored),
+        (Ask::Get(b"ab"), Want::One(b'a', 0, b"yz", 2)),
+        (Ask::Delete(b"a"), Want::Deleted),
+        (Ask::Store(Verb::Set, b"b", 0, b"y"), Want::Stored),
+        (Ask::Flush, Want::Ok),
+        (Ask::Store(Verb::Add, b"a", 0, b"xyz"), Want::Stored),
+        (Ask::Get(b"ab"), Want::One(b'a', 0, b"xyz", 4)),
+    ];
+    let quotas = Limits {
+        items: 1,
+        bytes: 100,
+    };
+    let items = assert_answers_within(&rt, quotas, &rows)?;
+    assert_eq!(rt; (items.used(), items.count()), (4, 1));
+    Ok(())
+}
+
+/// Keys and data count, before a change and after it, and a refused change leaves the item and its unique.
+#[test]
+fn quota_of_bytes(rt: HostRuntime) -> Result<(), Fail> {
+    let rows = [
+        (Ask::Store(Verb::Set, b"n", 0, b"999"), Want::Stored),
+        (Ask::Store(Verb::Append, b"n", 0, b"9"), Want::Full),
+        (Ask::Store(Verb::Prepend, b"n", 0, b"9"), Want::Full),
+        (Ask::Store(Verb::Set, b"n", 0, b"9999"), Want::Full),
+        (Ask::Store(Verb::Replace, b"n", 0, b"9999"), Want::Full),
+        (Ask::Cas(b"n", b"9999", 1), Want::Full),
+        (Ask::Incr(b"n", 1), Want::Full),
+        (Ask::Store(Verb::Set, b"b", 0, b""), Want::Full),
+        (Ask::Get(b"nb"), Want::One(b'n', 0, b"999", 1)),
+        (Ask::Decr(b"n", 900), Want::Number(99)),
+        (Ask::Store(Verb::Set, b"b", 0, b""), Want::Stored),
+        (Ask::Incr(b"n", 1), Want::Full),
+        (Ask::Delete(b"b"), Want::Deleted),
+        (Ask::Incr(b"n", 1), Want::Number(100)),
+        (Ask::Get(b"n"), Want::One(b'n', 0, b"100", 4)),
+        (Ask::Flush, Want::Ok),
+        (Ask::Store(Verb::Set, b"a", 0, b"xyz"), Want::Stored),
+    ];
+    let quotas = Limits { items: 3, bytes: 4 };
+    let items = assert_answers_within(&rt, quotas, &rows)?;
+    assert_eq!(rt; (items.used(), items.count()), (4, 1));
+    Ok(())
+}
+
+/// The worked run of the same name, by copies of its commands, and what it leaves in a copy of the table.
+#[test]
+fn byte_quota(rt: HostRuntime) -> Result<(), Fail> {
+    let asks = [
+        Ask::Store(Verb::Set, b"ab", 0, b"xy"),
+        Ask::Store(Verb::Set, b"ab", 0, b"xyz"),
+        Ask::Store(Verb::Replace, b"ab", 0, b"x"),
+        Ask::Store(Verb::Set, b"c", 0, b"y"),
+        Ask::Delete(b"ab"),
+        Ask::Store(Verb::Set, b"c", 0, b"yyy"),
+    ];
+    let quotas = Limits {
+        items: 1_048_576,
+        bytes: 4,
+    };
+    let mut items = Items::new(rt.alloc(), quotas);
+    for ask in asks {
+        let command = command_of(&rt, ask)?.try_clone()?;
+        advance(&rt, &mut items, &command)?;
+    }
+    let copy = items.try_clone()?;
+    assert_alike(&rt, &copy, &items);
+    assert!(rt; copy.get(&key_of(&rt, b"ab")?).is_none());
+    let item = copy
+        .get(&key_of(&rt, b"c")?)
+        .expect(&rt, "the item that was set last");
+    assert_eq!(rt; (item.flags, item.unique), (0, 3));
+    assert_eq!(rt; item.block.as_bytes(), b"yyy".as_slice());
+    assert_eq!(rt; (copy.used(), copy.count()), (4, 1));
     Ok(())
 }
 

@@ -1,5 +1,6 @@
 pub mod Numerals
 pub mod Tables
+pub mod Quotas
 pub mod Effects
 pub mod Histories
 pub mod OneKey

@@ -1,7 +1,7 @@
 -- What a command does to a table and what it is answered, after memcached's doc/protocol.txt, "Storage commands",
 -- "Retrieval command", "Deletion", "Increment/Decrement" and, for flush_all, "Other commands". One equation a command. The order
--- of its refusals, a join that is too long and a decr without padding are this project's profile.
-use Rattle.std.specs.Prelude.{◌≡◌, ℕ, ◌+◌, ◌-◌, ◌%◌, ◌^◌, ◌==◌, nat_le, Bool, true, false, if◌then◌else◌, ◌++◌, length, decimal, Option, Some, None}
+-- of its refusals, a join that is too long, the quotas and a decr without padding are this project's profile.
+use Rattle.std.specs.Prelude.{◌≡◌, ◌⊎◌, ℕ, ◌+◌, ◌-◌, ◌%◌, ◌^◌, ◌==◌, nat_le, Bool, true, false, if◌then◌else◌, ◌++◌, length, decimal, Option, Some, None}
 use Rattle.std.specs.List.{filter_map}
 use Rattle.std.specs.Option.{option_map}
 use Rattle.std.specs.FinMap as map
@@ -15,9 +15,10 @@ use Rattle.mc_model.specs.declared.key.Key.{Key}
 use Rattle.mc_model.specs.declared.reply.Reply.{Reply}
 use Rattle.mc_model.specs.declared.reply.Reply.TheVariants.{Stored, NotStored, Exists, NotFound, Deleted, Ok, Number, Values, Refused}
 use Rattle.mc_model.specs.declared.reply.Value.{Value}
-use Rattle.mc_model.specs.declared.reply.WireNo.TheVariants.{E6, E8}
+use Rattle.mc_model.specs.declared.reply.WireNo.TheVariants.{E6, E7, E8}
+use Rattle.mc_model.specs.declared.settings.Limits.{Limits}
 use Rattle.mc_model.specs.Number.{numeric_value}
-use Rattle.mc_model.specs.Table.{Table}
+use Rattle.mc_model.specs.Table.{Table, is_within}
 
 -- the table that a command leaves, and its reply
 pub record Effect : Type 0 where
@@ -37,9 +38,12 @@ shown_at table uniques key = option_map (shown_item uniques key) (map.get table 
 abbrev pub unchanged : Table → Reply → Effect
 unchanged table reply = record { table = table; reply = reply }
 
--- an item goes under the key, over what the key held
-abbrev pub stored : Table → Key → Item → Reply → Effect
-stored table key item reply = record { table = map.insert table key item; reply = reply }
+-- an item goes under the key, over what the key held, where the table is then within the quotas
+abbrev pub stored : Limits → Table → Key → Item → Reply → Effect
+stored limits table key item reply =
+    if is_within limits (map.insert table key item)
+    then record { table = map.insert table key item; reply = reply }
+    else unchanged table (Refused E7)
 
 -- one effect where there is none, another of what is there
 abbrev pub none_or_some : {A : Type 0} → Option A → Effect → (A → Effect) → Effect
@@ -47,49 +51,49 @@ none_or_some None none some = none
 none_or_some (Some value) none some = some value
 
 -- joined data, where a block may have so many bytes
-abbrev pub joined : Table → ℕ → Key → ℕ → Data → Effect
-joined table unique key flags block =
+abbrev pub joined : Limits → Table → ℕ → Key → ℕ → Data → Effect
+joined limits table unique key flags block =
     if nat_le (length block) DATA_BYTES
-    then stored table key (record { flags = flags; block = block; unique = unique }) Stored
+    then stored limits table key (record { flags = flags; block = block; unique = unique }) Stored
     else unchanged table (Refused E6)
 
 -- the number under a key gives way to another, in decimal digits; the flags stay
-abbrev pub renumbered : Table → ℕ → Key → Item → (ℕ → ℕ) → Effect
-renumbered table unique key old next =
+abbrev pub renumbered : Limits → Table → ℕ → Key → Item → (ℕ → ℕ) → Effect
+renumbered limits table unique key old next =
     none_or_some (numeric_value old.block) (unchanged table (Refused E8))
-    (λ number. stored table key (record { flags = old.flags; block = decimal (next number); unique = unique }) (Number (next number)))
+    (λ number. stored limits table key (record { flags = old.flags; block = decimal (next number); unique = unique }) (Number (next number)))
 
--- A command on a table, where a change gets this unique. The subtraction of decr is that of natural numbers, which stops at 0.
-abbrev pub effect : Table → ℕ → Command → Effect
-effect table unique (Store Set key flags block) =
-    stored table key (record { flags = flags; block = block; unique = unique }) Stored
-effect table unique (Store Add key flags block) =
-    none_or_some (map.get table key) (stored table key (record { flags = flags; block = block; unique = unique }) Stored)
+-- A command on a tenant's table, where a change gets this unique. The subtraction of decr is that of natural numbers, which stops at 0.
+abbrev pub effect : Limits → Table → ℕ → Command → Effect
+effect limits table unique (Store Set key flags block) =
+    stored limits table key (record { flags = flags; block = block; unique = unique }) Stored
+effect limits table unique (Store Add key flags block) =
+    none_or_some (map.get table key) (stored limits table key (record { flags = flags; block = block; unique = unique }) Stored)
     (λ old. unchanged table NotStored)
-effect table unique (Store Replace key flags block) =
+effect limits table unique (Store Replace key flags block) =
     none_or_some (map.get table key) (unchanged table NotStored)
-    (λ old. stored table key (record { flags = flags; block = block; unique = unique }) Stored)
-effect table unique (Store Append key new_flags block) =
+    (λ old. stored limits table key (record { flags = flags; block = block; unique = unique }) Stored)
+effect limits table unique (Store Append key new_flags block) =
     none_or_some (map.get table key) (unchanged table NotStored)
-    (λ old. joined table unique key old.flags (old.block ++ block))
-effect table unique (Store Prepend key new_flags block) =
+    (λ old. joined limits table unique key old.flags (old.block ++ block))
+effect limits table unique (Store Prepend key new_flags block) =
     none_or_some (map.get table key) (unchanged table NotStored)
-    (λ old. joined table unique key old.flags (block ++ old.block))
-effect table unique (Cas key flags block seen) =
+    (λ old. joined limits table unique key old.flags (block ++ old.block))
+effect limits table unique (Cas key flags block seen) =
     none_or_some (map.get table key) (unchanged table NotFound)
     (λ old. if old.unique == seen
-    then stored table key (record { flags = flags; block = block; unique = unique }) Stored
+    then stored limits table key (record { flags = flags; block = block; unique = unique }) Stored
     else unchanged table Exists)
-effect table unique (Get keys uniques) =
+effect limits table unique (Get keys uniques) =
     unchanged table (Values (filter_map (shown_at table uniques) keys))
-effect table unique (Delete key) =
+effect limits table unique (Delete key) =
     none_or_some (map.get table key) (unchanged table NotFound)
     (λ old. record { table = map.remove table key; reply = Deleted })
-effect table unique (Incr key by) =
-    none_or_some (map.get table key) (unchanged table NotFound) (λ old. renumbered table unique key old (λ number. (number + by) % (2 ^ 64)))
-effect table unique (Decr key by) =
-    none_or_some (map.get table key) (unchanged table NotFound) (λ old. renumbered table unique key old (λ number. number - by))
-effect table unique Flush = record { table = map.empty; reply = Ok }
+effect limits table unique (Incr key by) =
+    none_or_some (map.get table key) (unchanged table NotFound) (λ old. renumbered limits table unique key old (λ number. (number + by) % (2 ^ 64)))
+effect limits table unique (Decr key by) =
+    none_or_some (map.get table key) (unchanged table NotFound) (λ old. renumbered limits table unique key old (λ number. number - by))
+effect limits table unique Flush = record { table = map.empty; reply = Ok }
 
 -- whether a reply says that a command counts as a change: it has given an item a unique
 abbrev pub is_acceptance : Reply → Bool
@@ -104,6 +108,10 @@ is_refusal Exists = true
 is_refusal NotFound = true
 is_refusal (Refused refusal) = true
 is_refusal _ = false
+
+-- whether a cas is let through by its unique: it is stored then, or the quotas refuse it
+abbrev pub IsLetThrough : Reply → Type 0
+IsLetThrough reply = (reply ≡ Stored) ⊎ (reply ≡ Refused E7)
 
 -- the command, where it isn't refused, changes the item under this key or takes it out
 abbrev pub ActsOn : Key → Command → Type 0

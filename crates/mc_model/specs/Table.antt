@@ -1,5 +1,5 @@
 -- A tenant's table: what it holds under each key. In memcached's doc/protocol.txt an item is "identified with the help of a key".
-use Rattle.std.specs.Prelude.{◌≡◌, ℕ, ◌+◌, Bool, true, List, length, sum_by, refl}
+use Rattle.std.specs.Prelude.{◌≡◌, ◌⊎◌, ℕ, ◌+◌, ◌<◌, ◌&&◌, Bool, true, List, length, nat_le, sum_by, refl}
 use Rattle.std.specs.Coded.{Coded, code_by, coded×, coded_ℕ, coded_list}
 use Rattle.std.specs.Cmp.{Equal-is, IsTotalOrder, eq_by_cmp_equiv}
 use Rattle.std.specs.Cmp.Lexicographic.{nat_list_cmp_total, slice_cmp}
@@ -8,6 +8,7 @@ use Rattle.std.specs.Ordering.{eq_by_cmp, nat_cmp}
 use Rattle.std.specs.declared.cmp.Ordering.{Ordering}
 use Rattle.mc_model.specs.declared.item.Item.{Item}
 use Rattle.mc_model.specs.declared.key.Key.{Key}
+use Rattle.mc_model.specs.declared.settings.Limits.{Limits}
 
 -- keys in the order of their bytes; only the equality of keys matters to a table
 abbrev pub key_cmp : Key → Key → Ordering
@@ -41,6 +42,14 @@ use_of table = sum_by (λ held. length held.0 + length held.1.block) (map.entrie
 -- how many items there are
 abbrev pub count_of : Table → ℕ
 count_of table = map.len table
+
+-- whether a table is within a tenant's quotas (this project's profile)
+abbrev pub is_within : Limits → Table → Bool
+is_within limits table = nat_le (use_of table) limits.bytes && nat_le (count_of table) limits.items
+
+-- the table has more bytes or more items than the quotas say
+abbrev pub ExceedsQuotas : Limits → Table → Type 0
+ExceedsQuotas limits table = (limits.bytes < use_of table) ⊎ (limits.items < count_of table)
 
 -- how a table is stored as a model's value
 abbrev pub coded_item : Coded Item

@@ -1,13 +1,15 @@
 //! Keys, and the list of keys of a retrieval.
-ghost use Rattle.std.specs.Cmp.{partial_equiv_from_equiv};
-ghost use Rattle.std.specs.Cmp.Lexicographic.{lists_equiv, nat_list_eq_equiv, pointwise};
+ghost use Rattle.std.specs.Cmp.{partial_equiv_from_equiv, partial_order_from_agreeing_total};
+ghost use Rattle.std.specs.Cmp.Lexicographic.{lists_equiv, nat_list_cmp_total, nat_list_eq_equiv, pointwise, slice_cmp, texts_ties};
 ghost use Rattle.std.specs.List.{list_all};
 ghost use Rattle.std.specs.Option.{SomeIff};
-ghost use Rattle.std.specs.Prelude.{◌≡◌, ◌≢◌, ℕ, ◌<◌, ◌≤◌, List, length, nat_eq, vec_len, All, IsTrue, IfOk, OnErr, IsOkUnless};
+ghost use Rattle.std.specs.Ordering.{nat_cmp};
+ghost use Rattle.std.specs.Prelude.{◌≡◌, ◌≢◌, ℕ, ◌<◌, ◌≤◌, List, length, nat_eq, vec_len, Some, refl, All, IsTrue, IfOk, OnErr, IsOkUnless};
 ghost use Rattle.mc_model.specs.Key.{is_key_byte, is_lawful_key, key_of};
 
 use crate::Fault;
 use std::alloc::Global;
+use std::cmp::Ordering;
 use std::marker::Model;
 
 /// How many bytes a key may have.
@@ -92,6 +94,31 @@ impl PartialEq for Key {
 
 impl Eq for Key {
     ghost laws = { nat_list_eq_equiv };
+}
+
+impl PartialOrd for Key {
+    ghost partial_cmp = { λ key other. Some (slice_cmp nat_cmp key other) };
+
+    ghost laws = { partial_order_from_agreeing_total (slice_cmp nat_cmp) nat_list_cmp_total (λ key other. refl) texts_ties };
+
+    fn partial_cmp(&self, other: &Key) -> Option<Ordering> {
+        Some(self.cmp(other))
+    }
+}
+
+/// In the order of their bytes.
+impl Ord for Key {
+    ghost cmp = { slice_cmp nat_cmp };
+
+    ghost total = { nat_list_cmp_total };
+
+    ghost matches_partial_cmp = { λ key other. refl };
+
+    ghost matches_eq = { texts_ties };
+
+    fn cmp(&self, other: &Key) -> Ordering {
+        self.bytes.cmp(&other.bytes)
+    }
 }
 
 /// The keys of a retrieval in the line's order, at least one.

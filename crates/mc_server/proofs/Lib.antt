@@ -2,3 +2,4 @@ pub mod Pieces
 pub mod Owings
 pub mod Underway
 mod Rows
+pub mod Sessions

@@ -10,6 +10,7 @@ use Rattle.mc_model.specs.declared.command.Command.{Command}
 use Rattle.mc_model.specs.declared.fault.Fault.{Fault}
 use Rattle.mc_model.specs.declared.fault.Fault.TheVariants.{Memory, LogFull, Taken, Input, Output, BadEvent, BadSettings}
 use Rattle.mc_model.specs.declared.request.Request.{Request}
+use Rattle.mc_model.specs.declared.settings.Limits.{Limits}
 use Rattle.mc_model.specs.declared.reply.Reply.TheVariants.{Refused}
 use Rattle.mc_model.specs.declared.reply.WireNo.TheVariants.{E11}
 use Rattle.mc_read.specs.Reading.{Ended, GoesOn, HasNone, Held, IsFed, IsNext, Kept, ReadAlike, ReadsAs, ReadsOn, Swallowing, ends_stream}
@@ -18,7 +19,7 @@ use Rattle.mc_read.proofs.Readings.{has_reading}
 use Rattle.mc_server.specs.declared.session.Session.{Session}
 use Rattle.mc_server.specs.declared.serving.TheConstants.{PULL_BYTES}
 use Rattle.mc_server.specs.Owed.{applied_by, owed}
-use Rattle.mc_server.specs.Serving.{Comes, IsCaughtUp, Moves, PushesFront, Serves, ServesInPart, ServesOn, ServesUntilStarved, StopsAt}
+use Rattle.mc_server.specs.Serving.{Comes, IsCaughtUp, Moves, PushesAtOnce, PushesFront, Serves, ServesInPart, ServesOn, ServesUntilStarved, StopsAt}
 use Rattle.mc_server.specs.Session.{IsStarved, Stands, TellsStarved}
 use Rattle.mc_stream.specs.Stream.{Pushes, Streams}
 use Rattle.mc_write.specs.Text.{text}
@@ -26,18 +27,18 @@ use Rattle.mc_server.proofs.Owings.{applied_by-append, owed-append}
 use Rattle.mc_server.proofs.Pieces.{append_known-more, append_known-nothing}
 
 -- the requests answered so far, what was sent, and what is still to be pushed
-pub record IsUnderway (places : ℕ) (before now : Streams) (held : Held) (session : Session) (closed : Bool) : Type 0 where
+pub record IsUnderway (limits : Limits) (places : ℕ) (before now : Streams) (held : Held) (session : Session) (closed : Bool) : Type 0 where
   pub came : List ℕ
   pub answered : List Request
   pub sent : List ℕ
   pub is_pulled : now.pulled ≡ append_known before.pulled came
   pub is_consumed : Consumes before.left now.left came
   pub is_pushed : Pushes before now sent
-  pub stands : Stands places (applied_by places [] answered) session
+  pub stands : Stands limits places (applied_by places [] answered) session
   pub reads : (more : List ℕ) (requests : List Request) → ReadsOn held more requests → ReadsAs (came ++ more) (answered ++ requests)
-  pub owes : owed places [] answered ≡ sent ++ session.queue.items
+  pub owes : owed limits places [] answered ≡ sent ++ session.queue.items
   pub closes : list_any ends_stream answered ≡ closed
-  pub caught_up : IsCaughtUp places came sent
+  pub caught_up : IsCaughtUp limits places came sent
 
 -- what is held reads on, whatever follows
 swallowed_reads : (short : Bool) (request : Request) (bytes : List ℕ) → (requests : List Request) × MatchBool short (requests ≡ []) (GoesOn request (ReadsAs bytes) requests)
@@ -65,8 +66,8 @@ reads_nothing : ReadsAs [] []
 reads_nothing = ([], (refl, no_text_empty))
 
 -- more is sent, and a piece came
-more_sent : (places : ℕ) (bytes sent front : List ℕ) → IsCaughtUp places bytes sent → IsCaughtUp places bytes (sent ++ front)
-more_sent places bytes sent front caught_up = record {
+more_sent : (limits : Limits) (places : ℕ) (bytes sent front : List ℕ) → IsCaughtUp limits places bytes sent → IsCaughtUp limits places bytes (sent ++ front)
+more_sent limits places bytes sent front caught_up = record {
   earlier = caught_up.earlier;
   piece = caught_up.piece;
   requests = caught_up.requests;
@@ -74,15 +75,15 @@ more_sent places bytes sent front caught_up = record {
   is_bytes = caught_up.is_bytes;
   is_piece = caught_up.is_piece;
   reads = caught_up.reads;
-  is_sent = ap (λ bytes. bytes ++ front) caught_up.is_sent ∙ append_assoc (owed places [] caught_up.requests) caught_up.later front;
+  is_sent = ap (λ bytes. bytes ++ front) caught_up.is_sent ∙ append_assoc (owed limits places [] caught_up.requests) caught_up.later front;
 }
 
 -- what is queued is nothing
 nothing_more : (bytes sent queue : List ℕ) → bytes ≡ sent ++ queue → queue ≡ [] → bytes ≡ sent
 nothing_more bytes sent queue is empty = is ∙ (ap (λ more. sent ++ more) empty ∙ append-nil sent)
 
-pub underway_begins : (places : ℕ) (before : Streams) (session : Session) → Stands places [] session → session.queue.items ≡ [] → IsUnderway places before before (Kept []) session false
-underway_begins places before session stands empty = record {
+pub underway_begins : (limits : Limits) (places : ℕ) (before : Streams) (session : Session) → Stands limits places [] session → session.queue.items ≡ [] → IsUnderway limits places before before (Kept []) session false
+underway_begins limits places before session stands empty = record {
   came = [];
   answered = [];
   sent = [];
@@ -96,16 +97,38 @@ underway_begins places before session stands empty = record {
   caught_up = record { earlier = []; piece = []; requests = []; later = []; is_bytes = refl; is_piece = omega arith; reads = reads_nothing; is_sent = refl };
 }
 
-module _ (places : ℕ) (before now : Streams) (held : Held) (session : Session) (closed : Bool) (under : IsUnderway places before now held session closed) where
+-- nothing was pulled before memory was wanting, and the client is told
+pub starved_at_once : (limits : Limits) (places : ℕ) (before after : Streams) (is_full : Type 0) → after.pulled ≡ before.pulled → after.left ≡ before.left
+    → PushesAtOnce (text (Refused E11)) before.pushed after.pushed is_full before.output_failures after.output_failures → ServesUntilStarved limits places before after is_full
+starved_at_once limits places before after is_full same_pulled same_left told = record {
+  comes = record {
+    bytes = [];
+    requests = [];
+    rest = [];
+    came = same_pulled ∙ sym (append_known-nothing before.pulled);
+    consumed = rw same_left (Consumes-nil before.left);
+    reads = (refl, no_text_empty);
+  };
+  answered = [];
+  others = [];
+  split = refl;
+  sent = told.1.front;
+  unsent = told.0;
+  owes = told.1.split;
+  went = told.1.went;
+  stops = told.2;
+  caught_up = record { earlier = []; piece = []; requests = []; later = told.1.front; is_bytes = refl; is_piece = omega arith; reads = reads_nothing; is_sent = refl };
+}
+
+module _ (limits : Limits) (places : ℕ) (before now : Streams) (held : Held) (session : Session) (closed : Bool) (under : IsUnderway limits places before now held session closed) where
   -- a request is answered
   pub underway_next : (request : Request) (after : Held) (later : Session) (closes : Bool) → closes ≡ (closed || ends_stream request) → IsNext held request after
-      → ((applied : List Command) → Stands session.places applied session → Stands session.places (applied_by session.places applied (request ∷ [])) later)
-      → ((applied : List Command) → Stands session.places applied session → later.queue.items ≡ session.queue.items ++ owed session.places applied (request ∷ []))
-      → IsUnderway places before now after later closes
+      → ((limits : Limits) (places : ℕ) (applied : List Command) → Stands limits places applied session → Stands limits places (applied_by places applied (request ∷ [])) later)
+      → ((limits : Limits) (places : ℕ) (applied : List Command) → Stands limits places applied session → later.queue.items ≡ session.queue.items ++ owed limits places applied (request ∷ []))
+      → IsUnderway limits places before now after later closes
   underway_next request after later closes is_closed next stands_then queues =
-      let same = under.stands.is_places in
-      let stands = subst (λ p. (applied : List Command) → Stands p applied session → Stands p (applied_by p applied (request ∷ [])) later) same stands_then (applied_by places [] under.answered) under.stands in
-      let queued = subst (λ p. (applied : List Command) → Stands p applied session → later.queue.items ≡ session.queue.items ++ owed p applied (request ∷ [])) same queues (applied_by places [] under.answered) under.stands in
+      let stands = stands_then limits places (applied_by places [] under.answered) under.stands in
+      let queued = queues limits places (applied_by places [] under.answered) under.stands in
       record {
         came = under.came;
         answered = under.answered ++ request ∷ [];
@@ -113,13 +136,13 @@ module _ (places : ℕ) (before now : Streams) (held : Held) (session : Session)
         is_pulled = under.is_pulled;
         is_consumed = under.is_consumed;
         is_pushed = under.is_pushed;
-        stands = subst (λ applied. Stands places applied later) (sym (applied_by-append places [] under.answered (request ∷ []))) stands;
+        stands = subst (λ applied. Stands limits places applied later) (sym (applied_by-append places [] under.answered (request ∷ []))) stands;
         reads = λ more requests reads.
             subst (ReadsAs (under.came ++ more)) (sym (append_assoc under.answered (request ∷ []) requests)) (under.reads more (request ∷ requests) ((next more (request ∷ requests)).1 (refl, reads)));
         owes =
-            owed-append places [] under.answered (request ∷ [])
-            ∙ (ap (λ bytes. bytes ++ owed places (applied_by places [] under.answered) (request ∷ [])) under.owes
-            ∙ (append_assoc under.sent session.queue.items (owed places (applied_by places [] under.answered) (request ∷ []))
+            owed-append limits places [] under.answered (request ∷ [])
+            ∙ (ap (λ bytes. bytes ++ owed limits places (applied_by places [] under.answered) (request ∷ [])) under.owes
+            ∙ (append_assoc under.sent session.queue.items (owed limits places (applied_by places [] under.answered) (request ∷ []))
             ∙ ap (λ queue. under.sent ++ queue) (sym queued)));
         closes =
             list_any-append ends_stream under.answered (request ∷ [])
@@ -128,7 +151,7 @@ module _ (places : ℕ) (before now : Streams) (held : Held) (session : Session)
       }
 
   -- a look that found no request
-  pub underway_alike : (after : Held) → ReadAlike held after → IsUnderway places before now after session closed
+  pub underway_alike : (after : Held) → ReadAlike held after → IsUnderway limits places before now after session closed
   underway_alike after alike =
       record {
         came = under.came;
@@ -145,20 +168,20 @@ module _ (places : ℕ) (before now : Streams) (held : Held) (session : Session)
       }
 
   -- a front of the queue was pushed
-  pub underway_moved : (later : Session) (went : Option (List ℕ)) (failures : ℕ) → later.items ≡ session.items → later.applied ≡ session.applied → later.places ≡ session.places → Moves session.queue.items later.queue.items now.pushed went
-      → IsUnderway places before (record now { pushed = went; output_failures = failures }) held later closed
-  underway_moved later went failures same_items same_count same_places moves = record {
+  pub underway_moved : (later : Session) (went : Option (List ℕ)) (failures : ℕ) → later.limits ≡ session.limits → later.replica ≡ session.replica → Moves session.queue.items later.queue.items now.pushed went
+      → IsUnderway limits places before (record now { pushed = went; output_failures = failures }) held later closed
+  underway_moved later went failures same_limits same_replica moves = record {
     came = under.came;
     answered = under.answered;
     sent = under.sent ++ moves.front;
     is_pulled = under.is_pulled;
     is_consumed = under.is_consumed;
     is_pushed = moves.went ∙ (ap (λ known. append_known known moves.front) under.is_pushed ∙ append_known-more before.pushed under.sent moves.front);
-    stands = record { table = rw same_items under.stands.table; count = same_count ∙ under.stands.count; is_places = same_places ∙ under.stands.is_places };
+    stands = record { is_limits = same_limits ∙ under.stands.is_limits; is_places = rw same_replica under.stands.is_places; own = rw same_replica under.stands.own; count = rw same_replica under.stands.count };
     reads = under.reads;
     owes = under.owes ∙ (ap (λ queue. under.sent ++ queue) moves.split ∙ sym (append_assoc under.sent moves.front later.queue.items));
     closes = under.closes;
-    caught_up = more_sent places under.came under.sent moves.front under.caught_up;
+    caught_up = more_sent limits places under.came under.sent moves.front under.caught_up;
   }
 
   -- the requests of all that came
@@ -169,7 +192,7 @@ module _ (places : ℕ) (before now : Streams) (held : Held) (session : Session)
   reads_none : HasNone held → ReadsAs under.came under.answered
   reads_none none = subst (ReadsAs under.came) (append-nil under.answered) (reads_with [] ((none []).1 refl))
 
-  pulled_more : HasNone held → session.queue.items ≡ [] → (piece : List ℕ) → length piece ≤ PULL_BYTES → IsCaughtUp places (under.came ++ piece) under.sent
+  pulled_more : HasNone held → session.queue.items ≡ [] → (piece : List ℕ) → length piece ≤ PULL_BYTES → IsCaughtUp limits places (under.came ++ piece) under.sent
   pulled_more none empty piece short = record {
     earlier = under.came;
     piece = piece;
@@ -178,12 +201,12 @@ module _ (places : ℕ) (before now : Streams) (held : Held) (session : Session)
     is_bytes = refl;
     is_piece = short;
     reads = reads_none none;
-    is_sent = sym (append-nil (owed places [] under.answered) ∙ nothing_more (owed places [] under.answered) under.sent session.queue.items under.owes empty);
+    is_sent = sym (append-nil (owed limits places [] under.answered) ∙ nothing_more (owed limits places [] under.answered) under.sent session.queue.items under.owes empty);
   }
 
   -- a piece came, after all that came before was answered and sent
   pub underway_fed : (piece : List ℕ) (later rest : Option (List ℕ)) (failures : ℕ) (middle after : Held) → HasNone held → ReadAlike held middle → session.queue.items ≡ [] → length piece ≤ PULL_BYTES → later ≡ append_known now.pulled piece → Consumes now.left rest piece → IsFed middle piece after
-      → IsUnderway places before (record now { pulled = later; left = rest; input_failures = failures }) after session closed
+      → IsUnderway limits places before (record now { pulled = later; left = rest; input_failures = failures }) after session closed
   underway_fed piece later rest failures middle after none alike empty short is_later consumed fed = record {
     came = under.came ++ piece;
     answered = under.answered;
@@ -200,7 +223,7 @@ module _ (places : ℕ) (before now : Streams) (held : Held) (session : Session)
   }
 
   -- nothing came
-  pub underway_waits : (later rest : Option (List ℕ)) (failures : ℕ) → later ≡ append_known now.pulled [] → Consumes now.left rest [] → IsUnderway places before (record now { pulled = later; left = rest; input_failures = failures }) held session closed
+  pub underway_waits : (later rest : Option (List ℕ)) (failures : ℕ) → later ≡ append_known now.pulled [] → Consumes now.left rest [] → IsUnderway limits places before (record now { pulled = later; left = rest; input_failures = failures }) held session closed
   underway_waits later rest failures nothing none = record {
     came = under.came;
     answered = under.answered;
@@ -220,12 +243,12 @@ module _ (places : ℕ) (before now : Streams) (held : Held) (session : Session)
       let whole = reads_none none in
       record { bytes = under.came; requests = under.answered; rest = whole.0; came = under.is_pulled; consumed = under.is_consumed; reads = whole.1 }
 
-  sends_all : session.queue.items ≡ [] → Pushes before now (owed places [] under.answered)
+  sends_all : session.queue.items ≡ [] → Pushes before now (owed limits places [] under.answered)
   sends_all empty =
-      under.is_pushed ∙ ap (append_known before.pushed) (sym (nothing_more (owed places [] under.answered) under.sent session.queue.items under.owes empty))
+      under.is_pushed ∙ ap (append_known before.pushed) (sym (nothing_more (owed limits places [] under.answered) under.sent session.queue.items under.owes empty))
 
   -- all that was queued is pushed, and no request is held
-  pub serves_at_end : (has_ended : Type 0) → HasNone held → session.queue.items ≡ [] → has_ended × IsAtEnd now.left ⊎ (closed ≡ true) → Serves places before now has_ended
+  pub serves_at_end : (has_ended : Type 0) → HasNone held → session.queue.items ≡ [] → has_ended × IsAtEnd now.left ⊎ (closed ≡ true) → Serves limits places before now has_ended
   unfolding comes_all
   serves_at_end has_ended none empty end = record {
     comes = comes_all none;
@@ -233,30 +256,30 @@ module _ (places : ℕ) (before now : Streams) (held : Held) (session : Session)
     end = ⊎_elim (λ ended. inl ended) (λ is_closed. inr (under.closes ∙ is_closed)) end;
   }
 
-  pub serves_on : HasNone held → session.queue.items ≡ [] → closed ≡ false → ServesOn places before now
+  pub serves_on : HasNone held → session.queue.items ≡ [] → closed ≡ false → ServesOn limits places before now
   unfolding comes_all
   serves_on none empty is_open = record { comes = comes_all none; went = sends_all empty; goes_on = under.closes ∙ is_open }
 
   -- a front of what is queued was pushed, and the output failed
-  pub serves_in_part : (went : Option (List ℕ)) (failures : ℕ) → PushesFront session.queue.items now.pushed went → ServesInPart places before (record now { pushed = went; output_failures = failures })
+  pub serves_in_part : (went : Option (List ℕ)) (failures : ℕ) → PushesFront session.queue.items now.pushed went → ServesInPart limits places before (record now { pushed = went; output_failures = failures })
   serves_in_part went failures (rest, moves) =
       let others = reads_on held [] in
       let whole = reads_with others.0 others.1 in
-      let later = owed places (applied_by places [] under.answered) others.0 in
+      let later = owed limits places (applied_by places [] under.answered) others.0 in
       record {
         comes = record { bytes = under.came; requests = under.answered ++ others.0; rest = whole.0; came = under.is_pulled; consumed = under.is_consumed; reads = whole.1 };
         sent = under.sent ++ moves.front;
         unsent = rest ++ later;
         owes =
-            owed-append places [] under.answered others.0
+            owed-append limits places [] under.answered others.0
             ∙ (ap (λ bytes. bytes ++ later) (under.owes ∙ ap (λ queue. under.sent ++ queue) moves.split)
             ∙ simp append_assoc);
         went = moves.went ∙ (ap (λ known. append_known known moves.front) under.is_pushed ∙ append_known-more before.pushed under.sent moves.front);
-        caught_up = more_sent places under.came under.sent moves.front under.caught_up;
+        caught_up = more_sent limits places under.came under.sent moves.front under.caught_up;
       }
 
   -- a look for a request met want of memory
-  pub starved_looking : IsStarved places before now session
+  pub starved_looking : IsStarved limits places before now session
   starved_looking =
       let others = reads_on held [] in
       let whole = reads_with others.0 others.1 in
@@ -267,7 +290,7 @@ module _ (places : ℕ) (before now : Streams) (held : Held) (session : Session)
         others = others.0;
         split = refl;
         at_most_one = omega arith;
-        stands = subst (λ requests. Stands places (applied_by places [] requests) session) (sym (append-nil under.answered)) under.stands;
+        stands = subst (λ requests. Stands limits places (applied_by places [] requests) session) (sym (append-nil under.answered)) under.stands;
         sent = under.sent;
         owes = under.owes;
         went = under.is_pushed;
@@ -276,14 +299,14 @@ module _ (places : ℕ) (before now : Streams) (held : Held) (session : Session)
 
   -- the answer to a request met want of memory
   pub starved_responding : (request : Request) (after : Held) (later : Session) → IsNext held request after → later.queue.items ≡ session.queue.items
-      → ((applied : List Command) → Stands session.places applied session → Stands session.places applied later ⊎ Stands session.places (applied_by session.places applied (request ∷ [])) later) → IsStarved places before now later
+      → ((limits : Limits) (places : ℕ) (applied : List Command) → Stands limits places applied session → Stands limits places applied later ⊎ Stands limits places (applied_by places applied (request ∷ [])) later) → IsStarved limits places before now later
   starved_responding request after later next same stands_then =
-      let stands = subst (λ p. (applied : List Command) → Stands p applied session → Stands p applied later ⊎ Stands p (applied_by p applied (request ∷ [])) later) under.stands.is_places stands_then (applied_by places [] under.answered) under.stands in
+      let stands = stands_then limits places (applied_by places [] under.answered) under.stands in
       let others = reads_on after [] in
       let whole = reads_with (request ∷ others.0) ((next [] (request ∷ others.0)).1 (refl, others.1)) in
       let comes : Comes before now =
       record { bytes = under.came; requests = under.answered ++ request ∷ others.0; rest = whole.0; came = under.is_pulled; consumed = under.is_consumed; reads = whole.1 } in
-      let owes : owed places [] under.answered ≡ under.sent ++ later.queue.items = under.owes ∙ ap (λ queue. under.sent ++ queue) (sym same) in
+      let owes : owed limits places [] under.answered ≡ under.sent ++ later.queue.items = under.owes ∙ ap (λ queue. under.sent ++ queue) (sym same) in
       ⊎_elim
       (λ before_it. record {
         comes = comes;
@@ -292,7 +315,7 @@ module _ (places : ℕ) (before now : Streams) (held : Held) (session : Session)
         others = request ∷ others.0;
         split = refl;
         at_most_one = omega arith;
-        stands = subst (λ requests. Stands places (applied_by places [] requests) later) (sym (append-nil under.answered)) before_it;
+        stands = subst (λ requests. Stands limits places (applied_by places [] requests) later) (sym (append-nil under.answered)) before_it;
         sent = under.sent;
         owes = owes;
         went = under.is_pushed;
@@ -305,7 +328,7 @@ module _ (places : ℕ) (before now : Streams) (held : Held) (session : Session)
         others = others.0;
         split = refl;
         at_most_one = omega arith;
-        stands = subst (λ applied. Stands places applied later) (sym (applied_by-append places [] under.answered (request ∷ []))) with_it;
+        stands = subst (λ applied. Stands limits places applied later) (sym (applied_by-append places [] under.answered (request ∷ []))) with_it;
         sent = under.sent;
         owes = owes;
         went = under.is_pushed;
@@ -315,7 +338,7 @@ module _ (places : ℕ) (before now : Streams) (held : Held) (session : Session)
 
   -- a piece that came met want of memory
   pub starved_feeding : (piece : List ℕ) (later rest : Option (List ℕ)) (failures : ℕ) → HasNone held → session.queue.items ≡ [] → length piece ≤ PULL_BYTES → later ≡ append_known now.pulled piece → Consumes now.left rest piece
-      → IsStarved places before (record now { pulled = later; left = rest; input_failures = failures }) session
+      → IsStarved limits places before (record now { pulled = later; left = rest; input_failures = failures }) session
   starved_feeding piece later rest failures none empty short is_later consumed =
       let others = reads_on held piece in
       let whole = under.reads piece others.0 others.1 in
@@ -333,7 +356,7 @@ module _ (places : ℕ) (before now : Streams) (held : Held) (session : Session)
         others = others.0;
         split = refl;
         at_most_one = omega arith;
-        stands = subst (λ requests. Stands places (applied_by places [] requests) session) (sym (append-nil under.answered)) under.stands;
+        stands = subst (λ requests. Stands limits places (applied_by places [] requests) session) (sym (append-nil under.answered)) under.stands;
         sent = under.sent;
         owes = under.owes;
         went = under.is_pushed;
@@ -341,8 +364,8 @@ module _ (places : ℕ) (before now : Streams) (held : Held) (session : Session)
       }
 
 -- the client is told
-pub tells : (places : ℕ) (before after : Streams) (is_full : Type 0) (session : Session) → TellsStarved places before after is_full session → ServesUntilStarved places before after is_full
-tells places before after is_full session telling =
+pub tells : (limits : Limits) (places : ℕ) (before after : Streams) (is_full : Type 0) (session : Session) → TellsStarved limits places before after is_full session → ServesUntilStarved limits places before after is_full
+tells limits places before after is_full session telling =
     let starved = telling.starved in
     let moves = telling.told.1 in
     record {
@@ -366,16 +389,16 @@ tells places before after is_full session telling =
           ∙ sym (append_assoc starved.sent moves.front telling.told.0)));
       went = moves.went ∙ (ap (λ known. append_known known moves.front) starved.went ∙ append_known-more before.pushed starved.sent moves.front);
       stops = telling.told.2;
-      caught_up = more_sent places starved.comes.bytes starved.sent moves.front starved.caught_up;
+      caught_up = more_sent limits places starved.comes.bytes starved.sent moves.front starved.caught_up;
     }
 
-pub stops_told : (places : ℕ) (result : Result (Unit {0}) Fault) (before after : Streams) (is_full : Type 0) (session : Session) → IfErr result (λ fault. StopsAt places fault before after (TellsStarved places before after is_full session))
-    → IfErr result (λ fault. StopsAt places fault before after (ServesUntilStarved places before after is_full))
-stops_told places (Ok done) before after is_full session stops = stops
-stops_told places (Err Memory) before after is_full session stops = tells places before after is_full session stops
-stops_told places (Err LogFull) before after is_full session stops = stops
-stops_told places (Err Taken) before after is_full session stops = stops
-stops_told places (Err Input) before after is_full session stops = stops
-stops_told places (Err Output) before after is_full session stops = stops
-stops_told places (Err BadEvent) before after is_full session stops = stops
-stops_told places (Err BadSettings) before after is_full session stops = stops
+pub stops_told : (limits : Limits) (places : ℕ) (result : Result (Unit {0}) Fault) (before after : Streams) (is_full : Type 0) (session : Session) → IfErr result (λ fault. StopsAt limits places fault before after (TellsStarved limits places before after is_full session))
+    → IfErr result (λ fault. StopsAt limits places fault before after (ServesUntilStarved limits places before after is_full))
+stops_told limits places (Ok done) before after is_full session stops = stops
+stops_told limits places (Err Memory) before after is_full session stops = tells limits places before after is_full session stops
+stops_told limits places (Err LogFull) before after is_full session stops = stops
+stops_told limits places (Err Taken) before after is_full session stops = stops
+stops_told limits places (Err Input) before after is_full session stops = stops
+stops_told limits places (Err Output) before after is_full session stops = stops
+stops_told limits places (Err BadEvent) before after is_full session stops = stops
+stops_told limits places (Err BadSettings) before after is_full session stops = stops

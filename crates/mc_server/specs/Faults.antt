@@ -3,6 +3,7 @@ use Rattle.std.specs.Prelude.{◌≡◌, ℕ, ◌≤◌, ◌+◌, List, ◌++◌
 use Rattle.std.specs.Io.KnownBytes.{append_known}
 use Rattle.mc_model.specs.declared.fault.Fault.{Fault}
 use Rattle.mc_model.specs.declared.fault.Fault.TheVariants.{Memory, LogFull, Taken, Input, Output, BadEvent, BadSettings}
+use Rattle.mc_model.specs.declared.settings.Limits.{Limits}
 use Rattle.mc_server.specs.Serving.{CountsFailures, ServesUntilStarved, StopsAt}
 use Rattle.mc_stream.specs.Stream.{Streams}
 
@@ -27,8 +28,8 @@ pub record Tells (bytes : List ℕ) (errors_before errors : ℕ) (said_before sa
 
 -- A run that failed met one fault, which the failures of the input and the output bear out, gave the client what it gives at
 -- that fault, and said so.
-pub record Fails (program : List ℕ) (places : ℕ) (before after : Streams) (is_full : Type 0) (errors_before errors : ℕ) (said_before said : Option (List ℕ)) : Type 0 where
+pub record Fails (program : List ℕ) (limits : Limits) (places : ℕ) (before after : Streams) (is_full : Type 0) (errors_before errors : ℕ) (said_before said : Option (List ℕ)) : Type 0 where
   pub fault : Fault
   pub counts : CountsFailures (Err fault) before after
-  pub stops : StopsAt places fault before after (ServesUntilStarved places before after is_full)
+  pub stops : StopsAt limits places fault before after (ServesUntilStarved limits places before after is_full)
   pub tells : Tells (fault_line program fault) errors_before errors said_before said

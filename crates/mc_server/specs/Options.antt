@@ -4,47 +4,68 @@ use Rattle.std.specs.Str.Parse.{without_leading_plus}
 use Rattle.clap.specs.Faults.{fault_of}
 use Rattle.clap.specs.Kinds.{IsAmong}
 use Rattle.clap.specs.Simple.{App, matches_of, new_app, new_rule, on_top, with_rule}
+use Rattle.clap.specs.Matches.{one_text}
 use Rattle.clap.specs.Walk.{Rule, Text, one_of}
 use Rattle.clap.specs.declared.builder.value_parser.ValueParser.TheVariants.{Unsigned}
 use Rattle.clap.specs.declared.error.kind.ErrorKind.{ErrorKind}
+use Rattle.clap.specs.declared.parser.matches.Found.{Found}
 use Rattle.clap.specs.declared.error.kind.ErrorKind.TheVariants.{DisplayHelp, DisplayVersion, OutOfMemory}
 use Rattle.mc_model.specs.Number.{number_up_to}
-use Rattle.mc_model.specs.Settings.{IsBetween}
+use Rattle.mc_model.specs.Settings.{AreLawfulLimits, IsBetween}
 use Rattle.mc_model.specs.declared.fault.Fault.{Fault}
 use Rattle.mc_model.specs.declared.fault.Fault.TheVariants.{Memory, Output}
+use Rattle.mc_model.specs.declared.settings.Limits.{Limits}
 use Rattle.mc_model.specs.declared.settings.TheConstants.{MAX_PLACES}
 use Rattle.mc_server.specs.Faults.{Tells, fault_line}
 use Rattle.mc_server.specs.Serving.{PushesFront}
 use Rattle.mc_stream.specs.Stream.{Pushes, Streams}
 
--- `--places N`, a number of 64 bits
-abbrev pub places_rule : Rule
-places_rule = record (new_rule (codes "places")) {
-  long = Some (codes "places");
+-- an option `--name N`, a number of 64 bits
+abbrev pub number_rule : Text → Rule
+number_rule name = record (new_rule name) {
+  long = Some name;
   value_names = 1;
   parser = Some (Unsigned 0 (2 ^ 64 - 1));
 }
 
--- the command: that option, `--help` and `--version`
+-- the command without its options: `--help` and `--version`
+abbrev pub bare_app : App
+bare_app = on_top (λ shape. record shape { no_binary_name = true; has_version = true }) (new_app (codes "mc_stdin"))
+
+-- the command: `--places`, `--items` and `--bytes`
 abbrev pub stdin_app : App
-stdin_app =
-    with_rule (on_top (λ shape. record shape { no_binary_name = true; has_version = true }) (new_app (codes "mc_stdin"))) places_rule
+stdin_app = with_rule (with_rule (with_rule bare_app (number_rule (codes "places"))) (number_rule (codes "items"))) (number_rule (codes "bytes"))
 
 -- the number of 64 bits that a text spells; a plus may stand first
 abbrev pub u64_of : Text → Option ℕ
 u64_of text = number_up_to (2 ^ 64 - 1) (without_leading_plus text)
 
--- how many places words ask for that the command takes: the number behind `--places`, and 65,536 where there is none
+-- the number that was given behind an option, in what was matched
+abbrev pub number_given : Found → Text → Option ℕ
+number_given found name = option_and_then u64_of (one_text found name)
+
+-- the number that words ask for by an option, and a default where they don't have it
+abbrev pub number_asked : Text → ℕ → List Text → ℕ
+number_asked name default words = unwrap_or (option_and_then u64_of (one_of name (matches_of stdin_app words))) default
+
+-- how many places words ask for, and which quotas
 abbrev pub places_asked : List Text → ℕ
-places_asked words = unwrap_or (option_and_then u64_of (one_of (codes "places") (matches_of stdin_app words))) 65536
+places_asked words = number_asked (codes "places") 65536 words
 
--- the command takes the words, and the number of places is in its range
+abbrev pub limits_asked : List Text → Limits
+limits_asked words = record { items = number_asked (codes "items") 1048576 words; bytes = number_asked (codes "bytes") 67108864 words }
+
+-- the numbers of places, items and bytes are in their ranges
+abbrev pub IsInRange : List Text → Type 0
+IsInRange words = IsBetween 1 MAX_PLACES (places_asked words) × AreLawfulLimits (limits_asked words)
+
+-- the command takes the words, and the numbers are in their ranges
 abbrev pub AsksInRange : List Text → Type 0
-AsksInRange words = (fault_of stdin_app words ≡ []) × IsBetween 1 MAX_PLACES (places_asked words)
+AsksInRange words = (fault_of stdin_app words ≡ []) × IsInRange words
 
--- the command takes the words, and the number of places is out of its range
+-- the command takes the words, and a number is out of its range
 abbrev pub AsksOutOfRange : List Text → Type 0
-AsksOutOfRange words = (fault_of stdin_app words ≡ []) × ¬ (IsBetween 1 MAX_PLACES (places_asked words))
+AsksOutOfRange words = (fault_of stdin_app words ≡ []) × ¬ (IsInRange words)
 
 -- clap answers the words by an error of this kind
 abbrev pub IsAnswered : List Text → ErrorKind → Type 0

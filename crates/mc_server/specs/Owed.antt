@@ -8,6 +8,7 @@ use Rattle.mc_model.specs.declared.reply.Reply.TheVariants.{Refused}
 use Rattle.mc_model.specs.declared.reply.WireNo.TheVariants.{E5, E10}
 use Rattle.mc_model.specs.declared.request.Request.{Request}
 use Rattle.mc_model.specs.declared.request.Request.TheVariants.{Local, Logged, Quit, TooLong}
+use Rattle.mc_model.specs.declared.settings.Limits.{Limits}
 use Rattle.mc_model.specs.History.{answer}
 use Rattle.mc_write.specs.Text.{text}
 
@@ -15,22 +16,22 @@ use Rattle.mc_write.specs.Text.{text}
 abbrev pub answered : Bool → Reply → List ℕ
 answered quiet reply = if quiet then [] else text reply
 
--- the reply to a command after those that were applied, in a log with so many places
-abbrev pub logged_reply : ℕ → List Command → Command → Reply
-logged_reply places applied command = if nat_lt (length applied) places then answer applied command else Refused E10
+-- the reply to a command after those that were applied, under these quotas and in a log with so many places
+abbrev pub logged_reply : Limits → ℕ → List Command → Command → Reply
+logged_reply limits places applied command = if nat_lt (length applied) places then answer limits applied command else Refused E10
 
 -- the commands that were applied with this one
 abbrev pub applied_with : ℕ → List Command → Command → List Command
 applied_with places applied command = if nat_lt (length applied) places then applied ++ command ∷ [] else applied
 
 -- what is owed for requests after the commands that were applied
-abbrev pub owed : ℕ → List Command → List Request → List ℕ
-owed places applied [] = []
-owed places applied (Logged command quiet ∷ requests) =
-    answered quiet (logged_reply places applied command) ++ owed places (applied_with places applied command) requests
-owed places applied (Local reply quiet ∷ requests) = answered quiet reply ++ owed places applied requests
-owed places applied (Quit ∷ requests) = owed places applied requests
-owed places applied (TooLong ∷ requests) = text (Refused E5) ++ owed places applied requests
+abbrev pub owed : Limits → ℕ → List Command → List Request → List ℕ
+owed limits places applied [] = []
+owed limits places applied (Logged command quiet ∷ requests) =
+    answered quiet (logged_reply limits places applied command) ++ owed limits places (applied_with places applied command) requests
+owed limits places applied (Local reply quiet ∷ requests) = answered quiet reply ++ owed limits places applied requests
+owed limits places applied (Quit ∷ requests) = owed limits places applied requests
+owed limits places applied (TooLong ∷ requests) = text (Refused E5) ++ owed limits places applied requests
 
 -- the commands that were applied with those requests
 abbrev pub applied_by : ℕ → List Command → List Request → List Command

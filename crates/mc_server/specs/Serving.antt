@@ -7,6 +7,7 @@ use Rattle.mc_model.specs.declared.fault.Fault.TheVariants.{Memory, LogFull, Tak
 use Rattle.mc_model.specs.declared.reply.Reply.TheVariants.{Refused}
 use Rattle.mc_model.specs.declared.reply.WireNo.TheVariants.{E11}
 use Rattle.mc_model.specs.declared.request.Request.{Request}
+use Rattle.mc_model.specs.declared.settings.Limits.{Limits}
 use Rattle.mc_read.specs.Reading.{Reads, ReadsAs, ends_stream}
 use Rattle.mc_server.specs.declared.serving.TheConstants.{PULL_BYTES}
 use Rattle.mc_server.specs.Owed.{owed}
@@ -22,20 +23,20 @@ pub record Comes (before after : Streams) : Type 0 where
   pub consumed : Consumes before.left after.left bytes
   pub reads : Reads bytes requests rest
 
--- All that came was answered, by a log with so many places, up to the end of the input or a request that ends the stream.
-pub record Serves (places : ℕ) (before after : Streams) (has_ended : Type 0) : Type 0 where
+-- All that came was answered, under these quotas and by a log with so many places, up to the end of the input or a request that ends the stream.
+pub record Serves (limits : Limits) (places : ℕ) (before after : Streams) (has_ended : Type 0) : Type 0 where
   pub comes : Comes before after
-  pub went : Pushes before after (owed places [] comes.requests)
+  pub went : Pushes before after (owed limits places [] comes.requests)
   pub end : has_ended × IsAtEnd after.left ⊎ (list_any ends_stream comes.requests ≡ true)
 
 -- All that came was answered, and more could have come.
-pub record ServesOn (places : ℕ) (before after : Streams) : Type 0 where
+pub record ServesOn (limits : Limits) (places : ℕ) (before after : Streams) : Type 0 where
   pub comes : Comes before after
-  pub went : Pushes before after (owed places [] comes.requests)
+  pub went : Pushes before after (owed limits places [] comes.requests)
   pub goes_on : list_any ends_stream comes.requests ≡ false
 
 -- What came before the last pull was answered, and sent first.
-pub record IsCaughtUp (places : ℕ) (bytes sent : List ℕ) : Type 0 where
+pub record IsCaughtUp (limits : Limits) (places : ℕ) (bytes sent : List ℕ) : Type 0 where
   pub earlier : List ℕ
   pub piece : List ℕ
   pub requests : List Request
@@ -43,16 +44,16 @@ pub record IsCaughtUp (places : ℕ) (bytes sent : List ℕ) : Type 0 where
   pub is_bytes : bytes ≡ earlier ++ piece
   pub is_piece : length piece ≤ PULL_BYTES
   pub reads : ReadsAs earlier requests
-  pub is_sent : sent ≡ owed places [] requests ++ later
+  pub is_sent : sent ≡ owed limits places [] requests ++ later
 
 -- A front of what is owed for all that came was pushed.
-pub record ServesInPart (places : ℕ) (before after : Streams) : Type 0 where
+pub record ServesInPart (limits : Limits) (places : ℕ) (before after : Streams) : Type 0 where
   pub comes : Comes before after
   pub sent : List ℕ
   pub unsent : List ℕ
-  pub owes : owed places [] comes.requests ≡ sent ++ unsent
+  pub owes : owed limits places [] comes.requests ≡ sent ++ unsent
   pub went : Pushes before after sent
-  pub caught_up : IsCaughtUp places comes.bytes sent
+  pub caught_up : IsCaughtUp limits places comes.bytes sent
 
 -- the output was full then, or it failed
 abbrev pub IsStopped : Type 0 → ℕ → ℕ → Type 0
@@ -65,27 +66,27 @@ IsAllOrStopped unsent is_full failures_before failures =
 
 -- The first requests that came were answered, and then the client was told that memory is wanting, as far as the output
 -- took it at once.
-pub record ServesUntilStarved (places : ℕ) (before after : Streams) (is_full : Type 0) : Type 0 where
+pub record ServesUntilStarved (limits : Limits) (places : ℕ) (before after : Streams) (is_full : Type 0) : Type 0 where
   pub comes : Comes before after
   pub answered : List Request
   pub others : List Request
   pub split : comes.requests ≡ answered ++ others
   pub sent : List ℕ
   pub unsent : List ℕ
-  pub owes : owed places [] answered ++ text (Refused E11) ≡ sent ++ unsent
+  pub owes : owed limits places [] answered ++ text (Refused E11) ≡ sent ++ unsent
   pub went : Pushes before after sent
   pub stops : IsAllOrStopped unsent is_full before.output_failures after.output_failures
-  pub caught_up : IsCaughtUp places comes.bytes sent
+  pub caught_up : IsCaughtUp limits places comes.bytes sent
 
 -- what a client was given where a fault ended it, and where memory was wanting this
-abbrev pub StopsAt : ℕ → Fault → Streams → Streams → Type 0 → Type 0
-StopsAt places Memory before after is_starved = is_starved
-StopsAt places Input before after is_starved = ServesOn places before after
-StopsAt places Output before after is_starved = ServesInPart places before after
-StopsAt places LogFull before after is_starved = ⊥
-StopsAt places Taken before after is_starved = ⊥
-StopsAt places BadEvent before after is_starved = ⊥
-StopsAt places BadSettings before after is_starved = ⊥
+abbrev pub StopsAt : Limits → ℕ → Fault → Streams → Streams → Type 0 → Type 0
+StopsAt limits places Memory before after is_starved = is_starved
+StopsAt limits places Input before after is_starved = ServesOn limits places before after
+StopsAt limits places Output before after is_starved = ServesInPart limits places before after
+StopsAt limits places LogFull before after is_starved = ⊥
+StopsAt limits places Taken before after is_starved = ⊥
+StopsAt limits places BadEvent before after is_starved = ⊥
+StopsAt limits places BadSettings before after is_starved = ⊥
 
 -- The failures of an input and of an output before and after a call: without a fault there was none; a failure of the
 -- input, or of the output, is the one fault that names it; and where memory is wanting, the output may fail once more while

@@ -14,7 +14,7 @@ ghost use Rattle.mc_stream.specs.Stream.{streams_of};
 ghost use Rattle.mc_write.specs.Text.{text};
 
 use crate::session::{QUEUE_BYTES, Session};
-use mc_model::{Fault, WireNo};
+use mc_model::{Fault, Limits, WireNo};
 use mc_read::{Reader, ends_stream};
 use mc_stream::{Input, Output, Pull, Push};
 use mc_write::refusal_text;
@@ -86,10 +86,10 @@ fn exchange<R: Wait, I: Input, O: Output>(
     output: &mut O,
 ) -> Result<(), Fault>
     requires begins { reader.old ≡ Kept [] }
-    requires stands { Stands session.old.places [] session.old }
+    requires stands { Stands session.old.limits session.old.replica.places [] session.old }
     requires nothing_queued { session.old.queue.items ≡ [] }
-    ensures serves { OnOk result (Serves session.old.places (streams_of I.pulled I.left I.failures O.pushed O.failures input.old output.old) (streams_of I.pulled I.left I.failures O.pushed O.failures input.new output.new) (I.has_ended input.new)) }
-    ensures stops { IfErr result (λ fault. StopsAt session.old.places fault (streams_of I.pulled I.left I.failures O.pushed O.failures input.old output.old) (streams_of I.pulled I.left I.failures O.pushed O.failures input.new output.new) (IsStarved session.old.places (streams_of I.pulled I.left I.failures O.pushed O.failures input.old output.old) (streams_of I.pulled I.left I.failures O.pushed O.failures input.new output.new) session.new × (O.failures output.new ≡ O.failures output.old))) }
+    ensures serves { OnOk result (Serves session.old.limits session.old.replica.places (streams_of I.pulled I.left I.failures O.pushed O.failures input.old output.old) (streams_of I.pulled I.left I.failures O.pushed O.failures input.new output.new) (I.has_ended input.new)) }
+    ensures stops { IfErr result (λ fault. StopsAt session.old.limits session.old.replica.places fault (streams_of I.pulled I.left I.failures O.pushed O.failures input.old output.old) (streams_of I.pulled I.left I.failures O.pushed O.failures input.new output.new) (IsStarved session.old.limits session.old.replica.places (streams_of I.pulled I.left I.failures O.pushed O.failures input.old output.old) (streams_of I.pulled I.left I.failures O.pushed O.failures input.new output.new) session.new × (O.failures output.new ≡ O.failures output.old))) }
     ensures failures { CountsFailures result (streams_of I.pulled I.left I.failures O.pushed O.failures input.old output.old) (streams_of I.pulled I.left I.failures O.pushed O.failures input.new output.new) }
 {
     let mut buffer = [0u8; PULL_BYTES];
@@ -151,10 +151,10 @@ fn serve<R: Wait, I: Input, O: Output>(
     output: &mut O,
 ) -> Result<(), Fault>
     requires begins { reader.old ≡ Kept [] }
-    requires stands { Stands session.old.places [] session.old }
+    requires stands { Stands session.old.limits session.old.replica.places [] session.old }
     requires nothing_queued { session.old.queue.items ≡ [] }
-    ensures serves { OnOk result (Serves session.old.places (streams_of I.pulled I.left I.failures O.pushed O.failures input.old output.old) (streams_of I.pulled I.left I.failures O.pushed O.failures input.new output.new) (I.has_ended input.new)) }
-    ensures stops { IfErr result (λ fault. StopsAt session.old.places fault (streams_of I.pulled I.left I.failures O.pushed O.failures input.old output.old) (streams_of I.pulled I.left I.failures O.pushed O.failures input.new output.new) (TellsStarved session.old.places (streams_of I.pulled I.left I.failures O.pushed O.failures input.old output.old) (streams_of I.pulled I.left I.failures O.pushed O.failures input.new output.new) (O.is_full output.new) session.new)) }
+    ensures serves { OnOk result (Serves session.old.limits session.old.replica.places (streams_of I.pulled I.left I.failures O.pushed O.failures input.old output.old) (streams_of I.pulled I.left I.failures O.pushed O.failures input.new output.new) (I.has_ended input.new)) }
+    ensures stops { IfErr result (λ fault. StopsAt session.old.limits session.old.replica.places fault (streams_of I.pulled I.left I.failures O.pushed O.failures input.old output.old) (streams_of I.pulled I.left I.failures O.pushed O.failures input.new output.new) (TellsStarved session.old.limits session.old.replica.places (streams_of I.pulled I.left I.failures O.pushed O.failures input.old output.old) (streams_of I.pulled I.left I.failures O.pushed O.failures input.new output.new) (O.is_full output.new) session.new)) }
     ensures failures { CountsFailures result (streams_of I.pulled I.left I.failures O.pushed O.failures input.old output.old) (streams_of I.pulled I.left I.failures O.pushed O.failures input.new output.new) }
 {
     let served = exchange(rt, reader, session, input, output);
@@ -164,14 +164,15 @@ fn serve<R: Wait, I: Input, O: Output>(
     served
 }
 
-/// Serves one client: reads requests from the input, applies the first `places` commands to one table, answers every later
-/// one `SERVER_ERROR log full`, and pushes the replies, until the input ends or a request ends the stream.
+/// Serves one client: reads requests from the input, replays the first `places` commands on a table under these quotas,
+/// answers every later one `SERVER_ERROR log full`, and pushes the replies, until the input ends or a request ends the stream.
 ///
 /// Where memory is wanting, the replies that are queued and then `SERVER_ERROR out of memory` are pushed, as far as the
 /// output takes them at once. After a failure of the input or the output nothing more is pushed.
 pub fn pump<R: Wait, I: Input, O: Output>(
     rt: &R,
     alloc: Global,
+    limits: Limits,
     places: u64,
     input: &mut I,
     output: &mut O,
@@ -179,14 +180,17 @@ pub fn pump<R: Wait, I: Input, O: Output>(
     requires { IsBetween 1 MAX_PLACES places }
 
     // From the bytes that came in to the bytes that went out.
-    ensures serves { OnOk result (Serves places (streams_of I.pulled I.left I.failures O.pushed O.failures input.old output.old) (streams_of I.pulled I.left I.failures O.pushed O.failures input.new output.new) (I.has_ended input.new)) }
-    ensures stops { IfErr result (λ fault. StopsAt places fault (streams_of I.pulled I.left I.failures O.pushed O.failures input.old output.old) (streams_of I.pulled I.left I.failures O.pushed O.failures input.new output.new) (ServesUntilStarved places (streams_of I.pulled I.left I.failures O.pushed O.failures input.old output.old) (streams_of I.pulled I.left I.failures O.pushed O.failures input.new output.new) (O.is_full output.new))) }
+    ensures serves { OnOk result (Serves limits places (streams_of I.pulled I.left I.failures O.pushed O.failures input.old output.old) (streams_of I.pulled I.left I.failures O.pushed O.failures input.new output.new) (I.has_ended input.new)) }
+    ensures stops { IfErr result (λ fault. StopsAt limits places fault (streams_of I.pulled I.left I.failures O.pushed O.failures input.old output.old) (streams_of I.pulled I.left I.failures O.pushed O.failures input.new output.new) (ServesUntilStarved limits places (streams_of I.pulled I.left I.failures O.pushed O.failures input.old output.old) (streams_of I.pulled I.left I.failures O.pushed O.failures input.new output.new) (O.is_full output.new))) }
 
     // Which fault comes when.
     ensures failures { CountsFailures result (streams_of I.pulled I.left I.failures O.pushed O.failures input.old output.old) (streams_of I.pulled I.left I.failures O.pushed O.failures input.new output.new) }
 {
     let mut reader = Reader::new(alloc);
-    let mut session = Session::new(alloc, places);
+    let Ok(mut session) = Session::open(alloc, limits, places) else {
+        push_while_taken(refusal_text(WireNo::E11), output);
+        return Err(Fault::Memory);
+    };
     serve(rt, &mut reader, &mut session, input, output)
 }
 

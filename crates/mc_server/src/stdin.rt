@@ -4,16 +4,15 @@ ghost use Rattle.clap.specs.Words.{kind_of};
 ghost use Rattle.std.specs.Prelude.{◌≡◌, ◌≢◌, ◌+◌, ◌⊎◌, ℕ, List, OnOk, MatchResult, codes, map, string_bytes};
 ghost use Rattle.mc_model.specs.declared.fault.Fault.{Fault};
 ghost use Rattle.mc_server.specs.Faults.{Fails, Tells, fault_line, fault_text};
-ghost use Rattle.mc_server.specs.Options.{AsksInRange, AsksOutOfRange, FailsToAnswer, FailsToShow, IsShown, Shows, TellsMistake, places_asked};
+ghost use Rattle.mc_server.specs.Options.{AsksInRange, AsksOutOfRange, FailsToAnswer, FailsToShow, IsShown, Shows, TellsMistake, limits_asked, places_asked};
 ghost use Rattle.mc_server.specs.Serving.{Serves};
 ghost use Rattle.mc_stream.specs.Stream.{streams_of};
 
-use crate::options::asked_places;
+use crate::options::read_words;
 use crate::serving::{pump, push_all};
 use clap::Error;
 use clap::error::ErrorKind;
 use mc_model::Fault;
-use mc_model::settings::MAX_PLACES;
 use mc_stream::{Input, Output};
 use std::alloc::Global;
 use std::sync::Wait;
@@ -94,9 +93,10 @@ fn answer_words<R: Wait, O: Output, E: Output>(
 
 /// Does what the words ask for, which are those behind the program's name, and answers the status that the program ends with.
 ///
-/// `--places N` serves one client from the input to the output, in a log of so many places, 65,536 where it isn't given: 0
-/// where the input ended or a request ended the stream, and 1 where a fault ended it, which is told on `errors` by
-/// `mc_stdin: TEXT` and a line feed. A number out of the range of 1 to `MAX_PLACES` is told so too, as `bad settings`, with 2.
+/// Serves one client from the input to the output: 0 where the input ended or a request ended the stream, and 1 where a fault
+/// ended it, which is told on `errors` by `mc_stdin: TEXT` and a line feed. `--places N` says how many places the log has
+/// (65,536 where it isn't given), `--items N` how many items the table may hold (1,048,576), and `--bytes N` how many bytes its
+/// keys and data may have (67,108,864). A number out of its range is told as `bad settings`, with 2.
 ///
 /// Help and the version go to the output, with 0, and a mistake in the words to `errors`, with 2, by clap's text; want of memory
 /// and a failure of the output are faults there too. Nothing is pulled then. A failure of `errors` is passed over.
@@ -109,29 +109,29 @@ pub fn run_stdin<R: Wait, I: Input, O: Output, E: Output>(
     errors: &mut E,
 ) -> u8
     ensures status { (result ≡ 0) ⊎ (result ≡ 1) ⊎ (result ≡ 2) }
-    // From the bytes that came in to the bytes that went out, for the number of places that the words ask for.
+    // From the bytes that came in to the bytes that went out, by the quotas and the number of places that the words ask for.
     ensures serves { result ≡ 0 → AsksInRange (map string_bytes words.items)
-        × Serves (places_asked (map string_bytes words.items)) (streams_of I.pulled I.left I.failures O.pushed O.failures input.old output.old) (streams_of I.pulled I.left I.failures O.pushed O.failures input.new output.new) (I.has_ended input.new)
+        × Serves (limits_asked (map string_bytes words.items)) (places_asked (map string_bytes words.items)) (streams_of I.pulled I.left I.failures O.pushed O.failures input.old output.old) (streams_of I.pulled I.left I.failures O.pushed O.failures input.new output.new) (I.has_ended input.new)
         ⊎ Shows (map string_bytes words.items) (streams_of I.pulled I.left I.failures O.pushed O.failures input.old output.old) (streams_of I.pulled I.left I.failures O.pushed O.failures input.new output.new) }
     ensures no_failure { result ≡ 0 → (I.failures input.new ≡ I.failures input.old) × (O.failures output.new ≡ O.failures output.old) }
     ensures silent { result ≡ 0 → (E.pushed errors.new ≡ E.pushed errors.old) × (E.failures errors.new ≡ E.failures errors.old) }
     ensures fails { result ≡ 1 → AsksInRange (map string_bytes words.items)
-        × Fails (codes "mc_stdin") (places_asked (map string_bytes words.items)) (streams_of I.pulled I.left I.failures O.pushed O.failures input.old output.old) (streams_of I.pulled I.left I.failures O.pushed O.failures input.new output.new) (O.is_full output.new) (E.failures errors.old) (E.failures errors.new) (E.pushed errors.old) (E.pushed errors.new)
+        × Fails (codes "mc_stdin") (limits_asked (map string_bytes words.items)) (places_asked (map string_bytes words.items)) (streams_of I.pulled I.left I.failures O.pushed O.failures input.old output.old) (streams_of I.pulled I.left I.failures O.pushed O.failures input.new output.new) (O.is_full output.new) (E.failures errors.old) (E.failures errors.new) (E.pushed errors.old) (E.pushed errors.new)
         ⊎ FailsToShow (map string_bytes words.items) (streams_of I.pulled I.left I.failures O.pushed O.failures input.old output.old) (streams_of I.pulled I.left I.failures O.pushed O.failures input.new output.new) (E.failures errors.old) (E.failures errors.new) (E.pushed errors.old) (E.pushed errors.new) }
     ensures refuses { result ≡ 2 → AsksOutOfRange (map string_bytes words.items)
         × Tells (fault_line (codes "mc_stdin") Fault.BadSettings) (E.failures errors.old) (E.failures errors.new) (E.pushed errors.old) (E.pushed errors.new)
         ⊎ TellsMistake (map string_bytes words.items) (E.failures errors.old) (E.failures errors.new) (E.pushed errors.old) (E.pushed errors.new) }
     ensures untouched { result ≡ 2 → streams_of I.pulled I.left I.failures O.pushed O.failures input.new output.new ≡ streams_of I.pulled I.left I.failures O.pushed O.failures input.old output.old }
 {
-    let places = match asked_places(alloc, &words) {
-        Ok(places) => places,
+    let asked = match read_words(alloc, &words) {
+        Ok(asked) => asked,
         Err(error) => return answer_words(rt, alloc, &error, output, errors),
     };
-    if places < 1 || places > MAX_PLACES {
+    if !asked.is_in_range() {
         let _ = tell(rt, b"mc_stdin", Fault::BadSettings, errors);
         return 2;
     }
-    match pump(rt, alloc, places, input, output) {
+    match pump(rt, alloc, asked.limits, asked.places, input, output) {
         Ok(()) => 0,
         Err(fault) => fail(rt, fault, errors),
     }

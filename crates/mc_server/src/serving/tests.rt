@@ -9,6 +9,12 @@ use std::test::Fail;
 /// How many commands are applied.
 const PLACES: u64 = 65_536;
 
+/// Quotas with room for all that these streams store.
+const LIMITS: Limits = Limits {
+    items: 100,
+    bytes: 10_000_000,
+};
+
 /// What is pushed last where memory is wanting.
 const STARVED: &str = "SERVER_ERROR out of memory\r\n";
 
@@ -121,7 +127,7 @@ fn serve(
     let wanted = joined(alloc, replies)?;
     let mut input = MemoryInput::new(Vec::from_slice(alloc, sent)?, pulls);
     let mut output = MemoryOutput::new(alloc, pushes);
-    match pump(rt, alloc, PLACES, &mut input, &mut output) {
+    match pump(rt, alloc, LIMITS, PLACES, &mut input, &mut output) {
         Ok(()) => {
             assert!(rt;
                 output.as_bytes() == wanted.as_slice(),
@@ -188,7 +194,7 @@ fn a_line_too_long_ends_the_stream(rt: HostRuntime) -> Result<(), Fail> {
     pulls.push(InputStep::Fail)?;
     let mut input = MemoryInput::new(longer, pulls);
     let mut output = MemoryOutput::new(alloc, Vec::new(alloc));
-    pump(&rt, alloc, PLACES, &mut input, &mut output)?;
+    pump(&rt, alloc, LIMITS, PLACES, &mut input, &mut output)?;
     assert!(rt; output.as_bytes() == refusal[0].as_bytes());
     Ok(())
 }
@@ -226,14 +232,14 @@ fn a_failing_pull_ends_it(rt: HostRuntime) -> Result<(), Fail> {
                 Vec::new(alloc),
             );
             let mut owed = MemoryOutput::new(alloc, Vec::new(alloc));
-            pump(&rt, alloc, PLACES, &mut whole, &mut owed)?;
+            pump(&rt, alloc, LIMITS, PLACES, &mut whole, &mut owed)?;
             assert!(rt; wanted.starts_with(owed.as_bytes()));
 
             let mut pulls = single_pulls(alloc, good)?;
             pulls.push(InputStep::Fail)?;
             let mut input = MemoryInput::new(Vec::from_slice(alloc, bytes)?, pulls);
             let mut output = MemoryOutput::new(alloc, Vec::new(alloc));
-            let served = pump(&rt, alloc, PLACES, &mut input, &mut output);
+            let served = pump(&rt, alloc, LIMITS, PLACES, &mut input, &mut output);
             assert_eq!(rt; served, Err(Fault::Input), "after {good} bytes of {sent}");
             assert!(rt;
                 output.as_bytes() == owed.as_bytes(),
@@ -259,7 +265,7 @@ fn a_failing_push_ends_it(rt: HostRuntime) -> Result<(), Fail> {
                 Vec::new(alloc),
             );
             let mut output = MemoryOutput::new(alloc, pushes);
-            let served = pump(&rt, alloc, PLACES, &mut input, &mut output);
+            let served = pump(&rt, alloc, LIMITS, PLACES, &mut input, &mut output);
             assert_eq!(rt; served, Err(Fault::Output), "after {good} bytes for {sent}");
             assert!(rt;
                 output.as_bytes() == &wanted[..good],
@@ -296,7 +302,7 @@ fn a_long_reply_is_pushed_before_the_next_request(rt: HostRuntime) -> Result<(),
     let mut input = MemoryInput::new(sent, Vec::new(alloc));
     let pushes = vec![in alloc; OutputStep::Take(2_097_152), OutputStep::Fail]?;
     let mut output = MemoryOutput::new(alloc, pushes);
-    let served = pump(&rt, alloc, PLACES, &mut input, &mut output);
+    let served = pump(&rt, alloc, LIMITS, PLACES, &mut input, &mut output);
     assert_eq!(rt; served, Err(Fault::Output));
     assert!(rt; output.as_bytes() == wanted.as_slice());
     Ok(())
@@ -322,7 +328,7 @@ fn a_full_log_refuses_commands_alone(rt: HostRuntime) -> Result<(), Fail> {
     }
     let mut input = MemoryInput::new(sent, Vec::new(alloc));
     let mut output = MemoryOutput::new(alloc, Vec::new(alloc));
-    pump(&rt, alloc, 2, &mut input, &mut output)?;
+    pump(&rt, alloc, LIMITS, 2, &mut input, &mut output)?;
     assert!(rt; output.as_bytes() == wanted.as_slice());
     Ok(())
 }

@@ -135,7 +135,7 @@ fn names_faults_as_they_are_displayed(rt: HostRuntime) -> Result<(), Fail> {
 }
 
 /// Runs: the words that ask for them, what a client sends, and the replies.
-const RUNS: [(&[&str], &str, &str); 19] = [
+const RUNS: [(&[&str], &str, &str); 22] = [
     // A stored value is given back with its flags and length.
     (
         &[],
@@ -245,6 +245,24 @@ const RUNS: [(&[&str], &str, &str); 19] = [
         &[],
         "set n 3 0 1\r\n1\r\nappend n 0 0 1\r\n0\r\nprepend n 0 0 1\r\n2\r\nincr n 5\r\nappend n 0 0 2\r\nab\r\ngets n\r\n",
         "STORED\r\nSTORED\r\nSTORED\r\n215\r\nSTORED\r\nVALUE n 3 5 5\r\n215ab\r\nEND\r\n",
+    ),
+    // The quota of items refuses a new key; an old key may be set again.
+    (
+        &["--items", "1"],
+        "set a 0 0 1\r\nx\r\ngets a\r\nset b 0 0 1\r\ny\r\nset a 0 0 1\r\nz\r\ngets a b\r\n",
+        "STORED\r\nVALUE a 0 1 1\r\nx\r\nEND\r\nSERVER_ERROR out of memory storing object\r\nSTORED\r\nVALUE a 0 1 2\r\nz\r\nEND\r\n",
+    ),
+    // The quota of bytes refuses an incr that grows the number.
+    (
+        &["--bytes", "2"],
+        "set n 0 0 1\r\n9\r\nincr n 1\r\ndecr n 1\r\n",
+        "STORED\r\nSERVER_ERROR out of memory storing object\r\n8\r\n",
+    ),
+    // The quota of bytes counts keys and data; a refused set keeps the old item and uses no unique.
+    (
+        &["--bytes", "4"],
+        "set ab 0 0 2\r\nxy\r\nset ab 0 0 3\r\nxyz\r\nreplace ab 0 0 1\r\nx\r\nset c 0 0 1\r\ny\r\ndelete ab\r\nset c 0 0 3\r\nyyy\r\ngets ab c\r\n",
+        "STORED\r\nSERVER_ERROR out of memory storing object\r\nSTORED\r\nSERVER_ERROR out of memory storing object\r\nDELETED\r\nSTORED\r\nVALUE c 0 3 3\r\nyyy\r\nEND\r\n",
     ),
 ];
 
@@ -382,6 +400,8 @@ Usage: mc_stdin [OPTIONS]
 
 Options:
       --places <N>  How many commands are applied, from 1 to 1048576 [default: 65536]
+      --items <N>   How many items may be held, from 1 to 1048576 [default: 1048576]
+      --bytes <N>   How many bytes keys and data may have, from 1 to 1073741824 [default: 67108864]
   -h, --help        Print help
   -V, --version     Print version
 ";
@@ -429,6 +449,15 @@ For more information, try '--help'.
     for (texts, status, output, errors) in [
         (["--places", "0"].as_slice(), 2, nothing, bad_settings),
         (["--places", "1048577"].as_slice(), 2, nothing, bad_settings),
+        (["--items", "0"].as_slice(), 2, nothing, bad_settings),
+        (["--items", "1048577"].as_slice(), 2, nothing, bad_settings),
+        (["--bytes", "0"].as_slice(), 2, nothing, bad_settings),
+        (
+            ["--bytes", "1073741825"].as_slice(),
+            2,
+            nothing,
+            bad_settings,
+        ),
         (["--places", "x"].as_slice(), 2, nothing, not_a_number),
         (["--bogus"].as_slice(), 2, nothing, unknown),
         (["--help"].as_slice(), 0, HELP, nothing),

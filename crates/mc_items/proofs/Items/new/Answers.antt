@@ -1,10 +1,17 @@
-use Rattle.std.proofs.Common.{sym, ◌∙◌, ap}
-use Rattle.mc_model.specs.History.{after-none, changes-none}
-use Rattle.mc_items.specs.Held.{table_of_held}
+use Rattle.std.proofs.Common.{◌≡◌, [], ap, subst, sym}
+use Rattle.std.specs.FinMap as map
+use Rattle.mc_model.specs.History.{StandsFor, StandsFor-none}
+use Rattle.mc_model.specs.Table.{Table}
+use Rattle.mc_items.specs.Held.{IsWithin, table_of_held}
+use Rattle.mc_items.proofs.Quotas.{empty_within}
 use Rattle.mc_items.proofs.Items.new.Goals as goal
 
+pub invariant_of-result : goal.invariant_of-result
+invariant_of-result c =
+    let none : table_of_held c.new.result ≡ map.empty = ap map.from_entries c.new.ensures.empty in
+    subst (λ (table : Table). IsWithin c.args.limits table 0) (sym none) (empty_within c.args.limits)
+
 pub returns-clause-stands : goal.returns-clause-stands
-returns-clause-stands c = record {
-  is_after = ap table_of_held c.new.ensures.items ∙ sym after-none;
-  is_changes = sym changes-none;
-}
+returns-clause-stands c =
+    let none : table_of_held c.new.result ≡ map.empty = ap map.from_entries c.new.ensures.empty in
+    subst (λ (table : Table). StandsFor c.args.limits [] table 0) (sym none) (StandsFor-none c.args.limits)

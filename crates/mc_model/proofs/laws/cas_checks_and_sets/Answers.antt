@@ -1,13 +1,19 @@
-use Rattle.std.proofs.Common.{◌≤◌, ◌∙◌, arith}
-use Rattle.mc_model.specs.History.{changes}
+use Rattle.std.proofs.Common.{◌+◌, ◌≤◌, ◌∙◌, arith}
+use Rattle.mc_model.specs.History.{after, changes}
 use Rattle.mc_model.proofs.Histories.{HasUnique, has_bounded_uniques, still_there_is_untouched, untouched_is_still_there}
-use Rattle.mc_model.proofs.OneKey.{cas_stored, shown_is_there, stored_has}
+use Rattle.mc_model.proofs.OneKey.{cas_is_set, cas_let_through, cas_outcomes, let_through_has, shown_is_there}
 use Rattle.mc_model.proofs.laws.cas_checks_and_sets.Goals as goal
 
-pub returns-clause-stored : goal.returns-clause-stored
-returns-clause-stored c = λ earlier between key shown unique flags block given is_unique.
-    let has : HasUnique earlier key unique = shown_is_there earlier key shown unique given is_unique in
-    let past : unique ≤ changes earlier = omega (arith, has.its_unique, (has_bounded_uniques earlier key has.item has.held).1) in (
-      λ stored. still_there_is_untouched earlier between key unique past (stored_has _ key flags unique block stored),
-      λ untouched. cas_stored _ key flags unique block (record { item = has.item; held = untouched_is_still_there earlier key between untouched ∙ has.held; its_unique = has.its_unique }),
+pub returns-clause-let_through : goal.returns-clause-let_through
+returns-clause-let_through c = λ limits earlier between key shown unique flags block given is_unique.
+    let has : HasUnique limits earlier key unique = shown_is_there limits earlier key shown unique given is_unique in
+    let past : unique ≤ changes limits earlier = omega (arith, has.its_unique, (has_bounded_uniques limits earlier key has.item has.held).1) in (
+      λ through. still_there_is_untouched limits earlier between key unique past (let_through_has limits _ key flags unique block through),
+      λ untouched. cas_let_through limits _ key flags unique block (record { item = has.item; held = untouched_is_still_there limits earlier key between untouched ∙ has.held; its_unique = has.its_unique }),
     )
+
+pub returns-clause-set : goal.returns-clause-set
+returns-clause-set c = λ limits list key unique flags block through. cas_is_set limits list key flags unique block (let_through_has limits list key flags unique block through)
+
+pub returns-clause-otherwise : goal.returns-clause-otherwise
+returns-clause-otherwise c = λ limits list key unique flags block. cas_outcomes limits (after limits list) (changes limits list + 1) key flags unique block

@@ -1,5 +1,5 @@
 use Rattle.std.proofs.Common.{ap, ◌∙◌, ◌+◌, Bool, if◌then◌else◌, add-zero}
-use Rattle.mc_model.specs.History.{after-none, after-push, changes, changes-none, changes-push}
+use Rattle.mc_model.specs.History.{after-none, after-push, changes, changes-le, changes-none, changes-push}
 use Rattle.mc_model.proofs.laws.commands_act_in_order.Goals as goal
 
 pub returns-clause-nothing : goal.returns-clause-nothing
@@ -12,9 +12,12 @@ pub returns-clause-table : goal.returns-clause-table
 returns-clause-table c = after-push
 
 pub returns-clause-change : goal.returns-clause-change
-returns-clause-change c = λ list command accepted.
-    changes-push list command ∙ ap (λ (b : Bool). changes list + (if b then 1 else 0)) accepted
+returns-clause-change c = λ limits list command accepted.
+    changes-push limits list command ∙ ap (λ (b : Bool). changes limits list + (if b then 1 else 0)) accepted
 
 pub returns-clause-refusal : goal.returns-clause-refusal
-returns-clause-refusal c = λ list command refused.
-    changes-push list command ∙ (ap (λ (b : Bool). changes list + (if b then 1 else 0)) refused ∙ add-zero (changes list))
+returns-clause-refusal c = λ limits list command refused.
+    changes-push limits list command ∙ (ap (λ (b : Bool). changes limits list + (if b then 1 else 0)) refused ∙ add-zero (changes limits list))
+
+pub returns-clause-at_most : goal.returns-clause-at_most
+returns-clause-at_most c = changes-le

@@ -4,9 +4,9 @@ use Rattle.mc_model.proofs.Histories.{alike_without}
 use Rattle.mc_model.proofs.laws.get_changes_nothing.Goals as goal
 
 pub returns-clause-table : goal.returns-clause-table
-returns-clause-table c = λ earlier later keys uniques.
-    (alike_without earlier later (Get keys uniques) (record { same = refl; no_change = refl; refused = λ key acts. absurd acts })).same_table
+returns-clause-table c = λ limits earlier later keys uniques.
+    (alike_without limits earlier later (Get keys uniques) (record { same = refl; no_change = refl; refused = λ key acts. absurd acts })).same_table
 
 pub returns-clause-uniques : goal.returns-clause-uniques
-returns-clause-uniques c = λ earlier later keys uniques.
-    (alike_without earlier later (Get keys uniques) (record { same = refl; no_change = refl; refused = λ key acts. absurd acts })).same_changes
+returns-clause-uniques c = λ limits earlier later keys uniques.
+    (alike_without limits earlier later (Get keys uniques) (record { same = refl; no_change = refl; refused = λ key acts. absurd acts })).same_changes

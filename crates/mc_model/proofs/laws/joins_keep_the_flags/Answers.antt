@@ -3,9 +3,9 @@ use Rattle.mc_model.proofs.OneKey.{get_held, held_until, append_there, prepend_t
 use Rattle.mc_model.proofs.laws.joins_keep_the_flags.Goals as goal
 
 pub returns-clause-append : goal.returns-clause-append
-returns-clause-append c = λ earlier between key old flags block is stored spared.
-    get_held _ key true _ (held_until earlier between _ key _ spared (append_there _ _ key old flags block is stored))
+returns-clause-append c = λ limits earlier between key old flags block is stored spared.
+    get_held limits _ key true _ (held_until limits earlier between _ key _ spared (append_there limits _ _ key old flags block is stored))
 
 pub returns-clause-prepend : goal.returns-clause-prepend
-returns-clause-prepend c = λ earlier between key old flags block is stored spared.
-    get_held _ key true _ (held_until earlier between _ key _ spared (prepend_there _ _ key old flags block is stored))
+returns-clause-prepend c = λ limits earlier between key old flags block is stored spared.
+    get_held limits _ key true _ (held_until limits earlier between _ key _ spared (prepend_there limits _ _ key old flags block is stored))

@@ -9,7 +9,7 @@ abbrev pub invariant-loop : goal.invariant-loop
 invariant-loop g l =
     let streams = streams_of g.I.Input.pulled g.I.Input.left g.I.Input.failures g.O.Output.pushed g.O.Output.failures in
     record {
-      underway : IsUnderway l.fn.session.places (streams l.fn.input l.fn.output) (streams l.input l.output) l.reader l.session l.closed;
+      underway : IsUnderway l.fn.session.limits l.fn.session.replica.places (streams l.fn.input l.fn.output) (streams l.input l.output) l.reader l.session l.closed;
       room : length l.session.queue.items ≤ QUEUE_BYTES;
       whole_buffer : length l.buffer ≡ PULL_BYTES;
       input_failures : g.I.Input.failures l.input ≡ g.I.Input.failures l.fn.input;

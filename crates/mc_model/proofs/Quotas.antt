@@ -1,0 +1,75 @@
+-- What keeps a table within its quotas.
+use Rattle.std.proofs.Common.{◌≡◌, ◌↔◌, inl, inr, ⊎_elim, ℕ, ◌+◌, ◌-◌, ◌≤◌, nat_le, if◌then◌else◌, Bool, true, false, cond, is_some, length, Option, Some, None, refl, ap, arith}
+use Rattle.std.proofs.lemmas.Bool.{and_from, and_parts, le-leb, leb-true}
+use Rattle.std.proofs.lemmas.Bool.Decides.{nat_tests}
+use Rattle.std.specs.FinMap as map
+use Rattle.std.specs.FinMap.{len-empty, len-insert, len-remove}
+use Rattle.mc_model.specs.declared.item.Item.{Item}
+use Rattle.mc_model.specs.declared.key.Key.{Key}
+use Rattle.mc_model.specs.declared.reply.Reply.TheVariants.{Refused, Stored}
+use Rattle.mc_model.specs.declared.reply.WireNo.TheVariants.{E7}
+use Rattle.mc_model.specs.declared.settings.Limits.{Limits}
+use Rattle.mc_model.specs.Effect.{stored, unchanged}
+use Rattle.mc_model.specs.Table.{ExceedsQuotas, Table, count_of, is_within, key_cmp, key_cmp_total, use_of}
+use Rattle.mc_model.specs.Use.{use-empty, use-insert, use-remove, weight_of}
+
+pub within_parts : (limits : Limits) (table : Table) → is_within limits table ≡ true → (use_of table ≤ limits.bytes) × (count_of table ≤ limits.items)
+within_parts limits table within = let parts = and_parts _ _ within in (leb-true _ _ parts.0, leb-true _ _ parts.1)
+
+pub within_from : (limits : Limits) (table : Table) → use_of table ≤ limits.bytes → count_of table ≤ limits.items → is_within limits table ≡ true
+within_from limits table bytes items = and_from _ _ (le-leb _ _ bytes) (le-leb _ _ items)
+
+-- a table with no more than one within the quotas is within them
+pub less_within : (limits : Limits) (table other : Table) → use_of other ≤ use_of table → count_of other ≤ count_of table → is_within limits table ≡ true → is_within limits other ≡ true
+less_within limits table other bytes items within =
+    let parts = within_parts limits table within in
+    within_from limits other (omega (arith, bytes, parts.0)) (omega (arith, items, parts.1))
+
+pub empty_within : (limits : Limits) → is_within limits map.empty ≡ true
+empty_within limits = within_from limits map.empty (omega (arith, use-empty)) (omega (arith, len-empty key_cmp Item))
+
+fewer : (b : Bool) (n : ℕ) → cond b (n - 1) n ≤ n
+fewer true n = omega arith
+fewer false n = omega arith
+
+pub remove_within : (limits : Limits) (table : Table) (key : Key) → is_within limits table ≡ true → is_within limits (map.remove table key) ≡ true
+remove_within limits table key =
+    less_within limits table (map.remove table key) (omega (arith, use-remove table key)) (omega (arith, len-remove key_cmp_total table key, fewer (map.contains_key table key) (count_of table)))
+
+same_count : (there : Option Item) (n : ℕ) (old : Item) → there ≡ Some old → cond (is_some there) n (n + 1) ≡ n
+same_count None n old is = absurd (cc)
+same_count (Some item) n old is = refl
+
+-- an item that gives way to data that are no longer
+pub replaced_within : (limits : Limits) (table : Table) (key : Key) (old new : Item) → map.get table key ≡ Some old → length new.block ≤ length old.block →
+    is_within limits table ≡ true → is_within limits (map.insert table key new) ≡ true
+replaced_within limits table key old new is shorter =
+    less_within limits table (map.insert table key new)
+    (omega (arith, shorter, use-insert table key new, ap (weight_of key) is))
+    (omega (arith, len-insert key_cmp_total table key new, same_count (map.get table key) (count_of table) old is))
+
+-- what isn't within the quotas exceeds them
+pub exceeds_from : (limits : Limits) (table : Table) → is_within limits table ≡ false → ExceedsQuotas limits table
+exceeds_from limits table above =
+    elim (nat_le (use_of table) limits.bytes) as (λ b. nat_le (use_of table) limits.bytes ≡ b → ExceedsQuotas limits table) [
+      | true ↦ λ bytes.
+          let items : nat_le (count_of table) limits.items ≡ false = rw bytes at above in
+          inr (grind (arith, nat_tests, items))
+      | false ↦ λ bytes. inl (grind (arith, nat_tests, bytes))
+    ] refl
+
+pub within_or_exceeds : (limits : Limits) (table : Table) → is_within limits table ≡ true → ExceedsQuotas limits table → ⊥
+within_or_exceeds limits table within exceeds =
+    let parts = within_parts limits table within in
+    ⊎_elim (λ bytes. omega (arith, parts.0, bytes)) (λ items. omega (arith, parts.1, items)) exceeds
+
+-- to store is refused exactly where the table would then exceed the quotas
+pub stored_refused : (limits : Limits) (table : Table) (key : Key) (item : Item) →
+    ((stored limits table key item Stored).reply ≡ Refused E7) ↔ ExceedsQuotas limits (map.insert table key item)
+stored_refused limits table key item =
+    let next = map.insert table key item in
+    elim (is_within limits next) as (λ b. is_within limits next ≡ b →
+    ((if b then record { table = next; reply = Stored } else unchanged table (Refused E7)).reply ≡ Refused E7) ↔ ExceedsQuotas limits next) [
+      | true ↦ λ within. (λ refused. absurd (let no : Stored ≡ Refused E7 = refused in cc), λ exceeds. absurd (within_or_exceeds limits next within exceeds))
+      | false ↦ λ above. (λ refused. exceeds_from limits next above, λ exceeds. refl)
+    ] refl

@@ -1,0 +1,83 @@
+-- What one entry does to a list of tables.
+use Rattle.std.proofs.Common.{◌≡◌, ◌≢◌, ℕ, zero, suc, ◌<◌, ◌≤◌, List, [], ◌∷◌, length, map, get_or, Option, Some, None, true, false, refl, sym, ap, ap₂, ◌∙◌, arith, slice_get, slice_set, ◌==◌, if◌then◌else◌}
+use Rattle.std.proofs.lemmas.Bool.Decides.{nat_tests}
+use Rattle.std.proofs.lemmas.Iterator.Adapters.{option_map_id}
+use Rattle.std.proofs.lemmas.List.{length-map}
+use Rattle.std.proofs.lemmas.Option.{none-some, same_Some, slice_get-map, slice_get_past, slice_get_read}
+use Rattle.std.specs.Option.{option_map}
+use Rattle.mc_items.specs.TableState.{TableState}
+use Rattle.mc_model.specs.declared.command.Command.{Command}
+use Rattle.mc_model.specs.declared.request.Entry.{Entry}
+use Rattle.mc_model.specs.Log.{own_command}
+use Rattle.mc_replica.specs.Replay.{IsNobodys, TakeEffect, table_after}
+
+get_set_same : {X : Type 0} (xs : List X) (i : ℕ) (x : X) → i < length xs → slice_get (slice_set xs i x) i ≡ Some x
+get_set_same [] i x lt = absurd (omega (arith, lt))
+get_set_same (y ∷ xs) zero x lt = refl
+get_set_same (y ∷ xs) (suc i) x lt = get_set_same xs i x (omega (arith, lt))
+
+get_set_other : {X : Type 0} (xs : List X) (i k : ℕ) (x : X) → i ≢ k → slice_get (slice_set xs i x) k ≡ slice_get xs k
+get_set_other [] i k x differ = refl
+get_set_other (y ∷ xs) zero zero x differ = absurd (differ refl)
+get_set_other (y ∷ xs) zero (suc k) x differ = refl
+get_set_other (y ∷ xs) (suc i) zero x differ = refl
+get_set_other (y ∷ xs) (suc i) (suc k) x differ = get_set_other xs i k x (λ same. differ (ap suc same))
+
+-- the entry's own table changes, and no other
+pub TakeEffect-set : (tables : List TableState) (place : ℕ) (state next : TableState) (entry : Entry) →
+    place ≡ entry.tenant → place < length tables → state ≡ get_or tables place state → next ≡ table_after state (Some entry.command) →
+    TakeEffect (Some entry) tables (slice_set tables place next)
+TakeEffect-set tables place state next entry own inside at is tenant = elim (entry.tenant == tenant) as
+    (λ b. (entry.tenant == tenant) ≡ b → slice_get (slice_set tables place next) tenant ≡ option_map (λ state. table_after state (if b then Some entry.command else None)) (slice_get tables tenant)) [
+      | true ↦ λ same.
+          let here : place ≡ tenant = grind (arith, nat_tests) in
+          ap (slice_get (slice_set tables place next)) (sym here) ∙ get_set_same tables place next inside ∙ ap Some is
+          ∙ sym (ap (option_map (λ state. table_after state (Some entry.command))) (ap (slice_get tables) (sym here) ∙ slice_get_read tables (length tables) place state refl inside at))
+      | false ↦ λ apart.
+          let elsewhere : place ≢ tenant = grind (arith, nat_tests) in
+          get_set_other tables place tenant next elsewhere ∙ sym (option_map_id (slice_get tables tenant))
+    ] refl
+
+-- without an entry, and with an entry of a tenant without a table, all stay
+TakeEffect-none : (tables : List TableState) → TakeEffect None tables tables
+TakeEffect-none tables tenant = sym (option_map_id (slice_get tables tenant))
+
+TakeEffect-unknown : (tables : List TableState) (entry : Entry) → length tables ≤ entry.tenant → TakeEffect (Some entry) tables tables
+TakeEffect-unknown tables entry unknown tenant = elim (entry.tenant == tenant) as
+    (λ b. (entry.tenant == tenant) ≡ b → slice_get tables tenant ≡ option_map (λ state. table_after state (if b then Some entry.command else None)) (slice_get tables tenant)) [
+      | true ↦ λ same.
+          let past : length tables ≤ tenant = grind (arith, nat_tests) in
+          slice_get_past tables tenant past ∙ sym (ap (option_map (λ state. table_after state (Some entry.command))) (slice_get_past tables tenant past))
+      | false ↦ λ apart. sym (option_map_id (slice_get tables tenant))
+    ] refl
+
+limits_stay : (state : TableState) (command : Option Command) → (table_after state command).limits ≡ state.limits
+limits_stay state None = refl
+limits_stay state (Some command) = refl
+
+limits_at : (found : Option TableState) (command : Option Command) →
+    option_map (λ state. state.limits) (option_map (λ state. table_after state command) found) ≡ option_map (λ state. state.limits) found
+limits_at None command = refl
+limits_at (Some state) command = ap Some (limits_stay state command)
+
+same_by_places : {X : Type 0} (xs ys : List X) → ((k : ℕ) → slice_get xs k ≡ slice_get ys k) → xs ≡ ys
+same_by_places [] [] same = refl
+same_by_places [] (y ∷ ys) same = absurd (none-some y (same 0))
+same_by_places (x ∷ xs) [] same = absurd (none-some x (sym (same 0)))
+same_by_places (x ∷ xs) (y ∷ ys) same = ap₂ (λ first rest. first ∷ rest) (same_Some x y (same 0)) (same_by_places xs ys (λ k. same (suc k)))
+
+-- the limits stay those of each table
+pub TakeEffect-limits : (entry : Option Entry) (old new : List TableState) → TakeEffect entry old new → map (λ state. state.limits) new ≡ map (λ state. state.limits) old
+TakeEffect-limits entry old new takes = same_by_places _ _ (λ tenant.
+    slice_get-map (λ state. state.limits) new tenant ∙ ap (option_map (λ state. state.limits)) (takes tenant)
+    ∙ limits_at (slice_get old tenant) (own_command tenant entry) ∙ sym (slice_get-map (λ state. state.limits) old tenant))
+
+-- so does their number
+pub TakeEffect-length : (entry : Option Entry) (old new : List TableState) → TakeEffect entry old new → length new ≡ length old
+TakeEffect-length entry old new takes =
+    sym (length-map new (λ state. state.limits)) ∙ ap length (TakeEffect-limits entry old new takes) ∙ length-map old (λ state. state.limits)
+
+-- an entry that is nobody's leaves all tables
+pub TakeEffect-nobody : (entry : Option Entry) (old new : List TableState) → TakeEffect entry old new → IsNobodys old entry → new ≡ old
+TakeEffect-nobody None old new takes nobody = same_by_places new old (λ tenant. takes tenant ∙ sym (TakeEffect-none old tenant))
+TakeEffect-nobody (Some entry) old new takes unknown = same_by_places new old (λ tenant. takes tenant ∙ sym (TakeEffect-unknown old entry unknown tenant))

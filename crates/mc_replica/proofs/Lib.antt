@@ -1,0 +1,3 @@
+mod Effects
+mod Own
+mod Stands

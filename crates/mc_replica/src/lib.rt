@@ -1,0 +1,12 @@
+//! All tenants' tables as one worker keeps them: the log's history replayed, each entry on its own tenant's table.
+#![tactic(auto)]
+
+pub use replica::Replica;
+pub use seen::Seen;
+
+pub mod laws;
+pub mod replica;
+pub mod seen;
+mod tables;
+#[cfg(test)]
+mod tests;

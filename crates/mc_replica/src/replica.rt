@@ -1,0 +1,141 @@
+//! A worker's replica of the shared log: what it has seen of the log's places, replayed on tables of its own.
+ghost use Rattle.std.specs.Prelude.{◌≡◌, ◌≢◌, ◌<◌, ◌≤◌, ◌↔◌, [], ◌∷◌, ◌++◌, length, map, Some, slice_get, IfOk, IfSome, OnOk, OnErr, IsOk, IsOkUnless, IsTrue};
+ghost use Rattle.mc_items.specs.Commands.{Reads, TakesOut};
+ghost use Rattle.mc_replica.specs.Replay.{EachStands, IsNobodys, IsRefused, StandsForOwn, TakeEffect, answer_to, empty_table};
+
+use crate::seen::Seen;
+use crate::tables::{empty_tables, take_effect};
+use mc_items::Items;
+use mc_model::{Fault, Limits, Reply, TenantId, WorkerId};
+use std::alloc::Global;
+use std::marker::Model;
+
+/// The tables of all tenants, after what one worker has seen of the log.
+#[derive(Debug, Drop)]
+pub struct Replica {
+    worker: WorkerId,
+    places: u64,
+    /// Has room for all places from its opening on.
+    history: Vec<Seen>,
+    /// One table a tenant, by the tenants' numbers.
+    tables: Vec<Items>,
+}
+
+impl Model for Replica {
+    ghost use Rattle.std.specs.Prelude.{vec_capacity};
+    ghost use Rattle.mc_replica.specs.Replay.{IsInOrder, ReplicaState, coded_replica};
+
+    ghost Value = { ReplicaState };
+
+    ghost coded = { coded_replica };
+
+    ghost view = { λ r. record { worker = r.worker; places = r.places; history = r.history.items; tables = r.tables.items } };
+
+    ghost invariant = { λ r. IsInOrder r.places (vec_capacity r.history) r.history.items r.tables.items };
+}
+
+impl Replica {
+    /// A replica of this worker that has seen nothing, with an empty table for each tenant's quotas. Room for a history of
+    /// so many places is reserved here, once. Where memory runs out: `Memory`.
+    pub fn open(
+        alloc: Global,
+        worker: WorkerId,
+        limits: &[Limits],
+        places: u64,
+    ) -> Result<Replica, Fault>
+        ensures worker { IfOk result (λ replica. replica.worker ≡ worker) }
+        ensures places { IfOk result (λ replica. replica.places ≡ places) }
+        ensures history { IfOk result (λ replica. replica.history ≡ []) }
+        ensures tables { IfOk result (λ replica. replica.tables ≡ map empty_table limits.now) }
+        ensures stands { IfOk result (λ replica. EachStands replica.history replica.tables) }
+        ensures memory { IsOkUnless result Fault.Memory }
+    {
+        let history = Vec::with_capacity(alloc, places as usize)?;
+        let tables = empty_tables(alloc, limits)?;
+        Ok(Replica {
+            worker,
+            places,
+            history,
+            tables,
+        })
+    }
+
+    /// Puts what was seen at the next place behind the history, and does what its entry says to its tenant's table. An
+    /// absent entry, or one whose tenant isn't among the tables, belongs to nobody and changes no table. The answer comes
+    /// where the entry is this worker's own; a command of another worker is applied without one. Where memory runs out:
+    /// `Memory`, and nothing changes; the history itself never needs any.
+    pub fn replay(&mut self, seen: Seen) -> Result<Option<Reply>, Fault>
+        requires { length self.old.history < self.old.places }
+
+        ensures reply { IfOk result (λ reply.
+            reply ≡ answer_to self.old.worker self.old.history self.old.tables seen.entry) }
+        ensures history { OnOk result (self.new.history ≡ self.old.history ++ seen ∷ []) }
+
+        // A table takes its own tenant's command alone; all others are equal to what they were.
+        ensures tables { OnOk result (TakeEffect seen.entry self.old.tables self.new.tables) }
+        ensures untouched { IsNobodys self.old.tables seen.entry → self.new.tables ≡ self.old.tables }
+        ensures tenants { length self.new.tables ≡ length self.old.tables }
+        ensures limits { map (λ state. state.limits) self.new.tables ≡ map (λ state. state.limits) self.old.tables }
+        ensures stands { EachStands self.new.history self.new.tables }
+        ensures worker { self.new.worker ≡ self.old.worker }
+        ensures places { self.new.places ≡ self.old.places }
+
+        // What needs no memory.
+        ensures nobody { IsNobodys self.old.tables seen.entry → IsOk result }
+        ensures takes_out { IfSome seen.entry (λ entry. TakesOut entry.command) → IsOk result }
+        ensures reads { IfSome seen.entry (λ entry. Reads entry.command × (entry.ticket.worker ≢ self.old.worker)) → IsOk result }
+        ensures refused { IsRefused self.old.history self.old.tables seen.entry → IsOk result }
+        ensures memory { IsOkUnless result Fault.Memory }
+        ensures unchanged { OnErr result (self.new ≡ self.old) }
+    {
+        let reply = take_effect(&mut self.tables, self.worker, &seen.entry)?;
+        self.history.push_reserved(seen);
+        Ok(reply)
+    }
+
+    /// What was seen at each place that was replayed.
+    pub fn history(&self) -> &[Seen]
+        ensures history { result.now ≡ self.now.history }
+        ensures few { length self.now.history ≤ self.now.places }
+        ensures stands { EachStands self.now.history self.now.tables }
+    {
+        self.history.as_slice()
+    }
+
+    /// The tenant's table.
+    pub fn table(&self, tenant: TenantId) -> &Items
+        requires { tenant < length self.now.tables }
+        ensures table { slice_get self.now.tables tenant ≡ Some result.now }
+        ensures stands { StandsForOwn tenant self.now.history result.now }
+    {
+        &self.tables[usize::from(tenant.number())]
+    }
+
+    /// Whether the tenant is among the tables.
+    pub fn has_tenant(&self, tenant: TenantId) -> bool
+        ensures { IsTrue result ↔ (tenant < length self.now.tables) }
+    {
+        usize::from(tenant.number()) < self.tables.len()
+    }
+
+    /// Whether there is a place that wasn't replayed.
+    pub fn has_place(&self) -> bool
+        ensures { IsTrue result ↔ (length self.now.history < self.now.places) }
+    {
+        (self.history.len() as u64) < self.places
+    }
+
+    /// Whose replica this is.
+    pub fn worker(&self) -> WorkerId
+        ensures { result ≡ self.now.worker }
+    {
+        self.worker
+    }
+
+    /// How many places its history may have.
+    pub fn places(&self) -> u64
+        ensures { result ≡ self.now.places }
+    {
+        self.places
+    }
+}
