@@ -10,7 +10,7 @@ help:
 run: kit
 	@echo 'Proving and building; the first time takes some minutes.' >&2
 	@cd crates/mc_stdin && log=$$(mktemp) && { rt run >"$$log" 2>&1 || { cat "$$log"; rm -f "$$log"; exit 1; }; rm -f "$$log"; }
-	@crates/mc_stdin/out/mc_stdin <crates/mc_stdin/stdin
+	@crates/mc_stdin/out/mc_stdin $$(cat crates/mc_stdin/args) <crates/mc_stdin/stdin
 	@echo "The program is crates/mc_stdin/out/mc_stdin; feed it from a file or a pipe: printf 'get a\\\\r\\\\n' | crates/mc_stdin/out/mc_stdin"
 
 test: kit
@@ -23,6 +23,7 @@ memory: kit
 bench: kit
 	@bench/stdin.sh
 	@python3 bench/items.py
+	@python3 bench/cost.py
 	@bench/reader.sh
 
 # A clear word where the kit is missing, in place of the shell's.

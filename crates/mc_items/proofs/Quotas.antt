@@ -1,9 +1,10 @@
 -- The totals of a table and what its quotas allow.
 use Rattle.std.proofs.Common.{◌≡◌, ℕ, ◌+◌, ◌-◌, ◌≤◌, ◌<◌, ◌&&◌, Bool, true, false, T, nat_le, nat_lt, cond, if◌then◌else◌, List, length, Result, Ok, Err, Some, None, refl, sym, ap, subst, ◌∙◌, arith}
 use Rattle.std.proofs.lemmas.Grind.{common_steps}
+use Rattle.std.proofs.lemmas.Option.{none-some, same_Some}
 use Rattle.std.specs.FinMap as map
 use Rattle.std.specs.FinMap.{len-empty, len-insert, len-remove}
-use Rattle.std.specs.Option.{is_some}
+use Rattle.std.specs.Option.{is_some, option_map, unwrap_or}
 use Rattle.std.specs.Prelude.{Option, is_ok}
 use Rattle.std.specs.Result.{result_unwrap_or}
 use Rattle.mc_model.specs.declared.item.Data.{Data}
@@ -13,10 +14,11 @@ use Rattle.mc_model.specs.declared.key.Key.{Key}
 use Rattle.mc_model.specs.declared.reply.WireNo.{WireNo}
 use Rattle.mc_model.specs.declared.reply.WireNo.TheVariants.{E6, E7}
 use Rattle.mc_model.specs.declared.settings.Limits.{Limits}
-use Rattle.mc_model.specs.Table.{Table, count_of, is_within, key_cmp, key_cmp_total, use_of}
+use Rattle.mc_model.specs.State.{TableState}
+use Rattle.mc_model.specs.Table.{Table, count_of, is_within, key_cmp, key_cmp_total, use_of, weight}
 use Rattle.mc_model.specs.Use.{use-empty, use-insert, use-remove, use_under, weight_of}
 use Rattle.mc_items.specs.Held.{IsWithin}
-use Rattle.mc_items.specs.TableState.{TableState, allows, joined_or_refusal}
+use Rattle.mc_items.specs.Storing.{allows, joined_or_refusal, weight_at}
 
 -- an empty table is within any quotas
 pub empty_within : (limits : Limits) → IsWithin limits map.empty 0
@@ -75,6 +77,27 @@ put_within limits old new key item total under added within allowed table_is und
 -- a part of the total is at most the total
 pub under_total : (limits : Limits) (table : Table) (key : Key) (total : ℕ) → IsWithin limits table total → use_under table key ≤ total
 under_total limits table key total within = omega (arith, under_le table key, within.total_is)
+
+-- the weight of what is held under a key is what counts for it
+pub weight_held : (table : Table) (key : Key) (found : ℕ) → Some found ≡ weight_at table key → (old : Item) × (map.get table key ≡ Some old) × (found ≡ use_under table key)
+weight_held table key found is = elim (map.get table key) as
+    (λ there. Some found ≡ option_map (λ item. weight (key, item)) there → (old : Item) × (there ≡ Some old) × (found ≡ weight_of key there)) [
+      | None ↦ λ none. absurd (none-some found (sym none))
+      | Some old ↦ λ held. (old, refl, same_Some _ _ held)
+    ] is
+
+pub weight_absent : (table : Table) (key : Key) → None ≡ weight_at table key → map.get table key ≡ None
+weight_absent table key is = elim (map.get table key) as (λ there. None ≡ option_map (λ item. weight (key, item)) there → there ≡ None) [
+  | None ↦ λ none. refl
+  | Some old ↦ λ held. absurd (none-some _ held)
+] is
+
+pub weight_or_none : (table : Table) (key : Key) (found : Option ℕ) → found ≡ weight_at table key → unwrap_or found 0 ≡ use_under table key
+weight_or_none table key found is = ap (λ (w : Option ℕ). unwrap_or w 0) is ∙ of_there (map.get table key)
+  where
+    of_there : (there : Option Item) → unwrap_or (option_map (λ item. weight (key, item)) there) 0 ≡ weight_of key there
+    of_there None = refl
+    of_there (Some item) = refl
 
 held_test : (needed under total bytes new count items : ℕ) → new + under ≡ total + needed → under ≤ total → total ≤ bytes → count ≤ items →
     nat_le needed (bytes - (total - under)) ≡ (nat_le new bytes && nat_le count items)

@@ -4,7 +4,7 @@ use Rattle.mc_model.specs.declared.command.Command.{Command}
 use Rattle.mc_model.specs.declared.settings.Limits.{Limits}
 use Rattle.mc_model.specs.History.{StandsFor, StandsFor-push, next_changes, next_effect}
 use Rattle.mc_model.specs.Table.{Table}
-use Rattle.mc_items.specs.TableState.{TableState, next_state}
+use Rattle.mc_model.specs.State.{TableState, next_state}
 
 pub StandsFor-by : (limits : Limits) (list : List Command) (command : Command) (table new_table : Table) (number new_number : ℕ) →
     new_table ≡ (next_effect limits table number command).table → new_number ≡ next_changes limits table number command →

@@ -1,3 +1,2 @@
-pub mod Commands
 pub mod Held
-pub mod TableState
+pub mod Storing

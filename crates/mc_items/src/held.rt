@@ -4,14 +4,13 @@ ghost use Rattle.std.specs.List.{filter_map};
 ghost use Rattle.std.specs.Option.{option_copied};
 ghost use Rattle.std.specs.Prelude.{◌≡◌, ◌+◌, ◌≤◌, length, IfNone, IfOk, OnOk, OnErr, IsOkUnless};
 ghost use Rattle.mc_model.specs.Effect.{shown_at};
-ghost use Rattle.mc_model.specs.Use.{weight_of};
+ghost use Rattle.mc_model.specs.Table.{weight};
 ghost use Rattle.mc_model.specs.declared.item.TheConstants.{DATA_BYTES};
 ghost use Rattle.mc_items.specs.Held.{table_of_held};
 
 use mc_model::{Fault, Item, Key, Value};
 use std::alloc::Global;
 use std::collections::BTreeMap;
-use std::mem;
 
 /// The item under a key.
 pub(crate) fn item_under<'a>(held: &'a BTreeMap<Key, Item>, key: &Key) -> Option<&'a Item>
@@ -20,21 +19,25 @@ pub(crate) fn item_under<'a>(held: &'a BTreeMap<Key, Item>, key: &Key) -> Option
     held.get(key)
 }
 
-/// Puts an item under a key, and gives back what the key held. Only a key that isn't held takes memory.
+/// Puts an item under a key, over what the key held. Where it is known to be held, that takes no memory.
 pub(crate) fn put(
     held: &mut BTreeMap<Key, Item>,
     key: &Key,
+    is_held: bool,
     item: Item,
-) -> Result<Option<Item>, Fault>
-    ensures old { IfOk result (λ old. old ≡ map.get (table_of_held held.old) key.now) }
+) -> Result<(), Fault>
     ensures table { OnOk result (table_of_held held.new ≡ map.insert (table_of_held held.old) key.now item) }
     ensures memory { IsOkUnless result Fault.Memory }
     ensures unchanged { OnErr result (held.new.entries ≡ held.old.entries) }
 {
-    if let Some(place) = held.get_mut(key) {
-        return Ok(Some(mem::replace(place, item)));
+    if is_held {
+        if let Some(place) = held.get_mut(key) {
+            *place = item;
+            return Ok(());
+        }
     }
-    Ok(held.insert(key.try_clone()?, item)?)
+    held.insert(key.try_clone()?, item)?;
+    Ok(())
 }
 
 /// Takes a key out, and gives back what it held.
@@ -54,14 +57,11 @@ pub(crate) fn weight_with(key: &Key, len: usize) -> u64
     (key.as_bytes().len() + len) as u64
 }
 
-/// How many bytes a key has with what it holds; 0 where it isn't held.
-pub(crate) fn weight_under(key: &Key, item: Option<&Item>) -> u64
-    ensures { result ≡ weight_of key.now (option_copied item.entry) }
+/// How many bytes a key has with the item that it holds.
+pub(crate) fn weight_under(key: &Key, item: &Item) -> u64
+    ensures { result ≡ weight (key.now, item.now) }
 {
-    match item {
-        Some(item) => weight_with(key, item.block.as_bytes().len()),
-        None => 0,
-    }
+    weight_with(key, item.block.as_bytes().len())
 }
 
 /// The same keys and items in memory of their own.

@@ -1,19 +1,20 @@
-//! One tenant's table: the plain program that computes what the definitions of `mc_model` say of it.
+//! One tenant's table as an ordered map with a running total, which answers as the definitions of `mc_model` say.
 #![tactic(auto)]
 
 ghost use Rattle.std.specs.FinMap as map;
 ghost use Rattle.std.specs.Option.{option_copied};
-ghost use Rattle.std.specs.Prelude.{◌≡◌, ℕ, ◌+◌, ◌-◌, ◌^◌, ◌<◌, ◌≤◌, true, false, if◌then◌else◌, List, [], ◌∷◌, ◌++◌, length, IfOk, OnOk, OnErr, decimal, IsOk, IsOkUnless};
+ghost use Rattle.std.specs.Prelude.{◌≡◌, ℕ, ◌+◌, ◌-◌, ◌^◌, ◌<◌, ◌≤◌, true, false, List, [], ◌∷◌, ◌++◌, length, IfOk, OnOk, OnErr, decimal, IsOk, IsOkUnless};
 ghost use Rattle.mc_model.specs.declared.command.Command.{Command};
 ghost use Rattle.mc_model.specs.declared.command.Command.TheVariants.{Store, Cas, Delete, Incr, Decr};
 ghost use Rattle.mc_model.specs.declared.item.Item.{Item};
 ghost use Rattle.mc_model.specs.declared.item.TheConstants.{DATA_BYTES};
 ghost use Rattle.mc_model.specs.declared.reply.Reply.TheVariants.{Number, Stored};
-ghost use Rattle.mc_model.specs.Effect.{is_acceptance, is_refusal};
-ghost use Rattle.mc_model.specs.History.{StandsFor, answer, next_effect};
+ghost use Rattle.mc_model.specs.Effect.{is_refusal};
+ghost use Rattle.mc_model.specs.History.{StandsFor, answer};
+ghost use Rattle.mc_model.specs.Kinds.{IsRetrieval, IsTakingOut};
+ghost use Rattle.mc_model.specs.State.{next_reply, next_state, state_after};
 ghost use Rattle.mc_model.specs.Table.{count_of, is_within, use_of};
-ghost use Rattle.mc_items.specs.Commands.{Reads, TakesOut};
-ghost use Rattle.mc_items.specs.TableState.{allows, joined_or_refusal, next_reply, next_state, state_after, stored_in, with_item};
+ghost use Rattle.mc_items.specs.Storing.{allows, joined_or_refusal, stored_in, weight_at, with_item};
 
 use crate::blocks::{count_of_digits, digits_of, joined, number_in};
 use crate::held::{copy_of, item_under, put, shown_values, take_out, weight_under, weight_with};
@@ -40,7 +41,7 @@ pub struct Items {
 }
 
 impl Model for Items {
-    ghost use Rattle.mc_items.specs.TableState.{TableState, coded_state};
+    ghost use Rattle.mc_model.specs.State.{TableState, coded_state};
     ghost use Rattle.mc_items.specs.Held.{IsWithin, table_of_held};
 
     ghost Value = { TableState };
@@ -75,13 +76,8 @@ impl Items {
         requires { self.old.last_unique < 2 ^ 64 - 1 }
 
         // What the definitions say of this command, on this table.
-        ensures reply { IfOk result (λ reply.
-            reply ≡ (next_effect self.old.limits self.old.table self.old.last_unique command.now).reply) }
-        ensures table { OnOk result
-            (self.new.table ≡ (next_effect self.old.limits self.old.table self.old.last_unique command.now).table) }
-        ensures unique { IfOk result (λ reply.
-            self.new.last_unique ≡ self.old.last_unique + (if is_acceptance reply then 1 else 0)) }
-        ensures limits { OnOk result (self.new.limits ≡ self.old.limits) }
+        ensures reply { IfOk result (λ reply. reply ≡ next_reply self.old command.now) }
+        ensures state { OnOk result (self.new ≡ next_state self.old command.now) }
 
         // The same of any list of commands that has led to this table.
         ensures stands { OnOk result ((list : List Command) → StandsFor self.old.limits list self.old.table self.old.last_unique →
@@ -89,8 +85,8 @@ impl Items {
         ensures answer { IfOk result (λ reply.
             (list : List Command) → StandsFor self.old.limits list self.old.table self.old.last_unique → reply ≡ answer self.old.limits list command.now) }
 
-        ensures takes_out { TakesOut command.now → IsOk result }
-        ensures refused { is_refusal (next_effect self.old.limits self.old.table self.old.last_unique command.now).reply ≡ true → IsOk result }
+        ensures takes_out { IsTakingOut command.now → IsOk result }
+        ensures refused { is_refusal (next_reply self.old command.now) ≡ true → IsOk result }
         ensures memory { IsOkUnless result Fault.Memory }
         ensures unchanged { OnErr result (self.new ≡ self.old) }
     {
@@ -128,19 +124,15 @@ impl Items {
         requires { self.old.last_unique < 2 ^ 64 - 1 }
 
         // What the definitions say of this command, on this table.
-        ensures table { OnOk result
-            (self.new.table ≡ (next_effect self.old.limits self.old.table self.old.last_unique command.now).table) }
-        ensures unique { OnOk result (self.new.last_unique ≡ self.old.last_unique
-            + (if is_acceptance (next_effect self.old.limits self.old.table self.old.last_unique command.now).reply then 1 else 0)) }
-        ensures limits { OnOk result (self.new.limits ≡ self.old.limits) }
+        ensures state { OnOk result (self.new ≡ next_state self.old command.now) }
 
         // The same of any list of commands that has led to this table.
         ensures stands { OnOk result ((list : List Command) → StandsFor self.old.limits list self.old.table self.old.last_unique →
             StandsFor self.old.limits (list ++ command.now ∷ []) self.new.table self.new.last_unique) }
 
-        ensures reads { Reads command.now → IsOk result }
-        ensures takes_out { TakesOut command.now → IsOk result }
-        ensures refused { is_refusal (next_effect self.old.limits self.old.table self.old.last_unique command.now).reply ≡ true → IsOk result }
+        ensures reads { IsRetrieval command.now → IsOk result }
+        ensures takes_out { IsTakingOut command.now → IsOk result }
+        ensures refused { is_refusal (next_reply self.old command.now) ≡ true → IsOk result }
         ensures memory { IsOkUnless result Fault.Memory }
         ensures unchanged { OnErr result (self.new ≡ self.old) }
     {
@@ -209,25 +201,33 @@ impl Items {
     {
         let Some(old) = self.get(key) else {
             return match verb {
-                Verb::Set | Verb::Add => self.put_copy(key, flags, block),
+                Verb::Set | Verb::Add => self.put_copy(key, None, flags, block),
                 Verb::Replace | Verb::Append | Verb::Prepend => Ok(Reply::NotStored),
             };
         };
+        let old_weight = Some(weight_under(key, old));
         let old_flags = old.flags;
         let whole = match verb {
-            Verb::Set | Verb::Replace => return self.put_copy(key, flags, block),
+            Verb::Set | Verb::Replace => return self.put_copy(key, old_weight, flags, block),
             Verb::Add => return Ok(Reply::NotStored),
-            Verb::Append => self.join(key, &old.block, block)?,
-            Verb::Prepend => self.join(key, block, &old.block)?,
+            Verb::Append => self.join(key, old_weight, &old.block, block)?,
+            Verb::Prepend => self.join(key, old_weight, block, &old.block)?,
         };
         match whole {
-            Ok(whole) => self.put_block(key, old_flags, whole),
+            Ok(whole) => self.put_block(key, old_weight, old_flags, whole),
             Err(refusal) => Ok(Reply::Refused(refusal)),
         }
     }
 
     /// One block after another for a key, or what refuses them, which takes no memory.
-    fn join(&self, key: &Key, front: &Data, back: &Data) -> Result<Result<Data, WireNo>, Fault>
+    fn join(
+        &self,
+        key: &Key,
+        old_weight: Option<u64>,
+        front: &Data,
+        back: &Data,
+    ) -> Result<Result<Data, WireNo>, Fault>
+        requires { old_weight ≡ weight_at self.now.table key.now }
         ensures joined { (flags : ℕ) → IfOk result (λ joined.
             joined ≡ joined_or_refusal self.now key.now flags (front.now ++ back.now)) }
         ensures granted { (flags : ℕ) → OnErr result (
@@ -238,7 +238,7 @@ impl Items {
         if len > DATA_BYTES {
             return Ok(Err(WireNo::E6));
         }
-        if !self.fits(key, len) {
+        if !self.fits(key, old_weight, len) {
             return Ok(Err(WireNo::E7));
         }
         Ok(Ok(joined(self.alloc, front, back)?))
@@ -265,7 +265,8 @@ impl Items {
         if old.unique != seen {
             return Ok(Reply::Exists);
         }
-        self.put_copy(key, flags, block)
+        let old_weight = Some(weight_under(key, old));
+        self.put_copy(key, old_weight, flags, block)
     }
 
     /// Takes a key out. Takes no memory.
@@ -276,7 +277,7 @@ impl Items {
         let Some(old) = take_out(&mut self.held, key) else {
             return Reply::NotFound;
         };
-        self.used -= weight_under(key, Some(&old));
+        self.used -= weight_under(key, &old);
         Reply::Deleted
     }
 
@@ -295,8 +296,9 @@ impl Items {
         let Some(number) = number_in(&old.block) else {
             return Ok(Reply::Refused(WireNo::E8));
         };
+        let old_weight = Some(weight_under(key, old));
         let old_flags = old.flags;
-        self.put_number(key, old_flags, number.wrapping_add(by))
+        self.put_number(key, old_weight, old_flags, number.wrapping_add(by))
     }
 
     /// Subtracts from the number under a key; at 0 it stops.
@@ -314,45 +316,67 @@ impl Items {
         let Some(number) = number_in(&old.block) else {
             return Ok(Reply::Refused(WireNo::E8));
         };
+        let old_weight = Some(weight_under(key, old));
         let old_flags = old.flags;
-        self.put_number(key, old_flags, number.saturating_sub(by))
+        self.put_number(key, old_weight, old_flags, number.saturating_sub(by))
     }
 
     /// Puts a number under a key in place of what it held, where the quotas allow it.
-    fn put_number(&mut self, key: &Key, flags: u32, number: u64) -> Result<Reply, Fault>
-        requires { self.old.last_unique < 2 ^ 64 - 1 }
+    fn put_number(
+        &mut self,
+        key: &Key,
+        old_weight: Option<u64>,
+        flags: u32,
+        number: u64,
+    ) -> Result<Reply, Fault>
+        requires next { self.old.last_unique < 2 ^ 64 - 1 }
+        requires weight { old_weight ≡ weight_at self.old.table key.now }
         ensures reply { IfOk result (λ reply. reply ≡ (stored_in self.old key.now flags (decimal number) (Number number)).reply) }
         ensures state { OnOk result (self.new ≡ state_after self.old (stored_in self.old key.now flags (decimal number) (Number number))) }
         ensures granted { OnErr result (allows self.old key.now flags (decimal number) ≡ true) }
         ensures memory { IsOkUnless result Fault.Memory }
         ensures unchanged { OnErr result (self.new ≡ self.old) }
     {
-        if !self.fits(key, count_of_digits(number)) {
+        if !self.fits(key, old_weight, count_of_digits(number)) {
             return Ok(Reply::Refused(WireNo::E7));
         }
         let digits = digits_of(self.alloc, number)?;
-        self.put_block(key, flags, digits)?;
+        self.put_block(key, old_weight, flags, digits)?;
         Ok(Reply::Number(number))
     }
 
     /// Puts a copy of the block under a key, where the quotas allow it.
-    fn put_copy(&mut self, key: &Key, flags: u32, block: &Data) -> Result<Reply, Fault>
-        requires { self.old.last_unique < 2 ^ 64 - 1 }
+    fn put_copy(
+        &mut self,
+        key: &Key,
+        old_weight: Option<u64>,
+        flags: u32,
+        block: &Data,
+    ) -> Result<Reply, Fault>
+        requires next { self.old.last_unique < 2 ^ 64 - 1 }
+        requires weight { old_weight ≡ weight_at self.old.table key.now }
         ensures reply { IfOk result (λ reply. reply ≡ (stored_in self.old key.now flags block.now Stored).reply) }
         ensures state { OnOk result (self.new ≡ state_after self.old (stored_in self.old key.now flags block.now Stored)) }
         ensures granted { OnErr result (allows self.old key.now flags block.now ≡ true) }
         ensures memory { IsOkUnless result Fault.Memory }
         ensures unchanged { OnErr result (self.new ≡ self.old) }
     {
-        if !self.fits(key, block.as_bytes().len()) {
+        if !self.fits(key, old_weight, block.as_bytes().len()) {
             return Ok(Reply::Refused(WireNo::E7));
         }
-        self.put_block(key, flags, block.try_clone()?)
+        self.put_block(key, old_weight, flags, block.try_clone()?)
     }
 
     /// Puts an item with the next unique under a key, over what it held. The quotas have to allow it.
-    fn put_block(&mut self, key: &Key, flags: u32, block: Data) -> Result<Reply, Fault>
+    fn put_block(
+        &mut self,
+        key: &Key,
+        old_weight: Option<u64>,
+        flags: u32,
+        block: Data,
+    ) -> Result<Reply, Fault>
         requires next { self.old.last_unique < 2 ^ 64 - 1 }
+        requires weight { old_weight ≡ weight_at self.old.table key.now }
         requires fits { allows self.old key.now flags block ≡ true }
         ensures reply { IfOk result (λ reply. reply ≡ Stored) }
         ensures state { OnOk result (self.new ≡ with_item self.old key.now flags block) }
@@ -366,21 +390,23 @@ impl Items {
             block,
             unique,
         };
-        let old = put(&mut self.held, key, item)?;
-        self.used = self.used - weight_under(key, old.as_ref()) + added;
+        put(&mut self.held, key, old_weight.is_some(), item)?;
+        self.used = self.used - old_weight.unwrap_or(0) + added;
         self.last_unique = unique;
         Ok(Reply::Stored)
     }
 
-    /// Whether the quotas allow a block of this length under the key, by the totals and one look-up.
-    fn fits(&self, key: &Key, len: usize) -> bool
-        requires { len ≤ DATA_BYTES }
+    /// Whether the quotas allow a block of this length under the key, by the totals and the key's old weight: the bytes that count
+    /// for it so far, or `None` where it isn't held.
+    fn fits(&self, key: &Key, old_weight: Option<u64>, len: usize) -> bool
+        requires len { len ≤ DATA_BYTES }
+        requires weight { old_weight ≡ weight_at self.now.table key.now }
         ensures { (item : Item) → length item.block ≡ len →
             result ≡ is_within self.now.limits (map.insert self.now.table key.now item) }
     {
         let needed = weight_with(key, len);
-        match self.get(key) {
-            Some(old) => needed <= self.limits.bytes - (self.used - weight_under(key, Some(old))),
+        match old_weight {
+            Some(old) => needed <= self.limits.bytes - (self.used - old),
             None => needed <= self.limits.bytes - self.used && self.count() < self.limits.items,
         }
     }

@@ -4,19 +4,14 @@ use Rattle.std.proofs.lemmas.Bool.{both_ways}
 use Rattle.std.proofs.lemmas.List.{reverse-append, reverse-reverse}
 use Rattle.std.specs.FinMap as map
 use Rattle.std.specs.FinMap.{get-empty}
-use Rattle.std.specs.List.{AllByRecursion}
 use Rattle.mc_model.specs.declared.command.Command.{Command}
-use Rattle.mc_model.specs.declared.command.Command.TheVariants.{Store}
-use Rattle.mc_model.specs.declared.command.Verb.TheVariants.{Set}
-use Rattle.mc_model.specs.declared.item.Data.{Data}
 use Rattle.mc_model.specs.declared.item.Item.{Item}
 use Rattle.mc_model.specs.declared.key.Key.{Key}
-use Rattle.mc_model.specs.declared.reply.Reply.TheVariants.{Stored}
 use Rattle.mc_model.specs.declared.settings.Limits.{Limits}
-use Rattle.mc_model.specs.Effect.{ActsOn, Effect, SparesKey, is_acceptance, is_refusal}
+use Rattle.mc_model.specs.Effect.{ActsOn, Effect, is_acceptance, is_refusal}
 use Rattle.mc_model.specs.History.{IsStoredBy, IsUntouched, Touches, accepts, after, after-none, after-push, answer, changes, changes-push, next_effect}
 use Rattle.mc_model.specs.Table.{Table, is_within, key_cmp}
-use Rattle.mc_model.proofs.Effects.{IsChange, IsNothing, IsTakenOut, Shape, shape, stored_there}
+use Rattle.mc_model.proofs.Effects.{IsChange, IsNothing, IsTakenOut, Shape, shape}
 use Rattle.mc_model.proofs.Quotas.{empty_within}
 use Rattle.mc_model.proofs.Tables.{put_cases}
 
@@ -70,17 +65,26 @@ module _ (limits : Limits) where
   changes_pushed : (list : List Command) (command : Command) (b : Bool) → accepts limits list command ≡ b → changes limits (list ++ command ∷ []) ≡ changes limits list + (if b then 1 else 0)
   changes_pushed list command b is = changes-push limits list command ∙ ap (λ (a : Bool). changes limits list + (if a then 1 else 0)) is
 
+  -- a command that isn't accepted is no change
+  pub no_change : (list : List Command) (command : Command) → accepts limits list command ≡ false → changes limits (list ++ command ∷ []) ≡ changes limits list
+  no_change list command is = changes_pushed list command false is ∙ add-zero (changes limits list)
+
   -- a command that changes nothing can be left out
   pub nothing_is_alike : (list : List Command) (command : Command) → IsNothing (after limits list) command (next_effect limits (after limits list) (changes limits list) command) → AreAlike (list ++ command ∷ []) list
   nothing_is_alike list command is = record {
     same_table = after-push limits list command ∙ is.same;
-    same_changes = changes_pushed list command false is.no_change ∙ add-zero (changes limits list);
+    same_changes = no_change list command is.no_change;
   }
 
   pub alike_without : (earlier later : List Command) (command : Command) → IsNothing (after limits earlier) command (next_effect limits (after limits earlier) (changes limits earlier) command) →
       AreAlike (earlier ++ command ∷ later) (earlier ++ later)
   alike_without earlier later command is =
       subst (λ list. AreAlike list (earlier ++ later)) (append_assoc earlier (command ∷ []) later) (alike_more (earlier ++ command ∷ []) earlier later (nothing_is_alike earlier command is))
+
+  pub same_answer : (earlier later : List Command) (command next : Command) → IsNothing (after limits earlier) command (next_effect limits (after limits earlier) (changes limits earlier) command) →
+      answer limits (earlier ++ command ∷ later) next ≡ answer limits (earlier ++ later) next
+  same_answer earlier later command next is =
+      let alike = alike_without earlier later command is in λ i. (next_effect limits (alike.same_table i) (alike.same_changes i) next).reply
 
   -- a refused command changes nothing
   pub refusal_is_nothing : (list : List Command) (command : Command) → is_refusal (answer limits list command) ≡ true → IsNothing (after limits list) command (next_effect limits (after limits list) (changes limits list) command)
@@ -137,17 +141,6 @@ module _ (limits : Limits) where
   -- a command that doesn't touch a key leaves what is under it
   untouched_push : (list : List Command) (command : Command) (key : Key) → (Touches limits list key command → ⊥) → map.get (after limits (list ++ command ∷ [])) key ≡ map.get (after limits list) key
   untouched_push list command key untouched = ⊎_elim (λ stays. stays.1) (λ moves. absurd (untouched moves.0)) (step list command key)
-
-  pub spared_more : (list more : List Command) (key : Key) → AllByRecursion (SparesKey key) more → map.get (after limits (list ++ more)) key ≡ map.get (after limits list) key
-  spared_more list [] key spared = rw (append-nil list) refl
-  spared_more list (command ∷ more) key spared =
-      rw (append_assoc list (command ∷ []) more) at (spared_more (list ++ command ∷ []) more key spared.1) ∙ untouched_push list command key (λ touches. spared.0 touches.0)
-
-  -- what a set leaves under its key, where it is stored
-  pub get_after_push-set : (list : List Command) (key : Key) (flags : ℕ) (block : Data) → answer limits list (Store Set key flags block) ≡ Stored →
-      map.get (after limits (list ++ Store Set key flags block ∷ [])) key ≡ Some (record { flags = flags; block = block; unique = changes limits list + 1 })
-  get_after_push-set list key flags block given =
-      ap (λ table. map.get table key) (after-push limits list (Store Set key flags block)) ∙ stored_there limits (after limits list) key _ Stored (ap is_refusal given)
 
   nothing_under : (key : Key) (item : Item) → map.get (after limits []) key ≢ Some item
   nothing_under key item is = let empty = sym (get-empty key_cmp key) ∙ (ap (λ table. map.get table key) (sym (after-none limits)) ∙ is) in cc

@@ -71,7 +71,7 @@ abbrev IsNumber : ℕ → List ℕ → Type 0
 IsNumber limit bytes = IsNumeral 10 bytes × (digits_value 10 bytes ≤ limit)
 
 -- the test of `number_up_to` passes at the numbers that std's words name, and at no others
-number_test : (limit : ℕ) (bytes : List ℕ) → Decides (is_numeral bytes && nat_le (digits_value 10 bytes) limit) (IsNumber limit bytes)
+pub number_test : (limit : ℕ) (bytes : List ℕ) → Decides (is_numeral bytes && nat_le (digits_value 10 bytes) limit) (IsNumber limit bytes)
 number_test limit bytes = (
   λ h. let both = and_parts _ _ h in let parts = and_parts _ _ both.0 in ((ltb-true _ _ parts.0, AllDigits-from_test bytes parts.1), leb-true _ _ both.1),
   λ n. and_from _ _ (and_from _ _ (lt-ltb _ _ n.0.0) (all_ascii_digits-true bytes n.0.1)) (le-leb _ _ n.1),

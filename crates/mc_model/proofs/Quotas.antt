@@ -1,17 +1,18 @@
 -- What keeps a table within its quotas.
-use Rattle.std.proofs.Common.{◌≡◌, ◌↔◌, inl, inr, ⊎_elim, ℕ, ◌+◌, ◌-◌, ◌≤◌, nat_le, if◌then◌else◌, Bool, true, false, cond, is_some, length, Option, Some, None, refl, ap, arith}
+use Rattle.std.proofs.Common.{◌≡◌, ◌≢◌, ◌↔◌, inl, inr, ⊎_elim, ℕ, ◌+◌, ◌-◌, ◌<◌, ◌≤◌, ◌⊎◌, nat_le, if◌then◌else◌, Bool, true, false, cond, is_some, length, Option, Some, None, refl, sym, ◌∙◌, ap, arith}
 use Rattle.std.proofs.lemmas.Bool.{and_from, and_parts, le-leb, leb-true}
 use Rattle.std.proofs.lemmas.Bool.Decides.{nat_tests}
 use Rattle.std.specs.FinMap as map
 use Rattle.std.specs.FinMap.{len-empty, len-insert, len-remove}
 use Rattle.mc_model.specs.declared.item.Item.{Item}
 use Rattle.mc_model.specs.declared.key.Key.{Key}
-use Rattle.mc_model.specs.declared.reply.Reply.TheVariants.{Refused, Stored}
+use Rattle.mc_model.specs.declared.reply.Reply.{Reply}
+use Rattle.mc_model.specs.declared.reply.Reply.TheVariants.{Refused}
 use Rattle.mc_model.specs.declared.reply.WireNo.TheVariants.{E7}
 use Rattle.mc_model.specs.declared.settings.Limits.{Limits}
 use Rattle.mc_model.specs.Effect.{stored, unchanged}
-use Rattle.mc_model.specs.Table.{ExceedsQuotas, Table, count_of, is_within, key_cmp, key_cmp_total, use_of}
-use Rattle.mc_model.specs.Use.{use-empty, use-insert, use-remove, weight_of}
+use Rattle.mc_model.specs.Table.{Table, count_of, is_within, key_cmp, key_cmp_total, use_of}
+use Rattle.mc_model.specs.Use.{removed, restored, use-empty, use-insert, use-remove, weight_of}
 
 pub within_parts : (limits : Limits) (table : Table) → is_within limits table ≡ true → (use_of table ≤ limits.bytes) × (count_of table ≤ limits.items)
 within_parts limits table within = let parts = and_parts _ _ within in (leb-true _ _ parts.0, leb-true _ _ parts.1)
@@ -36,19 +37,48 @@ pub remove_within : (limits : Limits) (table : Table) (key : Key) → is_within 
 remove_within limits table key =
     less_within limits table (map.remove table key) (omega (arith, use-remove table key)) (omega (arith, len-remove key_cmp_total table key, fewer (map.contains_key table key) (count_of table)))
 
+-- an item under a new key, one in the place of another, and one that is taken out
 same_count : (there : Option Item) (n : ℕ) (old : Item) → there ≡ Some old → cond (is_some there) n (n + 1) ≡ n
 same_count None n old is = absurd (cc)
 same_count (Some item) n old is = refl
+
+one_more : (there : Option Item) (n : ℕ) → there ≡ None → cond (is_some there) n (n + 1) ≡ n + 1
+one_more None n is = refl
+one_more (Some item) n is = absurd (cc)
+
+pub added : (table : Table) (key : Key) (item : Item) → map.get table key ≡ None →
+    (use_of (map.insert table key item) ≡ use_of table + (length key + length item.block)) × (count_of (map.insert table key item) ≡ count_of table + 1)
+added table key item is = (
+  omega (arith, use-insert table key item, ap (weight_of key) is),
+  len-insert key_cmp_total table key item ∙ one_more (map.get table key) (count_of table) is,
+)
+
+pub replaced : (table : Table) (key : Key) (old item : Item) → map.get table key ≡ Some old →
+    (use_of (map.insert table key item) + length old.block ≡ use_of table + length item.block) × (count_of (map.insert table key item) ≡ count_of table)
+replaced table key old item is = (
+  omega (arith, use-insert table key item, ap (weight_of key) is),
+  len-insert key_cmp_total table key item ∙ same_count (map.get table key) (count_of table) old is,
+)
+
+pub taken_out : (table : Table) (key : Key) (old : Item) → map.get table key ≡ Some old →
+    (use_of (map.remove table key) + (length key + length old.block) ≡ use_of table) × (count_of (map.remove table key) + 1 ≡ count_of table)
+taken_out table key old is =
+    let back = added (map.remove table key) key old (removed table key) in
+    let same = restored table key old is in
+    (sym back.0 ∙ ap use_of (sym same), sym back.1 ∙ ap count_of (sym same))
 
 -- an item that gives way to data that are no longer
 pub replaced_within : (limits : Limits) (table : Table) (key : Key) (old new : Item) → map.get table key ≡ Some old → length new.block ≤ length old.block →
     is_within limits table ≡ true → is_within limits (map.insert table key new) ≡ true
 replaced_within limits table key old new is shorter =
     less_within limits table (map.insert table key new)
-    (omega (arith, shorter, use-insert table key new, ap (weight_of key) is))
-    (omega (arith, len-insert key_cmp_total table key new, same_count (map.get table key) (count_of table) old is))
+    (omega (arith, shorter, (replaced table key old new is).0))
+    (omega (arith, (replaced table key old new is).1))
 
 -- what isn't within the quotas exceeds them
+abbrev pub ExceedsQuotas : Limits → Table → Type 0
+ExceedsQuotas limits table = (limits.bytes < use_of table) ⊎ (limits.items < count_of table)
+
 pub exceeds_from : (limits : Limits) (table : Table) → is_within limits table ≡ false → ExceedsQuotas limits table
 exceeds_from limits table above =
     elim (nat_le (use_of table) limits.bytes) as (λ b. nat_le (use_of table) limits.bytes ≡ b → ExceedsQuotas limits table) [
@@ -64,12 +94,12 @@ within_or_exceeds limits table within exceeds =
     ⊎_elim (λ bytes. omega (arith, parts.0, bytes)) (λ items. omega (arith, parts.1, items)) exceeds
 
 -- to store is refused exactly where the table would then exceed the quotas
-pub stored_refused : (limits : Limits) (table : Table) (key : Key) (item : Item) →
-    ((stored limits table key item Stored).reply ≡ Refused E7) ↔ ExceedsQuotas limits (map.insert table key item)
-stored_refused limits table key item =
+pub stored_refused : (limits : Limits) (table : Table) (key : Key) (item : Item) (reply : Reply) → reply ≢ Refused E7 →
+    ((stored limits table key item reply).reply ≡ Refused E7) ↔ ExceedsQuotas limits (map.insert table key item)
+stored_refused limits table key item reply granted =
     let next = map.insert table key item in
     elim (is_within limits next) as (λ b. is_within limits next ≡ b →
-    ((if b then record { table = next; reply = Stored } else unchanged table (Refused E7)).reply ≡ Refused E7) ↔ ExceedsQuotas limits next) [
-      | true ↦ λ within. (λ refused. absurd (let no : Stored ≡ Refused E7 = refused in cc), λ exceeds. absurd (within_or_exceeds limits next within exceeds))
+    ((if b then record { table = next; reply = reply } else unchanged table (Refused E7)).reply ≡ Refused E7) ↔ ExceedsQuotas limits next) [
+      | true ↦ λ within. (λ refused. absurd (granted refused), λ exceeds. absurd (within_or_exceeds limits next within exceeds))
       | false ↦ λ above. (λ refused. exceeds_from limits next above, λ exceeds. refl)
     ] refl

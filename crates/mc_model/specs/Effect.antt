@@ -122,7 +122,3 @@ ActsOn key (Delete other) = other ≡ key
 ActsOn key (Incr other by) = other ≡ key
 ActsOn key (Decr other by) = other ≡ key
 ActsOn key Flush = Unit {0}
-
--- the command leaves this key alone: it names other keys, or only reads
-abbrev pub SparesKey : Key → Command → Type 0
-SparesKey key command = ActsOn key command → ⊥

@@ -39,9 +39,12 @@ after limits list = table_of limits (reverse list)
 unfoldable pub changes : Limits → List Command → ℕ
 changes limits list = changes_of limits (reverse list)
 
--- the answer to a command after a list
+-- the effect of a command after a list, and its answer
+abbrev pub effect_after : Limits → List Command → Command → Effect
+effect_after limits list command = next_effect limits (after limits list) (changes limits list) command
+
 abbrev pub answer : Limits → List Command → Command → Reply
-answer limits list command = (next_effect limits (after limits list) (changes limits list) command).reply
+answer limits list command = (effect_after limits list command).reply
 
 -- whether a command is accepted after a list
 abbrev pub accepts : Limits → List Command → Command → Bool
@@ -70,7 +73,7 @@ pub changes-none : (limits : Limits) → changes limits [] ≡ 0
 unfolding changes changes_of
 changes-none limits = refl
 
-pub after-push : (limits : Limits) (list : List Command) (command : Command) → after limits (list ++ command ∷ []) ≡ (next_effect limits (after limits list) (changes limits list) command).table
+pub after-push : (limits : Limits) (list : List Command) (command : Command) → after limits (list ++ command ∷ []) ≡ (effect_after limits list command).table
 unfolding after changes table_of
 after-push limits list command = ap (table_of limits) (reverse-append list (command ∷ []))
 

@@ -5,4 +5,6 @@ pub mod Table
 pub mod Use
 pub mod Effect
 pub mod History
+pub mod State
+pub mod Kinds
 pub mod Log

@@ -1,5 +1,5 @@
 -- A tenant's table: what it holds under each key. In memcached's doc/protocol.txt an item is "identified with the help of a key".
-use Rattle.std.specs.Prelude.{◌≡◌, ◌⊎◌, ℕ, ◌+◌, ◌<◌, ◌&&◌, Bool, true, List, length, nat_le, sum_by, refl}
+use Rattle.std.specs.Prelude.{◌≡◌, ℕ, ◌+◌, ◌&&◌, Bool, true, List, length, nat_le, sum_by, refl}
 use Rattle.std.specs.Coded.{Coded, code_by, coded×, coded_ℕ, coded_list}
 use Rattle.std.specs.Cmp.{Equal-is, IsTotalOrder, eq_by_cmp_equiv}
 use Rattle.std.specs.Cmp.Lexicographic.{nat_list_cmp_total, slice_cmp}
@@ -35,9 +35,13 @@ tied_itself = (eq_by_cmp_equiv key_cmp_total).refl
 abbrev pub Table : Type 0
 Table = map.FinMap key_cmp Item
 
+-- how many bytes an item counts for: those of its key and its data
+abbrev pub weight : Key × Item → ℕ
+weight held = length held.0 + length held.1.block
+
 -- how many bytes the keys and the data have in sum
 abbrev pub use_of : Table → ℕ
-use_of table = sum_by (λ held. length held.0 + length held.1.block) (map.entries table)
+use_of table = sum_by weight (map.entries table)
 
 -- how many items there are
 abbrev pub count_of : Table → ℕ
@@ -46,10 +50,6 @@ count_of table = map.len table
 -- whether a table is within a tenant's quotas (this project's profile)
 abbrev pub is_within : Limits → Table → Bool
 is_within limits table = nat_le (use_of table) limits.bytes && nat_le (count_of table) limits.items
-
--- the table has more bytes or more items than the quotas say
-abbrev pub ExceedsQuotas : Limits → Table → Type 0
-ExceedsQuotas limits table = (limits.bytes < use_of table) ⊎ (limits.items < count_of table)
 
 -- how a table is stored as a model's value
 abbrev pub coded_item : Coded Item

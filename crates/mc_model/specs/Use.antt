@@ -9,17 +9,13 @@ use Rattle.std.specs.FinMap.Entries.{by_order, find, is_sorted, length-put, put}
 use Rattle.std.specs.Ordering.{is_eq}
 use Rattle.mc_model.specs.declared.item.Item.{Item}
 use Rattle.mc_model.specs.declared.key.Key.{Key}
-use Rattle.mc_model.specs.Table.{Table, is_tied, key_cmp, key_cmp_exact, key_cmp_total, tied_itself, tied_keys, use_of}
+use Rattle.mc_model.specs.Table.{Table, is_tied, key_cmp, key_cmp_exact, key_cmp_total, tied_itself, tied_keys, use_of, weight}
 
--- what an item counts for under its key
-abbrev pub weight : Key × Item → ℕ
-weight held = length held.0 + length held.1.block
-
+-- what counts for a key under which this is, and in a table
 abbrev pub weight_of : Key → Option Item → ℕ
 weight_of key None = 0
 weight_of key (Some item) = weight (key, item)
 
--- what counts for a key
 abbrev pub use_under : Table → Key → ℕ
 use_under table key = weight_of key (map.get table key)
 
@@ -69,7 +65,7 @@ put_back : (is_it : Bool) (there here : Option Item) → (is_it ≡ true → the
 put_back true there here same = same refl
 put_back false there here same = refl
 
-restored : (table : Table) (key : Key) (item : Item) → map.get table key ≡ Some item → table ≡ map.insert (map.remove table key) key item
+pub restored : (table : Table) (key : Key) (item : Item) → map.get table key ≡ Some item → table ≡ map.insert (map.remove table key) key item
 restored table key item is = same_map key_cmp_total key_cmp_exact _ _ (λ q.
     put_back (is_tied q key) (map.get table q) (Some item) (λ tied. ap (map.get table) (tied_keys q key tied) ∙ is)
     ∙ sym (get-insert key_cmp_total (map.remove table key) key item q ∙ ap (cond (is_tied q key) (Some item)) (get-remove key_cmp_total table key q)))
@@ -82,7 +78,7 @@ same_without : (table : Table) (key : Key) → map.get table key ≡ None → ma
 same_without table key is = same_map key_cmp_total key_cmp_exact _ _ (λ q.
     get-remove key_cmp_total table key q ∙ not_there (is_tied q key) (map.get table q) (λ tied. ap (map.get table) (tied_keys q key tied) ∙ is))
 
-removed : (table : Table) (key : Key) → map.get (map.remove table key) key ≡ None
+pub removed : (table : Table) (key : Key) → map.get (map.remove table key) key ≡ None
 removed table key = get-remove key_cmp_total table key key ∙ ap (λ b. cond b None (map.get table key)) (tied_itself key)
 
 pub use-remove : (table : Table) (key : Key) → use_of (map.remove table key) + use_under table key ≡ use_of table

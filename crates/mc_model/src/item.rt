@@ -51,7 +51,7 @@ impl Data {
         ensures memory { IsOkUnless result Fault.Memory }
     {
         Ok(Data {
-            bytes: self.bytes.clone()?,
+            bytes: Vec::from_slice(*self.bytes.allocator(), &self.bytes)?,
         })
     }
 }

@@ -70,7 +70,7 @@ impl Key {
         ensures memory { IsOkUnless result Fault.Memory }
     {
         Ok(Key {
-            bytes: self.bytes.clone()?,
+            bytes: Vec::from_slice(*self.bytes.allocator(), &self.bytes)?,
         })
     }
 }
@@ -163,7 +163,7 @@ impl KeyList {
         ensures keys { IfOk result (λ keys. keys ≡ self.now) }
         ensures memory { IsOkUnless result Fault.Memory }
     {
-        let mut keys = Vec::new(*self.keys.allocator());
+        let mut keys = Vec::with_capacity(*self.keys.allocator(), self.keys.len())?;
         for key in self.as_slice() {
             keys.push(key.try_clone()?)?;
         }

@@ -10,8 +10,8 @@ use Rattle.mc_read.specs.declared.reader.State.{State}
 use Rattle.mc_read.specs.declared.reader.State.TheVariants as state
 use Rattle.mc_read.specs.First.{is_line_feed, line_length}
 use Rattle.mc_read.specs.Line.{asked}
-use Rattle.mc_read.specs.Reading.{IsFed, ReadsOn, Swallowing}
-use Rattle.mc_read.specs.State.{IsSearched, IsStateOf}
+use Rattle.mc_read.specs.Reading.{IsFed, Kept, ReadsOn, Swallowing}
+use Rattle.mc_read.specs.State.{IsLineAt, IsSearched, IsStateOf, held_in}
 use Rattle.mc_read.proofs.Holdings.{fed_within, reads_alike}
 use Rattle.mc_read.proofs.Lines.{line_length_le}
 
@@ -73,3 +73,11 @@ fed_refused request left bytes piece empty within =
     λ more requests. subst (λ p. ReadsOn (Swallowing request (left - length piece) bytes) more requests ↔ ReadsOn (Swallowing request left bytes) (p ++ more) requests) (sym nothing)
     (subst (λ n. ReadsOn (Swallowing request n bytes) more requests ↔ ReadsOn (Swallowing request left bytes) more requests) (sym same) (reads_alike (Swallowing request left bytes) more requests)))
     (cases_lt 0 left)
+
+-- while a block is awaited, its line stands at the front of what is held
+pub line_of_block : (s : State) (inside : List ℕ) (line : ℕ) (header : Header) (bytes : List ℕ) → s ≡ state.Block line header → IsStateOf s inside → held_in s inside ≡ Kept bytes → IsLineAt bytes line
+line_of_block s inside line header bytes is_block is held =
+    let is_state : IsStateOf (state.Block line header) inside = subst (λ t. IsStateOf t inside) is_block is in
+    let kept : Kept inside ≡ Kept bytes = ap (λ t. held_in t inside) (sym is_block) ∙ held in
+    let same : inside ≡ bytes = cc in
+    subst (λ b. IsLineAt b line) same is_state.0

@@ -9,18 +9,17 @@ use Rattle.mc_model.specs.declared.reply.WireNo.{WireNo}
 use Rattle.mc_model.specs.declared.request.Request.{Request}
 use Rattle.mc_model.specs.declared.request.Request.TheVariants.{TooLong}
 use Rattle.mc_read.specs.declared.line.Asked.{Asked}
-use Rattle.mc_read.specs.declared.line.Asked.TheVariants.{Line, Refused, Stored}
+use Rattle.mc_read.specs.declared.line.Asked.TheVariants.{Refused, Stored}
 use Rattle.mc_read.specs.declared.line.Header.{Header}
 use Rattle.mc_read.specs.declared.line.TheConstants.{LINE_BYTES}
 use Rattle.mc_read.specs.declared.reader.State.TheVariants as state
 use Rattle.mc_read.specs.First.{first_behind, first_request, found, is_line_feed, line_length}
 use Rattle.mc_read.specs.Line.{asked, refused}
 use Rattle.mc_read.specs.Reading.{Ended, HasNone, Kept, ReadAlike, Swallowing, ends_stream}
-use Rattle.mc_read.specs.State.{EndsInRefusal, IsAnswer, IsLineAt, IsStateOf, held_in, state_after}
-use Rattle.mc_read.specs.Text.{IsUnbroken, length_behind, request_of, stored, stored_if}
-use Rattle.mc_read.specs.Word.{is_word}
+use Rattle.mc_read.specs.State.{IsAnswer, IsLineAt, IsStateOf, IsTaken, held_in, state_after}
+use Rattle.mc_read.specs.Text.{IsTooLongText, IsUnbroken, IsUnended, ends_well, length_behind, request_of, stored, stored_if}
 use Rattle.mc_read.proofs.Holdings.{has_none, held_after, next_is_first, reads_alike, refused_alike, refused_has_none}
-use Rattle.mc_read.proofs.Texts.{before_first-unbroken}
+use Rattle.mc_read.proofs.Texts.{before_first-unbroken, line_length-too_long}
 
 -- a first request is answered
 pub answer_first : (bytes : List ℕ) (request : Request) (left : List ℕ) → first_request bytes ≡ found request left → IsAnswer (Kept bytes) (Some request) (held_after request left)
@@ -99,28 +98,6 @@ module _ (bytes : List ℕ) (line : ℕ) (is_line : IsLineAt bytes line) where
         omega arith,
       )
 
--- what a line asks for is a refusal with its block
-abbrev pub IsRefusal : Asked → Type 0
-IsRefusal (Line request) = ⊥
-IsRefusal (Refused size refusal quiet) = Unit {0}
-IsRefusal (Stored header) = ⊥
-
--- Bytes that end within a refused block begin with its line.
-module _ (bytes : List ℕ) (request : Request) (left : ℕ) (ends : EndsInRefusal bytes request left) (line : ℕ) (is_line : IsLineAt bytes line) where
-  asks_refusal : asked (take line bytes) ≡ Refused ends.size ends.refusal ends.quiet
-  asks_refusal = ap (λ n. asked (take n bytes)) (sym is_line.is_length ∙ ends.is_line.is_length) ∙ ends.is_asked
-
-  -- the refusal is the one that the line asks for
-  pub that_refusal : (size : ℕ) (refusal : WireNo) (quiet : Bool) → asked (take line bytes) ≡ Refused size refusal quiet → (refused refusal quiet ≡ request) × (length bytes + left ≡ line + 1 + size + 2)
-  that_refusal size refusal quiet is =
-      let same : Refused size refusal quiet ≡ Refused ends.size ends.refusal ends.quiet = sym is ∙ asks_refusal in
-      let same_size : size ≡ ends.size = cc in
-      let same_text : refused refusal quiet ≡ refused ends.refusal ends.quiet = cc in
-      (same_text ∙ sym ends.is_request, omega (arith, ends.is_left, same_size, is_line.is_length, ends.is_line.is_length))
-
-  pub no_other : (a : Asked) → asked (take line bytes) ≡ a → IsRefusal a
-  no_other a is = subst IsRefusal (sym asks_refusal ∙ is) tt
-
 -- the state after a request, with what follows it or nothing at the end of the stream
 pub held_in_state_after : (request : Request) (left : List ℕ) → held_in (state_after request) (cond (ends_stream request) [] left) ≡ held_after request left
 held_in_state_after request left =
@@ -133,9 +110,32 @@ is_state_after request left =
 -- after a block the stream goes on
 pub stored_goes_on : (header : Header) (behind left : List ℕ) → held_after (stored header behind) left ≡ Kept left
 stored_goes_on header behind left =
-    elim (is_word (13 ∷ 10 ∷ []) (drop header.length behind)) as (λ b. held_after (stored_if b header (take header.length behind)) left ≡ Kept left) [ true ↦ refl | false ↦ refl ]
+    elim (ends_well (drop header.length behind)) as (λ b. held_after (stored_if b header (take header.length behind)) left ≡ Kept left) [ true ↦ refl | false ↦ refl ]
 
--- a block that was copied from the bytes behind its line is stored as they say
-pub stored_from_copy : (header : Header) (slice behind : List ℕ) (block : Data) (ends_well : Bool) → slice ≡ behind → block ≡ take header.length slice → ends_well ≡ is_word (13 ∷ 10 ∷ []) (drop header.length slice)
-    → stored_if ends_well header block ≡ stored header behind
-stored_from_copy header slice behind block ends_well same is_block is_end = rw (is_block, is_end) (ap (stored header) same)
+-- a block that was taken with its line is stored as its bytes say
+pub answer_taken : (bytes : List ℕ) (line : ℕ) (is_line : IsLineAt bytes line) (header : Header) → asked (take line bytes) ≡ Stored header → (given : Data × Bool) (left : List ℕ) → IsTaken bytes line header.length (Some given) left
+    → IsAnswer (Kept bytes) (Some (stored_if given.1 header given.0)) (Kept left)
+answer_taken bytes line is_line header is given left taken =
+    let behind = take (header.length + 2) (drop (line + 1) bytes) in
+    let is_request : stored_if given.1 header given.0 ≡ stored header behind = λ i. stored_if (taken.2 i) header (taken.1 i) in
+    let answer = answer_whole bytes line is_line (Stored header) is taken.0 (stored_if given.1 header given.0) left is_request taken.3 in
+    let held : held_after (stored_if given.1 header given.0) left ≡ Kept left = ap (λ request. held_after request left) is_request ∙ stored_goes_on header behind left in
+    subst (λ h. IsAnswer (Kept bytes) (Some (stored_if given.1 header given.0)) h) held answer
+
+-- a block that is still to come is awaited
+pub answer_awaited : (bytes : List ℕ) (line : ℕ) (is_line : IsLineAt bytes line) (header : Header) → asked (take line bytes) ≡ Stored header → header.length ≤ DATA_BYTES → (left : List ℕ) → IsTaken bytes line header.length None left
+    → IsAnswer (Kept bytes) None (Kept left)
+answer_awaited bytes line is_line header is small left taken =
+    subst (λ b. IsAnswer (Kept bytes) None (Kept b)) (sym taken.1)
+    (answer_none bytes (first_partial bytes line is_line (Stored header) is taken.0) (omega (arith, is_line.short, small, taken.0)))
+
+-- Where a line has ended, none is still open and none is too long.
+module _ (bytes : List ℕ) (line : ℕ) (is_line : IsLineAt bytes line) where
+  pub not_unended : IsUnended bytes → ⊥
+  not_unended is =
+      let stands : line_length bytes < length bytes = omega (arith, is_line.is_length, is_line.ends) in
+      is.unbroken (line_length bytes) 0 stands (eqb-true _ 10 (passes_at_first is_line_feed bytes 0 stands))
+
+  pub not_too_long : (text more : List ℕ) (request : Request) → bytes ≡ text ++ more → IsTooLongText text request → ⊥
+  not_too_long text more request same is =
+      absurd (omega (arith, line_length-too_long text more is.long is.unbroken, ap line_length same, is_line.is_length, is_line.short))

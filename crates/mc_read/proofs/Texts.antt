@@ -49,7 +49,7 @@ module _ (line rest : List ℕ) (unbroken : IsUnbroken line) where
       ∙ ap (first_behind (asked line)) after_first_at))
 
 -- where no line feed stands in the first bytes, the line is longer
-line_length-too_long : (text more : List ℕ) → length text ≡ LINE_BYTES + 1 → IsUnbroken text → LINE_BYTES < line_length (text ++ more)
+pub line_length-too_long : (text more : List ℕ) → length text ≡ LINE_BYTES + 1 → IsUnbroken text → LINE_BYTES < line_length (text ++ more)
 line_length-too_long text more long unbroken =
     ⊎_elim (λ within.
     let here : line_length (text ++ more) < length text = omega (arith, within, long) in

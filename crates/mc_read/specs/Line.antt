@@ -72,9 +72,9 @@ asked_of_retrieval uniques (key ∷ keys) =
 abbrev pub asked_of_delete : List (List ℕ) → Asked
 asked_of_delete (key ∷ []) = asked_after ((is_lawful_key key, E2) ∷ []) (Delete key) false
 asked_of_delete (key ∷ last ∷ []) =
-    asked_after ((is_word (codes "0") last || is_noreply last, E2) ∷ (is_lawful_key key, E2) ∷ []) (Delete key) (is_noreply last)
+    asked_after ((is_word last (codes "0") || is_noreply last, E2) ∷ (is_lawful_key key, E2) ∷ []) (Delete key) (is_noreply last)
 asked_of_delete (key ∷ time ∷ last ∷ []) =
-    asked_after ((is_word (codes "0") time, E2) ∷ (is_noreply last, E2) ∷ (is_lawful_key key, E2) ∷ []) (Delete key) true
+    asked_after ((is_word time (codes "0"), E2) ∷ (is_noreply last, E2) ∷ (is_lawful_key key, E2) ∷ []) (Delete key) true
 asked_of_delete arguments = no_command
 
 -- a change of a key's number by a delta
@@ -114,12 +114,12 @@ asked_of_name request [] = Line request
 asked_of_name request arguments = no_command
 
 -- Lines with a block.
--- the words of a storage line behind its name: how the block is stored, which is open where the unique of cas can't be
--- read, and a last word in the longer form
+-- the words of a storage line behind its name, with a last word in the longer form; how the block is stored is open where
+-- the unique of cas is no number, and so are the flags where they are none
 pub record StorageLine : Type 0 where
   pub storage : Option Storage
   pub key : List ℕ
-  pub flags : List ℕ
+  pub flags : Option ℕ
   pub exptime : List ℕ
   pub size : List ℕ
   pub last : Option (List ℕ)
@@ -140,21 +140,21 @@ abbrev pub storage_checks : StorageLine → ℕ → Checks
 storage_checks line length =
     (ends_in_noreply line.last, E2)
     ∷ (is_lawful_key line.key, E2)
-    ∷ (is_some (number_up_to FLAGS line.flags), E2)
+    ∷ (is_some line.flags, E2)
     ∷ (is_exptime line.exptime, E2)
     ∷ (is_some line.storage, E2)
     ∷ (ignores_exptime line.storage || is_zero line.exptime, E4)
     ∷ (nat_le length DATA_BYTES, E6)
     ∷ []
 
--- what becomes of a block of this length; where no check failed, the storage is known and the flags are a number
+-- what becomes of a block of this length; where no check failed, neither the storage nor the flags are open
 abbrev pub asked_with : StorageLine → ℕ → Option WireNo → Asked
 asked_with line length None =
     Stored (record {
       length = length;
       storage = unwrap_or line.storage (Plain Set);
       key = line.key;
-      flags = unwrap_or (number_up_to FLAGS line.flags) 0;
+      flags = unwrap_or line.flags 0;
       quiet = is_some line.last;
     })
 asked_with line length (Some refusal) = Refused length refusal (is_quiet_refusal refusal && is_some line.last)
@@ -170,9 +170,9 @@ asked_of_block line = asked_of_length line (number_up_to BLOCK_LENGTH line.size)
 -- a line of set, add, replace, append or prepend
 abbrev pub asked_of_storage : Verb → List (List ℕ) → Asked
 asked_of_storage verb (key ∷ flags ∷ exptime ∷ size ∷ []) =
-    asked_of_block (record { storage = Some (Plain verb); key = key; flags = flags; exptime = exptime; size = size; last = None })
+    asked_of_block (record { storage = Some (Plain verb); key = key; flags = number_up_to FLAGS flags; exptime = exptime; size = size; last = None })
 asked_of_storage verb (key ∷ flags ∷ exptime ∷ size ∷ last ∷ []) =
-    asked_of_block (record { storage = Some (Plain verb); key = key; flags = flags; exptime = exptime; size = size; last = Some last })
+    asked_of_block (record { storage = Some (Plain verb); key = key; flags = number_up_to FLAGS flags; exptime = exptime; size = size; last = Some last })
 asked_of_storage verb arguments = no_command
 
 -- cas with its unique, where that is a number
@@ -181,9 +181,9 @@ check_and_set unique = option_map CheckAndSet (number_up_to UNIQUE unique)
 
 abbrev pub asked_of_cas : List (List ℕ) → Asked
 asked_of_cas (key ∷ flags ∷ exptime ∷ size ∷ unique ∷ []) =
-    asked_of_block (record { storage = check_and_set unique; key = key; flags = flags; exptime = exptime; size = size; last = None })
+    asked_of_block (record { storage = check_and_set unique; key = key; flags = number_up_to FLAGS flags; exptime = exptime; size = size; last = None })
 asked_of_cas (key ∷ flags ∷ exptime ∷ size ∷ unique ∷ last ∷ []) =
-    asked_of_block (record { storage = check_and_set unique; key = key; flags = flags; exptime = exptime; size = size; last = Some last })
+    asked_of_block (record { storage = check_and_set unique; key = key; flags = number_up_to FLAGS flags; exptime = exptime; size = size; last = Some last })
 asked_of_cas arguments = no_command
 
 -- All lines.
@@ -191,20 +191,20 @@ asked_of_cas arguments = no_command
 abbrev pub asked_by : List (List ℕ) → Asked
 asked_by [] = no_command
 asked_by (name ∷ arguments) =
-    if is_word (codes "set") name then asked_of_storage Set arguments
-    else if is_word (codes "add") name then asked_of_storage Add arguments
-    else if is_word (codes "replace") name then asked_of_storage Replace arguments
-    else if is_word (codes "append") name then asked_of_storage Append arguments
-    else if is_word (codes "prepend") name then asked_of_storage Prepend arguments
-    else if is_word (codes "cas") name then asked_of_cas arguments
-    else if is_word (codes "get") name then asked_of_retrieval false arguments
-    else if is_word (codes "gets") name then asked_of_retrieval true arguments
-    else if is_word (codes "delete") name then asked_of_delete arguments
-    else if is_word (codes "incr") name then asked_of_change change.Incr arguments
-    else if is_word (codes "decr") name then asked_of_change change.Decr arguments
-    else if is_word (codes "flush_all") name then asked_of_flush arguments
-    else if is_word (codes "version") name then asked_of_name (Local Version false) arguments
-    else if is_word (codes "quit") name then asked_of_name Quit arguments
+    if is_word name (codes "set") then asked_of_storage Set arguments
+    else if is_word name (codes "add") then asked_of_storage Add arguments
+    else if is_word name (codes "replace") then asked_of_storage Replace arguments
+    else if is_word name (codes "append") then asked_of_storage Append arguments
+    else if is_word name (codes "prepend") then asked_of_storage Prepend arguments
+    else if is_word name (codes "cas") then asked_of_cas arguments
+    else if is_word name (codes "get") then asked_of_retrieval false arguments
+    else if is_word name (codes "gets") then asked_of_retrieval true arguments
+    else if is_word name (codes "delete") then asked_of_delete arguments
+    else if is_word name (codes "incr") then asked_of_change change.Incr arguments
+    else if is_word name (codes "decr") then asked_of_change change.Decr arguments
+    else if is_word name (codes "flush_all") then asked_of_flush arguments
+    else if is_word name (codes "version") then asked_of_name (Local Version false) arguments
+    else if is_word name (codes "quit") then asked_of_name Quit arguments
     else no_command
 
 -- the line is without its line feed

@@ -1,5 +1,6 @@
 -- What a reader's fields stand for, and what is true of them.
-use Rattle.std.specs.Prelude.{◌≡◌, ℕ, ◌+◌, ◌<◌, ◌≤◌, Bool, if◌then◌else◌, List, [], length, take, Option, Some, None}
+use Rattle.std.specs.Prelude.{◌≡◌, ℕ, ◌+◌, ◌<◌, ◌≤◌, Bool, if◌then◌else◌, List, [], length, take, drop, Option, Some, None}
+use Rattle.mc_model.specs.declared.item.Data.{Data}
 use Rattle.mc_model.specs.declared.item.TheConstants.{DATA_BYTES}
 use Rattle.mc_model.specs.declared.reply.WireNo.{WireNo}
 use Rattle.mc_model.specs.declared.request.Request.{Request}
@@ -11,6 +12,7 @@ use Rattle.mc_read.specs.declared.reader.Sought.{Sought}
 use Rattle.mc_read.specs.declared.reader.Sought.TheVariants as sought
 use Rattle.mc_read.specs.First.{line_length}
 use Rattle.mc_read.specs.Line.{asked, refused}
+use Rattle.mc_read.specs.Text.{ends_well}
 use Rattle.mc_read.specs.Reading.{Ended, HasNone, Held, IsNext, Kept, ReadAlike, Swallowing, ends_stream}
 
 -- what is held in this state with these bytes
@@ -64,6 +66,15 @@ pub record EndsInRefusal (bytes : List ℕ) (request : Request) (left : ℕ) : T
   pub is_request : request ≡ refused refusal quiet
   pub is_left : length bytes + left ≡ line + 1 + size + 2
   pub some : 0 < left
+
+-- a line, and behind it a block of this size and two more bytes, were taken off the front: what is given is the block and
+-- whether the two bytes end it well; or nothing was, for a part is still to come
+abbrev pub IsTaken : List ℕ → ℕ → ℕ → Option (Data × Bool) → List ℕ → Type 0
+IsTaken bytes line size None left = (length bytes < line + 1 + (size + 2)) × (left ≡ bytes)
+IsTaken bytes line size (Some given) left =
+    let behind = take (size + 2) (drop (line + 1) bytes) in
+    (line + 1 + (size + 2) ≤ length bytes) × (given.0 ≡ take size behind) × (given.1 ≡ ends_well (drop size behind))
+    × (left ≡ drop (line + 1 + (size + 2)) bytes)
 
 -- the state in which a reader goes on after a request
 abbrev pub state_after : Request → State

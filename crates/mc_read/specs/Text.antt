@@ -1,6 +1,6 @@
 -- The text of a request, after memcached's doc/protocol.txt, "Protocol" and "Storage commands": a line, and behind the
 -- line of a storage command a block and two bytes. How long a line may be is this project's profile.
-use Rattle.std.specs.Prelude.{◌≡◌, ◌≢◌, ℕ, ◌+◌, ◌≤◌, ◌⊎◌, Bool, if◌then◌else◌, List, [], ◌∷◌, ◌++◌, length, take, drop, All}
+use Rattle.std.specs.Prelude.{◌≡◌, ◌≢◌, ℕ, ◌+◌, ◌≤◌, ◌⊎◌, Bool, if◌then◌else◌, List, ◌∷◌, ◌++◌, length, take, drop, codes, All}
 use Rattle.mc_model.specs.declared.command.Command.{Command}
 use Rattle.mc_model.specs.declared.command.Command.TheVariants.{Cas, Store}
 use Rattle.mc_model.specs.declared.item.Data.{Data}
@@ -30,12 +30,16 @@ storing (CheckAndSet unique) key flags block = Cas key flags block unique
 
 -- a block is stored where it ends well
 abbrev pub stored_if : Bool → Header → Data → Request
-stored_if ends_well header block =
-    if ends_well then Logged (storing header.storage header.key header.flags block) header.quiet else refused E3 header.quiet
+stored_if is_whole header block =
+    if is_whole then Logged (storing header.storage header.key header.flags block) header.quiet else refused E3 header.quiet
 
--- a block and the two bytes behind it, which must be a carriage return and a line feed
+-- the two bytes behind a block must be a carriage return and a line feed
+abbrev pub ends_well : List ℕ → Bool
+ends_well bytes = is_word bytes (codes "\r\n")
+
+-- a block and the two bytes behind it
 abbrev pub stored : Header → List ℕ → Request
-stored header behind = stored_if (is_word (13 ∷ 10 ∷ []) (drop header.length behind)) header (take header.length behind)
+stored header behind = stored_if (ends_well (drop header.length behind)) header (take header.length behind)
 
 -- the request of a line with these bytes behind it
 abbrev pub request_of : Asked → List ℕ → Request
@@ -46,6 +50,11 @@ request_of (Stored header) behind = stored header behind
 -- no line feed stands in the bytes
 abbrev pub IsUnbroken : List ℕ → Type 0
 IsUnbroken bytes = All (λ byte. byte ≢ 10) bytes
+
+-- no line has ended yet in the bytes, and none is too long
+pub record IsUnended (bytes : List ℕ) : Type 0 where
+  pub unbroken : IsUnbroken bytes
+  pub short : length bytes ≤ LINE_BYTES
 
 -- a line with its line feed, and behind it what belongs to the request: nothing, or a block and two more bytes
 pub record IsLineText (text : List ℕ) (request : Request) : Type 0 where

@@ -21,10 +21,10 @@ words line = spaced_words (without_return line)
 
 -- byte for byte
 abbrev pub is_word : List ℕ → List ℕ → Bool
-is_word name word = pointwise nat_eq word name
+is_word word name = pointwise nat_eq word name
 
 abbrev pub is_noreply : List ℕ → Bool
-is_noreply word = is_word (codes "noreply") word
+is_noreply word = is_word word (codes "noreply")
 
 -- an exptime without its sign
 abbrev pub without_minus : List ℕ → List ℕ

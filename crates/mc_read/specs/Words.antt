@@ -7,7 +7,7 @@ abbrev pub storage_line : code.StorageLine → StorageLine
 storage_line line = record {
   storage = line.storage;
   key = line.key.now;
-  flags = line.flags.now;
+  flags = line.flags;
   exptime = line.exptime.now;
   size = line.size.now;
   last = option_copied line.last;

@@ -26,7 +26,7 @@ fn read_keys(alloc: Global, words: &[&[u8]]) -> Result<Option<Vec<Key>>, Fault>
     ensures keys { IfOk result (λ keys. IfSome keys (λ keys. keys.items ≡ map (λ word. word.now) words.now)) }
     ensures memory { IsOkUnless result Fault.Memory }
 {
-    let mut keys = Vec::new(alloc);
+    let mut keys = Vec::with_capacity(alloc, words.len())?;
     for word in words {
         let Some(key) = Key::new(alloc, word)? else {
             return Ok(None);

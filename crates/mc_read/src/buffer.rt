@@ -50,7 +50,7 @@ impl Buffer {
     }
 
     /// Takes bytes from the front.
-    pub fn take(&mut self, count: usize)
+    pub fn advance(&mut self, count: usize)
         requires { count ≤ length self.old }
         ensures { self.new ≡ drop count self.old }
     {

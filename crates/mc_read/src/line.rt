@@ -117,8 +117,8 @@ pub fn ask(alloc: Global, line: &[u8]) -> Result<Asked, Fault>
     ensures lawful { IfOk result HasLawfulBlock }
     ensures memory { IsOkUnless result Fault.Memory }
 {
-    let words = words(alloc, line)?;
-    let Some((name, arguments)) = words.split_first() else {
+    let found = words(alloc, line)?;
+    let Some((name, arguments)) = found.split_first() else {
         return Ok(no_command());
     };
     if is_word(name, b"set") {

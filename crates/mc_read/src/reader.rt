@@ -1,15 +1,14 @@
 //! The reader: what has come of the stream and isn't read yet.
 ghost use Rattle.std.specs.Bool.{OnTrue};
-ghost use Rattle.std.specs.Prelude.{◌≡◌, ℕ, ◌+◌, ◌-◌, ◌<◌, ◌≤◌, if◌then◌else◌, List, [], ◌∷◌, length, take, drop, IfOk, IfSome, IsOk, IsOkUnless, OnOk, OnErr};
+ghost use Rattle.std.specs.Prelude.{◌≡◌, ℕ, ◌+◌, ◌-◌, ◌<◌, ◌≤◌, if◌then◌else◌, List, [], ◌++◌, length, take, drop, IfOk, IfSome, IsOk, IsOkUnless, OnOk, OnErr};
 ghost use Rattle.mc_model.specs.declared.item.TheConstants.{DATA_BYTES};
 ghost use Rattle.mc_model.specs.declared.request.Request.{Request};
 ghost use Rattle.mc_read.specs.Reading.{ends_stream, Ended, IsFed, Kept, Swallowing};
-ghost use Rattle.mc_read.specs.State.{EndsInRefusal, IsAnswer, IsSearched, IsSought, IsStateOf, held_in, state_after};
-ghost use Rattle.mc_read.specs.Text.{stored_if};
-ghost use Rattle.mc_read.specs.Word.{is_word};
+ghost use Rattle.mc_read.specs.State.{EndsInRefusal, IsAnswer, IsLineAt, IsSearched, IsSought, IsStateOf, IsTaken, held_in, state_after};
+ghost use Rattle.mc_read.specs.Text.{IsTooLongText, IsUnended, ends_well, stored_if};
 
 use crate::buffer::Buffer;
-use crate::line::{Asked, Header, LINE_BYTES, ask, refused};
+use crate::line::{Asked, BLOCK_LENGTH, Header, LINE_BYTES, ask, refused};
 use mc_model::{Data, Fault, Request, WireNo};
 use memchr::memchr;
 use std::alloc::Global;
@@ -87,7 +86,7 @@ fn copy_block(alloc: Global, size: usize, behind: &[u8]) -> Result<(Data, bool),
     requires small { size ≤ DATA_BYTES }
     requires whole { length behind.now ≡ size + 2 }
     ensures block { IfOk result (λ copied. copied.0 ≡ take size behind.now) }
-    ensures ends_well { IfOk result (λ copied. copied.1 ≡ is_word (13 ∷ 10 ∷ []) (drop size behind.now)) }
+    ensures ends_well { IfOk result (λ copied. copied.1 ≡ ends_well (drop size behind.now)) }
     ensures memory { IsOkUnless result Fault.Memory }
 {
     let ends_well = &behind[size..] == b"\r\n".as_slice();
@@ -95,6 +94,47 @@ fn copy_block(alloc: Global, size: usize, behind: &[u8]) -> Result<(Data, bool),
         Some(block) => Ok((block, ends_well)),
         None => unreachable!(),
     }
+}
+
+/// Takes a line and its block off the front, where the block has come whole with the two bytes behind it. Gives a copy of
+/// the block, and whether those two are as they must be. In line, since a reader fed byte by byte asks after each.
+#[inline(always)]
+fn take_block(
+    alloc: Global,
+    buffer: &mut Buffer,
+    line: usize,
+    size: usize,
+) -> Result<Option<(Data, bool)>, Fault>
+    requires line_end { line < length buffer.old }
+    requires small { size ≤ DATA_BYTES }
+    ensures taken { IfOk result (λ taken. IsTaken buffer.old line size taken buffer.new) }
+    ensures memory { IsOkUnless result Fault.Memory }
+    ensures unchanged { OnErr result (buffer.new ≡ buffer.old) }
+{
+    let bytes = buffer.as_slice();
+    let start = line + 1;
+    if bytes.len() - start < size + 2 {
+        return Ok(None);
+    }
+    let end = start + (size + 2);
+    let copied = copy_block(alloc, size, &bytes[start..end])?;
+    buffer.advance(end);
+    Ok(Some(copied))
+}
+
+/// Takes a line and what has come of its refused block and of the two bytes behind it off the front. Gives how many of
+/// these are still to come.
+fn swallow(buffer: &mut Buffer, line: usize, size: u64) -> u64
+    requires line_end { line < length buffer.old }
+    requires readable { size ≤ BLOCK_LENGTH }
+    ensures left { result ≡ line + 1 + (size + 2) - length buffer.old }
+    ensures bytes { buffer.new ≡ drop (line + 1 + (size + 2)) buffer.old }
+{
+    let held = buffer.as_slice().len();
+    let start = line + 1;
+    let swallowed = (size + 2).min((held - start) as u64);
+    buffer.advance(start + swallowed as usize);
+    size + 2 - swallowed
 }
 
 /// Takes a request of `count` bytes off the front, and gives the state in which the reader goes on. At the end of the
@@ -108,8 +148,58 @@ fn move_on(buffer: &mut Buffer, count: usize, request: &Request) -> State
         buffer.clear();
         State::Ended
     } else {
-        buffer.take(count);
+        buffer.advance(count);
         State::Line { searched: 0 }
+    }
+}
+
+/// Looks for a request at the front of the bytes, behind a line of this length. Gives it, if it is whole, and the state in
+/// which the reader goes on.
+fn read_line(
+    alloc: Global,
+    buffer: &mut Buffer,
+    line: usize,
+) -> Result<(Option<Request>, State), Fault>
+    requires { IsLineAt buffer.old line }
+    ensures answer { IfOk result (λ step. IsAnswer (Kept buffer.old) step.0 (held_in step.1 buffer.new)) }
+    ensures state { IfOk result (λ step. IsStateOf step.1 buffer.new) }
+    ensures end { IfOk result (λ step. IfSome step.0 (λ request. step.1 ≡ state_after request)) }
+    ensures refused { (request : Request) (left : ℕ) → EndsInRefusal buffer.old request left →
+        IfOk result (λ step. held_in step.1 buffer.new ≡ Swallowing request left []) }
+    ensures memory { IsOkUnless result Fault.Memory }
+    ensures unchanged { OnErr result (buffer.new ≡ buffer.old) }
+{
+    match ask(alloc, &buffer.as_slice()[..line])? {
+        Asked::Line(request) => {
+            let state = move_on(buffer, line + 1, &request);
+            Ok((Some(request), state))
+        }
+        Asked::Refused {
+            length,
+            refusal,
+            quiet,
+        } => {
+            let left = swallow(buffer, line, length);
+            if left > 0 {
+                let state = State::Refused {
+                    refusal,
+                    quiet,
+                    left,
+                };
+                return Ok((None, state));
+            }
+            Ok((Some(refused(refusal, quiet)), State::Line { searched: 0 }))
+        }
+        Asked::Stored(header) => {
+            let size = header.length as usize;
+            match take_block(alloc, buffer, line, size)? {
+                Some((block, ends_well)) => {
+                    let request = stored(header, block, ends_well);
+                    Ok((Some(request), State::Line { searched: 0 }))
+                }
+                None => Ok((None, State::Block { line, header })),
+            }
+        }
     }
 }
 
@@ -126,60 +216,21 @@ fn next_line(
     ensures end { IfOk result (λ step. IfSome step.0 (λ request. step.1 ≡ state_after request)) }
     ensures refused { (request : Request) (left : ℕ) → EndsInRefusal buffer.old request left →
         IfOk result (λ step. held_in step.1 buffer.new ≡ Swallowing request left []) }
+    ensures unended { IsUnended buffer.old → result ≡ Ok (None, State.Line (length buffer.old)) × (buffer.new ≡ buffer.old) }
+    ensures too_long { (text more : List ℕ) (request : Request) → buffer.old ≡ text ++ more → IsTooLongText text request →
+        result ≡ Ok (Some request, State.Ended) }
     ensures memory { IsOkUnless result Fault.Memory }
     ensures unchanged { OnErr result (buffer.new ≡ buffer.old) }
 {
-    let bytes = buffer.as_slice();
-    let line = match find_line(bytes, searched) {
-        Sought::Line(line) => line,
+    match find_line(buffer.as_slice(), searched) {
+        Sought::Line(line) => read_line(alloc, buffer, line),
         Sought::TooLong => {
             buffer.clear();
-            return Ok((Some(Request::TooLong), State::Ended));
+            Ok((Some(Request::TooLong), State::Ended))
         }
         Sought::Open => {
-            let searched = bytes.len();
-            return Ok((None, State::Line { searched }));
-        }
-    };
-    let start = line + 1;
-    let behind = bytes.len() - start;
-    match ask(alloc, &bytes[..line])? {
-        Asked::Line(request) => {
-            let state = move_on(buffer, start, &request);
-            Ok((Some(request), state))
-        }
-        Asked::Refused {
-            length,
-            refusal,
-            quiet,
-        } => {
-            let size = length + 2;
-            let come = behind as u64;
-            if come < size {
-                buffer.clear();
-                let left = size - come;
-                return Ok((
-                    None,
-                    State::Refused {
-                        refusal,
-                        quiet,
-                        left,
-                    },
-                ));
-            }
-            buffer.take(start + size as usize);
-            Ok((Some(refused(refusal, quiet)), State::Line { searched: 0 }))
-        }
-        Asked::Stored(header) => {
-            let size = header.length as usize;
-            if behind < size + 2 {
-                return Ok((None, State::Block { line, header }));
-            }
-            let end = start + size + 2;
-            let (block, ends_well) = copy_block(alloc, size, &bytes[start..end])?;
-            buffer.take(end);
-            let request = stored(header, block, ends_well);
-            Ok((Some(request), State::Line { searched: 0 }))
+            let searched = buffer.as_slice().len();
+            Ok((None, State::Line { searched }))
         }
     }
 }
@@ -254,10 +305,16 @@ impl Reader {
         ensures end { IfOk result (λ next. IfSome next (λ request. OnTrue (ends_stream request) (self.new ≡ Ended))) }
         ensures ended { self.old ≡ Ended → result ≡ Ok None × (self.new ≡ Ended) }
 
-        // Of a refused block only the length is kept, and no memory is taken until it has passed.
+        // Of a refused block only the length is kept, and no memory is taken until its request has come.
         ensures refused { (bytes : List ℕ) (request : Request) (left : ℕ) →
             self.old ≡ Kept bytes → EndsInRefusal bytes request left → OnOk result (self.new ≡ Swallowing request left []) }
         ensures swallowing { (request : Request) (left : ℕ) → self.old ≡ Swallowing request left [] → 0 < left → result ≡ Ok None × (self.new ≡ self.old) }
+        ensures swallowed { (request : Request) (bytes : List ℕ) → self.old ≡ Swallowing request 0 bytes → result ≡ Ok (Some request) × (self.new ≡ Kept bytes) }
+
+        // Nor is any where no line has ended yet, or the line is too long.
+        ensures unended { (bytes : List ℕ) → self.old ≡ Kept bytes → IsUnended bytes → result ≡ Ok None × (self.new ≡ self.old) }
+        ensures too_long { (text more : List ℕ) (request : Request) → self.old ≡ Kept (text ++ more) → IsTooLongText text request →
+            result ≡ Ok (Some request) × (self.new ≡ Ended) }
         ensures memory { IsOkUnless result Fault.Memory }
         ensures unchanged { OnErr result (self.new ≡ self.old) }
     {
@@ -268,15 +325,11 @@ impl Reader {
                 Ok(request)
             }
             State::Block { line, header } => {
-                let start = *line + 1;
                 let size = header.length as usize;
-                let bytes = self.buffer.as_slice();
-                if bytes.len() - start < size + 2 {
+                let taken = take_block(self.alloc, &mut self.buffer, *line, size)?;
+                let Some((block, ends_well)) = taken else {
                     return Ok(None);
-                }
-                let end = start + size + 2;
-                let (block, ends_well) = copy_block(self.alloc, size, &bytes[start..end])?;
-                self.buffer.take(end);
+                };
                 match mem::replace(&mut self.state, State::Line { searched: 0 }) {
                     State::Block { header, .. } => Ok(Some(stored(header, block, ends_well))),
                     _ => unreachable!(),

@@ -1,5 +1,6 @@
 //! Lines with a block: `set`, `add`, `replace`, `append`, `prepend` and `cas`.
 ghost use Rattle.std.specs.Prelude.{◌≡◌, IfOk, IsOkUnless, map};
+ghost use Rattle.mc_model.specs.Number.{number_up_to};
 ghost use Rattle.mc_read.specs.Line.{HasLawfulBlock, asked_of_block, asked_of_cas, asked_of_storage, first_failure, ignores_exptime, storage_checks};
 
 use crate::line::{
@@ -10,17 +11,27 @@ use mc_model::item::DATA_BYTES;
 use mc_model::{Fault, Key, Verb, WireNo, read_number};
 use std::alloc::Global;
 
-/// The words of a storage line behind its name.
+/// The words of a storage line behind its name. Flags that are no number are open.
 #[derive(Clone, Copy)]
 struct StorageLine<'a> {
     /// How the block is stored; it is open where the unique of `cas` can't be read.
     storage: Option<Storage>,
     key: &'a [u8],
-    flags: &'a [u8],
+    flags: Option<u32>,
     exptime: &'a [u8],
     size: &'a [u8],
     /// The last word of the longer form.
     last: Option<&'a [u8]>,
+}
+
+/// The flags, where the word is a number that they can be.
+fn read_flags(word: &[u8]) -> Option<u32>
+    ensures { result ≡ number_up_to FLAGS word.now }
+{
+    match read_number(word, FLAGS) {
+        Some(flags) => Some(flags as u32),
+        None => None,
+    }
 }
 
 /// Whether the value of the exptime is ignored, for the item's own stays.
@@ -39,7 +50,7 @@ impl StorageLine<'_> {
     {
         let is_well_formed = self.last.is_none_or(|word| is_noreply(word))
             && Key::is_lawful(self.key)
-            && read_number(self.flags, FLAGS).is_some()
+            && self.flags.is_some()
             && is_exptime(self.exptime)
             && self.storage.is_some();
         if !is_well_formed {
@@ -70,16 +81,12 @@ impl StorageLine<'_> {
                 quiet: noreply && is_quiet_refusal(refusal),
             });
         }
-        match (
-            self.storage,
-            Key::new(alloc, self.key)?,
-            read_number(self.flags, FLAGS),
-        ) {
+        match (self.storage, Key::new(alloc, self.key)?, self.flags) {
             (Some(storage), Some(key), Some(flags)) => Ok(Asked::Stored(Header {
                 length,
                 storage,
                 key,
-                flags: flags as u32,
+                flags,
                 quiet: noreply,
             })),
             _ => unreachable!(),
@@ -101,7 +108,7 @@ pub fn ask_storage(alloc: Global, verb: Verb, arguments: &[&[u8]]) -> Result<Ask
     let line = StorageLine {
         storage: Some(Storage::Plain(verb)),
         key,
-        flags,
+        flags: read_flags(flags),
         exptime,
         size,
         last,
@@ -125,7 +132,7 @@ pub fn ask_cas(alloc: Global, arguments: &[&[u8]]) -> Result<Asked, Fault>
     let line = StorageLine {
         storage: read_number(unique, UNIQUE).map(Storage::CheckAndSet),
         key,
-        flags,
+        flags: read_flags(flags),
         exptime,
         size,
         last,

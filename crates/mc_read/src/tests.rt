@@ -686,30 +686,6 @@ fn key_of_250_bytes(rt: HostRuntime) -> Result<(), Fail> {
     check_all(&rt, &[Case("key-of-250-bytes", text.as_str(), &wants)])
 }
 
-/// The stream reads as the requests of its case, byte by byte, in two at each place of the spans and at 128 others, and cut at
-/// every place. To read two million bytes anew for each of them would take hours, so each place is a cut of one of 64
-/// readings, which have one at each 64th place.
-fn check_long(
-    rt: &(impl AllocGlobal + Abort),
-    case: &Case,
-    spans: &[(usize, usize)],
-    stride: u16,
-) -> Result<(), Fail> {
-    check_pieces(rt, case, 0, 1)?;
-    for first in 1..=64 {
-        check_pieces(rt, case, first, 64)?;
-    }
-    for (from, to) in spans {
-        check_cuts(rt, case, *from, *to)?;
-    }
-    let mut cut = 0;
-    for _ in 0..128 {
-        check_pieces(rt, case, cut, usize::MAX)?;
-        cut = cut.saturating_add(stride as usize);
-    }
-    Ok(())
-}
-
 #[test]
 fn object_too_large(rt: HostRuntime) -> Result<(), Fail> {
     let block = "z".repeat(rt.alloc(), 1_048_576)?;
@@ -722,18 +698,30 @@ fn object_too_large(rt: HostRuntime) -> Result<(), Fail> {
         Want::Store(ANSWERED, Verb::Set, "b", 0, block),
         Want::Store(ANSWERED, Verb::Append, "b", 0, "z"),
     ];
-    let spans = [(0, 24), (1_048_592, 1_048_620), (2_097_190, 2_097_214)];
     let case = Case("object-too-large", text.as_str(), &wants);
-    check_long(&rt, &case, &spans, 16_381)
+    check_pieces(&rt, &case, 0, 1)?;
+    // To cut two million bytes in two at each place would take 13 minutes. So each place is a cut of one of 64 readings, which have
+    // one at each 64th place, and the stream is cut in two round the blocks' ends and at each 1,000th place.
+    for first in 1..=64 {
+        check_pieces(&rt, &case, first, 64)?;
+    }
+    for (from, to) in [(0, 24), (1_048_592, 1_048_620), (2_097_190, 2_097_214)] {
+        check_cuts(&rt, &case, from, to)?;
+    }
+    for thousands in 0..2_098 {
+        check_pieces(&rt, &case, thousands * 1_000, usize::MAX)?;
+    }
+    Ok(())
 }
 
 #[test]
 fn longest_line(rt: HostRuntime) -> Result<(), Fail> {
     let line = "a".repeat(rt.alloc(), 65_535)?;
     let text = format!(in rt.alloc(); "{line}\r\n{line}a\r\nversion\r\n")?;
-    let spans = [(0, 20), (65_525, 65_545), (131_060, 131_084)];
-    let case = Case("longest-line", text.as_str(), &[NO_COMMAND, Want::TooLong]);
-    check_long(&rt, &case, &spans, 1_021)
+    check_all(
+        &rt,
+        &[Case("longest-line", text.as_str(), &[NO_COMMAND, Want::TooLong])],
+    )
 }
 
 /// Feeds a piece, once only. Whether no request has come then.
@@ -762,6 +750,20 @@ fn refused_block_takes_no_memory(rt: HostRuntime) -> Result<(), Fail> {
     let is_swallowed = is_swallowed(&mut reader)?;
     let done = read(&mut reader, case.1.as_bytes(), &case, line)?;
     assert!(rt; line == 0 && is_swallowed && done == 2);
+    Ok(())
+}
+
+/// A look at a line that hasn't ended, and at one that is too long, takes no memory.
+#[test]
+fn looks_without_memory(rt: HostRuntime) -> Result<(), Fail> {
+    let line = "a".repeat(rt.alloc(), 65_536)?;
+    let mut reader = Reader::new(rt.alloc());
+    feed(&mut reader, line.as_bytes())?;
+    let looked = reader.next();
+    assert!(rt; matches!(looked, Ok(None)));
+    feed(&mut reader, b"a")?;
+    let looked = reader.next();
+    assert!(rt; matches!(looked, Ok(Some(Request::TooLong))));
     Ok(())
 }
 

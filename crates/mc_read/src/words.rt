@@ -29,12 +29,15 @@ fn split_at_space(text: &[u8]) -> (&[u8], &[u8])
     }
 }
 
+/// How many words the longest line has that isn't a retrieval; one has as many as it will.
+const STORAGE_WORDS: usize = 7;
+
 /// The line's words, which runs of spaces separate.
 pub fn words(alloc: Global, line: &[u8]) -> Result<Vec<&[u8]>, Fault>
     ensures words { IfOk result (λ found. map (λ word. word.now) found.items ≡ words line.now) }
     ensures memory { IsOkUnless result Fault.Memory }
 {
-    let mut found = Vec::new(alloc);
+    let mut found = Vec::with_capacity(alloc, STORAGE_WORDS)?;
     let mut rest = without_return(line);
     while !rest.is_empty() {
         let (word, others) = split_at_space(rest);
@@ -48,7 +51,7 @@ pub fn words(alloc: Global, line: &[u8]) -> Result<Vec<&[u8]>, Fault>
 
 /// Whether the word is this name, byte for byte.
 pub fn is_word(word: &[u8], name: &[u8]) -> bool
-    ensures { result ≡ is_word name.now word.now }
+    ensures { result ≡ is_word word.now name.now }
 {
     word == name
 }

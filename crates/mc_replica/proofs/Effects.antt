@@ -4,12 +4,12 @@ use Rattle.std.proofs.lemmas.Bool.Decides.{nat_tests}
 use Rattle.std.proofs.lemmas.Iterator.Adapters.{option_map_id}
 use Rattle.std.proofs.lemmas.List.{length-map}
 use Rattle.std.proofs.lemmas.Option.{none-some, same_Some, slice_get-map, slice_get_past, slice_get_read}
-use Rattle.std.specs.Option.{option_map}
-use Rattle.mc_items.specs.TableState.{TableState}
+use Rattle.std.specs.Option.{option_map, option_map_or}
+use Rattle.mc_model.specs.State.{TableState, next_state}
 use Rattle.mc_model.specs.declared.command.Command.{Command}
 use Rattle.mc_model.specs.declared.request.Entry.{Entry}
 use Rattle.mc_model.specs.Log.{own_command}
-use Rattle.mc_replica.specs.Replay.{IsNobodys, TakeEffect, table_after}
+use Rattle.mc_replica.specs.Replay.{IsNobodys, TakeEffect}
 
 get_set_same : {X : Type 0} (xs : List X) (i : ℕ) (x : X) → i < length xs → slice_get (slice_set xs i x) i ≡ Some x
 get_set_same [] i x lt = absurd (omega (arith, lt))
@@ -25,14 +25,14 @@ get_set_other (y ∷ xs) (suc i) (suc k) x differ = get_set_other xs i k x (λ s
 
 -- the entry's own table changes, and no other
 pub TakeEffect-set : (tables : List TableState) (place : ℕ) (state next : TableState) (entry : Entry) →
-    place ≡ entry.tenant → place < length tables → state ≡ get_or tables place state → next ≡ table_after state (Some entry.command) →
+    place ≡ entry.tenant → place < length tables → state ≡ get_or tables place state → next ≡ next_state state entry.command →
     TakeEffect (Some entry) tables (slice_set tables place next)
 TakeEffect-set tables place state next entry own inside at is tenant = elim (entry.tenant == tenant) as
-    (λ b. (entry.tenant == tenant) ≡ b → slice_get (slice_set tables place next) tenant ≡ option_map (λ state. table_after state (if b then Some entry.command else None)) (slice_get tables tenant)) [
+    (λ b. (entry.tenant == tenant) ≡ b → slice_get (slice_set tables place next) tenant ≡ option_map (λ state. option_map_or (next_state state) (if b then Some entry.command else None) state) (slice_get tables tenant)) [
       | true ↦ λ same.
           let here : place ≡ tenant = grind (arith, nat_tests) in
           ap (slice_get (slice_set tables place next)) (sym here) ∙ get_set_same tables place next inside ∙ ap Some is
-          ∙ sym (ap (option_map (λ state. table_after state (Some entry.command))) (ap (slice_get tables) (sym here) ∙ slice_get_read tables (length tables) place state refl inside at))
+          ∙ sym (ap (option_map (λ state. next_state state entry.command)) (ap (slice_get tables) (sym here) ∙ slice_get_read tables (length tables) place state refl inside at))
       | false ↦ λ apart.
           let elsewhere : place ≢ tenant = grind (arith, nat_tests) in
           get_set_other tables place tenant next elsewhere ∙ sym (option_map_id (slice_get tables tenant))
@@ -44,19 +44,19 @@ TakeEffect-none tables tenant = sym (option_map_id (slice_get tables tenant))
 
 TakeEffect-unknown : (tables : List TableState) (entry : Entry) → length tables ≤ entry.tenant → TakeEffect (Some entry) tables tables
 TakeEffect-unknown tables entry unknown tenant = elim (entry.tenant == tenant) as
-    (λ b. (entry.tenant == tenant) ≡ b → slice_get tables tenant ≡ option_map (λ state. table_after state (if b then Some entry.command else None)) (slice_get tables tenant)) [
+    (λ b. (entry.tenant == tenant) ≡ b → slice_get tables tenant ≡ option_map (λ state. option_map_or (next_state state) (if b then Some entry.command else None) state) (slice_get tables tenant)) [
       | true ↦ λ same.
           let past : length tables ≤ tenant = grind (arith, nat_tests) in
-          slice_get_past tables tenant past ∙ sym (ap (option_map (λ state. table_after state (Some entry.command))) (slice_get_past tables tenant past))
+          slice_get_past tables tenant past ∙ sym (ap (option_map (λ state. next_state state entry.command)) (slice_get_past tables tenant past))
       | false ↦ λ apart. sym (option_map_id (slice_get tables tenant))
     ] refl
 
-limits_stay : (state : TableState) (command : Option Command) → (table_after state command).limits ≡ state.limits
+limits_stay : (state : TableState) (command : Option Command) → (option_map_or (next_state state) command state).limits ≡ state.limits
 limits_stay state None = refl
 limits_stay state (Some command) = refl
 
 limits_at : (found : Option TableState) (command : Option Command) →
-    option_map (λ state. state.limits) (option_map (λ state. table_after state command) found) ≡ option_map (λ state. state.limits) found
+    option_map (λ state. state.limits) (option_map (λ state. option_map_or (next_state state) command state) found) ≡ option_map (λ state. state.limits) found
 limits_at None command = refl
 limits_at (Some state) command = ap Some (limits_stay state command)
 

@@ -3,14 +3,15 @@ use Rattle.std.proofs.Common.{◌≡◌, ℕ, zero, suc, ◌≤◌, List, [], �
 use Rattle.std.proofs.lemmas.List.{append-nil}
 use Rattle.std.proofs.lemmas.Option.{none-some, same_Some}
 use Rattle.std.specs.List.{filter_map}
-use Rattle.std.specs.Option.{option_map}
-use Rattle.mc_items.specs.TableState.{TableState}
+use Rattle.std.specs.Option.{option_map, option_map_or}
+use Rattle.mc_model.specs.State.{TableState, next_state}
 use Rattle.mc_model.specs.declared.command.Command.{Command}
+use Rattle.mc_model.specs.declared.request.Entry.{Entry}
 use Rattle.mc_model.specs.declared.settings.Limits.{Limits}
-use Rattle.mc_model.specs.History.{StandsFor, StandsFor-none, StandsFor-push, after, changes, changes-le}
+use Rattle.mc_model.specs.History.{StandsFor, StandsFor-none, StandsFor-push, after, answer, changes, changes-le}
 use Rattle.mc_model.specs.Log.{own_command}
 use Rattle.mc_replica.specs.declared.seen.Seen.{Seen}
-use Rattle.mc_replica.specs.Replay.{EachStands, StandsForOwn, TakeEffect, empty_table, table_after}
+use Rattle.mc_replica.specs.Replay.{EachStands, StandsForOwn, TakeEffect, empty_table, reply_to}
 use Rattle.mc_replica.specs.Seen.{own_commands, own_commands-push}
 use Rattle.mc_replica.proofs.Own.{own-few}
 
@@ -20,25 +21,25 @@ EachStands-none [] tenant state at = absurd (none-some state at)
 EachStands-none (one ∷ limits) zero state at = subst (StandsForOwn 0 []) (same_Some _ _ at) (StandsFor-none one)
 EachStands-none (one ∷ limits) (suc tenant) state at = EachStands-none limits tenant state at
 
+-- a state stands for a list of commands, by its limits
+abbrev StandsAs : List Command → TableState → Type 0
+StandsAs list state = StandsFor state.limits list state.table state.last_unique
+
 -- what a command that may be there adds to a list
-stands_with : (list more : List Command) (state : TableState) (command : Option Command) → StandsFor state.limits list state.table state.last_unique →
-    more ≡ filter_map (λ (c : Option Command). c) (command ∷ []) →
-    StandsFor (table_after state command).limits (list ++ more) (table_after state command).table (table_after state command).last_unique
-stands_with list more state None stands is =
-    subst (λ l. StandsFor state.limits l state.table state.last_unique) (sym (ap (λ m. list ++ m) is ∙ append-nil list)) stands
+stands_with : (list more : List Command) (state : TableState) (command : Option Command) → StandsAs list state →
+    more ≡ filter_map (λ (c : Option Command). c) (command ∷ []) → StandsAs (list ++ more) (option_map_or (next_state state) command state)
+stands_with list more state None stands is = subst (λ l. StandsAs l state) (sym (ap (λ m. list ++ m) is ∙ append-nil list)) stands
 stands_with list more state (Some command) stands is =
-    subst (λ l. StandsFor state.limits l (table_after state (Some command)).table (table_after state (Some command)).last_unique)
-    (sym (ap (λ m. list ++ m) is)) (StandsFor-push state.limits list command state.table state.last_unique stands)
+    subst (λ l. StandsAs l (next_state state command)) (sym (ap (λ m. list ++ m) is)) (StandsFor-push state.limits list command state.table state.last_unique stands)
 
 module _ (tenant : ℕ) (history : List Seen) (seen : Seen) where
   -- a table that takes its own command of a sighting stands for one more
-  stands_after : (state : TableState) → StandsForOwn tenant history state → StandsForOwn tenant (history ++ seen ∷ []) (table_after state (own_command tenant seen.entry))
+  stands_after : (state : TableState) → StandsForOwn tenant history state → StandsForOwn tenant (history ++ seen ∷ []) (option_map_or (next_state state) (own_command tenant seen.entry) state)
   stands_after state stands =
-      subst (λ list. StandsFor (table_after state (own_command tenant seen.entry)).limits list (table_after state (own_command tenant seen.entry)).table (table_after state (own_command tenant seen.entry)).last_unique)
-      (sym (own_commands-push tenant history seen))
+      subst (λ list. StandsAs list (option_map_or (next_state state) (own_command tenant seen.entry) state)) (sym (own_commands-push tenant history seen))
       (stands_with (own_commands tenant history) _ state (own_command tenant seen.entry) stands refl)
 
-  stands_at : (before : Option TableState) (state : TableState) → option_map (λ old. table_after old (own_command tenant seen.entry)) before ≡ Some state →
+  stands_at : (before : Option TableState) (state : TableState) → option_map (λ old. option_map_or (next_state old) (own_command tenant seen.entry) old) before ≡ Some state →
       ((old : TableState) → before ≡ Some old → StandsForOwn tenant history old) → StandsForOwn tenant (history ++ seen ∷ []) state
   stands_at None state at stands = absurd (none-some state at)
   stands_at (Some old) state at stands = subst (StandsForOwn tenant (history ++ seen ∷ [])) (same_Some _ _ at) (stands_after old (stands old refl))
@@ -76,3 +77,12 @@ pub tables-agree : (one_history other_history : List Seen) (one other : List Tab
     option_map (λ state. state.limits) (slice_get one tenant) ≡ option_map (λ state. state.limits) (slice_get other tenant) → slice_get one tenant ≡ slice_get other tenant
 tables-agree one_history other_history one other stands_one stands_other tenant is limits =
     same_found (slice_get one tenant) (slice_get other tenant) _ _ is limits (stands_one tenant) (stands_other tenant)
+
+-- and the replies to one entry of that tenant
+pub replies-agree : (one_history other_history : List Seen) (one other : List TableState) → EachStands one_history one → EachStands other_history other →
+    (entry : Entry) → own_commands entry.tenant one_history ≡ own_commands entry.tenant other_history →
+    option_map (λ state. state.limits) (slice_get one entry.tenant) ≡ option_map (λ state. state.limits) (slice_get other entry.tenant) →
+    reply_to one_history one (Some entry) ≡ reply_to other_history other (Some entry)
+replies-agree one_history other_history one other stands_one stands_other entry is limits =
+    let same = tables-agree one_history other_history one other stands_one stands_other entry.tenant is limits in
+    ap₂ (λ (list : List Command) (found : Option TableState). option_map (λ state. answer state.limits list entry.command) found) is same

@@ -2,15 +2,14 @@
 use Rattle.std.specs.Prelude.{◌≡◌, ℕ, ◌≤◌, ◌==◌, true, if◌then◌else◌, List, length, Option, Some, None, slice_get, IfSome, refl}
 use Rattle.std.specs.Coded.{Coded, code_by, coded×, coded_ℕ, coded_list}
 use Rattle.std.specs.FinMap as map
-use Rattle.std.specs.Option.{option_map}
-use Rattle.mc_items.specs.TableState.{TableState, coded_state}
-use Rattle.mc_model.specs.declared.command.Command.{Command}
+use Rattle.std.specs.Option.{option_map, option_map_or}
 use Rattle.mc_model.specs.declared.request.Entry.{Entry}
 use Rattle.mc_model.specs.declared.reply.Reply.{Reply}
 use Rattle.mc_model.specs.declared.settings.Limits.{Limits}
 use Rattle.mc_model.specs.Effect.{is_refusal}
-use Rattle.mc_model.specs.History.{StandsFor, answer, next_changes, next_effect}
+use Rattle.mc_model.specs.History.{StandsFor, answer}
 use Rattle.mc_model.specs.Log.{own_command}
+use Rattle.mc_model.specs.State.{TableState, coded_state, next_state}
 use Rattle.mc_replica.specs.contracts.seen.Seen as row
 use Rattle.mc_replica.specs.declared.seen.Seen.{Seen}
 use Rattle.mc_replica.specs.Seen.{own_commands}
@@ -33,15 +32,6 @@ coded_replica =
 abbrev pub empty_table : Limits → TableState
 empty_table limits = record { limits = limits; table = map.empty; last_unique = 0 }
 
--- a table after one more command, or after none
-abbrev pub table_after : TableState → Option Command → TableState
-table_after state None = state
-table_after state (Some command) = record {
-  limits = state.limits;
-  table = (next_effect state.limits state.table state.last_unique command).table;
-  last_unique = next_changes state.limits state.table state.last_unique command;
-}
-
 -- a table stands for the tenant's own commands of a history, by its limits
 abbrev pub StandsForOwn : ℕ → List Seen → TableState → Type 0
 StandsForOwn tenant history state = StandsFor state.limits (own_commands tenant history) state.table state.last_unique
@@ -53,7 +43,8 @@ EachStands history tables = (tenant : ℕ) (state : TableState) → slice_get ta
 -- from one list of tables to the next, each takes its own tenant's command of an entry; where that isn't the tenant's, or
 -- there is none, the table is equal to what it was
 abbrev pub TakeEffect : Option Entry → List TableState → List TableState → Type 0
-TakeEffect entry old new = (tenant : ℕ) → slice_get new tenant ≡ option_map (λ state. table_after state (own_command tenant entry)) (slice_get old tenant)
+TakeEffect entry old new =
+    (tenant : ℕ) → slice_get new tenant ≡ option_map (λ state. option_map_or (next_state state) (own_command tenant entry) state) (slice_get old tenant)
 
 -- the reply to an entry whose tenant is among the tables: the answer after that tenant's own commands of the history
 abbrev pub reply_to : List Seen → List TableState → Option Entry → Option Reply

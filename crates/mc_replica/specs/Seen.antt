@@ -17,12 +17,16 @@ entries history = map (λ seen. seen.entry) history
 abbrev pub own_commands : ℕ → List Seen → List Command
 own_commands tenant history = own tenant (entries history)
 
--- the same, from the front: one more sighting is one more command of its own tenant
-entries-push : (history : List Seen) (seen : Seen) → entries (history ++ seen ∷ []) ≡ entries history ++ seen.entry ∷ []
-entries-push [] seen = refl
-entries-push (first ∷ history) seen = ap (λ rest. first.entry ∷ rest) (entries-push history seen)
+-- the same of two histories, one behind the other
+entries-append : (front back : List Seen) → entries (front ++ back) ≡ entries front ++ entries back
+entries-append [] back = refl
+entries-append (seen ∷ front) back = ap (λ rest. seen.entry ∷ rest) (entries-append front back)
 
+pub own_commands-append : (tenant : ℕ) (front back : List Seen) → own_commands tenant (front ++ back) ≡ own_commands tenant front ++ own_commands tenant back
+own_commands-append tenant front back =
+    ap (own tenant) (entries-append front back) ∙ filter_map-append (own_command tenant) (entries front) (entries back)
+
+-- one more sighting is one more command of its own tenant
 pub own_commands-push : (tenant : ℕ) (history : List Seen) (seen : Seen) →
     own_commands tenant (history ++ seen ∷ []) ≡ own_commands tenant history ++ filter_map (own_command tenant) (seen.entry ∷ [])
-own_commands-push tenant history seen =
-    ap (own tenant) (entries-push history seen) ∙ filter_map-append (own_command tenant) (entries history) (seen.entry ∷ [])
+own_commands-push tenant history seen = own_commands-append tenant history (seen ∷ [])

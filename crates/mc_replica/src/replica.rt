@@ -1,6 +1,6 @@
 //! A worker's replica of the shared log: what it has seen of the log's places, replayed on tables of its own.
 ghost use Rattle.std.specs.Prelude.{◌≡◌, ◌≢◌, ◌<◌, ◌≤◌, ◌↔◌, [], ◌∷◌, ◌++◌, length, map, Some, slice_get, IfOk, IfSome, OnOk, OnErr, IsOk, IsOkUnless, IsTrue};
-ghost use Rattle.mc_items.specs.Commands.{Reads, TakesOut};
+ghost use Rattle.mc_model.specs.Kinds.{IsRetrieval, IsTakingOut};
 ghost use Rattle.mc_replica.specs.Replay.{EachStands, IsNobodys, IsRefused, StandsForOwn, TakeEffect, answer_to, empty_table};
 
 use crate::seen::Seen;
@@ -80,10 +80,9 @@ impl Replica {
         ensures worker { self.new.worker ≡ self.old.worker }
         ensures places { self.new.places ≡ self.old.places }
 
-        // What needs no memory.
-        ensures nobody { IsNobodys self.old.tables seen.entry → IsOk result }
-        ensures takes_out { IfSome seen.entry (λ entry. TakesOut entry.command) → IsOk result }
-        ensures reads { IfSome seen.entry (λ entry. Reads entry.command × (entry.ticket.worker ≢ self.old.worker)) → IsOk result }
+        // What needs no memory. An entry that is nobody's counts as refused.
+        ensures takes_out { IfSome seen.entry (λ entry. IsTakingOut entry.command) → IsOk result }
+        ensures reads { IfSome seen.entry (λ entry. IsRetrieval entry.command × (entry.ticket.worker ≢ self.old.worker)) → IsOk result }
         ensures refused { IsRefused self.old.history self.old.tables seen.entry → IsOk result }
         ensures memory { IsOkUnless result Fault.Memory }
         ensures unchanged { OnErr result (self.new ≡ self.old) }
@@ -129,13 +128,15 @@ impl Replica {
     pub fn worker(&self) -> WorkerId
         ensures { result ≡ self.now.worker }
     {
-        self.worker
+        let Replica { worker, .. } = self;
+        *worker
     }
 
     /// How many places its history may have.
     pub fn places(&self) -> u64
         ensures { result ≡ self.now.places }
     {
-        self.places
+        let Replica { places, .. } = self;
+        *places
     }
 }

@@ -1,9 +1,9 @@
 //! The tables of all tenants: a tenant's number is the place of its table.
 ghost use Rattle.std.specs.Prelude.{◌≡◌, ◌≢◌, ℕ, ◌-◌, ◌^◌, ◌<◌, List, map, Some, slice_get, IfOk, IfSome, OnOk, OnErr, IsOk, IsOkUnless};
-ghost use Rattle.mc_items.specs.Commands.{Reads, TakesOut};
-ghost use Rattle.mc_items.specs.TableState.{TableState};
+ghost use Rattle.mc_model.specs.Kinds.{IsRetrieval, IsTakingOut};
+ghost use Rattle.mc_model.specs.State.{TableState};
 ghost use Rattle.mc_replica.specs.declared.seen.Seen.{Seen};
-ghost use Rattle.mc_replica.specs.Replay.{EachStands, IsNobodys, IsRefused, TakeEffect, answer_to, empty_table};
+ghost use Rattle.mc_replica.specs.Replay.{EachStands, IsRefused, TakeEffect, answer_to, empty_table};
 
 use mc_items::Items;
 use mc_model::{Entry, Fault, Limits, Reply, WorkerId};
@@ -39,9 +39,8 @@ pub(crate) fn take_effect(
     ensures reply { IfOk result (λ reply. (history : List Seen) → EachStands history tables.old.items →
         reply ≡ answer_to worker history tables.old.items entry.now) }
     ensures tables { OnOk result (TakeEffect entry.now tables.old.items tables.new.items) }
-    ensures nobody { IsNobodys tables.old.items entry.now → IsOk result }
-    ensures takes_out { IfSome entry.now (λ entry. TakesOut entry.command) → IsOk result }
-    ensures reads { IfSome entry.now (λ entry. Reads entry.command × (entry.ticket.worker ≢ worker)) → IsOk result }
+    ensures takes_out { IfSome entry.now (λ entry. IsTakingOut entry.command) → IsOk result }
+    ensures reads { IfSome entry.now (λ entry. IsRetrieval entry.command × (entry.ticket.worker ≢ worker)) → IsOk result }
     ensures refused { (history : List Seen) → EachStands history tables.old.items → IsRefused history tables.old.items entry.now → IsOk result }
     ensures memory { IsOkUnless result Fault.Memory }
     ensures unchanged { OnErr result (tables.new.items ≡ tables.old.items) }

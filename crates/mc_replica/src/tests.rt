@@ -246,3 +246,41 @@ fn replicas_of_unequal_places_agree(rt: HostRuntime) -> Result<(), Fail> {
     assert_eq!(&rt; long.places(), 1000);
     Ok(())
 }
+
+/// Each worker has replayed as much of one log as it has learned, and answers its own commands alone.
+#[test]
+fn three_workers_answer_their_own_commands_of_one_log(rt: HostRuntime) -> Result<(), Fail> {
+    let two_items = Limits {
+        items: 2,
+        bytes: 50,
+    };
+    let one_item = Limits { items: 1, bytes: 9 };
+    let log = [
+        (2, 0, 1, Ask::Set(b'a', b'q'), Want::Stored),
+        (1, 0, 0, Ask::Set(b'a', b'x'), Want::Stored),
+        (0, 0, 1, Ask::Set(b'b', b'q'), Want::OverQuota),
+        (2, 1, 0, Ask::Gets(b'a'), Want::One(b'a', b'x', 1)),
+    ];
+    for (worker, learned) in [(0, 3), (1, 2), (2, 4)] {
+        let limits = [two_items, one_item];
+        let mut replica = Replica::open(rt.alloc(), worker_of(&rt, worker), &limits, 9)?;
+        for (owner, number, tenant, ask, want) in &log[..learned] {
+            let seen = seen_of(&rt, *owner, *number, *tenant, *ask)?;
+            let want = if *owner == worker {
+                *want
+            } else {
+                Want::Silence
+            };
+            let reply = replay(&rt, &mut replica, seen)?;
+            assert_eq!(&rt;
+                reply,
+                reply_of(&rt, want)?,
+                "worker {worker}, ticket ({owner}, {number})"
+            );
+        }
+        assert_eq!(&rt; replica.history().len(), learned);
+        assert_eq!(&rt; unique_of(&rt, &replica, 0), 1);
+        assert_eq!(&rt; unique_of(&rt, &replica, 1), 1);
+    }
+    Ok(())
+}

@@ -1,61 +1,86 @@
 -- Bytes that are pushed in pieces.
-use Rattle.std.proofs.Common.{◌≡◌, ℕ, ◌+◌, inr, subst, Option, Some, None, List, [], ◌++◌, take, drop, refl, sym, ap, ◌∙◌, append-nil, append_assoc}
-use Rattle.std.specs.Io.KnownBytes.{append_known}
+use Rattle.std.proofs.Common.{◌≡◌, ℕ, ◌+◌, inl, inr, ⊎_elim, Result, Ok, Err, OnOk, OnErr, MatchResult, List, [], ◌++◌, take, drop, sym, ap, ◌∙◌, append-nil, append_assoc}
 use Rattle.std.proofs.Math.Seq.{take-add}
 use Rattle.std.proofs.lemmas.List.{take-append-drop}
-use Rattle.mc_server.specs.Serving.{IsAllOrStopped, IsStopped, PushesAtOnce, PushesFront}
-
--- two pieces are known as one
-pub append_known-more : (known : Option (List ℕ)) (first second : List ℕ) → append_known (append_known known first) second ≡ append_known known (first ++ second)
-append_known-more None first second = refl
-append_known-more (Some bytes) first second = ap Some (append_assoc bytes first second)
-
-pub append_known-nothing : (known : Option (List ℕ)) → append_known known [] ≡ known
-append_known-nothing None = refl
-append_known-nothing (Some bytes) = ap Some (append-nil bytes)
+use Rattle.mc_model.specs.declared.fault.Fault.{Fault}
+use Rattle.mc_server.specs.Serving.{IsAllOrStopped, IsStopped, Pushes, PushesAtOnce, PushesFront, Tells}
+use Rattle.mc_stream.specs.Stream.{Outflow}
 
 -- what was sent and the piece that was taken is what is sent then
-pub sent_more : (before now after : Option (List ℕ)) (queue slice : List ℕ) (sent count : ℕ) → slice ≡ drop sent queue →
-    now ≡ append_known before (take sent queue) → after ≡ append_known now (take count slice) → after ≡ append_known before (take (sent + count) queue)
+pub sent_more : (before now after queue slice : List ℕ) (sent count : ℕ) → slice ≡ drop sent queue →
+    now ≡ before ++ take sent queue → after ≡ now ++ take count slice → after ≡ before ++ take (sent + count) queue
 sent_more before now after queue slice sent count is_rest is_now is_after =
     is_after
-    ∙ (ap (λ known. append_known known (take count slice)) is_now
-    ∙ (append_known-more before (take sent queue) (take count slice)
-    ∙ ap (append_known before) (ap (λ rest. take sent queue ++ take count rest) is_rest ∙ sym (take-add sent count queue))))
+    ∙ (ap (λ known. known ++ take count slice) is_now
+    ∙ (append_assoc before (take sent queue) (take count slice)
+    ∙ ap (λ more. before ++ more) (ap (λ rest. take sent queue ++ take count rest) is_rest ∙ sym (take-add sent count queue))))
 
 -- what was pushed where nothing more was taken is a front
-pub front_sent : (before now after : Option (List ℕ)) (queue : List ℕ) (sent : ℕ) → now ≡ append_known before (take sent queue) → after ≡ append_known now [] → PushesFront queue before after
-front_sent before now after queue sent is_now is_after =
-    (drop sent queue, record { front = take sent queue; split = sym (take-append-drop sent queue); went = is_after ∙ (append_known-nothing now ∙ is_now) })
+pub front_sent : (before after : Outflow) (now queue : List ℕ) (sent : ℕ) → now ≡ before.pushed ++ take sent queue → after.pushed ≡ now ++ [] → PushesFront queue before after
+front_sent before after now queue sent is_now is_after =
+    (drop sent queue, record { front = take sent queue; split = sym (take-append-drop sent queue); went = is_after ∙ (append-nil now ∙ is_now) })
 
--- the first bytes were taken, and of the second as many as the output took at once
-pub at_once_more : (first second : List ℕ) (before now after : Option (List ℕ)) (is_full : Type 0) (failures_before failures_now failures : ℕ) → now ≡ append_known before first → failures_now ≡ failures_before
-    → PushesAtOnce second now after is_full failures_now failures → PushesAtOnce (first ++ second) before after is_full failures_before failures
-at_once_more first second before now after is_full failures_before failures_now failures is_now same (rest, moves, stops) = (
+-- the first bytes were pushed, and of the second a front
+pub front_more : (first second : List ℕ) (before now after : Outflow) → Pushes before now first → PushesFront second now after → PushesFront (first ++ second) before after
+front_more first second before now after is_now (rest, moves) = (
   rest,
   record {
     front = first ++ moves.front;
     split = ap (λ bytes. first ++ bytes) moves.split ∙ sym (append_assoc first moves.front rest);
-    went = moves.went ∙ (ap (λ known. append_known known moves.front) is_now ∙ append_known-more before first moves.front);
+    went = moves.went ∙ (ap (λ known. known ++ moves.front) is_now ∙ append_assoc before.pushed first moves.front);
   },
-  subst (λ count. IsAllOrStopped rest is_full count failures) same stops,
 )
 
--- the first bytes weren't all taken, and the second aren't tried
-pub at_once_stopped : (first second : List ℕ) (before after : Option (List ℕ)) (is_full : Type 0) (failures_before failures : ℕ) → PushesAtOnce first before after is_full failures_before failures
-    → IsStopped is_full failures_before failures → PushesAtOnce (first ++ second) before after is_full failures_before failures
-at_once_stopped first second before after is_full failures_before failures (rest, moves, _) stopped = (
+-- a front of the first bytes was pushed, and nothing of the second
+pub front_only : (first second : List ℕ) (before after : Outflow) → PushesFront first before after → PushesFront (first ++ second) before after
+front_only first second before after (rest, moves) = (
   rest ++ second,
   record {
     front = moves.front;
     split = ap (λ bytes. bytes ++ second) moves.split ∙ append_assoc moves.front rest second;
     went = moves.went;
   },
-  inr stopped,
 )
 
+-- the output had not failed in between
+pub same_stop : (unsent : List ℕ) (before now after : Outflow) → now.failures ≡ before.failures → IsAllOrStopped unsent now after → IsAllOrStopped unsent before after
+same_stop unsent before now after same stops =
+    ⊎_elim
+    (λ all. inl (all.0, all.1 ∙ same))
+    (λ stopped. inr (⊎_elim (λ full. inl (full.0, full.1 ∙ same)) (λ failed. inr (failed ∙ ap (λ n. n + 1) same)) stopped))
+    stops
+
+-- the first bytes were taken, and of the second as many as the output took
+pub at_once_more : (first second : List ℕ) (before now after : Outflow) → Pushes before now first → now.failures ≡ before.failures → PushesAtOnce second now after → PushesAtOnce (first ++ second) before after
+unfolding front_more
+at_once_more first second before now after is_now same (rest, moves, stops) =
+    let front = front_more first second before now after is_now (rest, moves) in (front.0, front.1, same_stop rest before now after same stops)
+
+-- the first bytes weren't all taken, and the second aren't tried
+pub at_once_stopped : (first second : List ℕ) (before after : Outflow) → PushesAtOnce first before after → IsStopped before after → PushesAtOnce (first ++ second) before after
+unfolding front_only
+at_once_stopped first second before after (rest, moves, _) stopped =
+    let front = front_only first second before after (rest, moves) in (front.0, front.1, inr stopped)
+
 -- nothing more was taken
-pub at_once_sent : (before now after : Option (List ℕ)) (queue : List ℕ) (sent : ℕ) (is_full : Type 0) (failures_before failures : ℕ) → now ≡ append_known before (take sent queue) → after ≡ append_known now []
-    → IsStopped is_full failures_before failures → PushesAtOnce queue before after is_full failures_before failures
-at_once_sent before now after queue sent is_full failures_before failures is_now is_after stopped =
-    let front = front_sent before now after queue sent is_now is_after in (front.0, front.1, inr stopped)
+pub at_once_sent : (before after : Outflow) (now queue : List ℕ) (sent : ℕ) → now ≡ before.pushed ++ take sent queue → after.pushed ≡ now ++ [] → IsStopped before after → PushesAtOnce queue before after
+at_once_sent before after now queue sent is_now is_after stopped =
+    let front = front_sent before after now queue sent is_now is_after in (front.0, front.1, inr stopped)
+
+-- what a push of all bytes says
+pub told : (result : Result (Unit {0}) Fault) (bytes : List ℕ) (before after : Outflow) → OnOk result (Pushes before after bytes) → OnErr result (PushesFront bytes before after)
+    → MatchResult result (λ _. after.failures ≡ before.failures) (λ _. after.failures ≡ before.failures + 1) → Tells bytes before after
+told (Ok done) bytes before after all front failures = inl (all, failures)
+told (Err fault) bytes before after all front failures = inr (front, failures)
+
+-- the first bytes were pushed, and the second told
+pub tells_more : (first second : List ℕ) (before now after : Outflow) → Pushes before now first → now.failures ≡ before.failures → Tells second now after → Tells (first ++ second) before after
+tells_more first second before now after is_now same tells =
+    ⊎_elim
+    (λ all. inl (all.0 ∙ (ap (λ known. known ++ second) is_now ∙ append_assoc before.pushed first second), all.1 ∙ same))
+    (λ part. inr (front_more first second before now after is_now part.0, part.1 ∙ ap (λ n. n + 1) same))
+    tells
+
+-- the output failed in the first bytes
+pub tells_front : (first second : List ℕ) (before after : Outflow) → PushesFront first before after → after.failures ≡ before.failures + 1 → Tells (first ++ second) before after
+tells_front first second before after front failed = inr (front_only first second before after front, failed)

@@ -2,7 +2,7 @@
 use Rattle.std.proofs.Common.{◌≡◌, ℕ, ◌<◌, ◌++◌, ◌+◌, true, List, [], ◌∷◌, Some, Result, Ok, Err, OnOk, OnErr, length, map, refl, sym, ap, ◌∙◌, arith, length-append}
 use Rattle.std.proofs.lemmas.Bool.{lt-ltb}
 use Rattle.std.specs.Bool.{nat_lt}
-use Rattle.mc_items.specs.TableState.{TableState}
+use Rattle.mc_model.specs.State.{TableState}
 use Rattle.mc_model.specs.declared.command.Command.{Command}
 use Rattle.mc_model.specs.declared.reply.Reply.{Reply}
 use Rattle.mc_model.specs.declared.settings.Limits.{Limits}

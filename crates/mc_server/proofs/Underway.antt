@@ -1,7 +1,7 @@
 -- What is true between the turns of the loop: what came reads on, and what was sent and is queued is what is owed so far.
-use Rattle.std.proofs.Common.{◌≡◌, ℕ, ◌≤◌, Bool, true, false, ◌||◌, ◌⊎◌, inl, inr, Option, Result, Ok, Err, List, [], ◌∷◌, ◌++◌, length, drop, refl, sym, ◌∙◌, ap, subst, ⊎_elim, append-nil, append_assoc, arith, length-append}
+use Rattle.std.proofs.Common.{◌≡◌, ℕ, ◌≤◌, Bool, true, false, ◌||◌, ◌⊎◌, inl, inr, Result, Ok, Err, List, [], ◌∷◌, ◌++◌, length, drop, refl, sym, ◌∙◌, ap, subst, ⊎_elim, append-nil, append_assoc, arith, length-append}
 use Rattle.std.specs.Bool.{MatchBool, nat_lt}
-use Rattle.std.specs.Io.KnownBytes.{Consumes, IsAtEnd, append_known}
+use Rattle.std.specs.Io.KnownBytes.{Consumes, IsAtEnd}
 use Rattle.std.proofs.KnownBytes.{Consumes-nil, Consumes-trans}
 use Rattle.std.specs.List.{list_any}
 use Rattle.std.proofs.lemmas.List.Folds.{list_any-append}
@@ -13,32 +13,32 @@ use Rattle.mc_model.specs.declared.request.Request.{Request}
 use Rattle.mc_model.specs.declared.settings.Limits.{Limits}
 use Rattle.mc_model.specs.declared.reply.Reply.TheVariants.{Refused}
 use Rattle.mc_model.specs.declared.reply.WireNo.TheVariants.{E11}
-use Rattle.mc_read.specs.Reading.{Ended, GoesOn, HasNone, Held, IsFed, IsNext, Kept, ReadAlike, ReadsAs, ReadsOn, Swallowing, ends_stream}
+use Rattle.mc_read.specs.Reading.{Ended, GoesOn, HasNone, Held, IsNext, Kept, ReadAlike, ReadsAs, ReadsOn, Swallowing, ends_stream}
 use Rattle.mc_read.specs.Text.{IsRequestText}
 use Rattle.mc_read.proofs.Readings.{has_reading}
 use Rattle.mc_server.specs.declared.session.Session.{Session}
 use Rattle.mc_server.specs.declared.serving.TheConstants.{PULL_BYTES}
 use Rattle.mc_server.specs.Owed.{applied_by, owed}
-use Rattle.mc_server.specs.Serving.{Comes, IsCaughtUp, Moves, PushesAtOnce, PushesFront, Serves, ServesInPart, ServesOn, ServesUntilStarved, StopsAt}
+use Rattle.mc_server.specs.Serving.{Comes, IsCaughtUp, Moves, Pushes, PushesAtOnce, PushesFront, Serves, ServesInPart, ServesOn, ServesUntilStarved, Stops, StopsAt}
 use Rattle.mc_server.specs.Session.{IsStarved, Stands, TellsStarved}
-use Rattle.mc_stream.specs.Stream.{Pushes, Streams}
+use Rattle.mc_stream.specs.Stream.{Inflow, Outflow, Streams, both}
 use Rattle.mc_write.specs.Text.{text}
 use Rattle.mc_server.proofs.Owings.{applied_by-append, owed-append}
-use Rattle.mc_server.proofs.Pieces.{append_known-more, append_known-nothing}
+use Rattle.mc_server.proofs.Pieces.{same_stop}
 
 -- the requests answered so far, what was sent, and what is still to be pushed
 pub record IsUnderway (limits : Limits) (places : ℕ) (before now : Streams) (held : Held) (session : Session) (closed : Bool) : Type 0 where
   pub came : List ℕ
   pub answered : List Request
   pub sent : List ℕ
-  pub is_pulled : now.pulled ≡ append_known before.pulled came
-  pub is_consumed : Consumes before.left now.left came
-  pub is_pushed : Pushes before now sent
+  pub is_pulled : now.input.pulled ≡ before.input.pulled ++ came
+  pub is_consumed : Consumes before.input.left now.input.left came
+  pub is_pushed : Pushes before.output now.output sent
   pub stands : Stands limits places (applied_by places [] answered) session
   pub reads : (more : List ℕ) (requests : List Request) → ReadsOn held more requests → ReadsAs (came ++ more) (answered ++ requests)
   pub owes : owed limits places [] answered ≡ sent ++ session.queue.items
   pub closes : list_any ends_stream answered ≡ closed
-  pub caught_up : IsCaughtUp limits places came sent
+  pub caught_up : IsCaughtUp limits places came now.input.last_pull sent
 
 -- what is held reads on, whatever follows
 swallowed_reads : (short : Bool) (request : Request) (bytes : List ℕ) → (requests : List Request) × MatchBool short (requests ≡ []) (GoesOn request (ReadsAs bytes) requests)
@@ -65,15 +65,21 @@ no_text_empty text more request is empty =
 reads_nothing : ReadsAs [] []
 reads_nothing = ([], (refl, no_text_empty))
 
--- more is sent, and a piece came
-more_sent : (limits : Limits) (places : ℕ) (bytes sent front : List ℕ) → IsCaughtUp limits places bytes sent → IsCaughtUp limits places bytes (sent ++ front)
-more_sent limits places bytes sent front caught_up = record {
+-- nothing came
+nothing_came : (limits : Limits) (places : ℕ) (last_pull sent : List ℕ) → IsCaughtUp limits places [] last_pull sent
+nothing_came limits places last_pull sent =
+    record { earlier = []; piece = []; requests = []; later = sent; is_bytes = refl; is_last = inl refl; is_short = omega arith; reads = reads_nothing; is_sent = refl }
+
+-- more is sent
+more_sent : (limits : Limits) (places : ℕ) (bytes last_pull sent front : List ℕ) → IsCaughtUp limits places bytes last_pull sent → IsCaughtUp limits places bytes last_pull (sent ++ front)
+more_sent limits places bytes last_pull sent front caught_up = record {
   earlier = caught_up.earlier;
   piece = caught_up.piece;
   requests = caught_up.requests;
   later = caught_up.later ++ front;
   is_bytes = caught_up.is_bytes;
-  is_piece = caught_up.is_piece;
+  is_last = caught_up.is_last;
+  is_short = caught_up.is_short;
   reads = caught_up.reads;
   is_sent = ap (λ bytes. bytes ++ front) caught_up.is_sent ∙ append_assoc (owed limits places [] caught_up.requests) caught_up.later front;
 }
@@ -87,26 +93,25 @@ underway_begins limits places before session stands empty = record {
   came = [];
   answered = [];
   sent = [];
-  is_pulled = sym (append_known-nothing before.pulled);
-  is_consumed = Consumes-nil before.left;
-  is_pushed = sym (append_known-nothing before.pushed);
+  is_pulled = sym (append-nil before.input.pulled);
+  is_consumed = Consumes-nil before.input.left;
+  is_pushed = sym (append-nil before.output.pushed);
   stands = stands;
   reads = λ more requests reads. reads;
   owes = sym empty;
   closes = refl;
-  caught_up = record { earlier = []; piece = []; requests = []; later = []; is_bytes = refl; is_piece = omega arith; reads = reads_nothing; is_sent = refl };
+  caught_up = nothing_came limits places before.input.last_pull [];
 }
 
 -- nothing was pulled before memory was wanting, and the client is told
-pub starved_at_once : (limits : Limits) (places : ℕ) (before after : Streams) (is_full : Type 0) → after.pulled ≡ before.pulled → after.left ≡ before.left
-    → PushesAtOnce (text (Refused E11)) before.pushed after.pushed is_full before.output_failures after.output_failures → ServesUntilStarved limits places before after is_full
-starved_at_once limits places before after is_full same_pulled same_left told = record {
+pub starved_at_once : (limits : Limits) (places : ℕ) (input : Inflow) (before after : Outflow) → PushesAtOnce (text (Refused E11)) before after → ServesUntilStarved limits places (both input before) (both input after)
+starved_at_once limits places input before after told = record {
   comes = record {
     bytes = [];
     requests = [];
     rest = [];
-    came = same_pulled ∙ sym (append_known-nothing before.pulled);
-    consumed = rw same_left (Consumes-nil before.left);
+    came = sym (append-nil input.pulled);
+    consumed = Consumes-nil input.left;
     reads = (refl, no_text_empty);
   };
   answered = [];
@@ -117,7 +122,7 @@ starved_at_once limits places before after is_full same_pulled same_left told = 
   owes = told.1.split;
   went = told.1.went;
   stops = told.2;
-  caught_up = record { earlier = []; piece = []; requests = []; later = told.1.front; is_bytes = refl; is_piece = omega arith; reads = reads_nothing; is_sent = refl };
+  caught_up = nothing_came limits places input.last_pull told.1.front;
 }
 
 module _ (limits : Limits) (places : ℕ) (before now : Streams) (held : Held) (session : Session) (closed : Bool) (under : IsUnderway limits places before now held session closed) where
@@ -168,20 +173,20 @@ module _ (limits : Limits) (places : ℕ) (before now : Streams) (held : Held) (
       }
 
   -- a front of the queue was pushed
-  pub underway_moved : (later : Session) (went : Option (List ℕ)) (failures : ℕ) → later.limits ≡ session.limits → later.replica ≡ session.replica → Moves session.queue.items later.queue.items now.pushed went
-      → IsUnderway limits places before (record now { pushed = went; output_failures = failures }) held later closed
-  underway_moved later went failures same_limits same_replica moves = record {
+  pub underway_moved : (later : Session) (output : Outflow) → later.limits ≡ session.limits → later.replica ≡ session.replica → Moves session.queue.items later.queue.items now.output output
+      → IsUnderway limits places before (both now.input output) held later closed
+  underway_moved later output same_limits same_replica moves = record {
     came = under.came;
     answered = under.answered;
     sent = under.sent ++ moves.front;
     is_pulled = under.is_pulled;
     is_consumed = under.is_consumed;
-    is_pushed = moves.went ∙ (ap (λ known. append_known known moves.front) under.is_pushed ∙ append_known-more before.pushed under.sent moves.front);
+    is_pushed = moves.went ∙ (ap (λ known. known ++ moves.front) under.is_pushed ∙ append_assoc before.output.pushed under.sent moves.front);
     stands = record { is_limits = same_limits ∙ under.stands.is_limits; is_places = rw same_replica under.stands.is_places; own = rw same_replica under.stands.own; count = rw same_replica under.stands.count };
     reads = under.reads;
     owes = under.owes ∙ (ap (λ queue. under.sent ++ queue) moves.split ∙ sym (append_assoc under.sent moves.front later.queue.items));
     closes = under.closes;
-    caught_up = more_sent limits places under.came under.sent moves.front under.caught_up;
+    caught_up = more_sent limits places under.came now.input.last_pull under.sent moves.front under.caught_up;
   }
 
   -- the requests of all that came
@@ -192,50 +197,36 @@ module _ (limits : Limits) (places : ℕ) (before now : Streams) (held : Held) (
   reads_none : HasNone held → ReadsAs under.came under.answered
   reads_none none = subst (ReadsAs under.came) (append-nil under.answered) (reads_with [] ((none []).1 refl))
 
-  pulled_more : HasNone held → session.queue.items ≡ [] → (piece : List ℕ) → length piece ≤ PULL_BYTES → IsCaughtUp limits places (under.came ++ piece) under.sent
+  -- all that came before a piece was answered and sent
+  pulled_more : HasNone held → session.queue.items ≡ [] → (piece : List ℕ) → length piece ≤ PULL_BYTES → IsCaughtUp limits places (under.came ++ piece) piece under.sent
   pulled_more none empty piece short = record {
     earlier = under.came;
     piece = piece;
     requests = under.answered;
     later = [];
     is_bytes = refl;
-    is_piece = short;
+    is_last = inr refl;
+    is_short = short;
     reads = reads_none none;
     is_sent = sym (append-nil (owed limits places [] under.answered) ∙ nothing_more (owed limits places [] under.answered) under.sent session.queue.items under.owes empty);
   }
 
-  -- a piece came, after all that came before was answered and sent
-  pub underway_fed : (piece : List ℕ) (later rest : Option (List ℕ)) (failures : ℕ) (middle after : Held) → HasNone held → ReadAlike held middle → session.queue.items ≡ [] → length piece ≤ PULL_BYTES → later ≡ append_known now.pulled piece → Consumes now.left rest piece → IsFed middle piece after
-      → IsUnderway limits places before (record now { pulled = later; left = rest; input_failures = failures }) after session closed
-  underway_fed piece later rest failures middle after none alike empty short is_later consumed fed = record {
+  -- a piece came, or none, after all that came before was answered and sent
+  pub underway_fed : (piece : List ℕ) (input : Inflow) (after : Held) → HasNone held → session.queue.items ≡ [] → length piece ≤ PULL_BYTES → input.pulled ≡ now.input.pulled ++ piece → input.last_pull ≡ piece → Consumes now.input.left input.left piece
+      → ((more : List ℕ) (requests : List Request) → ReadsOn after more requests → ReadsOn held (piece ++ more) requests) → IsUnderway limits places before (both input now.output) after session closed
+  underway_fed piece input after none empty short is_later is_last consumed fed = record {
     came = under.came ++ piece;
     answered = under.answered;
     sent = under.sent;
-    is_pulled = is_later ∙ (ap (λ known. append_known known piece) under.is_pulled ∙ append_known-more before.pulled under.came piece);
-    is_consumed = Consumes-trans before.left now.left rest under.came piece under.is_consumed consumed;
+    is_pulled = is_later ∙ (ap (λ known. known ++ piece) under.is_pulled ∙ append_assoc before.input.pulled under.came piece);
+    is_consumed = Consumes-trans before.input.left now.input.left input.left under.came piece under.is_consumed consumed;
     is_pushed = under.is_pushed;
     stands = under.stands;
     reads = λ more requests reads.
-        subst (λ bytes. ReadsAs bytes (under.answered ++ requests)) (sym (append_assoc under.came piece more)) (under.reads (piece ++ more) requests ((alike (piece ++ more) requests).1 ((fed more requests).0 reads)));
+        subst (λ bytes. ReadsAs bytes (under.answered ++ requests)) (sym (append_assoc under.came piece more)) (under.reads (piece ++ more) requests (fed more requests reads));
     owes = under.owes;
     closes = under.closes;
-    caught_up = pulled_more none empty piece short;
-  }
-
-  -- nothing came
-  pub underway_waits : (later rest : Option (List ℕ)) (failures : ℕ) → later ≡ append_known now.pulled [] → Consumes now.left rest [] → IsUnderway limits places before (record now { pulled = later; left = rest; input_failures = failures }) held session closed
-  underway_waits later rest failures nothing none = record {
-    came = under.came;
-    answered = under.answered;
-    sent = under.sent;
-    is_pulled = nothing ∙ (append_known-nothing now.pulled ∙ under.is_pulled);
-    is_consumed = subst (Consumes before.left rest) (append-nil under.came) (Consumes-trans before.left now.left rest under.came [] under.is_consumed none);
-    is_pushed = under.is_pushed;
-    stands = under.stands;
-    reads = under.reads;
-    owes = under.owes;
-    closes = under.closes;
-    caught_up = under.caught_up;
+    caught_up = rw is_last (pulled_more none empty piece short);
   }
 
   comes_all : HasNone held → Comes before now
@@ -243,14 +234,14 @@ module _ (limits : Limits) (places : ℕ) (before now : Streams) (held : Held) (
       let whole = reads_none none in
       record { bytes = under.came; requests = under.answered; rest = whole.0; came = under.is_pulled; consumed = under.is_consumed; reads = whole.1 }
 
-  sends_all : session.queue.items ≡ [] → Pushes before now (owed limits places [] under.answered)
+  sends_all : session.queue.items ≡ [] → Pushes before.output now.output (owed limits places [] under.answered)
   sends_all empty =
-      under.is_pushed ∙ ap (append_known before.pushed) (sym (nothing_more (owed limits places [] under.answered) under.sent session.queue.items under.owes empty))
+      under.is_pushed ∙ ap (λ bytes. before.output.pushed ++ bytes) (sym (nothing_more (owed limits places [] under.answered) under.sent session.queue.items under.owes empty))
 
   -- all that was queued is pushed, and no request is held
-  pub serves_at_end : (has_ended : Type 0) → HasNone held → session.queue.items ≡ [] → has_ended × IsAtEnd now.left ⊎ (closed ≡ true) → Serves limits places before now has_ended
+  pub serves_at_end : HasNone held → session.queue.items ≡ [] → (now.input.has_ended ≡ true) × IsAtEnd now.input.left ⊎ (closed ≡ true) → Serves limits places before now
   unfolding comes_all
-  serves_at_end has_ended none empty end = record {
+  serves_at_end none empty end = record {
     comes = comes_all none;
     went = sends_all empty;
     end = ⊎_elim (λ ended. inl ended) (λ is_closed. inr (under.closes ∙ is_closed)) end;
@@ -261,8 +252,8 @@ module _ (limits : Limits) (places : ℕ) (before now : Streams) (held : Held) (
   serves_on none empty is_open = record { comes = comes_all none; went = sends_all empty; goes_on = under.closes ∙ is_open }
 
   -- a front of what is queued was pushed, and the output failed
-  pub serves_in_part : (went : Option (List ℕ)) (failures : ℕ) → PushesFront session.queue.items now.pushed went → ServesInPart limits places before (record now { pushed = went; output_failures = failures })
-  serves_in_part went failures (rest, moves) =
+  pub serves_in_part : (output : Outflow) → PushesFront session.queue.items now.output output → ServesInPart limits places before (both now.input output)
+  serves_in_part output (rest, moves) =
       let others = reads_on held [] in
       let whole = reads_with others.0 others.1 in
       let later = owed limits places (applied_by places [] under.answered) others.0 in
@@ -274,13 +265,13 @@ module _ (limits : Limits) (places : ℕ) (before now : Streams) (held : Held) (
             owed-append limits places [] under.answered others.0
             ∙ (ap (λ bytes. bytes ++ later) (under.owes ∙ ap (λ queue. under.sent ++ queue) moves.split)
             ∙ simp append_assoc);
-        went = moves.went ∙ (ap (λ known. append_known known moves.front) under.is_pushed ∙ append_known-more before.pushed under.sent moves.front);
-        caught_up = more_sent limits places under.came under.sent moves.front under.caught_up;
+        went = moves.went ∙ (ap (λ known. known ++ moves.front) under.is_pushed ∙ append_assoc before.output.pushed under.sent moves.front);
+        caught_up = more_sent limits places under.came now.input.last_pull under.sent moves.front under.caught_up;
       }
 
   -- a look for a request met want of memory
-  pub starved_looking : IsStarved limits places before now session
-  starved_looking =
+  pub starved_looking : now.output.failures ≡ before.output.failures → IsStarved limits places before now session
+  starved_looking unfailed =
       let others = reads_on held [] in
       let whole = reads_with others.0 others.1 in
       record {
@@ -294,13 +285,14 @@ module _ (limits : Limits) (places : ℕ) (before now : Streams) (held : Held) (
         sent = under.sent;
         owes = under.owes;
         went = under.is_pushed;
+        unfailed = unfailed;
         caught_up = under.caught_up;
       }
 
   -- the answer to a request met want of memory
-  pub starved_responding : (request : Request) (after : Held) (later : Session) → IsNext held request after → later.queue.items ≡ session.queue.items
+  pub starved_responding : (request : Request) (after : Held) (later : Session) → now.output.failures ≡ before.output.failures → IsNext held request after → later.queue.items ≡ session.queue.items
       → ((limits : Limits) (places : ℕ) (applied : List Command) → Stands limits places applied session → Stands limits places applied later ⊎ Stands limits places (applied_by places applied (request ∷ [])) later) → IsStarved limits places before now later
-  starved_responding request after later next same stands_then =
+  starved_responding request after later unfailed next same stands_then =
       let stands = stands_then limits places (applied_by places [] under.answered) under.stands in
       let others = reads_on after [] in
       let whole = reads_with (request ∷ others.0) ((next [] (request ∷ others.0)).1 (refl, others.1)) in
@@ -319,6 +311,7 @@ module _ (limits : Limits) (places : ℕ) (before now : Streams) (held : Held) (
         sent = under.sent;
         owes = owes;
         went = under.is_pushed;
+        unfailed = unfailed;
         caught_up = under.caught_up;
       })
       (λ with_it. record {
@@ -332,14 +325,15 @@ module _ (limits : Limits) (places : ℕ) (before now : Streams) (held : Held) (
         sent = under.sent;
         owes = owes;
         went = under.is_pushed;
+        unfailed = unfailed;
         caught_up = under.caught_up;
       })
       stands
 
   -- a piece that came met want of memory
-  pub starved_feeding : (piece : List ℕ) (later rest : Option (List ℕ)) (failures : ℕ) → HasNone held → session.queue.items ≡ [] → length piece ≤ PULL_BYTES → later ≡ append_known now.pulled piece → Consumes now.left rest piece
-      → IsStarved limits places before (record now { pulled = later; left = rest; input_failures = failures }) session
-  starved_feeding piece later rest failures none empty short is_later consumed =
+  pub starved_feeding : (piece : List ℕ) (input : Inflow) → now.output.failures ≡ before.output.failures → HasNone held → session.queue.items ≡ [] → length piece ≤ PULL_BYTES → input.pulled ≡ now.input.pulled ++ piece → input.last_pull ≡ piece
+      → Consumes now.input.left input.left piece → IsStarved limits places before (both input now.output) session
+  starved_feeding piece input unfailed none empty short is_later is_last consumed =
       let others = reads_on held piece in
       let whole = under.reads piece others.0 others.1 in
       record {
@@ -347,8 +341,8 @@ module _ (limits : Limits) (places : ℕ) (before now : Streams) (held : Held) (
           bytes = under.came ++ piece;
           requests = under.answered ++ others.0;
           rest = whole.0;
-          came = is_later ∙ (ap (λ known. append_known known piece) under.is_pulled ∙ append_known-more before.pulled under.came piece);
-          consumed = Consumes-trans before.left now.left rest under.came piece under.is_consumed consumed;
+          came = is_later ∙ (ap (λ known. known ++ piece) under.is_pulled ∙ append_assoc before.input.pulled under.came piece);
+          consumed = Consumes-trans before.input.left now.input.left input.left under.came piece under.is_consumed consumed;
           reads = whole.1;
         };
         answered = under.answered;
@@ -360,12 +354,13 @@ module _ (limits : Limits) (places : ℕ) (before now : Streams) (held : Held) (
         sent = under.sent;
         owes = under.owes;
         went = under.is_pushed;
-        caught_up = pulled_more none empty piece short;
+        unfailed = unfailed;
+        caught_up = rw is_last (pulled_more none empty piece short);
       }
 
 -- the client is told
-pub tells : (limits : Limits) (places : ℕ) (before after : Streams) (is_full : Type 0) (session : Session) → TellsStarved limits places before after is_full session → ServesUntilStarved limits places before after is_full
-tells limits places before after is_full session telling =
+pub tells : (limits : Limits) (places : ℕ) (before after : Streams) (session : Session) → TellsStarved limits places before after session → ServesUntilStarved limits places before after
+tells limits places before after session telling =
     let starved = telling.starved in
     let moves = telling.told.1 in
     record {
@@ -373,8 +368,8 @@ tells limits places before after is_full session telling =
         bytes = starved.comes.bytes;
         requests = starved.comes.requests;
         rest = starved.comes.rest;
-        came = telling.same_pulled ∙ starved.comes.came;
-        consumed = rw telling.same_left starved.comes.consumed;
+        came = rw telling.same_input starved.comes.came;
+        consumed = rw telling.same_input starved.comes.consumed;
         reads = starved.comes.reads;
       };
       answered = starved.answered;
@@ -387,18 +382,18 @@ tells limits places before after is_full session telling =
           ∙ (append_assoc starved.sent session.queue.items (text (Refused E11))
           ∙ (ap (λ bytes. starved.sent ++ bytes) moves.split
           ∙ sym (append_assoc starved.sent moves.front telling.told.0)));
-      went = moves.went ∙ (ap (λ known. append_known known moves.front) starved.went ∙ append_known-more before.pushed starved.sent moves.front);
-      stops = telling.told.2;
-      caught_up = more_sent limits places starved.comes.bytes starved.sent moves.front starved.caught_up;
+      went = moves.went ∙ (ap (λ known. known ++ moves.front) starved.went ∙ append_assoc before.output.pushed starved.sent moves.front);
+      stops = same_stop telling.told.0 before.output telling.between.output after.output starved.unfailed telling.told.2;
+      caught_up = rw telling.same_input (more_sent limits places starved.comes.bytes telling.between.input.last_pull starved.sent moves.front starved.caught_up);
     }
 
-pub stops_told : (limits : Limits) (places : ℕ) (result : Result (Unit {0}) Fault) (before after : Streams) (is_full : Type 0) (session : Session) → IfErr result (λ fault. StopsAt limits places fault before after (TellsStarved limits places before after is_full session))
-    → IfErr result (λ fault. StopsAt limits places fault before after (ServesUntilStarved limits places before after is_full))
-stops_told limits places (Ok done) before after is_full session stops = stops
-stops_told limits places (Err Memory) before after is_full session stops = tells limits places before after is_full session stops
-stops_told limits places (Err LogFull) before after is_full session stops = stops
-stops_told limits places (Err Taken) before after is_full session stops = stops
-stops_told limits places (Err Input) before after is_full session stops = stops
-stops_told limits places (Err Output) before after is_full session stops = stops
-stops_told limits places (Err BadEvent) before after is_full session stops = stops
-stops_told limits places (Err BadSettings) before after is_full session stops = stops
+pub stops_told : (limits : Limits) (places : ℕ) (result : Result (Unit {0}) Fault) (before after : Streams) (session : Session) → IfErr result (λ fault. StopsAt limits places fault before after (TellsStarved limits places before after session))
+    → IfErr result (λ fault. Stops limits places fault before after)
+stops_told limits places (Ok done) before after session stops = stops
+stops_told limits places (Err Memory) before after session stops = tells limits places before after session stops
+stops_told limits places (Err LogFull) before after session stops = stops
+stops_told limits places (Err Taken) before after session stops = stops
+stops_told limits places (Err Input) before after session stops = stops
+stops_told limits places (Err Output) before after session stops = stops
+stops_told limits places (Err BadEvent) before after session stops = stops
+stops_told limits places (Err BadSettings) before after session stops = stops

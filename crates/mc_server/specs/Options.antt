@@ -1,4 +1,5 @@
--- What the words of mc_stdin's command line ask for, by clap's own definitions of a command; this project's profile.
+-- What the words of mc_stdin's command line ask for, of which the first is the program's name, by clap's own definitions of a
+-- command; this project's profile.
 use Rattle.std.specs.Prelude.{◌≡◌, ◌≢◌, ◌⊎◌, ◌+◌, ◌-◌, ◌^◌, ℕ, true, List, [], Option, Some, codes, option_and_then, unwrap_or}
 use Rattle.std.specs.Str.Parse.{without_leading_plus}
 use Rattle.clap.specs.Faults.{fault_of}
@@ -16,9 +17,9 @@ use Rattle.mc_model.specs.declared.fault.Fault.{Fault}
 use Rattle.mc_model.specs.declared.fault.Fault.TheVariants.{Memory, Output}
 use Rattle.mc_model.specs.declared.settings.Limits.{Limits}
 use Rattle.mc_model.specs.declared.settings.TheConstants.{MAX_PLACES}
-use Rattle.mc_server.specs.Faults.{Tells, fault_line}
-use Rattle.mc_server.specs.Serving.{PushesFront}
-use Rattle.mc_stream.specs.Stream.{Pushes, Streams}
+use Rattle.mc_server.specs.Faults.{fault_line}
+use Rattle.mc_server.specs.Serving.{Pushes, PushesFront, Tells}
+use Rattle.mc_stream.specs.Stream.{Outflow, Streams}
 
 -- an option `--name N`, a number of 64 bits
 abbrev pub number_rule : Text → Rule
@@ -30,7 +31,7 @@ number_rule name = record (new_rule name) {
 
 -- the command without its options: `--help` and `--version`
 abbrev pub bare_app : App
-bare_app = on_top (λ shape. record shape { no_binary_name = true; has_version = true }) (new_app (codes "mc_stdin"))
+bare_app = on_top (λ shape. record shape { has_version = true }) (new_app (codes "mc_stdin"))
 
 -- the command: `--places`, `--items` and `--bytes`
 abbrev pub stdin_app : App
@@ -83,41 +84,34 @@ AsksToShow words = (kind : ErrorKind) × IsAnswered words kind × IsShown kind
 abbrev pub IsMistaken : List Text → Type 0
 IsMistaken words = (kind : ErrorKind) × IsAnswered words kind × ¬ (IsShown kind)
 
--- nothing was pulled from the input, and it didn't fail
-pub record IsUnread (before after : Streams) : Type 0 where
-  pub pulled : after.pulled ≡ before.pulled
-  pub left : after.left ≡ before.left
-  pub failures : after.input_failures ≡ before.input_failures
-
 -- The words ask for help or the version. A text was pushed, and nothing was pulled.
 pub record Shows (words : List Text) (before after : Streams) : Type 0 where
   pub asked : AsksToShow words
-  pub unread : IsUnread before after
+  pub unread : after.input ≡ before.input
   pub text : List ℕ
-  pub went : Pushes before after text
+  pub went : Pushes before.output after.output text
 
 -- what went to the output before a fault: at want of memory nothing, and at a failure of the output a front of what is shown
-abbrev pub StopsShowing : Fault → Type 0 → Option (List ℕ) → Option (List ℕ) → ℕ → ℕ → Type 0
-StopsShowing Memory is_shown pushed_before pushed failures_before failures = (pushed ≡ pushed_before) × (failures ≡ failures_before)
-StopsShowing Output is_shown pushed_before pushed failures_before failures =
-    is_shown × ((text : List ℕ) × PushesFront text pushed_before pushed) × (failures ≡ failures_before + 1)
-StopsShowing fault is_shown pushed_before pushed failures_before failures = ⊥
+abbrev pub StopsShowing : Fault → Type 0 → Outflow → Outflow → Type 0
+StopsShowing Memory is_shown before after = after ≡ before
+StopsShowing Output is_shown before after = is_shown × ((text : List ℕ) × PushesFront text before after) × (after.failures ≡ before.failures + 1)
+StopsShowing fault is_shown before after = ⊥
 
 -- A fault kept words from being answered, and was told.
-pub record FailsToAnswer (kind : ErrorKind) (pushed_before pushed : Option (List ℕ)) (failures_before failures : ℕ) (errors_before errors : ℕ) (said_before said : Option (List ℕ)) : Type 0 where
+pub record FailsToAnswer (kind : ErrorKind) (before after errors_before errors : Outflow) : Type 0 where
   pub fault : Fault
-  pub stops : StopsShowing fault ((kind ≢ OutOfMemory) × IsShown kind) pushed_before pushed failures_before failures
-  pub tells : Tells (fault_line (codes "mc_stdin") fault) errors_before errors said_before said
+  pub stops : StopsShowing fault ((kind ≢ OutOfMemory) × IsShown kind) before after
+  pub tells : Tells (fault_line (codes "mc_stdin") fault) errors_before errors
 
 -- A fault kept the words from being read or answered, and was told. Nothing was pulled.
-pub record FailsToShow (words : List Text) (before after : Streams) (errors_before errors : ℕ) (said_before said : Option (List ℕ)) : Type 0 where
+pub record FailsToShow (words : List Text) (before after : Streams) (errors_before errors : Outflow) : Type 0 where
   pub fault : Fault
-  pub unread : IsUnread before after
-  pub stops : StopsShowing fault (AsksToShow words) before.pushed after.pushed before.output_failures after.output_failures
-  pub tells : Tells (fault_line (codes "mc_stdin") fault) errors_before errors said_before said
+  pub unread : after.input ≡ before.input
+  pub stops : StopsShowing fault (AsksToShow words) before.output after.output
+  pub tells : Tells (fault_line (codes "mc_stdin") fault) errors_before errors
 
 -- the words are a mistake, on which a text was told
-pub record TellsMistake (words : List Text) (errors_before errors : ℕ) (said_before said : Option (List ℕ)) : Type 0 where
+pub record TellsMistake (words : List Text) (errors_before errors : Outflow) : Type 0 where
   pub mistaken : IsMistaken words
   pub text : List ℕ
-  pub tells : Tells text errors_before errors said_before said
+  pub tells : Tells text errors_before errors

@@ -8,8 +8,8 @@ use Rattle.mc_model.specs.declared.settings.Limits.{Limits}
 use Rattle.mc_replica.specs.Seen.{own_commands}
 use Rattle.mc_server.specs.declared.session.Session.{Session}
 use Rattle.mc_server.specs.Owed.{applied_by, owed}
-use Rattle.mc_server.specs.Serving.{Comes, IsCaughtUp, PushesAtOnce}
-use Rattle.mc_stream.specs.Stream.{Pushes, Streams}
+use Rattle.mc_server.specs.Serving.{Comes, IsCaughtUp, Pushes, PushesAtOnce}
+use Rattle.mc_stream.specs.Stream.{Streams}
 use Rattle.mc_write.specs.Text.{text}
 
 -- A session under these quotas and with so many places stands for these commands: its replica's history has them, each the one tenant's.
@@ -31,13 +31,13 @@ pub record IsStarved (limits : Limits) (places : ℕ) (before after : Streams) (
   pub stands : Stands limits places (applied_by places [] (answered ++ met)) session
   pub sent : List ℕ
   pub owes : owed limits places [] answered ≡ sent ++ session.queue.items
-  pub went : Pushes before after sent
-  pub caught_up : IsCaughtUp limits places comes.bytes sent
+  pub went : Pushes before.output after.output sent
+  pub unfailed : after.output.failures ≡ before.output.failures
+  pub caught_up : IsCaughtUp limits places comes.bytes after.input.last_pull sent
 
 -- what is queued then, and behind it the refusal, are pushed, as far as the output takes them at once
-pub record TellsStarved (limits : Limits) (places : ℕ) (before after : Streams) (is_full : Type 0) (session : Session) : Type 0 where
+pub record TellsStarved (limits : Limits) (places : ℕ) (before after : Streams) (session : Session) : Type 0 where
   pub between : Streams
   pub starved : IsStarved limits places before between session
-  pub same_pulled : after.pulled ≡ between.pulled
-  pub same_left : after.left ≡ between.left
-  pub told : PushesAtOnce (session.queue.items ++ text (Refused E11)) between.pushed after.pushed is_full before.output_failures after.output_failures
+  pub same_input : after.input ≡ between.input
+  pub told : PushesAtOnce (session.queue.items ++ text (Refused E11)) between.output after.output

@@ -57,7 +57,6 @@ fn stdin_command<'a>(alloc: Global) -> Result<Command<'a>, AllocError>
     Command::new(alloc, "mc_stdin")
         .version("1.0.0")
         .about("A memcached server for one client, from standard input to standard output")
-        .no_binary_name(true)
         .arg(number_option(alloc, "places", places))?
         .arg(number_option(alloc, "items", items))?
         .arg(number_option(alloc, "bytes", bytes))
@@ -70,7 +69,7 @@ fn number(matches: &ArgMatches, name: &str) -> Option<u64>
     matches.get_one::<u64>(name)
 }
 
-/// What the words ask for, which are those behind the program's name.
+/// What the words of a command line ask for, of which the first is the program's name.
 pub(crate) fn read_words(alloc: Global, words: &[String]) -> Result<Asked, Error>
     ensures places { IfOk result (λ asked. asked.places ≡ places_asked (map string_bytes words.now)) }
     ensures limits { IfOk result (λ asked. asked.limits ≡ limits_asked (map string_bytes words.now)) }

@@ -1,6 +1,5 @@
 //! The loop between an input and an output.
 ghost use Rattle.std.specs.Bool.{OnFalse, OnTrue};
-ghost use Rattle.std.specs.Io.KnownBytes.{append_known};
 ghost use Rattle.std.specs.Prelude.{◌≡◌, ◌+◌, ◌≤◌, ◌++◌, [], length, OnErr, OnOk, IfErr, IsOkUnless, MatchResult};
 ghost use Rattle.mc_model.specs.declared.reply.Reply.TheVariants.{Refused};
 ghost use Rattle.mc_model.specs.declared.reply.WireNo.TheVariants.{E11};
@@ -8,9 +7,9 @@ ghost use Rattle.mc_model.specs.Settings.{IsBetween};
 ghost use Rattle.mc_model.specs.declared.settings.TheConstants.{MAX_PLACES};
 ghost use Rattle.mc_read.specs.Reading.{Kept};
 ghost use Rattle.mc_server.specs.declared.session.TheConstants.{QUEUE_BYTES};
-ghost use Rattle.mc_server.specs.Serving.{CountsFailures, IsStopped, Moves, PushesAtOnce, PushesFront, Serves, ServesUntilStarved, StopsAt};
+ghost use Rattle.mc_server.specs.Serving.{CountsFailures, IsStopped, Moves, Pushes, PushesAtOnce, PushesFront, Serves, Stops, StopsAt};
 ghost use Rattle.mc_server.specs.Session.{IsStarved, Stands, TellsStarved};
-ghost use Rattle.mc_stream.specs.Stream.{streams_of};
+ghost use Rattle.mc_stream.specs.Stream.{both};
 ghost use Rattle.mc_write.specs.Text.{text};
 
 use crate::session::{QUEUE_BYTES, Session};
@@ -30,10 +29,10 @@ pub(crate) fn push_all<R: Wait, O: Output>(
     bytes: &[u8],
     output: &mut O,
 ) -> Result<(), Fault>
-    ensures pushed { OnOk result (O.pushed output.new ≡ append_known (O.pushed output.old) bytes.now) }
-    ensures front { OnErr result (PushesFront bytes.now (O.pushed output.old) (O.pushed output.new)) }
+    ensures pushed { OnOk result (Pushes (O.tells output.old) (O.tells output.new) bytes.now) }
+    ensures front { OnErr result (PushesFront bytes.now (O.tells output.old) (O.tells output.new)) }
     ensures fault { IsOkUnless result Fault.Output }
-    ensures failures { MatchResult result (λ _. O.failures output.new ≡ O.failures output.old) (λ _. O.failures output.new ≡ O.failures output.old + 1) }
+    ensures failures { MatchResult result (λ _. (O.tells output.new).failures ≡ (O.tells output.old).failures) (λ _. (O.tells output.new).failures ≡ (O.tells output.old).failures + 1) }
 {
     let mut sent = 0;
     for _ in rt.forever() {
@@ -51,11 +50,11 @@ pub(crate) fn push_all<R: Wait, O: Output>(
 
 /// Pushes all that is queued.
 fn flush<R: Wait, O: Output>(rt: &R, queue: &mut Vec<u8>, output: &mut O) -> Result<(), Fault>
-    ensures pushed { OnOk result (Moves queue.old.items queue.new.items (O.pushed output.old) (O.pushed output.new)) }
-    ensures front { OnErr result (PushesFront queue.old.items (O.pushed output.old) (O.pushed output.new)) }
+    ensures pushed { OnOk result (Moves queue.old.items queue.new.items (O.tells output.old) (O.tells output.new)) }
+    ensures front { OnErr result (PushesFront queue.old.items (O.tells output.old) (O.tells output.new)) }
     ensures empty { OnOk result (queue.new.items ≡ []) }
     ensures fault { IsOkUnless result Fault.Output }
-    ensures failures { MatchResult result (λ _. O.failures output.new ≡ O.failures output.old) (λ _. O.failures output.new ≡ O.failures output.old + 1) }
+    ensures failures { MatchResult result (λ _. (O.tells output.new).failures ≡ (O.tells output.old).failures) (λ _. (O.tells output.new).failures ≡ (O.tells output.old).failures + 1) }
 {
     push_all(rt, queue, output)?;
     queue.clear();
@@ -64,11 +63,11 @@ fn flush<R: Wait, O: Output>(rt: &R, queue: &mut Vec<u8>, output: &mut O) -> Res
 
 /// Pushes what is queued where it is more than may be queued when a request is taken.
 fn make_room<R: Wait, O: Output>(rt: &R, queue: &mut Vec<u8>, output: &mut O) -> Result<(), Fault>
-    ensures pushed { OnOk result (Moves queue.old.items queue.new.items (O.pushed output.old) (O.pushed output.new)) }
-    ensures front { OnErr result (PushesFront queue.old.items (O.pushed output.old) (O.pushed output.new)) }
+    ensures pushed { OnOk result (Moves queue.old.items queue.new.items (O.tells output.old) (O.tells output.new)) }
+    ensures front { OnErr result (PushesFront queue.old.items (O.tells output.old) (O.tells output.new)) }
     ensures room { OnOk result (length queue.new.items ≤ QUEUE_BYTES) }
     ensures fault { IsOkUnless result Fault.Output }
-    ensures failures { MatchResult result (λ _. O.failures output.new ≡ O.failures output.old) (λ _. O.failures output.new ≡ O.failures output.old + 1) }
+    ensures failures { MatchResult result (λ _. (O.tells output.new).failures ≡ (O.tells output.old).failures) (λ _. (O.tells output.new).failures ≡ (O.tells output.old).failures + 1) }
 {
     if queue.len() <= QUEUE_BYTES {
         return Ok(());
@@ -88,9 +87,9 @@ fn exchange<R: Wait, I: Input, O: Output>(
     requires begins { reader.old ≡ Kept [] }
     requires stands { Stands session.old.limits session.old.replica.places [] session.old }
     requires nothing_queued { session.old.queue.items ≡ [] }
-    ensures serves { OnOk result (Serves session.old.limits session.old.replica.places (streams_of I.pulled I.left I.failures O.pushed O.failures input.old output.old) (streams_of I.pulled I.left I.failures O.pushed O.failures input.new output.new) (I.has_ended input.new)) }
-    ensures stops { IfErr result (λ fault. StopsAt session.old.limits session.old.replica.places fault (streams_of I.pulled I.left I.failures O.pushed O.failures input.old output.old) (streams_of I.pulled I.left I.failures O.pushed O.failures input.new output.new) (IsStarved session.old.limits session.old.replica.places (streams_of I.pulled I.left I.failures O.pushed O.failures input.old output.old) (streams_of I.pulled I.left I.failures O.pushed O.failures input.new output.new) session.new × (O.failures output.new ≡ O.failures output.old))) }
-    ensures failures { CountsFailures result (streams_of I.pulled I.left I.failures O.pushed O.failures input.old output.old) (streams_of I.pulled I.left I.failures O.pushed O.failures input.new output.new) }
+    ensures serves { OnOk result (Serves session.old.limits session.old.replica.places (both (I.tells input.old) (O.tells output.old)) (both (I.tells input.new) (O.tells output.new))) }
+    ensures stops { IfErr result (λ fault. StopsAt session.old.limits session.old.replica.places fault (both (I.tells input.old) (O.tells output.old)) (both (I.tells input.new) (O.tells output.new)) (IsStarved session.old.limits session.old.replica.places (both (I.tells input.old) (O.tells output.old)) (both (I.tells input.new) (O.tells output.new)) session.new)) }
+    ensures failures { CountsFailures result (both (I.tells input.old) (O.tells output.old)) (both (I.tells input.new) (O.tells output.new)) }
 {
     let mut buffer = [0u8; PULL_BYTES];
     let mut closed = false;
@@ -117,10 +116,10 @@ fn exchange<R: Wait, I: Input, O: Output>(
 
 /// Pushes bytes until all are taken, or the output is full or fails. Says whether all were taken.
 fn push_while_taken<O: Output>(bytes: &[u8], output: &mut O) -> bool
-    ensures pushed { PushesAtOnce bytes.now (O.pushed output.old) (O.pushed output.new) (O.is_full output.new) (O.failures output.old) (O.failures output.new) }
-    ensures all { OnTrue result (O.pushed output.new ≡ append_known (O.pushed output.old) bytes.now) }
-    ensures taken { OnTrue result (O.failures output.new ≡ O.failures output.old) }
-    ensures stopped { OnFalse result (IsStopped (O.is_full output.new) (O.failures output.old) (O.failures output.new)) }
+    ensures pushed { PushesAtOnce bytes.now (O.tells output.old) (O.tells output.new) }
+    ensures all { OnTrue result (Pushes (O.tells output.old) (O.tells output.new) bytes.now) }
+    ensures taken { OnTrue result ((O.tells output.new).failures ≡ (O.tells output.old).failures) }
+    ensures stopped { OnFalse result (IsStopped (O.tells output.old) (O.tells output.new)) }
 {
     let mut sent = 0;
     while sent < bytes.len() {
@@ -135,7 +134,7 @@ fn push_while_taken<O: Output>(bytes: &[u8], output: &mut O) -> bool
 
 /// Tells the client that memory is wanting, behind the replies that are queued, as far as the output takes it at once.
 fn tell_starved<O: Output>(queue: &[u8], output: &mut O)
-    ensures { PushesAtOnce (queue.now ++ text (Refused E11)) (O.pushed output.old) (O.pushed output.new) (O.is_full output.new) (O.failures output.old) (O.failures output.new) }
+    ensures { PushesAtOnce (queue.now ++ text (Refused E11)) (O.tells output.old) (O.tells output.new) }
 {
     if push_while_taken(queue, output) {
         push_while_taken(refusal_text(WireNo::E11), output);
@@ -153,9 +152,9 @@ fn serve<R: Wait, I: Input, O: Output>(
     requires begins { reader.old ≡ Kept [] }
     requires stands { Stands session.old.limits session.old.replica.places [] session.old }
     requires nothing_queued { session.old.queue.items ≡ [] }
-    ensures serves { OnOk result (Serves session.old.limits session.old.replica.places (streams_of I.pulled I.left I.failures O.pushed O.failures input.old output.old) (streams_of I.pulled I.left I.failures O.pushed O.failures input.new output.new) (I.has_ended input.new)) }
-    ensures stops { IfErr result (λ fault. StopsAt session.old.limits session.old.replica.places fault (streams_of I.pulled I.left I.failures O.pushed O.failures input.old output.old) (streams_of I.pulled I.left I.failures O.pushed O.failures input.new output.new) (TellsStarved session.old.limits session.old.replica.places (streams_of I.pulled I.left I.failures O.pushed O.failures input.old output.old) (streams_of I.pulled I.left I.failures O.pushed O.failures input.new output.new) (O.is_full output.new) session.new)) }
-    ensures failures { CountsFailures result (streams_of I.pulled I.left I.failures O.pushed O.failures input.old output.old) (streams_of I.pulled I.left I.failures O.pushed O.failures input.new output.new) }
+    ensures serves { OnOk result (Serves session.old.limits session.old.replica.places (both (I.tells input.old) (O.tells output.old)) (both (I.tells input.new) (O.tells output.new))) }
+    ensures stops { IfErr result (λ fault. StopsAt session.old.limits session.old.replica.places fault (both (I.tells input.old) (O.tells output.old)) (both (I.tells input.new) (O.tells output.new)) (TellsStarved session.old.limits session.old.replica.places (both (I.tells input.old) (O.tells output.old)) (both (I.tells input.new) (O.tells output.new)) session.new)) }
+    ensures failures { CountsFailures result (both (I.tells input.old) (O.tells output.old)) (both (I.tells input.new) (O.tells output.new)) }
 {
     let served = exchange(rt, reader, session, input, output);
     if served == Err(Fault::Memory) {
@@ -180,11 +179,11 @@ pub fn pump<R: Wait, I: Input, O: Output>(
     requires { IsBetween 1 MAX_PLACES places }
 
     // From the bytes that came in to the bytes that went out.
-    ensures serves { OnOk result (Serves limits places (streams_of I.pulled I.left I.failures O.pushed O.failures input.old output.old) (streams_of I.pulled I.left I.failures O.pushed O.failures input.new output.new) (I.has_ended input.new)) }
-    ensures stops { IfErr result (λ fault. StopsAt limits places fault (streams_of I.pulled I.left I.failures O.pushed O.failures input.old output.old) (streams_of I.pulled I.left I.failures O.pushed O.failures input.new output.new) (ServesUntilStarved limits places (streams_of I.pulled I.left I.failures O.pushed O.failures input.old output.old) (streams_of I.pulled I.left I.failures O.pushed O.failures input.new output.new) (O.is_full output.new))) }
+    ensures serves { OnOk result (Serves limits places (both (I.tells input.old) (O.tells output.old)) (both (I.tells input.new) (O.tells output.new))) }
+    ensures stops { IfErr result (λ fault. Stops limits places fault (both (I.tells input.old) (O.tells output.old)) (both (I.tells input.new) (O.tells output.new))) }
 
     // Which fault comes when.
-    ensures failures { CountsFailures result (streams_of I.pulled I.left I.failures O.pushed O.failures input.old output.old) (streams_of I.pulled I.left I.failures O.pushed O.failures input.new output.new) }
+    ensures failures { CountsFailures result (both (I.tells input.old) (O.tells output.old)) (both (I.tells input.new) (O.tells output.new)) }
 {
     let mut reader = Reader::new(alloc);
     let Ok(mut session) = Session::open(alloc, limits, places) else {

@@ -70,6 +70,7 @@ impl Session {
     fn next_seen(&self, command: Command) -> Seen
         ensures entry { result.entry ≡ Some (record { ticket = result.ticket; tenant = 0; command = command }) }
         ensures worker { result.ticket.worker ≡ 0 }
+        ensures number { result.ticket.number ≡ length self.now.replica.history }
     {
         let entry = Entry {
             ticket: self.next_ticket(),

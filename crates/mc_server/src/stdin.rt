@@ -1,12 +1,11 @@
 //! What the program over standard input does.
-ghost use Rattle.std.specs.Io.KnownBytes.{append_known};
 ghost use Rattle.clap.specs.Words.{kind_of};
-ghost use Rattle.std.specs.Prelude.{◌≡◌, ◌≢◌, ◌+◌, ◌⊎◌, ℕ, List, OnOk, MatchResult, codes, map, string_bytes};
+ghost use Rattle.std.specs.Prelude.{◌≡◌, ◌≢◌, ◌⊎◌, ℕ, List, codes, map, string_bytes};
 ghost use Rattle.mc_model.specs.declared.fault.Fault.{Fault};
-ghost use Rattle.mc_server.specs.Faults.{Fails, Tells, fault_line, fault_text};
+ghost use Rattle.mc_server.specs.Faults.{Fails, fault_line, fault_text};
 ghost use Rattle.mc_server.specs.Options.{AsksInRange, AsksOutOfRange, FailsToAnswer, FailsToShow, IsShown, Shows, TellsMistake, limits_asked, places_asked};
-ghost use Rattle.mc_server.specs.Serving.{Serves};
-ghost use Rattle.mc_stream.specs.Stream.{streams_of};
+ghost use Rattle.mc_server.specs.Serving.{Pushes, Serves, Tells};
+ghost use Rattle.mc_stream.specs.Stream.{both};
 
 use crate::options::read_words;
 use crate::serving::{pump, push_all};
@@ -38,8 +37,7 @@ fn tell<R: Wait, E: Output>(
     fault: Fault,
     errors: &mut E,
 ) -> Result<(), Fault>
-    ensures said { OnOk result (E.pushed errors.new ≡ append_known (E.pushed errors.old) (fault_line program.now fault)) }
-    ensures failures { MatchResult result (λ _. E.failures errors.new ≡ E.failures errors.old) (λ _. E.failures errors.new ≡ E.failures errors.old + 1) }
+    ensures { Tells (fault_line program.now fault) (E.tells errors.old) (E.tells errors.new) }
 {
     push_all(rt, program, errors)?;
     push_all(rt, b": ", errors)?;
@@ -50,7 +48,7 @@ fn tell<R: Wait, E: Output>(
 /// As `tell`, of mc_stdin, and the status that it ends with then. A failure of `errors` is passed over.
 fn fail<R: Wait, E: Output>(rt: &R, fault: Fault, errors: &mut E) -> u8
     ensures status { result ≡ 1 }
-    ensures tells { Tells (fault_line (codes "mc_stdin") fault) (E.failures errors.old) (E.failures errors.new) (E.pushed errors.old) (E.pushed errors.new) }
+    ensures tells { Tells (fault_line (codes "mc_stdin") fault) (E.tells errors.old) (E.tells errors.new) }
 {
     let _ = tell(rt, b"mc_stdin", fault, errors);
     1
@@ -66,14 +64,14 @@ fn answer_words<R: Wait, O: Output, E: Output>(
     errors: &mut E,
 ) -> u8
     ensures status { (result ≡ 0) ⊎ (result ≡ 1) ⊎ (result ≡ 2) }
-    ensures shown { result ≡ 0 → (text : List ℕ) × (O.pushed output.new ≡ append_known (O.pushed output.old) text) }
+    ensures shown { result ≡ 0 → (text : List ℕ) × Pushes (O.tells output.old) (O.tells output.new) text }
     ensures shown_kind { result ≡ 0 → (kind_of error.now ≢ ErrorKind.OutOfMemory) × IsShown (kind_of error.now) }
-    ensures shown_whole { result ≡ 0 → O.failures output.new ≡ O.failures output.old }
-    ensures silent { result ≡ 0 → (E.pushed errors.new ≡ E.pushed errors.old) × (E.failures errors.new ≡ E.failures errors.old) }
-    ensures fails { result ≡ 1 → FailsToAnswer (kind_of error.now) (O.pushed output.old) (O.pushed output.new) (O.failures output.old) (O.failures output.new) (E.failures errors.old) (E.failures errors.new) (E.pushed errors.old) (E.pushed errors.new) }
-    ensures told { result ≡ 2 → (text : List ℕ) × Tells text (E.failures errors.old) (E.failures errors.new) (E.pushed errors.old) (E.pushed errors.new) }
+    ensures shown_whole { result ≡ 0 → (O.tells output.new).failures ≡ (O.tells output.old).failures }
+    ensures silent { result ≡ 0 → E.tells errors.new ≡ E.tells errors.old }
+    ensures fails { result ≡ 1 → FailsToAnswer (kind_of error.now) (O.tells output.old) (O.tells output.new) (E.tells errors.old) (E.tells errors.new) }
+    ensures told { result ≡ 2 → (text : List ℕ) × Tells text (E.tells errors.old) (E.tells errors.new) }
     ensures told_kind { result ≡ 2 → (kind_of error.now ≢ ErrorKind.OutOfMemory) × ¬ (IsShown (kind_of error.now)) }
-    ensures untouched { result ≡ 2 → (O.pushed output.new ≡ O.pushed output.old) × (O.failures output.new ≡ O.failures output.old) }
+    ensures untouched { result ≡ 2 → O.tells output.new ≡ O.tells output.old }
 {
     if error.kind() == ErrorKind::OutOfMemory {
         return fail(rt, Fault::Memory, errors);
@@ -91,7 +89,8 @@ fn answer_words<R: Wait, O: Output, E: Output>(
     }
 }
 
-/// Does what the words ask for, which are those behind the program's name, and answers the status that the program ends with.
+/// Does what the words of a command line ask for, of which the first is the program's name, and answers the status that the
+/// program ends with.
 ///
 /// Serves one client from the input to the output: 0 where the input ended or a request ended the stream, and 1 where a fault
 /// ended it, which is told on `errors` by `mc_stdin: TEXT` and a line feed. `--places N` says how many places the log has
@@ -111,17 +110,17 @@ pub fn run_stdin<R: Wait, I: Input, O: Output, E: Output>(
     ensures status { (result ≡ 0) ⊎ (result ≡ 1) ⊎ (result ≡ 2) }
     // From the bytes that came in to the bytes that went out, by the quotas and the number of places that the words ask for.
     ensures serves { result ≡ 0 → AsksInRange (map string_bytes words.items)
-        × Serves (limits_asked (map string_bytes words.items)) (places_asked (map string_bytes words.items)) (streams_of I.pulled I.left I.failures O.pushed O.failures input.old output.old) (streams_of I.pulled I.left I.failures O.pushed O.failures input.new output.new) (I.has_ended input.new)
-        ⊎ Shows (map string_bytes words.items) (streams_of I.pulled I.left I.failures O.pushed O.failures input.old output.old) (streams_of I.pulled I.left I.failures O.pushed O.failures input.new output.new) }
-    ensures no_failure { result ≡ 0 → (I.failures input.new ≡ I.failures input.old) × (O.failures output.new ≡ O.failures output.old) }
-    ensures silent { result ≡ 0 → (E.pushed errors.new ≡ E.pushed errors.old) × (E.failures errors.new ≡ E.failures errors.old) }
+        × Serves (limits_asked (map string_bytes words.items)) (places_asked (map string_bytes words.items)) (both (I.tells input.old) (O.tells output.old)) (both (I.tells input.new) (O.tells output.new))
+        ⊎ Shows (map string_bytes words.items) (both (I.tells input.old) (O.tells output.old)) (both (I.tells input.new) (O.tells output.new)) }
+    ensures no_failure { result ≡ 0 → ((I.tells input.new).failures ≡ (I.tells input.old).failures) × ((O.tells output.new).failures ≡ (O.tells output.old).failures) }
+    ensures silent { result ≡ 0 → E.tells errors.new ≡ E.tells errors.old }
     ensures fails { result ≡ 1 → AsksInRange (map string_bytes words.items)
-        × Fails (codes "mc_stdin") (limits_asked (map string_bytes words.items)) (places_asked (map string_bytes words.items)) (streams_of I.pulled I.left I.failures O.pushed O.failures input.old output.old) (streams_of I.pulled I.left I.failures O.pushed O.failures input.new output.new) (O.is_full output.new) (E.failures errors.old) (E.failures errors.new) (E.pushed errors.old) (E.pushed errors.new)
-        ⊎ FailsToShow (map string_bytes words.items) (streams_of I.pulled I.left I.failures O.pushed O.failures input.old output.old) (streams_of I.pulled I.left I.failures O.pushed O.failures input.new output.new) (E.failures errors.old) (E.failures errors.new) (E.pushed errors.old) (E.pushed errors.new) }
+        × Fails (codes "mc_stdin") (limits_asked (map string_bytes words.items)) (places_asked (map string_bytes words.items)) (both (I.tells input.old) (O.tells output.old)) (both (I.tells input.new) (O.tells output.new)) (E.tells errors.old) (E.tells errors.new)
+        ⊎ FailsToShow (map string_bytes words.items) (both (I.tells input.old) (O.tells output.old)) (both (I.tells input.new) (O.tells output.new)) (E.tells errors.old) (E.tells errors.new) }
     ensures refuses { result ≡ 2 → AsksOutOfRange (map string_bytes words.items)
-        × Tells (fault_line (codes "mc_stdin") Fault.BadSettings) (E.failures errors.old) (E.failures errors.new) (E.pushed errors.old) (E.pushed errors.new)
-        ⊎ TellsMistake (map string_bytes words.items) (E.failures errors.old) (E.failures errors.new) (E.pushed errors.old) (E.pushed errors.new) }
-    ensures untouched { result ≡ 2 → streams_of I.pulled I.left I.failures O.pushed O.failures input.new output.new ≡ streams_of I.pulled I.left I.failures O.pushed O.failures input.old output.old }
+        × Tells (fault_line (codes "mc_stdin") Fault.BadSettings) (E.tells errors.old) (E.tells errors.new)
+        ⊎ TellsMistake (map string_bytes words.items) (E.tells errors.old) (E.tells errors.new) }
+    ensures untouched { result ≡ 2 → both (I.tells input.new) (O.tells output.new) ≡ both (I.tells input.old) (O.tells output.old) }
 {
     let asked = match read_words(alloc, &words) {
         Ok(asked) => asked,

@@ -6,7 +6,7 @@ use std::io;
 use std::process::ExitCode;
 
 fn main(rt: HostRuntime) -> io::Result<ExitCode> {
-    let words = std::env::args(&rt)?.skip(1).collect(rt.alloc())?;
+    let words = std::env::args(&rt)?.collect(rt.alloc())?;
     let mut input = ReadInput::new(rt.stdin());
     let mut output = WriteOutput::new(rt.stdout());
     let mut errors = WriteOutput::new(rt.stderr());

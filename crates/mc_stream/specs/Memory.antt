@@ -1,5 +1,5 @@
 -- What contracts see of an input and an output over memory, and what their steps do.
-use Rattle.std.specs.Prelude.{◌≡◌, ℕ, zero, suc, min, max, Bool, true, false, List, [], ◌∷◌, ◌++◌}
+use Rattle.std.specs.Prelude.{ℕ, zero, suc, ◌+◌, min, max, Bool, true, false, Some, List, [], ◌∷◌, count_by}
 use Rattle.mc_stream.specs.declared.memory.InputStep.{InputStep}
 use Rattle.mc_stream.specs.declared.memory.InputStep.TheVariants.{Give, Empty as GiveNothing, Fail as FailToGive}
 use Rattle.mc_stream.specs.declared.memory.OutputStep.{OutputStep}
@@ -8,13 +8,16 @@ use Rattle.mc_stream.specs.declared.stream.Pull.{Pull}
 use Rattle.mc_stream.specs.declared.stream.Pull.TheVariants.{Bytes, Empty, Ended, Failed as InputFailed}
 use Rattle.mc_stream.specs.declared.stream.Push.{Push}
 use Rattle.mc_stream.specs.declared.stream.Push.TheVariants.{Taken, Full, Failed as OutputFailed}
+use Rattle.mc_stream.specs.Stream.{Inflow, Outflow}
 
--- the bytes given and those left, and the steps used and those left
+-- the bytes given and those left, the steps used and those left, what the last pull gave, and whether it found the end
 pub record Source : Type 0 where
   pub given : List ℕ
   pub rest : List ℕ
   pub used : List InputStep
   pub steps : List InputStep
+  pub last_pull : List ℕ
+  pub has_ended : Bool
 
 -- so many bytes, or the end where there is none
 abbrev pub bytes_or_end : ℕ → Pull
@@ -40,12 +43,13 @@ is_empty_pull (Give most) = false
 is_empty_pull GiveNothing = true
 is_empty_pull FailToGive = false
 
--- the bytes kept, the steps used and those left, and how often memory was wanting
+-- the bytes kept, the steps used and those left, how often memory was wanting, and whether the last push found it full
 pub record Sink : Type 0 where
   pub bytes : List ℕ
   pub used : List OutputStep
   pub steps : List OutputStep
   pub starved : ℕ
+  pub is_full : Bool
 
 -- what a push of so many bytes takes by the steps that are left
 abbrev pub push_by : List OutputStep → ℕ → Push
@@ -66,6 +70,22 @@ is_full_push (Take most) = false
 is_full_push TakeNothing = true
 is_full_push FailToTake = false
 
--- the last step took nothing
-abbrev pub EndsFull : List OutputStep → Type 0
-EndsFull used = (earlier : List OutputStep) × (used ≡ earlier ++ TakeNothing ∷ [])
+-- what an output over memory tells
+abbrev pub kept_of : Sink → Outflow
+kept_of output = record {
+  pushed = output.bytes;
+  failures = count_by is_failing_push output.used + output.starved;
+  waits = count_by is_full_push output.used;
+  is_full = output.is_full;
+}
+
+-- what an input over memory tells
+abbrev pub given_of : Source → Inflow
+given_of input = record {
+  pulled = input.given;
+  last_pull = input.last_pull;
+  left = Some input.rest;
+  failures = count_by is_failing_pull input.used;
+  waits = count_by is_empty_pull input.used;
+  has_ended = input.has_ended;
+}

@@ -1,6 +1,5 @@
--- What a pull gives and a push takes, and what each counts.
-use Rattle.std.specs.Prelude.{◌≡◌, ℕ, ◌≤◌, List, [], take, Option}
-use Rattle.std.specs.Io.KnownBytes.{append_known}
+-- What a pull gives and a push takes, and what an input and an output tell of themselves.
+use Rattle.std.specs.Prelude.{ℕ, ◌≤◌, Bool, true, false, List, [], take, Option}
 use Rattle.mc_stream.specs.declared.stream.Pull.{Pull}
 use Rattle.mc_stream.specs.declared.stream.Pull.TheVariants.{Bytes, Empty, Ended, Failed as InputFailed}
 use Rattle.mc_stream.specs.declared.stream.Push.{Push}
@@ -34,6 +33,13 @@ pull_waits Empty = 1
 pull_waits Ended = 0
 pull_waits InputFailed = 0
 
+-- a pull found the end
+abbrev pub finds_end : Pull → Bool
+finds_end (Bytes count) = false
+finds_end Empty = false
+finds_end Ended = true
+finds_end InputFailed = false
+
 -- the bytes that a push took, from the front
 abbrev pub pushed_by : Push → List ℕ → List ℕ
 pushed_by (Taken count) bytes = take count bytes
@@ -58,24 +64,34 @@ push_waits (Taken count) = 0
 push_waits Full = 1
 push_waits OutputFailed = 0
 
--- what an input and an output tell of themselves
-pub record Streams : Type 0 where
-  pub pulled : Option (List ℕ)
+-- a push found the output full
+abbrev pub finds_full : Push → Bool
+finds_full (Taken count) = false
+finds_full Full = true
+finds_full OutputFailed = false
+
+-- What an input tells: the bytes pulled so far, those of the last pull, those still to come where it knows them, how often it
+-- has failed and how often it had nothing to give, and whether the last pull found the end.
+pub record Inflow : Type 0 where
+  pub pulled : List ℕ
+  pub last_pull : List ℕ
   pub left : Option (List ℕ)
-  pub input_failures : ℕ
-  pub pushed : Option (List ℕ)
-  pub output_failures : ℕ
+  pub failures : ℕ
+  pub waits : ℕ
+  pub has_ended : Bool
 
--- what these two tell, by the members of their traits
-abbrev pub streams_of : {I O : Type 0} → (I → Option (List ℕ)) → (I → Option (List ℕ)) → (I → ℕ) → (O → Option (List ℕ)) → (O → ℕ) → I → O → Streams
-streams_of pulled left input_failures pushed output_failures input output = record {
-  pulled = pulled input;
-  left = left input;
-  input_failures = input_failures input;
-  pushed = pushed output;
-  output_failures = output_failures output;
-}
+-- What an output tells: the bytes pushed so far, how often it has failed and how often it could take nothing, and whether the
+-- last push found it full.
+pub record Outflow : Type 0 where
+  pub pushed : List ℕ
+  pub failures : ℕ
+  pub waits : ℕ
+  pub is_full : Bool
 
--- these bytes were pushed from the one to the other
-abbrev pub Pushes : Streams → Streams → List ℕ → Type 0
-Pushes before after bytes = after.pushed ≡ append_known before.pushed bytes
+-- what an input and an output tell, beside each other
+pub record Streams : Type 0 where
+  pub input : Inflow
+  pub output : Outflow
+
+abbrev pub both : Inflow → Outflow → Streams
+both input output = record { input = input; output = output }

@@ -1,7 +1,7 @@
 //! Where bytes come from and where they go: the traits `Input` and `Output`, over memory and over std's readers and writers.
 //!
-//! Their ghost members tell the bytes that moved, what is left, and how often a stream failed or waited, so that a loop
-//! over any two streams can be proved once.
+//! By a ghost member, `tells`, each tells the bytes that moved, what is left, and how often it failed or waited, so that a
+//! loop over any two streams can be proved once.
 #![tactic(auto)]
 
 pub use memory::{InputStep, MemoryInput, MemoryOutput, OutputStep};
@@ -12,3 +12,4 @@ pub mod memory;
 pub mod standard;
 pub mod stream;
 mod tally;
+mod tape;

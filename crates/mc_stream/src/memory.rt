@@ -1,10 +1,11 @@
 //! An input and an output over memory, for tests and for a server inside another program.
-ghost use Rattle.std.specs.Prelude.{◌≡◌, ◌≤◌, ◌<◌, ◌+◌, ◌++◌, [], ◌∷◌, Some, take, drop, length, min, count_by, MatchOption};
-ghost use Rattle.mc_stream.specs.Memory.{EndsFull, bytes_or_end, is_empty_pull, is_failing_pull, is_failing_push, is_full_push, pull_by, push_by};
-ghost use Rattle.mc_stream.specs.Stream.{GivesAtMost, TakesAtMost, pull_failures, pull_waits, pulled_by, push_failures, push_waits, pushed_by};
+ghost use Rattle.std.specs.Prelude.{◌≡◌, ◌<◌, ◌+◌, ◌++◌, [], ◌∷◌, false, take, drop, length, min, count_by, MatchOption};
+ghost use Rattle.mc_stream.specs.Memory.{bytes_or_end, given_of, is_empty_pull, is_failing_pull, is_failing_push, is_full_push, kept_of, pull_by, push_by};
+ghost use Rattle.mc_stream.specs.Stream.{GivesAtMost, TakesAtMost, finds_end, finds_full, pull_failures, pull_waits, pulled_by, push_failures, push_waits, pushed_by};
 
 use crate::stream::{Input, Output, Pull, Push};
 use crate::tally::Tally;
+use crate::tape::Tape;
 use std::alloc::Global;
 use std::marker::Model;
 
@@ -31,12 +32,14 @@ pub enum OutputStep {
 }
 
 /// Gives bytes that it holds: each pull does a step, and after the last step gives all that it can.
-#[derive(Debug, Drop)]
+#[derive(Drop)]
 pub struct MemoryInput {
     bytes: Vec<u8>,
     given: usize,
     steps: Vec<InputStep>,
     used: usize,
+    tape: Tape,
+    ended: bool,
 }
 
 impl Model for MemoryInput {
@@ -50,6 +53,8 @@ impl Model for MemoryInput {
       rest = drop input.given input.bytes.items;
       used = take input.used input.steps.items;
       steps = drop input.used input.steps.items;
+      last_pull = input.tape.last;
+      has_ended = input.ended;
     } };
 
     ghost invariant = { λ input. (input.given ≤ vec_len input.bytes) × (input.used ≤ vec_len input.steps) };
@@ -58,13 +63,15 @@ impl Model for MemoryInput {
 impl MemoryInput {
     /// An input that holds these bytes, and goes by these steps first.
     pub fn new(bytes: Vec<u8>, steps: Vec<InputStep>) -> MemoryInput
-        ensures { result ≡ record { given = []; rest = bytes.items; used = []; steps = steps.items } }
+        ensures { result ≡ record { given = []; rest = bytes.items; used = []; steps = steps.items; last_pull = []; has_ended = false } }
     {
         MemoryInput {
             bytes,
             given: 0,
             steps,
             used: 0,
+            tape: Tape::new(),
+            ended: false,
         }
     }
 
@@ -91,29 +98,25 @@ impl MemoryInput {
         ensures rest { self.old.rest ≡ pulled_by result buffer.new ++ self.new.rest }
         ensures used { self.new.used ≡ self.old.used }
         ensures steps { self.new.steps ≡ self.old.steps }
-        ensures ended { result ≡ Pull.Ended → self.new.rest ≡ [] }
+        ensures last { self.old.last_pull ≡ [] → self.new.last_pull ≡ pulled_by result buffer.new }
+        ensures ended { self.old.has_ended ≡ false → self.new.has_ended ≡ finds_end result }
+        ensures no_more { result ≡ Pull.Ended → self.new.rest ≡ [] }
     {
         let left = &self.bytes[self.given..];
         let count = left.len().min(most).min(buffer.len());
         if count == 0 {
+            self.ended = true;
             return Pull::Ended;
         }
         buffer[..count].copy_from_slice(&left[..count]);
+        self.tape.put(&buffer[..count]);
         self.given += count;
         Pull::Bytes(count)
     }
 }
 
 impl Input for MemoryInput {
-    ghost pulled = { λ input. Some input.given };
-
-    ghost left = { λ input. Some input.rest };
-
-    ghost failures = { λ input. count_by is_failing_pull input.used };
-
-    ghost waits = { λ input. count_by is_empty_pull input.used };
-
-    ghost has_ended = { λ input. input.rest ≡ [] };
+    ghost tells = { given_of };
 
     fn pull(&mut self, buffer: &mut [u8]) -> Pull
         // As of each input.
@@ -122,13 +125,17 @@ impl Input for MemoryInput {
         ensures bytes { self.new.given ≡ self.old.given ++ pulled_by result buffer.new }
         ensures failed { count_by is_failing_pull self.new.used ≡ count_by is_failing_pull self.old.used + pull_failures result }
         ensures waited { count_by is_empty_pull self.new.used ≡ count_by is_empty_pull self.old.used + pull_waits result }
-        ensures ended { result ≡ Pull.Ended → self.new.rest ≡ [] }
+        ensures last { self.new.last_pull ≡ pulled_by result buffer.new }
+        ensures ended { self.new.has_ended ≡ finds_end result }
+        ensures no_more { result ≡ Pull.Ended → self.new.rest ≡ [] }
 
         // What this one gives.
         ensures answer { result ≡ pull_by self.old.steps (length self.old.rest) (length buffer.old) }
         ensures rest { self.old.rest ≡ pulled_by result buffer.new ++ self.new.rest }
         ensures steps { self.new.steps ≡ drop 1 self.old.steps }
     {
+        self.tape.put(&[]);
+        self.ended = false;
         match self.next_step() {
             Some(InputStep::Give(most)) => self.give(most.max(1), buffer),
             Some(InputStep::Empty) => Pull::Empty,
@@ -146,6 +153,7 @@ pub struct MemoryOutput {
     steps: Vec<OutputStep>,
     used: usize,
     starved: Tally,
+    full: bool,
 }
 
 impl Model for MemoryOutput {
@@ -159,6 +167,7 @@ impl Model for MemoryOutput {
       used = take output.used output.steps.items;
       steps = drop output.used output.steps.items;
       starved = output.starved.count;
+      is_full = output.full;
     } };
 
     ghost invariant = { λ output. output.used ≤ vec_len output.steps };
@@ -167,13 +176,14 @@ impl Model for MemoryOutput {
 impl MemoryOutput {
     /// An output that has no bytes yet, and goes by these steps first.
     pub fn new(alloc: Global, steps: Vec<OutputStep>) -> MemoryOutput
-        ensures { result ≡ record { bytes = []; used = []; steps = steps.items; starved = 0 } }
+        ensures { result ≡ record { bytes = []; used = []; steps = steps.items; starved = 0; is_full = false } }
     {
         MemoryOutput {
             bytes: Vec::new(alloc),
             steps,
             used: 0,
             starved: Tally::new(),
+            full: false,
         }
     }
 
@@ -207,13 +217,7 @@ impl MemoryOutput {
 }
 
 impl Output for MemoryOutput {
-    ghost pushed = { λ output. Some output.bytes };
-
-    ghost failures = { λ output. count_by is_failing_push output.used + output.starved };
-
-    ghost waits = { λ output. count_by is_full_push output.used };
-
-    ghost is_full = { λ output. EndsFull output.used };
+    ghost tells = { kept_of };
 
     fn push(&mut self, bytes: &[u8]) -> Push
         // As of each output.
@@ -223,15 +227,19 @@ impl Output for MemoryOutput {
         ensures failed { count_by is_failing_push self.new.used + self.new.starved
             ≡ count_by is_failing_push self.old.used + self.old.starved + push_failures result }
         ensures waited { count_by is_full_push self.new.used ≡ count_by is_full_push self.old.used + push_waits result }
-        ensures full { result ≡ Push.Full → EndsFull self.new.used }
+        ensures full { self.new.is_full ≡ finds_full result }
 
         // What this one takes, where memory isn't wanting.
         ensures answer { self.new.starved ≡ self.old.starved → result ≡ push_by self.old.steps (length bytes.now) }
         ensures steps { self.new.steps ≡ drop 1 self.old.steps }
     {
+        self.full = false;
         let most = match self.next_step() {
             Some(OutputStep::Take(most)) => most.max(1),
-            Some(OutputStep::Full) => return Push::Full,
+            Some(OutputStep::Full) => {
+                self.full = true;
+                return Push::Full;
+            }
             Some(OutputStep::Fail) => return Push::Failed,
             None => usize::MAX,
         };

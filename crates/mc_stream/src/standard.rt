@@ -1,33 +1,37 @@
 //! Inputs and outputs over std's readers and writers, as the standard streams.
-ghost use Rattle.std.specs.Io.KnownBytes.{Consumes, IsAtEnd};
-ghost use Rattle.std.specs.Prelude.{◌≡◌, ◌+◌, ◌<◌, ◌≤◌, None, length};
-ghost use Rattle.mc_stream.specs.Standard.{WritesTaken, failures_of_input, failures_of_output, has_input_ended, reader_of, waits_of_input, waits_of_output, writer_of};
-ghost use Rattle.mc_stream.specs.Stream.{GivesAtMost, TakesAtMost, pull_failures, pull_waits, pulled_by, push_failures, push_waits};
+//!
+//! What they tell of the bytes that moved is on a tape, which no memory holds: these bodies put on it what `read` gave and
+//! `write` took, and only they and the clauses `rest` and `written` tie it to a stream. That a write is flushed stands in the
+//! body alone.
+ghost use Rattle.std.specs.Prelude.{◌≡◌, ◌+◌, ◌++◌, ◌<◌, [], false, length};
+ghost use Rattle.mc_stream.specs.Standard.{WritesTaken, read_of, reader_of, writer_of, written_of};
+ghost use Rattle.mc_stream.specs.Stream.{TakesAtMost, finds_full, push_failures, push_waits, pushed_by};
 
 use crate::stream::{Input, Output, Pull, Push};
 use crate::tally::Tally;
+use crate::tape::Tape;
 use std::io::{ErrorKind, Read, Write};
 
 /// An input over a reader. It knows what is left where the reader does. An interrupted read gave nothing, and any other
-/// error is a failure.
+/// error is a failure. Its tape has the bytes that `read` gave.
 #[derive(Drop)]
 pub struct ReadInput<R> {
     reader: R,
+    tape: Tape,
     ended: bool,
     failures: Tally,
     waits: Tally,
 }
 
-impl<R> ReadInput<R> {
+impl<R: Read> ReadInput<R> {
     /// The input over this reader.
     pub fn new(reader: R) -> ReadInput<R>
         ensures reader { reader_of result ≡ reader }
-        ensures failures { failures_of_input result ≡ 0 }
-        ensures waits { waits_of_input result ≡ 0 }
-        ensures open { has_input_ended result → ⊥ }
+        ensures tells { read_of R.remaining result ≡ record { pulled = []; last_pull = []; left = R.remaining reader; failures = 0; waits = 0; has_ended = false } }
     {
         ReadInput {
             reader,
+            tape: Tape::new(),
             ended: false,
             failures: Tally::new(),
             waits: Tally::new(),
@@ -36,32 +40,20 @@ impl<R> ReadInput<R> {
 }
 
 impl<R: Read> Input for ReadInput<R> {
-    ghost pulled = { λ _. None };
+    ghost tells = { read_of R.remaining };
 
-    ghost left = { λ input. R.remaining (reader_of input) };
-
-    ghost failures = { failures_of_input };
-
-    ghost waits = { waits_of_input };
-
-    ghost has_ended = { has_input_ended };
-
-    fn pull(&mut self, buffer: &mut [u8]) -> Pull
-        // As of each input.
-        requires { 0 < length buffer.old }
-        ensures count { GivesAtMost (length buffer.new) result }
-        ensures failed { failures_of_input self.new ≡ failures_of_input self.old + pull_failures result }
-        ensures waited { waits_of_input self.new ≡ waits_of_input self.old + pull_waits result }
-        ensures ended { result ≡ Pull.Ended → has_input_ended self.new }
-        ensures rest { Consumes (R.remaining (reader_of self.old)) (R.remaining (reader_of self.new)) (pulled_by result buffer.new) }
-        ensures no_more { result ≡ Pull.Ended → IsAtEnd (R.remaining (reader_of self.new)) }
-    {
+    fn pull(&mut self, buffer: &mut [u8]) -> Pull {
+        self.ended = false;
+        self.tape.put(&[]);
         match self.reader.read(buffer) {
             Ok(0) => {
                 self.ended = true;
                 Pull::Ended
             }
-            Ok(count) => Pull::Bytes(count),
+            Ok(count) => {
+                self.tape.put(&buffer[..count]);
+                Pull::Bytes(count)
+            }
             Err(error) => {
                 if error.kind() == ErrorKind::Interrupted {
                     self.waits.rise();
@@ -75,11 +67,13 @@ impl<R: Read> Input for ReadInput<R> {
     }
 }
 
-/// An output over a writer. It doesn't tell its bytes. An interrupted write took nothing, and any other error is a
-/// failure. What was taken is flushed in the same push.
+/// An output over a writer. An interrupted write took nothing, and any other error is a failure. What was taken is flushed
+/// in the same push. Its tape has the bytes that `write` took, but for those before a `flush` that failed.
 #[derive(Drop)]
 pub struct WriteOutput<W> {
     writer: W,
+    tape: Tape,
+    full: bool,
     failures: Tally,
     waits: Tally,
 }
@@ -88,11 +82,12 @@ impl<W> WriteOutput<W> {
     /// The output over this writer.
     pub fn new(writer: W) -> WriteOutput<W>
         ensures writer { writer_of result ≡ writer }
-        ensures failures { failures_of_output result ≡ 0 }
-        ensures waits { waits_of_output result ≡ 0 }
+        ensures tells { written_of result ≡ record { pushed = []; failures = 0; waits = 0; is_full = false } }
     {
         WriteOutput {
             writer,
+            tape: Tape::new(),
+            full: false,
             failures: Tally::new(),
             waits: Tally::new(),
         }
@@ -101,8 +96,7 @@ impl<W> WriteOutput<W> {
     /// Counts a failure.
     fn fail(&mut self) -> Push
         ensures answer { result ≡ Push.Failed }
-        ensures failures { failures_of_output self.new ≡ failures_of_output self.old + 1 }
-        ensures waits { waits_of_output self.new ≡ waits_of_output self.old }
+        ensures tells { written_of self.new ≡ record (written_of self.old) { failures = (written_of self.old).failures + 1 } }
     {
         self.failures.rise();
         Push::Failed
@@ -110,34 +104,34 @@ impl<W> WriteOutput<W> {
 }
 
 impl<W: Write> Output for WriteOutput<W> {
-    ghost pushed = { λ _. None };
-
-    ghost failures = { failures_of_output };
-
-    ghost waits = { waits_of_output };
-
-    ghost is_full = { λ output. 1 ≤ waits_of_output output };
+    ghost tells = { written_of };
 
     fn push(&mut self, bytes: &[u8]) -> Push
         // As of each output.
         requires { 0 < length bytes.now }
         ensures count { TakesAtMost (length bytes.now) result }
-        ensures failed { failures_of_output self.new ≡ failures_of_output self.old + push_failures result }
-        ensures waited { waits_of_output self.new ≡ waits_of_output self.old + push_waits result }
-        ensures full { result ≡ Push.Full → 1 ≤ waits_of_output self.new }
+        ensures bytes { (written_of self.new).pushed ≡ (written_of self.old).pushed ++ pushed_by result bytes.now }
+        ensures failed { (written_of self.new).failures ≡ (written_of self.old).failures + push_failures result }
+        ensures waited { (written_of self.new).waits ≡ (written_of self.old).waits + push_waits result }
+        ensures full { (written_of self.new).is_full ≡ finds_full result }
 
         // Where the writer tells its bytes.
         ensures written { WritesTaken (W.contents (writer_of self.old)) (W.contents (writer_of self.new)) result bytes.now }
     {
+        self.full = false;
         match self.writer.write(bytes) {
             Ok(0) => self.fail(),
             Ok(count) => match self.writer.flush() {
-                Ok(()) => Push::Taken(count),
+                Ok(()) => {
+                    self.tape.put(&bytes[..count]);
+                    Push::Taken(count)
+                }
                 // Not `Full`, also where it was interrupted: the bytes would be pushed again.
                 Err(_) => self.fail(),
             },
             Err(error) => {
                 if error.kind() == ErrorKind::Interrupted {
+                    self.full = true;
                     self.waits.rise();
                     Push::Full
                 } else {

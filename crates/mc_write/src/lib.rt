@@ -2,7 +2,7 @@
 #![tactic(auto)]
 
 ghost use Rattle.std.specs.Io.{StartsWith};
-ghost use Rattle.std.specs.Prelude.{◌≡◌, ℕ, ◌++◌, codes, decimal, flat_map, OnErr, OnOk, IsOkUnless};
+ghost use Rattle.std.specs.Prelude.{◌≡◌, ℕ, ◌+◌, ◌≤◌, ◌++◌, codes, decimal, flat_map, length, vec_capacity, vec_len, OnErr, OnOk, IsOk, IsOkUnless};
 ghost use Rattle.mc_model.specs.declared.reply.Reply.TheVariants.{Refused};
 ghost use Rattle.mc_write.specs.Text.{text, unique_text, value_line, value_text};
 
@@ -15,6 +15,9 @@ pub fn write_reply(reply: &Reply, out: &mut Vec<u8>) -> Result<(), Fault>
     ensures text { OnOk result (out.new.items ≡ out.old.items ++ text reply.now) }
     ensures kept { OnErr result (out.new.items ≡ out.old.items) }
     ensures memory { IsOkUnless result Fault.Memory }
+
+    // Where the vector has room for the text, memory isn't wanting.
+    ensures room { vec_len out.old + length (text reply.now) ≤ vec_capacity out.old → IsOk result }
 {
     let start = out.len();
     let written = append_reply(reply, out);
@@ -47,6 +50,8 @@ pub fn refusal_text(refusal: WireNo) -> &'static [u8]
 fn append_reply(reply: &Reply, out: &mut Vec<u8>) -> Result<(), AllocError>
     ensures text { OnOk result (out.new.items ≡ out.old.items ++ text reply.now) }
     ensures begun { StartsWith out.new.items out.old.items }
+    ensures room { vec_len out.old + length (text reply.now) ≤ vec_capacity out.old → IsOk result }
+    ensures capacity { vec_capacity out.old ≤ vec_capacity out.new }
 {
     match reply {
         Reply::Stored => out.extend_from_slice(b"STORED\r\n"),
@@ -71,6 +76,8 @@ fn append_reply(reply: &Reply, out: &mut Vec<u8>) -> Result<(), AllocError>
 fn append_values(values: &[Value], out: &mut Vec<u8>) -> Result<(), AllocError>
     ensures text { OnOk result (out.new.items ≡ out.old.items ++ flat_map value_text values.now) }
     ensures begun { StartsWith out.new.items out.old.items }
+    ensures room { vec_len out.old + length (flat_map value_text values.now) ≤ vec_capacity out.old → IsOk result }
+    ensures capacity { vec_capacity out.old ≤ vec_capacity out.new }
 {
     for value in values {
         append_line(value, out)?;
@@ -83,6 +90,8 @@ fn append_values(values: &[Value], out: &mut Vec<u8>) -> Result<(), AllocError>
 fn append_line(value: &Value, out: &mut Vec<u8>) -> Result<(), AllocError>
     ensures text { OnOk result (out.new.items ≡ out.old.items ++ value_line value.now) }
     ensures begun { StartsWith out.new.items out.old.items }
+    ensures room { vec_len out.old + length (value_line value.now) ≤ vec_capacity out.old → IsOk result }
+    ensures capacity { vec_capacity out.old ≤ vec_capacity out.new }
 {
     out.extend_from_slice(b"VALUE ")?;
     out.extend_from_slice(value.key.as_bytes())?;
@@ -98,6 +107,8 @@ fn append_line(value: &Value, out: &mut Vec<u8>) -> Result<(), AllocError>
 fn append_block(block: &[u8], out: &mut Vec<u8>) -> Result<(), AllocError>
     ensures text { OnOk result (out.new.items ≡ out.old.items ++ (codes "\r\n" ++ block.now ++ codes "\r\n")) }
     ensures begun { StartsWith out.new.items out.old.items }
+    ensures room { vec_len out.old + length (codes "\r\n" ++ block.now ++ codes "\r\n") ≤ vec_capacity out.old → IsOk result }
+    ensures capacity { vec_capacity out.old ≤ vec_capacity out.new }
 {
     out.extend_from_slice(b"\r\n")?;
     out.extend_from_slice(block)?;
@@ -108,6 +119,8 @@ fn append_block(block: &[u8], out: &mut Vec<u8>) -> Result<(), AllocError>
 fn append_number(number: u64, out: &mut Vec<u8>) -> Result<(), AllocError>
     ensures text { OnOk result (out.new.items ≡ out.old.items ++ (codes " " ++ decimal number)) }
     ensures begun { StartsWith out.new.items out.old.items }
+    ensures room { vec_len out.old + length (codes " " ++ decimal number) ≤ vec_capacity out.old → IsOk result }
+    ensures capacity { vec_capacity out.old ≤ vec_capacity out.new }
 {
     out.extend_from_slice(b" ")?;
     append_digits(number, out)
@@ -116,6 +129,8 @@ fn append_number(number: u64, out: &mut Vec<u8>) -> Result<(), AllocError>
 fn append_digits(number: u64, out: &mut Vec<u8>) -> Result<(), AllocError>
     ensures text { OnOk result (out.new.items ≡ out.old.items ++ decimal number) }
     ensures begun { StartsWith out.new.items out.old.items }
+    ensures room { vec_len out.old + length (decimal number) ≤ vec_capacity out.old → IsOk result }
+    ensures capacity { vec_capacity out.old ≤ vec_capacity out.new }
 {
     let mut digits = Buffer::new();
     out.extend_from_slice(digits.format(number).as_bytes())

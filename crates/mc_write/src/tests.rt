@@ -101,3 +101,16 @@ fn want_of_memory_keeps_old_bytes(rt: HostRuntime) -> Result<(), Fail> {
     }
     Ok(())
 }
+
+/// With as much room as the text needs none is asked for, so no failing allocation falls in here.
+#[test]
+fn room_is_enough(rt: HostRuntime) -> Result<(), Fail> {
+    let alloc = rt.alloc();
+    let values = vec![in alloc; value(alloc, b"k", 1, b"data", Some(2))?]?;
+    let reply = Reply::Values(ValueList::new(values));
+    let text = b"VALUE k 1 4 2\r\ndata\r\nEND\r\n".as_slice();
+    let mut out = Vec::with_capacity(alloc, text.len())?;
+    let written = write_reply(&reply, &mut out);
+    assert!(rt; written.is_ok() && out.as_slice() == text && out.capacity() == text.len());
+    Ok(())
+}

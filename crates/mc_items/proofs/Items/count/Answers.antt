@@ -1,6 +1,6 @@
 use Rattle.std.proofs.Common.{ap, sym, ◌∙◌}
+use Rattle.mc_model.specs.State.{TableState}
 use Rattle.mc_model.specs.Table.{count_of}
-use Rattle.mc_items.specs.TableState.{TableState}
 use Rattle.mc_items.proofs.Maps.{count-held}
 use Rattle.mc_items.proofs.Items.count.Goals as goal
 

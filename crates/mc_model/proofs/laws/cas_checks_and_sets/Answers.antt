@@ -1,7 +1,7 @@
 use Rattle.std.proofs.Common.{◌+◌, ◌≤◌, ◌∙◌, arith}
 use Rattle.mc_model.specs.History.{after, changes}
 use Rattle.mc_model.proofs.Histories.{HasUnique, has_bounded_uniques, still_there_is_untouched, untouched_is_still_there}
-use Rattle.mc_model.proofs.OneKey.{cas_is_set, cas_let_through, cas_outcomes, let_through_has, shown_is_there}
+use Rattle.mc_model.proofs.OneKey.{cas_exists, cas_is_set, cas_let_through, cas_not_found, cas_outcomes, let_through_has, shown_is_there}
 use Rattle.mc_model.proofs.laws.cas_checks_and_sets.Goals as goal
 
 pub returns-clause-let_through : goal.returns-clause-let_through
@@ -17,3 +17,9 @@ returns-clause-set c = λ limits list key unique flags block through. cas_is_set
 
 pub returns-clause-otherwise : goal.returns-clause-otherwise
 returns-clause-otherwise c = λ limits list key unique flags block. cas_outcomes limits (after limits list) (changes limits list + 1) key flags unique block
+
+pub returns-clause-exists : goal.returns-clause-exists
+returns-clause-exists c = λ limits list key unique flags block. cas_exists limits (after limits list) (changes limits list + 1) key flags unique block
+
+pub returns-clause-not_found : goal.returns-clause-not_found
+returns-clause-not_found c = λ limits list key unique flags block. cas_not_found limits (after limits list) (changes limits list + 1) key flags unique block

@@ -1,13 +1,13 @@
-use Rattle.std.proofs.Common.{true, ◌≡◌, [], ◌∷◌, ◌++◌, ◌∙◌, ap, append_assoc, add-zero}
+use Rattle.std.proofs.Common.{ap, refl, ◌∙◌}
 use Rattle.std.specs.FinMap.{len-empty}
 use Rattle.mc_model.specs.declared.command.Command.TheVariants.{Flush}
 use Rattle.mc_model.specs.declared.item.Item.{Item}
 use Rattle.mc_model.specs.declared.reply.Reply.TheVariants.{Values}
-use Rattle.mc_model.specs.History.{after-push, changes, changes-push}
+use Rattle.mc_model.specs.History.{after-push}
 use Rattle.mc_model.specs.Table.{count_of, key_cmp, use_of}
 use Rattle.mc_model.specs.Use.{use-empty}
-use Rattle.mc_model.proofs.Histories.{get_after_push-set}
-use Rattle.mc_model.proofs.OneKey.{get_held, nothing_shown}
+use Rattle.mc_model.proofs.Histories.{no_change}
+use Rattle.mc_model.proofs.OneKey.{nothing_shown}
 use Rattle.mc_model.proofs.laws.flush_takes_all_out.Goals as goal
 
 pub returns-clause-nothing : goal.returns-clause-nothing
@@ -17,7 +17,4 @@ pub returns-clause-room : goal.returns-clause-room
 returns-clause-room c = λ limits earlier. (ap use_of (after-push limits earlier Flush) ∙ use-empty, ap count_of (after-push limits earlier Flush) ∙ len-empty key_cmp Item)
 
 pub returns-clause-uniques : goal.returns-clause-uniques
-returns-clause-uniques c = λ limits earlier key flags block given.
-    let kept : changes limits (earlier ++ Flush ∷ []) ≡ changes limits earlier = changes-push limits earlier Flush ∙ add-zero (changes limits earlier) in
-    let set = get_after_push-set limits (earlier ++ Flush ∷ []) key flags block given in
-    get_held limits _ key true _ (rw (append_assoc earlier (Flush ∷ []) _, kept) at set)
+returns-clause-uniques c = λ limits list. no_change limits list Flush refl

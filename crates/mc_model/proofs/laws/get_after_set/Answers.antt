@@ -1,17 +1,14 @@
-use Rattle.std.proofs.Common.{◌≡◌, ◌+◌, ◌++◌, ◌∷◌, [], Some, refl, ◌∙◌, append_assoc}
-use Rattle.std.proofs.lemmas.List.Elements.{recursion_from_All}
-use Rattle.std.specs.FinMap as map
-use Rattle.mc_model.specs.declared.command.Command.TheVariants.{Store}
-use Rattle.mc_model.specs.declared.command.Verb.TheVariants.{Set}
-use Rattle.mc_model.specs.Effect.{SparesKey}
-use Rattle.mc_model.specs.History.{after, changes}
-use Rattle.mc_model.proofs.Histories.{get_after_push-set, spared_more}
+use Rattle.std.proofs.Common.{true, ap}
+use Rattle.mc_model.specs.declared.reply.Reply.TheVariants.{Stored}
+use Rattle.mc_model.specs.Effect.{is_refusal}
+use Rattle.mc_model.specs.History.{after}
+use Rattle.mc_model.proofs.Effects.{stored_there}
+use Rattle.mc_model.proofs.OneKey.{get_held, held_until, stored_or_refused}
 use Rattle.mc_model.proofs.laws.get_after_set.Goals as goal
 
-pub returns : goal.returns
-returns c = λ limits earlier between key flags block given spared.
-    let set = Store Set key flags block in
-    let spares = recursion_from_All (SparesKey key) between spared in
-    let held : map.get (after limits (earlier ++ set ∷ between)) key ≡ Some (record { flags = flags; block = block; unique = changes limits earlier + 1 }) =
-    rw (append_assoc earlier (set ∷ []) between) at (spared_more limits (earlier ++ set ∷ []) between key spares) ∙ get_after_push-set limits earlier key flags block given in
-    rw held refl
+pub returns-clause-answered : goal.returns-clause-answered
+returns-clause-answered c = λ limits list key flags block. stored_or_refused limits (after limits list) key _ Stored
+
+pub returns-clause-shown : goal.returns-clause-shown
+returns-clause-shown c = λ limits earlier between key flags block given untouched.
+    get_held limits _ key true _ (held_until limits earlier between _ key _ untouched (stored_there limits (after limits earlier) key _ Stored (ap is_refusal given)))

@@ -1,6 +1,6 @@
-use Rattle.std.proofs.Common.{◌≡◌, ◌<◌, length, get_or, Some, rules}
+use Rattle.std.proofs.Common.{◌≡◌, ◌<◌, length, get_or, rules}
 use Rattle.mc_replica.proofs.Effects.{TakeEffect-set}
-use Rattle.mc_replica.specs.Replay.{table_after}
+use Rattle.mc_model.specs.State.{next_state}
 use Rattle.mc_replica.proofs.tables.take_effect.Goals as goal
 
 pub returns-in_ok-reply-clause-tables : goal.returns-in_ok-reply-clause-tables
@@ -9,7 +9,7 @@ returns-in_ok-reply-clause-tables c =
     let own : c.from-place.result ≡ c.in-Some.entry.tenant = search rules in
     let inside : c.from-place.result < length c.args.tables.now.items = search rules in
     let at : old ≡ get_or c.args.tables.now.items c.from-place.result old = search rules in
-    let next : c.apply.new.self ≡ table_after old (Some c.in-Some.entry.command) = search rules in
+    let next : c.apply.new.self ≡ next_state old c.in-Some.entry.command = search rules in
     rw c.in-Some.is (TakeEffect-set c.args.tables.now.items c.from-place.result old c.apply.new.self c.in-Some.entry own inside at next)
 
 pub returns-in_ok-advance-clause-tables : goal.returns-in_ok-advance-clause-tables
@@ -18,5 +18,5 @@ returns-in_ok-advance-clause-tables c =
     let own : c.from-place.result ≡ c.in-Some.entry.tenant = search rules in
     let inside : c.from-place.result < length c.args.tables.now.items = search rules in
     let at : old ≡ get_or c.args.tables.now.items c.from-place.result old = search rules in
-    let next : c.advance.new.self ≡ table_after old (Some c.in-Some.entry.command) = search rules in
+    let next : c.advance.new.self ≡ next_state old c.in-Some.entry.command = search rules in
     rw c.in-Some.is (TakeEffect-set c.args.tables.now.items c.from-place.result old c.advance.new.self c.in-Some.entry own inside at next)

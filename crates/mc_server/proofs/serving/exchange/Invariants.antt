@@ -1,17 +1,16 @@
 use Rattle.std.proofs.Common.{◌≡◌, ◌≤◌, length}
 use Rattle.mc_server.specs.declared.session.TheConstants.{QUEUE_BYTES}
 use Rattle.mc_server.specs.declared.serving.TheConstants.{PULL_BYTES}
-use Rattle.mc_stream.specs.Stream.{streams_of}
+use Rattle.mc_stream.specs.Stream.{both}
 use Rattle.mc_server.proofs.Underway.{IsUnderway}
 use Rattle.mc_server.proofs.serving.exchange.Given as goal
 
 abbrev pub invariant-loop : goal.invariant-loop
 invariant-loop g l =
-    let streams = streams_of g.I.Input.pulled g.I.Input.left g.I.Input.failures g.O.Output.pushed g.O.Output.failures in
     record {
-      underway : IsUnderway l.fn.session.limits l.fn.session.replica.places (streams l.fn.input l.fn.output) (streams l.input l.output) l.reader l.session l.closed;
+      underway : IsUnderway l.fn.session.limits l.fn.session.replica.places (both (g.I.Input.tells l.fn.input) (g.O.Output.tells l.fn.output)) (both (g.I.Input.tells l.input) (g.O.Output.tells l.output)) l.reader l.session l.closed;
       room : length l.session.queue.items ≤ QUEUE_BYTES;
       whole_buffer : length l.buffer ≡ PULL_BYTES;
-      input_failures : g.I.Input.failures l.input ≡ g.I.Input.failures l.fn.input;
-      output_failures : g.O.Output.failures l.output ≡ g.O.Output.failures l.fn.output;
+      input_failures : (g.I.Input.tells l.input).failures ≡ (g.I.Input.tells l.fn.input).failures;
+      output_failures : (g.O.Output.tells l.output).failures ≡ (g.O.Output.tells l.fn.output).failures;
     }

@@ -1,4 +1,3 @@
-use Rattle.std.proofs.Common.{refl}
 use Rattle.mc_server.proofs.Underway.{starved_at_once, stops_told}
 use Rattle.mc_server.proofs.serving.pump.Goals as goal
 
@@ -6,8 +5,8 @@ use Rattle.mc_server.proofs.serving.pump.Goals as goal
 pub returns-in_default-clause-stops : goal.returns-in_default-clause-stops
 returns-in_default-clause-stops g c =
     let told = rw c.refusal_text.ensures at c.push_while_taken.ensures.pushed in
-    starved_at_once c.args.limits c.args.places _ _ _ refl refl told
+    starved_at_once c.args.limits c.args.places _ _ _ told
 
 pub returns-clause-stops : goal.returns-clause-stops
 returns-clause-stops g c =
-    let stops = rw (c.in-Ok.ensures.limits, c.in-Ok.ensures.places) at c.serve.ensures.stops in stops_told _ _ _ _ _ _ _ stops
+    let stops = rw (c.in-Ok.ensures.limits, c.in-Ok.ensures.places) at c.serve.ensures.stops in stops_told _ _ _ _ _ _ stops

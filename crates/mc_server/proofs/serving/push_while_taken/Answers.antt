@@ -1,4 +1,4 @@
-use Rattle.std.proofs.Common.{◌+◌, inl, inr, refl, length, ◌∙◌, ap, add-zero, length-drop, arith}
+use Rattle.std.proofs.Common.{◌+◌, inl, inr, length, ◌∙◌, ap, add-zero, length-drop, arith}
 use Rattle.std.proofs.lemmas.List.{take_rest}
 use Rattle.mc_server.proofs.Pieces.{at_once_sent, sent_more}
 use Rattle.mc_server.proofs.serving.push_while_taken.Goals as goal
@@ -17,8 +17,8 @@ loop-sent-preserved g c =
 
 pub returns-in-Full-clause-pushed : goal.returns-in-Full-clause-pushed
 returns-in-Full-clause-pushed g c =
-    at_once_sent _ _ _ c.args.bytes.now c.loop-sent.sent _ _ _ c.loop-sent.invariant.pushed c.in-Full.ensures.bytes (inl (c.in-Full.ensures.full refl, c.in-Full.ensures.failed ∙ (add-zero _ ∙ c.loop-sent.invariant.failures)))
+    at_once_sent _ _ _ c.args.bytes.now c.loop-sent.sent c.loop-sent.invariant.pushed c.in-Full.ensures.bytes (inl (c.in-Full.ensures.full, c.in-Full.ensures.failed ∙ (add-zero _ ∙ c.loop-sent.invariant.failures)))
 
 pub returns-in-Failed-clause-pushed : goal.returns-in-Failed-clause-pushed
 returns-in-Failed-clause-pushed g c =
-    at_once_sent _ _ _ c.args.bytes.now c.loop-sent.sent _ _ _ c.loop-sent.invariant.pushed c.in-Failed.ensures.bytes (inr (c.in-Failed.ensures.failed ∙ ap (λ n. n + 1) c.loop-sent.invariant.failures))
+    at_once_sent _ _ _ c.args.bytes.now c.loop-sent.sent c.loop-sent.invariant.pushed c.in-Failed.ensures.bytes (inr (c.in-Failed.ensures.failed ∙ ap (λ n. n + 1) c.loop-sent.invariant.failures))

@@ -2,7 +2,7 @@ use Rattle.std.proofs.Common.{codes, inl, inr, map, string_bytes, subst, List, S
 use Rattle.clap.specs.Words.{kind_of}
 use Rattle.mc_server.specs.Faults.{Fails}
 use Rattle.mc_server.specs.Options.{AsksInRange, IsAnswered, limits_asked, places_asked}
-use Rattle.mc_stream.specs.Stream.{streams_of}
+use Rattle.mc_stream.specs.Stream.{both}
 use Rattle.mc_server.proofs.stdin.run_stdin.Goals as goal
 
 -- the kind of a mistake is one that clap names for these words, since memory wasn't wanting
@@ -24,10 +24,9 @@ returns-clause-fails g c =
     λ one.
     let in_range = rw (c.in-Ok.ensures.places, c.in-Ok.ensures.limits) at c.is_in_range.ensures.0 c.if-not-is_in_range.false in
     let stops = rw (c.in-Ok.ensures.places, c.in-Ok.ensures.limits) at c.in-Err-pump.ensures.stops in
-    let streams = streams_of g.I.Input.pulled g.I.Input.left g.I.Input.failures g.O.Output.pushed g.O.Output.failures in
     inl (subst
     (λ (words : List (String Global)). AsksInRange (map string_bytes words)
-    × Fails (codes "mc_stdin") (limits_asked (map string_bytes words)) (places_asked (map string_bytes words)) (streams c.args.input.now c.args.output.now) (streams c.pump.new.input c.pump.new.output)
-    (g.O.Output.is_full c.pump.new.output) (g.E.Output.failures c.args.errors.now) (g.E.Output.failures c.fail.new.errors) (g.E.Output.pushed c.args.errors.now) (g.E.Output.pushed c.fail.new.errors))
+    × Fails (codes "mc_stdin") (limits_asked (map string_bytes words)) (places_asked (map string_bytes words)) (both (g.I.Input.tells c.args.input.now) (g.O.Output.tells c.args.output.now)) (both (g.I.Input.tells c.pump.new.input) (g.O.Output.tells c.pump.new.output))
+    (g.E.Output.tells c.args.errors.now) (g.E.Output.tells c.fail.new.errors))
     c.deref.ensures.value
     ((c.in-Ok.ensures.kinds, in_range), record { fault = c.in-Err-pump.fault; counts = c.in-Err-pump.ensures.failures; stops = stops; tells = c.fail.ensures.tells }))

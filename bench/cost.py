@@ -1,0 +1,51 @@
+#!/usr/bin/env python3
+"""Counts what one command costs mc_stdin on its way from bytes in to bytes out: allocations and copies, and their bytes.
+
+Each row is the difference of two runs, one with twice the commands of the other, so the start and the end are out of it. What the
+program copies in a loop of its own, byte by byte, is not counted. Needs gcc, and the built program.
+"""
+
+import os
+import shutil
+import subprocess
+import sys
+import tempfile
+
+PROGRAM = "crates/mc_stdin/out/mc_stdin"
+KEY = b"key-of-16-bytes!"
+SET = b"set " + KEY + b" 0 0 100\r\n" + 100 * b"v" + b"\r\n"
+NEW = [b"set key-%012d 0 0 100\r\n" % number + 100 * b"v" + b"\r\n" for number in range(40000)]
+GET = b"get " + KEY + b"\r\n"
+COUNT = 10000
+
+ROWS = [
+    ("a set of a held key", lambda count: SET + count * SET),
+    ("a set of a new key", lambda count: b"".join(NEW[: 20000 + count])),
+    ("a get of a held key", lambda count: SET + count * GET),
+    ("a get of a key that isn't held", lambda count: count * GET),
+    ("a version, by its line alone", lambda count: count * b"version\r\n"),
+]
+
+
+def counted(preload, stream):
+    ended = subprocess.run([PROGRAM], input=stream, capture_output=True, env=dict(os.environ, LD_PRELOAD=preload), timeout=120)
+    if ended.returncode:
+        sys.exit(f"mc_stdin ended with {ended.returncode}")
+    return [int(it) for it in ended.stderr.split()]
+
+
+def main():
+    os.chdir(os.path.join(os.path.dirname(os.path.abspath(__file__)), ".."))
+    if not shutil.which("gcc"):
+        sys.exit("gcc is missing: apt-get install gcc libc6-dev")
+    names = "allocations bytes copies bytes".split()
+    print(f"{'for one command':32}" + "".join(f"{name:>12}" for name in names))
+    with tempfile.TemporaryDirectory() as folder:
+        preload = os.path.join(folder, "count.so")
+        subprocess.run(["gcc", "-shared", "-fPIC", "-O1", "-fno-builtin", "-o", preload, "bench/count.c", "-ldl"], check=True)
+        for name, stream in ROWS:
+            once, twice = (counted(preload, stream(count)) for count in (COUNT, 2 * COUNT))
+            print(f"{name:32}" + "".join(f"{(more - less) / COUNT:12.2f}" for less, more in zip(once, twice)))
+
+
+main()

@@ -1,0 +1,29 @@
+use Rattle.std.proofs.Common.{◌≡◌, ◌+◌, ◌-◌, ◌%◌, ◌^◌, ◌∙◌, ap, arith}
+use Rattle.mc_model.specs.declared.reply.Reply.TheVariants.{Number}
+use Rattle.mc_model.specs.Effect.{Effect}
+use Rattle.mc_model.specs.History.{after, changes}
+use Rattle.mc_model.proofs.Counting.{decr_there, incr_there, numbered}
+use Rattle.mc_model.proofs.Histories.{stays_within}
+use Rattle.mc_model.proofs.OneKey.{stored_or_refused}
+use Rattle.mc_model.proofs.Quotas.{stored_refused}
+use Rattle.mc_model.proofs.laws.incr_wraps_and_decr_stops.Goals as goal
+
+pub returns-clause-sum : goal.returns-clause-sum
+returns-clause-sum c = λ limits list key old number by is value.
+    rw (ap (λ (e : Effect). e.reply) (incr_there limits (after limits list) (changes limits list + 1) key old number by is value))
+    (stored_or_refused limits (after limits list) key _ (Number ((number + by) % (2 ^ 64))))
+
+pub returns-clause-refused : goal.returns-clause-refused
+returns-clause-refused c = λ limits list key old number by is value.
+    rw (ap (λ (e : Effect). e.reply) (incr_there limits (after limits list) (changes limits list + 1) key old number by is value))
+    (stored_refused limits (after limits list) key (numbered limits (after limits list) (changes limits list + 1) key old ((number + by) % (2 ^ 64))) (Number ((number + by) % (2 ^ 64))) (λ same. cc))
+
+pub returns-clause-difference : goal.returns-clause-difference
+returns-clause-difference c = λ limits list key old left by is value.
+    let back : left + by - by ≡ left = omega arith in
+    ap (λ (e : Effect). e.reply) (decr_there limits (after limits list) (changes limits list + 1) key old (left + by) by (stays_within limits list) is value) ∙ ap Number back
+
+pub returns-clause-zero : goal.returns-clause-zero
+returns-clause-zero c = λ limits list key old number by is value below.
+    let none : number - by ≡ 0 = omega (arith, below) in
+    ap (λ (e : Effect). e.reply) (decr_there limits (after limits list) (changes limits list + 1) key old number by (stays_within limits list) is value) ∙ ap Number none
