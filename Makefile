@@ -1,20 +1,24 @@
 # `make run` and `make test` do all set-up on a machine that has the kit (`rt` on the PATH).
-.PHONY: help run test memory bench kit
+.PHONY: help run test edits memory bench kit
 
 help:
 	@echo 'make run    proves, builds and runs mc_stdin on its first run, and prints what it prints'
-	@echo 'make test   the gate: every proof from nothing, the edits that must be refused, the tests, the programs'
+	@echo 'make test   the gate: every proof from nothing, the telling edits, the tests, the programs on their worked rows'
+	@echo 'make edits  tries all edits that must be refused; make edits CRATES="mc_items mc_read" those of some crates'
 	@echo 'make memory runs mc_stdin with less and less memory, and with each allocation refused in turn, and looks at what it answers'
 	@echo 'make bench  measures the built programs; the figures of docs/BENCHMARKS.md come from it'
 
 run: kit
-	@echo 'Proving and building; the first time takes some minutes.' >&2
-	@cd crates/mc_stdin && log=$$(mktemp) && { rt run >"$$log" 2>&1 || { cat "$$log"; rm -f "$$log"; exit 1; }; rm -f "$$log"; }
-	@crates/mc_stdin/out/mc_stdin $$(cat crates/mc_stdin/args) <crates/mc_stdin/stdin
+	@tools/prove.sh mc_stdin >&2
+	@crates/mc_stdin/out/mc_stdin <crates/mc_stdin/stdin
 	@echo "The program is crates/mc_stdin/out/mc_stdin; feed it from a file or a pipe: printf 'get a\\\\r\\\\n' | crates/mc_stdin/out/mc_stdin"
 
 test: kit
-	@rt ci
+	@tests/gate.sh
+
+edits: kit
+	@tests/edits.sh
+	@tools/edits.sh $(CRATES)
 
 memory: kit
 	@tests/memory.sh

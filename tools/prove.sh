@@ -1,0 +1,87 @@
+#!/usr/bin/env bash
+# Proves and builds a program with the libraries that it stands on, those that don't wait for each other side by side.
+# Prints a line as each crate begins and one as it ends; where one fails, its log stays and the last line says where.
+set -euo pipefail
+cd "$(dirname "$0")/.."
+program=$1
+
+# Each crate's libraries of this repository, by crates.txt.
+declare -A below
+while IFS=: read -r crate libraries; do
+    below[${crate%% *}]=$libraries
+done < <(grep -v '^ *\(#\|$\)' crates.txt)
+for crate in "${!below[@]}"; do
+    ours=
+    for library in ${below[$crate]}; do [ -z "${below[$library]+ours}" ] || ours+=" $library"; done
+    below[$crate]=$ours
+done
+
+# The crates to prove, each after its libraries.
+order=()
+add() {
+    local crate
+    for crate in ${below[$1]}; do add "$crate"; done
+    [[ " ${order[*]} " == *" $1 "* ]] || order+=("$1")
+}
+add "$program"
+
+# How much text waits for a crate with its own: the longest chain begins first, and gets the processors that are left over.
+declare -A chain
+for crate in "${order[@]}"; do chain[$crate]=0; done
+for ((at = ${#order[@]} - 1; at >= 0; at--)); do
+    crate=${order[at]}
+    ((chain[$crate] += $(find "crates/$crate" -path '*/out' -prune -o \( -name '*.rt' -o -name '*.antt' \) -print0 | xargs -0 cat | wc -l))) || true
+    for library in ${below[$crate]}; do
+        ((chain[$library] >= chain[$crate])) || chain[$library]=${chain[$crate]}
+    done
+done
+mapfile -t order < <(for crate in "${order[@]}"; do echo "${chain[$crate]} $crate"; done | sort -rn | cut -d' ' -f2)
+
+# Proves one crate with so many jobs, in the background.
+logs=$(mktemp -d)
+declare -A state jobs_of process_of
+begun=0
+begin() {
+    local crate=$1 jobs=$2
+    begun=$((begun + 1))
+    echo "proving $crate ($begun of ${#order[@]})"
+    if [ "$crate" = "$program" ]; then
+        (cd "crates/$crate" && rt run --jobs "$jobs" <stdin) >"$logs/$crate" 2>&1 &
+    else
+        (cd "crates/$crate" && rt lib --jobs "$jobs") >"$logs/$crate" 2>&1 &
+    fi
+    state[$crate]=$SECONDS jobs_of[$crate]=$jobs process_of[$!]=$crate
+}
+
+is_ready() {
+    local library
+    [ -z "${state[$1]-}" ] || return 1
+    for library in ${below[$1]}; do [ "${state[$library]-}" = proved ] || return 1; done
+}
+
+idle=$(nproc)
+left=${#order[@]}
+trap 'kill $(jobs -p) 2>/dev/null || true' EXIT
+while [ "$left" -gt 0 ]; do
+    ready=()
+    for crate in "${order[@]}"; do ! is_ready "$crate" || ready+=("$crate"); done
+    for ((at = 0; at < ${#ready[@]} && idle > 0; at++)); do
+        waiting=$((${#ready[@]} - at))
+        jobs=$(((idle + waiting - 1) / waiting))
+        [ "$jobs" -le 4 ] || jobs=4
+        begin "${ready[at]}" "$jobs"
+        idle=$((idle - jobs))
+    done
+    status=0
+    wait -n -p ended "${!process_of[@]}" || status=$?
+    crate=${process_of[$ended]}
+    unset "process_of[$ended]"
+    if [ "$status" -ne 0 ]; then
+        tail -n 20 "$logs/$crate" | cut -c1-300
+        echo "$crate isn't proved; its whole log is $logs/$crate" >&2
+        exit 1
+    fi
+    echo "        $crate is proved ... $((SECONDS - state[$crate])) s"
+    state[$crate]=proved idle=$((idle + jobs_of[$crate])) left=$((left - 1))
+done
+rm -r "$logs"
