@@ -1,26 +1,27 @@
 -- What stands for a list of commands stands for one more, once it has had that command's effect.
-use Rattle.std.proofs.Common.{◌≡◌, ℕ, List, [], ◌∷◌, ◌++◌, Result, Ok, Err, OnOk, sym, subst, ap}
+use Rattle.std.proofs.Common.{◌≡◌, Bool, Result, Ok, Err, OnOk, sym, subst, add-zero}
 use Rattle.mc_model.specs.declared.command.Command.{Command}
-use Rattle.mc_model.specs.declared.settings.Limits.{Limits}
-use Rattle.mc_model.specs.History.{StandsFor, StandsFor-push, next_changes, next_effect}
-use Rattle.mc_model.specs.Table.{Table}
+use Rattle.mc_model.specs.declared.command.Command.TheVariants.{Get}
+use Rattle.mc_model.specs.declared.key.KeyList.{KeyList}
+use Rattle.mc_model.specs.History.{StandsFor-push, StandsForMore}
 use Rattle.mc_model.specs.State.{TableState, next_state}
 
-pub StandsFor-by : (limits : Limits) (list : List Command) (command : Command) (table new_table : Table) (number new_number : ℕ) →
-    new_table ≡ (next_effect limits table number command).table → new_number ≡ next_changes limits table number command →
-    StandsFor limits list table number → StandsFor limits (list ++ command ∷ []) new_table new_number
-StandsFor-by limits list command table new_table number new_number is_table is_number stands =
-    let pushed = StandsFor-push limits list command table number stands in
-    subst (λ (n : ℕ). StandsFor limits (list ++ command ∷ []) new_table n) (sym is_number)
-    (subst (λ (t : Table). StandsFor limits (list ++ command ∷ []) t (next_changes limits table number command)) (sym is_table) pushed)
+pub StandsForMore-next : (command : Command) (old new : TableState) → new ≡ next_state old command → StandsForMore old command new
+StandsForMore-next command old new is = subst (StandsForMore old command) (sym is) (StandsFor-push old command)
 
--- the same of a table's state, where a call answers that it has changed so
-pub StandsFor-next : (command : Command) (old new : TableState) → new ≡ next_state old command →
-    (list : List Command) → StandsFor old.limits list old.table old.last_unique → StandsFor old.limits (list ++ command ∷ []) new.table new.last_unique
-StandsFor-next command old new is list =
-    StandsFor-by old.limits list command old.table new.table old.last_unique new.last_unique (ap (λ (s : TableState). s.table) is) (ap (λ (s : TableState). s.last_unique) is)
+-- the same of a call that may have failed
+pub OnOk-StandsForMore : {A E : Type 0} (result : Result A E) (command : Command) (old new : TableState) → OnOk result (new ≡ next_state old command) →
+    OnOk result (StandsForMore old command new)
+OnOk-StandsForMore (Ok value) command old new is = StandsForMore-next command old new is
+OnOk-StandsForMore (Err error) command old new is = tt
 
-pub OnOk-StandsFor : {A E : Type 0} (result : Result A E) (command : Command) (old new : TableState) → OnOk result (new ≡ next_state old command) →
-    OnOk result ((list : List Command) → StandsFor old.limits list old.table old.last_unique → StandsFor old.limits (list ++ command ∷ []) new.table new.last_unique)
-OnOk-StandsFor (Ok value) command old new is = StandsFor-next command old new is
-OnOk-StandsFor (Err error) command old new is = tt
+-- a retrieval leaves the table
+next_state-get : (state : TableState) (keys : KeyList) (uniques : Bool) → state ≡ next_state state (Get keys uniques)
+next_state-get state keys uniques = λ i. record { limits = state.limits; table = state.table; last_unique = sym (add-zero state.last_unique) i }
+
+pub StandsForMore-get : (state : TableState) (keys : KeyList) (uniques : Bool) → StandsForMore state (Get keys uniques) state
+StandsForMore-get state keys uniques = StandsForMore-next (Get keys uniques) state state (next_state-get state keys uniques)
+
+pub OnOk-StandsForMore-get : {A E : Type 0} (result : Result A E) (state : TableState) (keys : KeyList) (uniques : Bool) → OnOk result (StandsForMore state (Get keys uniques) state)
+OnOk-StandsForMore-get (Ok value) state keys uniques = StandsForMore-get state keys uniques
+OnOk-StandsForMore-get (Err error) state keys uniques = tt

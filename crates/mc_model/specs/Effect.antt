@@ -1,7 +1,7 @@
 -- What a command does to a table and what it is answered, after memcached's doc/protocol.txt, "Storage commands",
 -- "Retrieval command", "Deletion", "Increment/Decrement" and, for flush_all, "Other commands". One equation a command. The order
 -- of its refusals, a join that is too long, the quotas and a decr without padding are this project's profile.
-use Rattle.std.specs.Prelude.{◌≡◌, ◌⊎◌, ℕ, ◌+◌, ◌-◌, ◌%◌, ◌^◌, ◌==◌, nat_le, Bool, true, false, if◌then◌else◌, ◌++◌, length, decimal, Option, Some, None}
+use Rattle.std.specs.Prelude.{ℕ, ◌+◌, ◌-◌, ◌%◌, ◌^◌, ◌==◌, nat_le, Bool, true, false, if◌then◌else◌, ◌++◌, length, decimal, Option, Some, None}
 use Rattle.std.specs.List.{filter_map}
 use Rattle.std.specs.Option.{option_map}
 use Rattle.std.specs.FinMap as map
@@ -108,17 +108,3 @@ is_refusal Exists = true
 is_refusal NotFound = true
 is_refusal (Refused refusal) = true
 is_refusal _ = false
-
--- whether a cas is let through by its unique: it is stored then, or the quotas refuse it
-abbrev pub IsLetThrough : Reply → Type 0
-IsLetThrough reply = (reply ≡ Stored) ⊎ (reply ≡ Refused E7)
-
--- the command, where it isn't refused, changes the item under this key or takes it out
-abbrev pub ActsOn : Key → Command → Type 0
-ActsOn key (Store verb other flags block) = other ≡ key
-ActsOn key (Cas other flags block seen) = other ≡ key
-ActsOn key (Get keys uniques) = ⊥
-ActsOn key (Delete other) = other ≡ key
-ActsOn key (Incr other by) = other ≡ key
-ActsOn key (Decr other by) = other ≡ key
-ActsOn key Flush = Unit {0}

@@ -1,120 +1,67 @@
--- What a list of commands leaves of a tenant's table that is empty at first, under the tenant's quotas. The lists stand in the order of the commands.
--- A change is a command that was accepted; its unique is how many there are with it, from 1 (this project's profile of
--- the "unique 64-bit value" of memcached's doc/protocol.txt).
-use Rattle.std.specs.Prelude.{◌≡◌, ◌≢◌, ℕ, ◌+◌, ◌≤◌, length, Bool, true, false, if◌then◌else◌, IsTrue, List, [], ◌∷◌, ◌++◌, reverse, Some, refl}
+-- What a list of commands leaves of a tenant's table that was opened with these quotas and is empty at first. The lists stand in
+-- the order of the commands.
+use Rattle.std.specs.Prelude.{◌≡◌, ℕ, ◌+◌, ◌≤◌, length, Bool, true, false, if◌then◌else◌, List, [], ◌∷◌, ◌++◌, refl}
+use Rattle.std.specs.List.{fold}
 use Rattle.std.proofs.Common.{ap, arith, sym, ◌∙◌}
-use Rattle.std.proofs.lemmas.List.{length-reverse, reverse-append}
-use Rattle.std.specs.FinMap as map
+use Rattle.std.proofs.lemmas.List.Sums.{fold_push}
 use Rattle.mc_model.specs.declared.command.Command.{Command}
-use Rattle.mc_model.specs.declared.item.Item.{Item}
-use Rattle.mc_model.specs.declared.key.Key.{Key}
 use Rattle.mc_model.specs.declared.reply.Reply.{Reply}
 use Rattle.mc_model.specs.declared.settings.Limits.{Limits}
-use Rattle.mc_model.specs.Effect.{ActsOn, Effect, effect, is_acceptance, is_refusal}
+use Rattle.mc_model.specs.Effect.{is_acceptance}
+use Rattle.mc_model.specs.State.{TableState, empty_table, next_reply, next_state}
 use Rattle.mc_model.specs.Table.{Table}
 
--- the effect of a command on a table after so many changes: the latest unique is their number, and a change gets the next
-abbrev pub next_effect : Limits → Table → ℕ → Command → Effect
-next_effect limits table changes command = effect limits table (changes + 1) command
+-- the state after a list: one command after another
+unfoldable pub state_after : Limits → List Command → TableState
+state_after opening list = fold next_state (empty_table opening) list
 
--- how many changes there are with it
-abbrev pub next_changes : Limits → Table → ℕ → Command → ℕ
-next_changes limits table changes command = changes + (if is_acceptance (next_effect limits table changes command).reply then 1 else 0)
+-- its table, and how many changes there were
+abbrev pub after : Limits → List Command → Table
+after opening list = (state_after opening list).table
 
--- by recursion on the list, from its latest command
-unfoldable mutual
-  pub table_of : Limits → List Command → Table
-  table_of limits [] = map.empty
-  table_of limits (latest ∷ earlier) = (next_effect limits (table_of limits earlier) (changes_of limits earlier) latest).table
+abbrev pub changes : Limits → List Command → ℕ
+changes opening list = (state_after opening list).last_unique
 
-  pub changes_of : Limits → List Command → ℕ
-  changes_of limits [] = 0
-  changes_of limits (latest ∷ earlier) = next_changes limits (table_of limits earlier) (changes_of limits earlier) latest
-
--- the table after a list
-unfoldable pub after : Limits → List Command → Table
-after limits list = table_of limits (reverse list)
-
--- how many commands of a list were accepted, each after the commands before it
-unfoldable pub changes : Limits → List Command → ℕ
-changes limits list = changes_of limits (reverse list)
-
--- the effect of a command after a list, and its answer
-abbrev pub effect_after : Limits → List Command → Command → Effect
-effect_after limits list command = next_effect limits (after limits list) (changes limits list) command
-
+-- what one more command is answered, and whether it is accepted
 abbrev pub answer : Limits → List Command → Command → Reply
-answer limits list command = (effect_after limits list command).reply
+answer opening list command = next_reply (state_after opening list) command
 
--- whether a command is accepted after a list
 abbrev pub accepts : Limits → List Command → Command → Bool
-accepts limits list command = is_acceptance (answer limits list command)
+accepts opening list command = is_acceptance (answer opening list command)
 
--- after a list, the command changes the item under the key or takes it out
-abbrev pub Touches : Limits → List Command → Key → Command → Type 0
-Touches limits list key command = ActsOn key command × (is_refusal (answer limits list command) ≡ false)
+-- a table that was opened with these quotas stands for a list
+abbrev pub StandsFor : Limits → List Command → TableState → Type 0
+StandsFor opening list state = state ≡ state_after opening list
 
--- none of the commands in between touches the key, each after those before it
-abbrev pub IsUntouched : Limits → List Command → Key → List Command → Type 0
-IsUntouched limits earlier key between =
-    (front back : List Command) (command : Command) → between ≡ front ++ command ∷ back → Touches limits (earlier ++ front) key command → ⊥
+-- whatever list the table stood for, and whatever quotas it was opened with, it then stands for that list with this command at the end
+abbrev pub StandsForMore : TableState → Command → TableState → Type 0
+StandsForMore old command new = (opening : Limits) (list : List Command) → StandsFor opening list old → StandsFor opening (list ++ command ∷ []) new
 
--- a table and a number of changes stand for a list
-pub record StandsFor (limits : Limits) (list : List Command) (table : Table) (number : ℕ) : Type 0 where
-  pub is_after : table ≡ after limits list
-  pub is_changes : number ≡ changes limits list
+-- The same from the front: nothing, and one more command at the end.
+pub state_after-none : (opening : Limits) → state_after opening [] ≡ empty_table opening
+unfolding state_after
+state_after-none opening = refl
 
--- The same, from the front: nothing, and one more command at the end.
-pub after-none : (limits : Limits) → after limits [] ≡ map.empty
-unfolding after table_of
-after-none limits = refl
+pub state_after-push : (opening : Limits) (list : List Command) (command : Command) →
+    state_after opening (list ++ command ∷ []) ≡ next_state (state_after opening list) command
+unfolding state_after
+state_after-push opening list command = fold_push next_state (empty_table opening) list command
 
-pub changes-none : (limits : Limits) → changes limits [] ≡ 0
-unfolding changes changes_of
-changes-none limits = refl
+pub StandsFor-none : (opening : Limits) → StandsFor opening [] (empty_table opening)
+StandsFor-none opening = sym (state_after-none opening)
 
-pub after-push : (limits : Limits) (list : List Command) (command : Command) → after limits (list ++ command ∷ []) ≡ (effect_after limits list command).table
-unfolding after changes table_of
-after-push limits list command = ap (table_of limits) (reverse-append list (command ∷ []))
-
-pub changes-push : (limits : Limits) (list : List Command) (command : Command) → changes limits (list ++ command ∷ []) ≡ next_changes limits (after limits list) (changes limits list) command
-unfolding after changes table_of
-changes-push limits list command = ap (changes_of limits) (reverse-append list (command ∷ []))
+pub StandsFor-push : (state : TableState) (command : Command) → StandsForMore state command (next_state state command)
+StandsFor-push state command opening list stands = ap (λ s. next_state s command) stands ∙ sym (state_after-push opening list command)
 
 -- no command counts as more than one change
-pub changes-le : (limits : Limits) (list : List Command) → changes limits list ≤ length list
-unfolding changes changes_of
-changes-le limits list = omega (arith, from_latest (reverse list), length-reverse list)
+pub changes-le : (opening : Limits) (list : List Command) → changes opening list ≤ length list
+unfolding state_after
+changes-le opening list = omega (arith, few list (empty_table opening))
   where
     at_most_one : (b : Bool) → (if b then 1 else 0) ≤ 1
     at_most_one true = omega arith
     at_most_one false = omega arith
 
-    from_latest : (latest_first : List Command) → changes_of limits latest_first ≤ length latest_first
-    from_latest [] = omega arith
-    from_latest (latest ∷ earlier) =
-        omega (arith, from_latest earlier, at_most_one (is_acceptance (next_effect limits (table_of limits earlier) (changes_of limits earlier) latest).reply))
-
--- The same of what stands for a list.
-pub StandsFor-none : (limits : Limits) → StandsFor limits [] map.empty 0
-StandsFor-none limits = record { is_after = sym (after-none limits); is_changes = sym (changes-none limits) }
-
-pub StandsFor-push : (limits : Limits) (list : List Command) (command : Command) (table : Table) (number : ℕ) → StandsFor limits list table number →
-    StandsFor limits (list ++ command ∷ []) (next_effect limits table number command).table (next_changes limits table number command)
-StandsFor-push limits list command table number stands =
-    let same : ◌≡◌ {A = Table × ℕ} (table, number) (after limits list, changes limits list) = λ i. (stands.is_after i, stands.is_changes i) in
-    record {
-      is_after = ap (λ (p : Table × ℕ). (next_effect limits p.0 p.1 command).table) same ∙ sym (after-push limits list command);
-      is_changes = ap (λ (p : Table × ℕ). next_changes limits p.0 p.1 command) same ∙ sym (changes-push limits list command);
-    }
-
--- the change that gave an item: the key didn't hold it before the change, and holds it right after
-pub record IsStoredBy (limits : Limits) (list : List Command) (key : Key) (item : Item) : Type 0 where
-  pub earlier : List Command
-  pub change : Command
-  pub later : List Command
-  pub in_list : list ≡ earlier ++ change ∷ later
-  pub accepted : IsTrue (accepts limits earlier change)
-  pub absent : map.get (after limits earlier) key ≢ Some item
-  pub stored : map.get (after limits (earlier ++ change ∷ [])) key ≡ Some item
-  pub unique : item.unique ≡ changes limits (earlier ++ change ∷ [])
+    few : (list : List Command) (state : TableState) → (fold next_state state list).last_unique ≤ state.last_unique + length list
+    few [] state = omega arith
+    few (command ∷ list) state = omega (arith, few list (next_state state command), at_most_one (is_acceptance (next_reply state command)))

@@ -1,10 +1,12 @@
 pub mod Key
 pub mod Number
+pub mod Numerals
 pub mod Settings
 pub mod Table
 pub mod Use
 pub mod Effect
-pub mod History
 pub mod State
+pub mod History
 pub mod Kinds
 pub mod Log
+pub mod Replay

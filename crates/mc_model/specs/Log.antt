@@ -1,9 +1,42 @@
 -- Whose commands stand in a log. The log is that of Herlihy's universal construction (Wait-Free Synchronization, TOPLAS 1991): one list
 -- of the commands of all. That each belongs to a tenant is this project's profile.
-use Rattle.std.specs.List.{filter_map}
-use Rattle.std.specs.Prelude.{ℕ, ◌==◌, if◌then◌else◌, List, Option, Some, None}
+use Rattle.std.specs.List.{cons_option, filter_map}
+use Rattle.std.specs.Option.{option_and_then, option_to_list}
+use Rattle.std.specs.Prelude.{◌≡◌, ℕ, ◌≤◌, Bool, ◌&&◌, ◌==◌, if◌then◌else◌, List, [], ◌∷◌, ◌++◌, length, map, Option, Some, None, refl}
+use Rattle.std.proofs.Common.{ap, ◌∙◌, arith}
+use Rattle.std.proofs.lemmas.Bool.Decides.{nat_tests}
+use Rattle.std.proofs.lemmas.List.Elements.{filter_map-append}
+use Rattle.std.specs.Coded.{Coded, code_by, coded×, coded_option}
+use Rattle.mc_model.specs.contracts.id.Ticket as ticket_row
+use Rattle.mc_model.specs.contracts.request.Entry as entry_row
 use Rattle.mc_model.specs.declared.command.Command.{Command}
+use Rattle.mc_model.specs.declared.id.Ticket.{Ticket}
 use Rattle.mc_model.specs.declared.request.Entry.{Entry}
+
+-- What was seen of a place of the log: the ticket that stands there, and an entry that was found for it, if one was.
+pub record Sighting : Type 0 where
+  pub ticket : Ticket
+  pub entry : Option Entry
+
+-- how a sighting is stored as a model's value
+abbrev pub coded_sighting : Coded Sighting
+coded_sighting =
+    code_by (Ticket × Option Entry) (coded× ticket_row.the_row.coded (coded_option entry_row.the_row.coded)) (λ s. (s.ticket, s.entry)) (λ p. record { ticket = p.0; entry = p.1 }) (λ _. refl)
+
+abbrev pub is_ticket : Ticket → Ticket → Bool
+is_ticket ticket other = ticket.worker == other.worker && ticket.number == other.number
+
+-- an entry counts only for its own ticket
+abbrev pub entry_for : Ticket → Entry → Option Entry
+entry_for ticket entry = if is_ticket entry.ticket ticket then Some entry else None
+
+-- the entry of a place as it was seen; one of another ticket counts as absent
+abbrev pub entry_of : Sighting → Option Entry
+entry_of seen = option_and_then (entry_for seen.ticket) seen.entry
+
+-- the entries of all places that were seen
+abbrev pub entries : List Sighting → List (Option Entry)
+entries history = map entry_of history
 
 -- the command at a place, where its entry is there and the tenant's
 abbrev pub own_command : ℕ → Option Entry → Option Command
@@ -13,3 +46,18 @@ own_command tenant (Some entry) = if entry.tenant == tenant then Some entry.comm
 -- the tenant's own commands, in the order of the log; a place without an entry belongs to nobody
 abbrev pub own : ℕ → List (Option Entry) → List Command
 own tenant log = filter_map (own_command tenant) log
+
+-- one more place is one more command of its own tenant
+one_kept : {X : Type 0} (found : Option X) → cons_option found [] ≡ option_to_list found
+one_kept None = refl
+one_kept (Some x) = refl
+
+pub own-push : (tenant : ℕ) (log : List (Option Entry)) (entry : Option Entry) → own tenant (log ++ entry ∷ []) ≡ own tenant log ++ option_to_list (own_command tenant entry)
+own-push tenant log entry =
+    filter_map-append (own_command tenant) log (entry ∷ []) ∙ ap (λ (more : List Command). own tenant log ++ more) (one_kept (own_command tenant entry))
+
+-- a tenant has no more commands than the log has places
+pub own-few : (tenant : ℕ) (log : List (Option Entry)) → length (own tenant log) ≤ length log
+own-few tenant [] = omega arith
+own-few tenant (None ∷ log) = omega (arith, own-few tenant log)
+own-few tenant (Some entry ∷ log) = grind (arith, nat_tests, own-few tenant log)

@@ -1,39 +1,44 @@
--- A tenant's table with its quotas and the number of its changes, and one step of it: what one more command is answered, and what it
--- leaves.
+-- A tenant's table with its quotas and the latest unique, and one step of it: what one more command is answered, and what it leaves.
+-- A command that is accepted is a change, and a change gets the next unique, from 1 (this project's profile of the "unique 64-bit
+-- value" of memcached's doc/protocol.txt).
 use Rattle.std.specs.Prelude.{ℕ, ◌+◌, if◌then◌else◌, refl}
 use Rattle.std.specs.Coded.{Coded, code_by, coded×, coded_ℕ}
+use Rattle.std.specs.FinMap as map
 use Rattle.mc_model.specs.declared.command.Command.{Command}
 use Rattle.mc_model.specs.declared.reply.Reply.{Reply}
 use Rattle.mc_model.specs.declared.settings.Limits.{Limits}
-use Rattle.mc_model.specs.Effect.{Effect, is_acceptance}
-use Rattle.mc_model.specs.History.{next_effect}
+use Rattle.mc_model.specs.Effect.{Effect, effect, is_acceptance}
 use Rattle.mc_model.specs.Table.{Table, coded_table}
 
--- the quotas, what is held, and how many changes there were
+-- the quotas, what is held, and the unique of the latest change: as many changes as there were
 pub record TableState : Type 0 where
   pub limits : Limits
   pub table : Table
   pub last_unique : ℕ
 
--- the effect of one more command
-abbrev pub effect_on : TableState → Command → Effect
-effect_on state command = next_effect state.limits state.table state.last_unique command
+-- a table before any command, opened with these quotas
+abbrev pub empty_table : Limits → TableState
+empty_table limits = record { limits = limits; table = map.empty; last_unique = 0 }
 
--- what an effect leaves: its table, and one more change where it is accepted
-abbrev pub state_after : TableState → Effect → TableState
-state_after state effect = record {
+-- what an effect leaves: its table, and one more change where its reply accepts it
+abbrev pub left_by : TableState → Effect → TableState
+left_by state effect = record {
   limits = state.limits;
   table = effect.table;
   last_unique = state.last_unique + (if is_acceptance effect.reply then 1 else 0);
 }
 
--- what one more command is answered
+-- the effect of one more command, by the quotas, where a change gets the next unique
+abbrev pub next_effect : TableState → Command → Effect
+next_effect state command = effect state.limits state.table (state.last_unique + 1) command
+
+-- what it is answered
 abbrev pub next_reply : TableState → Command → Reply
-next_reply state command = (effect_on state command).reply
+next_reply state command = (next_effect state command).reply
 
 -- what it leaves
 abbrev pub next_state : TableState → Command → TableState
-next_state state command = state_after state (effect_on state command)
+next_state state command = left_by state (next_effect state command)
 
 -- how a state is stored as a model's value
 abbrev pub coded_limits : Coded Limits

@@ -1,7 +1,7 @@
 //! What all layers speak of: the lawful values of the protocol, and what commands mean on a tenant's table.
 //!
 //! The types hold lawful values alone. The definitions of `specs/` say what a command does to a table and what it
-//! answers; the functions of `laws` state in the protocol's words what follows from them.
+//! answers, and what the log of all tenants does to their tables. What follows from them is stated in `mc_laws`.
 #![tactic(auto)]
 
 pub use command::{Command, Verb};
@@ -19,7 +19,6 @@ pub mod fault;
 pub mod id;
 pub mod item;
 pub mod key;
-pub mod laws;
 pub mod number;
 pub mod reply;
 pub mod request;

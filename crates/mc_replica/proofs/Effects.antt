@@ -1,15 +1,16 @@
 -- What one entry does to a list of tables.
-use Rattle.std.proofs.Common.{◌≡◌, ◌≢◌, ℕ, zero, suc, ◌<◌, ◌≤◌, List, [], ◌∷◌, length, map, get_or, Option, Some, None, true, false, refl, sym, ap, ap₂, ◌∙◌, arith, slice_get, slice_set, ◌==◌, if◌then◌else◌}
+use Rattle.std.proofs.Common.{◌≡◌, ◌≢◌, ℕ, zero, suc, ◌<◌, ◌≤◌, List, [], ◌∷◌, ◌++◌, length, get_or, Option, Some, None, true, false, refl, sym, ap, ap₂, subst, ◌∙◌, arith, slice_get, slice_set, ◌==◌, if◌then◌else◌}
 use Rattle.std.proofs.lemmas.Bool.Decides.{nat_tests}
 use Rattle.std.proofs.lemmas.Iterator.Adapters.{option_map_id}
-use Rattle.std.proofs.lemmas.List.{length-map}
-use Rattle.std.proofs.lemmas.Option.{none-some, same_Some, slice_get-map, slice_get_past, slice_get_read}
-use Rattle.std.specs.Option.{option_map, option_map_or}
+use Rattle.std.proofs.lemmas.List.{map-append}
+use Rattle.std.proofs.lemmas.Option.{none-some, same_Some, slice_get_past, slice_get_read}
+use Rattle.std.specs.Option.{option_map}
 use Rattle.mc_model.specs.State.{TableState, next_state}
 use Rattle.mc_model.specs.declared.command.Command.{Command}
 use Rattle.mc_model.specs.declared.request.Entry.{Entry}
-use Rattle.mc_model.specs.Log.{own_command}
-use Rattle.mc_replica.specs.Replay.{IsNobodys, TakeEffect}
+use Rattle.mc_model.specs.Log.{Sighting, entries, entry_of, own_command}
+use Rattle.mc_model.specs.declared.settings.Limits.{Limits}
+use Rattle.mc_model.specs.Replay.{EachStands, EachStands-length, EachStands-push, IsNobodys, TakeEffect, with_command}
 
 get_set_same : {X : Type 0} (xs : List X) (i : ℕ) (x : X) → i < length xs → slice_get (slice_set xs i x) i ≡ Some x
 get_set_same [] i x lt = absurd (omega (arith, lt))
@@ -28,7 +29,7 @@ pub TakeEffect-set : (tables : List TableState) (place : ℕ) (state next : Tabl
     place ≡ entry.tenant → place < length tables → state ≡ get_or tables place state → next ≡ next_state state entry.command →
     TakeEffect (Some entry) tables (slice_set tables place next)
 TakeEffect-set tables place state next entry own inside at is tenant = elim (entry.tenant == tenant) as
-    (λ b. (entry.tenant == tenant) ≡ b → slice_get (slice_set tables place next) tenant ≡ option_map (λ state. option_map_or (next_state state) (if b then Some entry.command else None) state) (slice_get tables tenant)) [
+    (λ b. (entry.tenant == tenant) ≡ b → slice_get (slice_set tables place next) tenant ≡ option_map (λ state. with_command state (if b then Some entry.command else None)) (slice_get tables tenant)) [
       | true ↦ λ same.
           let here : place ≡ tenant = grind (arith, nat_tests) in
           ap (slice_get (slice_set tables place next)) (sym here) ∙ get_set_same tables place next inside ∙ ap Some is
@@ -44,21 +45,12 @@ TakeEffect-none tables tenant = sym (option_map_id (slice_get tables tenant))
 
 TakeEffect-unknown : (tables : List TableState) (entry : Entry) → length tables ≤ entry.tenant → TakeEffect (Some entry) tables tables
 TakeEffect-unknown tables entry unknown tenant = elim (entry.tenant == tenant) as
-    (λ b. (entry.tenant == tenant) ≡ b → slice_get tables tenant ≡ option_map (λ state. option_map_or (next_state state) (if b then Some entry.command else None) state) (slice_get tables tenant)) [
+    (λ b. (entry.tenant == tenant) ≡ b → slice_get tables tenant ≡ option_map (λ state. with_command state (if b then Some entry.command else None)) (slice_get tables tenant)) [
       | true ↦ λ same.
           let past : length tables ≤ tenant = grind (arith, nat_tests) in
           slice_get_past tables tenant past ∙ sym (ap (option_map (λ state. next_state state entry.command)) (slice_get_past tables tenant past))
       | false ↦ λ apart. sym (option_map_id (slice_get tables tenant))
     ] refl
-
-limits_stay : (state : TableState) (command : Option Command) → (option_map_or (next_state state) command state).limits ≡ state.limits
-limits_stay state None = refl
-limits_stay state (Some command) = refl
-
-limits_at : (found : Option TableState) (command : Option Command) →
-    option_map (λ state. state.limits) (option_map (λ state. option_map_or (next_state state) command state) found) ≡ option_map (λ state. state.limits) found
-limits_at None command = refl
-limits_at (Some state) command = ap Some (limits_stay state command)
 
 same_by_places : {X : Type 0} (xs ys : List X) → ((k : ℕ) → slice_get xs k ≡ slice_get ys k) → xs ≡ ys
 same_by_places [] [] same = refl
@@ -66,18 +58,24 @@ same_by_places [] (y ∷ ys) same = absurd (none-some y (same 0))
 same_by_places (x ∷ xs) [] same = absurd (none-some x (sym (same 0)))
 same_by_places (x ∷ xs) (y ∷ ys) same = ap₂ (λ first rest. first ∷ rest) (same_Some x y (same 0)) (same_by_places xs ys (λ k. same (suc k)))
 
--- the limits stay those of each table
-pub TakeEffect-limits : (entry : Option Entry) (old new : List TableState) → TakeEffect entry old new → map (λ state. state.limits) new ≡ map (λ state. state.limits) old
-TakeEffect-limits entry old new takes = same_by_places _ _ (λ tenant.
-    slice_get-map (λ state. state.limits) new tenant ∙ ap (option_map (λ state. state.limits)) (takes tenant)
-    ∙ limits_at (slice_get old tenant) (own_command tenant entry) ∙ sym (slice_get-map (λ state. state.limits) old tenant))
-
--- so does their number
-pub TakeEffect-length : (entry : Option Entry) (old new : List TableState) → TakeEffect entry old new → length new ≡ length old
-TakeEffect-length entry old new takes =
-    sym (length-map new (λ state. state.limits)) ∙ ap length (TakeEffect-limits entry old new takes) ∙ length-map old (λ state. state.limits)
-
 -- an entry that is nobody's leaves all tables
-pub TakeEffect-nobody : (entry : Option Entry) (old new : List TableState) → TakeEffect entry old new → IsNobodys old entry → new ≡ old
-TakeEffect-nobody None old new takes nobody = same_by_places new old (λ tenant. takes tenant ∙ sym (TakeEffect-none old tenant))
-TakeEffect-nobody (Some entry) old new takes unknown = same_by_places new old (λ tenant. takes tenant ∙ sym (TakeEffect-unknown old entry unknown tenant))
+pub TakeEffect-nobody : (openings : List Limits) (log : List (Option Entry)) (entry : Option Entry) (old new : List TableState) → EachStands openings log old →
+    TakeEffect entry old new → IsNobodys openings entry → new ≡ old
+TakeEffect-nobody openings log None old new stands takes nobody = same_by_places new old (λ tenant. takes tenant ∙ sym (TakeEffect-none old tenant))
+TakeEffect-nobody openings log (Some entry) old new stands takes unknown =
+    let past : length old ≤ entry.tenant = omega (arith, unknown, EachStands-length openings log old stands) in
+    same_by_places new old (λ tenant. takes tenant ∙ sym (TakeEffect-unknown old entry past tenant))
+
+-- tables that take the effect of a sighting's entry stand for one more place
+entries-push : (history : List Sighting) (seen : Sighting) → entries (history ++ seen ∷ []) ≡ entries history ++ entry_of seen ∷ []
+entries-push history seen = map-append entry_of history (seen ∷ [])
+
+pub EachStands-seen : (openings : List Limits) (history : List Sighting) (seen : Sighting) (found : Option Entry) (old new : List TableState) → found ≡ entry_of seen →
+    EachStands openings (entries history) old → TakeEffect found old new → EachStands openings (entries (history ++ seen ∷ [])) new
+EachStands-seen openings history seen found old new is stands takes =
+    subst (λ log. EachStands openings log new) (ap (λ entry. entries history ++ entry ∷ []) is ∙ sym (entries-push history seen))
+    (EachStands-push openings (entries history) found old new stands takes)
+
+-- as many tables as before
+pub tables-stay : (openings : List Limits) (log later : List (Option Entry)) (old new : List TableState) → EachStands openings log old → EachStands openings later new → length new ≡ length old
+tables-stay openings log later old new stands stands_later = EachStands-length openings later new stands_later ∙ sym (EachStands-length openings log old stands)

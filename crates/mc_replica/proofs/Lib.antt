@@ -1,3 +1,1 @@
 mod Effects
-mod Own
-mod Stands

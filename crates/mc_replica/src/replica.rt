@@ -1,10 +1,13 @@
 //! A worker's replica of the shared log: what it has seen of the log's places, replayed on tables of its own.
-ghost use Rattle.std.specs.Prelude.{◌≡◌, ◌≢◌, ◌<◌, ◌≤◌, ◌↔◌, [], ◌∷◌, ◌++◌, length, map, Some, slice_get, IfOk, IfSome, OnOk, OnErr, IsOk, IsOkUnless, IsTrue};
+ghost use Rattle.std.specs.Prelude.{◌≡◌, ◌≢◌, ◌<◌, ◌≤◌, ◌↔◌, [], ◌∷◌, ◌++◌, length, Some, slice_get, IfOk, IfSome, OnOk, OnErr, IsOk, IsOkUnless, IsTrue};
+ghost use Rattle.std.specs.Option.{option_map};
+ghost use Rattle.mc_model.specs.History.{state_after};
 ghost use Rattle.mc_model.specs.Kinds.{IsRetrieval, IsTakingOut};
-ghost use Rattle.mc_replica.specs.Replay.{EachStands, IsNobodys, IsRefused, StandsForOwn, TakeEffect, answer_to, empty_table};
+ghost use Rattle.mc_model.specs.Log.{entries, entry_of, own};
+ghost use Rattle.mc_model.specs.Replay.{EachStands, IsNobodys, IsRefused, TakeEffect, answer_to, empty_tables};
 
 use crate::seen::Seen;
-use crate::tables::{empty_tables, take_effect};
+use crate::tables::{tables_of, take_effect};
 use mc_items::Items;
 use mc_model::{Fault, Limits, Reply, TenantId, WorkerId};
 use std::alloc::Global;
@@ -15,6 +18,8 @@ use std::marker::Model;
 pub struct Replica {
     worker: WorkerId,
     places: u64,
+    /// The quotas that each tenant's table was opened with.
+    openings: Vec<Limits>,
     /// Has room for all places from its opening on.
     history: Vec<Seen>,
     /// One table a tenant, by the tenants' numbers.
@@ -23,15 +28,15 @@ pub struct Replica {
 
 impl Model for Replica {
     ghost use Rattle.std.specs.Prelude.{vec_capacity};
-    ghost use Rattle.mc_replica.specs.Replay.{IsInOrder, ReplicaState, coded_replica};
+    ghost use Rattle.mc_replica.specs.Replica.{IsInOrder, ReplicaState, coded_replica};
 
     ghost Value = { ReplicaState };
 
     ghost coded = { coded_replica };
 
-    ghost view = { λ r. record { worker = r.worker; places = r.places; history = r.history.items; tables = r.tables.items } };
+    ghost view = { λ r. record { worker = r.worker; places = r.places; openings = r.openings.items; history = r.history.items; tables = r.tables.items } };
 
-    ghost invariant = { λ r. IsInOrder r.places (vec_capacity r.history) r.history.items r.tables.items };
+    ghost invariant = { λ r. IsInOrder r.places (vec_capacity r.history) r.openings.items r.history.items r.tables.items };
 }
 
 impl Replica {
@@ -45,22 +50,25 @@ impl Replica {
     ) -> Result<Replica, Fault>
         ensures worker { IfOk result (λ replica. replica.worker ≡ worker) }
         ensures places { IfOk result (λ replica. replica.places ≡ places) }
+        ensures openings { IfOk result (λ replica. replica.openings ≡ limits.now) }
         ensures history { IfOk result (λ replica. replica.history ≡ []) }
-        ensures tables { IfOk result (λ replica. replica.tables ≡ map empty_table limits.now) }
-        ensures stands { IfOk result (λ replica. EachStands replica.history replica.tables) }
+        ensures tables { IfOk result (λ replica. replica.tables ≡ empty_tables limits.now) }
+        ensures stands { IfOk result (λ replica. EachStands replica.openings (entries replica.history) replica.tables) }
         ensures memory { IsOkUnless result Fault.Memory }
     {
         let history = Vec::with_capacity(alloc, places as usize)?;
-        let tables = empty_tables(alloc, limits)?;
+        let openings = Vec::from_slice(alloc, limits)?;
+        let tables = tables_of(alloc, limits)?;
         Ok(Replica {
             worker,
             places,
+            openings,
             history,
             tables,
         })
     }
 
-    /// Puts what was seen at the next place behind the history, and does what its entry says to its tenant's table. An
+    /// Puts what was seen at the next place at the end of the history, and does what its entry says to its tenant's table. An
     /// absent entry, or one whose tenant isn't among the tables, belongs to nobody and changes no table. The answer comes
     /// where the entry is this worker's own; a command of another worker is applied without one. Where memory runs out:
     /// `Memory`, and nothing changes; the history itself never needs any.
@@ -68,26 +76,26 @@ impl Replica {
         requires { length self.old.history < self.old.places }
 
         ensures reply { IfOk result (λ reply.
-            reply ≡ answer_to self.old.worker self.old.history self.old.tables seen.entry) }
+            reply ≡ answer_to self.old.worker self.old.openings (entries self.old.history) (entry_of seen)) }
         ensures history { OnOk result (self.new.history ≡ self.old.history ++ seen ∷ []) }
 
         // A table takes its own tenant's command alone; all others are equal to what they were.
-        ensures tables { OnOk result (TakeEffect seen.entry self.old.tables self.new.tables) }
-        ensures untouched { IsNobodys self.old.tables seen.entry → self.new.tables ≡ self.old.tables }
+        ensures tables { OnOk result (TakeEffect (entry_of seen) self.old.tables self.new.tables) }
+        ensures untouched { IsNobodys self.old.openings (entry_of seen) → self.new.tables ≡ self.old.tables }
         ensures tenants { length self.new.tables ≡ length self.old.tables }
-        ensures limits { map (λ state. state.limits) self.new.tables ≡ map (λ state. state.limits) self.old.tables }
-        ensures stands { EachStands self.new.history self.new.tables }
+        ensures stands { EachStands self.new.openings (entries self.new.history) self.new.tables }
+        ensures openings { self.new.openings ≡ self.old.openings }
         ensures worker { self.new.worker ≡ self.old.worker }
         ensures places { self.new.places ≡ self.old.places }
 
         // What needs no memory. An entry that is nobody's counts as refused.
-        ensures takes_out { IfSome seen.entry (λ entry. IsTakingOut entry.command) → IsOk result }
-        ensures reads { IfSome seen.entry (λ entry. IsRetrieval entry.command × (entry.ticket.worker ≢ self.old.worker)) → IsOk result }
-        ensures refused { IsRefused self.old.history self.old.tables seen.entry → IsOk result }
+        ensures takes_out { IfSome (entry_of seen) (λ entry. IsTakingOut entry.command) → IsOk result }
+        ensures reads { IfSome (entry_of seen) (λ entry. IsRetrieval entry.command × (entry.ticket.worker ≢ self.old.worker)) → IsOk result }
+        ensures refused { IsRefused self.old.openings (entries self.old.history) (entry_of seen) → IsOk result }
         ensures memory { IsOkUnless result Fault.Memory }
         ensures unchanged { OnErr result (self.new ≡ self.old) }
     {
-        let reply = take_effect(&mut self.tables, self.worker, &seen.entry)?;
+        let reply = take_effect(&mut self.tables, self.worker, seen.own_entry())?;
         self.history.push_reserved(seen);
         Ok(reply)
     }
@@ -96,7 +104,7 @@ impl Replica {
     pub fn history(&self) -> &[Seen]
         ensures history { result.now ≡ self.now.history }
         ensures few { length self.now.history ≤ self.now.places }
-        ensures stands { EachStands self.now.history self.now.tables }
+        ensures stands { EachStands self.now.openings (entries self.now.history) self.now.tables }
     {
         self.history.as_slice()
     }
@@ -105,7 +113,7 @@ impl Replica {
     pub fn table(&self, tenant: TenantId) -> &Items
         requires { tenant < length self.now.tables }
         ensures table { slice_get self.now.tables tenant ≡ Some result.now }
-        ensures stands { StandsForOwn tenant self.now.history result.now }
+        ensures stands { Some result.now ≡ option_map (λ opening. state_after opening (own tenant (entries self.now.history))) (slice_get self.now.openings tenant) }
     {
         &self.tables[usize::from(tenant.number())]
     }
@@ -130,6 +138,13 @@ impl Replica {
     {
         let Replica { worker, .. } = self;
         *worker
+    }
+
+    /// The quotas that each tenant's table was opened with, by the tenants' numbers.
+    pub fn openings(&self) -> &[Limits]
+        ensures { result.now ≡ self.now.openings }
+    {
+        self.openings.as_slice()
     }
 
     /// How many places its history may have.

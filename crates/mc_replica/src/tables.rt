@@ -1,9 +1,11 @@
 //! The tables of all tenants: a tenant's number is the place of its table.
-ghost use Rattle.std.specs.Prelude.{◌≡◌, ◌≢◌, ℕ, ◌-◌, ◌^◌, ◌<◌, List, map, Some, slice_get, IfOk, IfSome, OnOk, OnErr, IsOk, IsOkUnless};
+ghost use Rattle.std.specs.Option.{option_copied};
+ghost use Rattle.std.specs.Prelude.{◌≡◌, ◌≢◌, ℕ, ◌-◌, ◌^◌, ◌<◌, List, Option, Some, slice_get, IfOk, IfSome, OnOk, OnErr, IsOk, IsOkUnless};
 ghost use Rattle.mc_model.specs.Kinds.{IsRetrieval, IsTakingOut};
-ghost use Rattle.mc_model.specs.State.{TableState};
-ghost use Rattle.mc_replica.specs.declared.seen.Seen.{Seen};
-ghost use Rattle.mc_replica.specs.Replay.{EachStands, IsRefused, TakeEffect, answer_to, empty_table};
+ghost use Rattle.mc_model.specs.Replay.{EachStands, IsRefused, TakeEffect, answer_to, empty_tables};
+ghost use Rattle.mc_model.specs.State.{TableState, empty_table};
+ghost use Rattle.mc_model.specs.declared.request.Entry.{Entry};
+ghost use Rattle.mc_model.specs.declared.settings.Limits.{Limits};
 
 use mc_items::Items;
 use mc_model::{Entry, Fault, Limits, Reply, WorkerId};
@@ -17,8 +19,8 @@ fn empty(alloc: Global, limits: &Limits) -> Items
 }
 
 /// An empty table for each tenant's quotas.
-pub(crate) fn empty_tables(alloc: Global, limits: &[Limits]) -> Result<Vec<Items>, Fault>
-    ensures tables { IfOk result (λ tables. tables.items ≡ map empty_table limits.now) }
+pub(crate) fn tables_of(alloc: Global, limits: &[Limits]) -> Result<Vec<Items>, Fault>
+    ensures tables { IfOk result (λ tables. tables.items ≡ empty_tables limits.now) }
     ensures memory { IsOkUnless result Fault.Memory }
 {
     let tables = limits
@@ -33,19 +35,19 @@ pub(crate) fn empty_tables(alloc: Global, limits: &[Limits]) -> Result<Vec<Items
 pub(crate) fn take_effect(
     tables: &mut Vec<Items>,
     worker: WorkerId,
-    entry: &Option<Entry>,
+    found: Option<&Entry>,
 ) -> Result<Option<Reply>, Fault>
     requires { (tenant : ℕ) (state : TableState) → slice_get tables.old.items tenant ≡ Some state → state.last_unique < 2 ^ 64 - 1 }
-    ensures reply { IfOk result (λ reply. (history : List Seen) → EachStands history tables.old.items →
-        reply ≡ answer_to worker history tables.old.items entry.now) }
-    ensures tables { OnOk result (TakeEffect entry.now tables.old.items tables.new.items) }
-    ensures takes_out { IfSome entry.now (λ entry. IsTakingOut entry.command) → IsOk result }
-    ensures reads { IfSome entry.now (λ entry. IsRetrieval entry.command × (entry.ticket.worker ≢ worker)) → IsOk result }
-    ensures refused { (history : List Seen) → EachStands history tables.old.items → IsRefused history tables.old.items entry.now → IsOk result }
+    ensures reply { IfOk result (λ reply. (openings : List Limits) (log : List (Option Entry)) → EachStands openings log tables.old.items →
+        reply ≡ answer_to worker openings log (option_copied found.entry)) }
+    ensures tables { OnOk result (TakeEffect (option_copied found.entry) tables.old.items tables.new.items) }
+    ensures takes_out { IfSome (option_copied found.entry) (λ entry. IsTakingOut entry.command) → IsOk result }
+    ensures reads { IfSome (option_copied found.entry) (λ entry. IsRetrieval entry.command × (entry.ticket.worker ≢ worker)) → IsOk result }
+    ensures refused { (openings : List Limits) (log : List (Option Entry)) → EachStands openings log tables.old.items → IsRefused openings log (option_copied found.entry) → IsOk result }
     ensures memory { IsOkUnless result Fault.Memory }
     ensures unchanged { OnErr result (tables.new.items ≡ tables.old.items) }
 {
-    let Some(entry) = entry else {
+    let Some(entry) = found else {
         return Ok(None);
     };
     let place = usize::from(entry.tenant.number());

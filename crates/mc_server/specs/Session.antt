@@ -5,7 +5,7 @@ use Rattle.mc_model.specs.declared.reply.Reply.TheVariants.{Refused}
 use Rattle.mc_model.specs.declared.reply.WireNo.TheVariants.{E11}
 use Rattle.mc_model.specs.declared.request.Request.{Request}
 use Rattle.mc_model.specs.declared.settings.Limits.{Limits}
-use Rattle.mc_replica.specs.Seen.{own_commands}
+use Rattle.mc_model.specs.Log.{entries, own}
 use Rattle.mc_server.specs.declared.session.Session.{Session}
 use Rattle.mc_server.specs.Owed.{applied_by, owed}
 use Rattle.mc_server.specs.Serving.{Comes, IsCaughtUp, Pushes, PushesAtOnce}
@@ -16,7 +16,7 @@ use Rattle.mc_write.specs.Text.{text}
 pub record Stands (limits : Limits) (places : ℕ) (applied : List Command) (session : Session) : Type 0 where
   pub is_limits : session.limits ≡ limits
   pub is_places : session.replica.places ≡ places
-  pub own : own_commands 0 session.replica.history ≡ applied
+  pub own : own 0 (entries session.replica.history) ≡ applied
   pub count : length session.replica.history ≡ length applied
 
 -- The requests that were answered, of whose replies the last are still queued. The session stands for them, and may stand for

@@ -1,8 +1,9 @@
 //! What requests do, one after another, and the replies that are to be pushed for them.
-ghost use Rattle.std.specs.Prelude.{◌≡◌, ℕ, ◌≤◌, ◌⊎◌, ◌++◌, ◌∷◌, [], List, Some, length, map, IfOk, OnOk, OnErr, IsOkUnless};
+ghost use Rattle.std.specs.Prelude.{◌≡◌, ℕ, ◌≤◌, ◌⊎◌, ◌++◌, ◌∷◌, [], List, Some, length, IfOk, OnOk, OnErr, IsOkUnless};
 ghost use Rattle.mc_model.specs.declared.command.Command.{Command};
 ghost use Rattle.mc_model.specs.declared.request.Request.{Request};
 ghost use Rattle.mc_model.specs.declared.settings.Limits.{Limits};
+ghost use Rattle.mc_model.specs.Log.{entry_of};
 ghost use Rattle.mc_server.specs.declared.session.TheConstants.{QUEUE_BYTES};
 ghost use Rattle.mc_server.specs.Owed.{answered, applied_by, applied_with, logged_reply, owed};
 
@@ -22,7 +23,7 @@ pub struct Session {
     pub replica: Replica,
     pub queue: Vec<u8>,
     ghost own_worker: { replica.worker ≡ 0 },
-    ghost one_table: { map (λ table. table.limits) replica.tables ≡ limits ∷ [] },
+    ghost one_table: { replica.openings ≡ limits ∷ [] },
 }
 
 /// Queues a reply, but for a quiet request.
@@ -68,7 +69,7 @@ impl Session {
 
     /// What the log has for the next command: its ticket is the worker's next, and its entry is the one tenant's.
     fn next_seen(&self, command: Command) -> Seen
-        ensures entry { result.entry ≡ Some (record { ticket = result.ticket; tenant = 0; command = command }) }
+        ensures entry { entry_of result ≡ Some (record { ticket = result.ticket; tenant = 0; command = command }) }
         ensures worker { result.ticket.worker ≡ 0 }
         ensures number { result.ticket.number ≡ length self.now.replica.history }
     {
@@ -77,10 +78,7 @@ impl Session {
             tenant: TenantId::new(0).unwrap(),
             command,
         };
-        Seen {
-            ticket: self.next_ticket(),
-            entry: Some(entry),
-        }
+        Seen::new(self.next_ticket(), Some(entry))
     }
 
     /// Replays a command where a place is left, and queues the reply.

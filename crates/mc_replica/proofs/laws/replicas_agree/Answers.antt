@@ -1,8 +1,15 @@
-use Rattle.mc_replica.proofs.Stands.{replies-agree, tables-agree}
+use Rattle.std.proofs.Common.{List, Option, sym, ap₂, ◌∙◌}
+use Rattle.std.specs.Option.{option_map}
+use Rattle.mc_model.specs.declared.command.Command.{Command}
+use Rattle.mc_model.specs.declared.settings.Limits.{Limits}
+use Rattle.mc_model.specs.History.{answer, state_after}
 use Rattle.mc_replica.proofs.laws.replicas_agree.Goals as goal
 
 pub returns-clause-tables : goal.returns-clause-tables
-returns-clause-tables c = tables-agree c.args.one.now.history c.args.other.now.history c.args.one.now.tables c.args.other.now.tables c.history.ensures.stands c.history-2.ensures.stands
+returns-clause-tables c = λ tenant own openings.
+    c.history.ensures.stands tenant ∙ ap₂ (λ (list : List Command) (found : Option Limits). option_map (λ opening. state_after opening list) found) own openings
+    ∙ sym (c.history-2.ensures.stands tenant)
 
 pub returns-clause-replies : goal.returns-clause-replies
-returns-clause-replies c = replies-agree c.args.one.now.history c.args.other.now.history c.args.one.now.tables c.args.other.now.tables c.history.ensures.stands c.history-2.ensures.stands
+returns-clause-replies c = λ entry own openings.
+    ap₂ (λ (list : List Command) (found : Option Limits). option_map (λ opening. answer opening list entry.command) found) own openings

@@ -6,17 +6,17 @@ use Rattle.mc_replica.proofs.tables.take_effect.Goals as goal
 pub returns-in_ok-reply-clause-tables : goal.returns-in_ok-reply-clause-tables
 returns-in_ok-reply-clause-tables c =
     let old = c.index_mut-table.result.now in
-    let own : c.from-place.result ≡ c.in-Some.entry.tenant = search rules in
+    let own : c.from-place.result ≡ c.in-Some.entry.now.tenant = search rules in
     let inside : c.from-place.result < length c.args.tables.now.items = search rules in
     let at : old ≡ get_or c.args.tables.now.items c.from-place.result old = search rules in
-    let next : c.apply.new.self ≡ next_state old c.in-Some.entry.command = search rules in
-    rw c.in-Some.is (TakeEffect-set c.args.tables.now.items c.from-place.result old c.apply.new.self c.in-Some.entry own inside at next)
+    let next : c.apply.new.self ≡ next_state old c.in-Some.entry.now.command = search rules in
+    rw c.in-Some.is (TakeEffect-set c.args.tables.now.items c.from-place.result old c.apply.new.self c.in-Some.entry.now own inside at next)
 
 pub returns-in_ok-advance-clause-tables : goal.returns-in_ok-advance-clause-tables
 returns-in_ok-advance-clause-tables c =
     let old = c.index_mut-table.result.now in
-    let own : c.from-place.result ≡ c.in-Some.entry.tenant = search rules in
+    let own : c.from-place.result ≡ c.in-Some.entry.now.tenant = search rules in
     let inside : c.from-place.result < length c.args.tables.now.items = search rules in
     let at : old ≡ get_or c.args.tables.now.items c.from-place.result old = search rules in
-    let next : c.advance.new.self ≡ next_state old c.in-Some.entry.command = search rules in
-    rw c.in-Some.is (TakeEffect-set c.args.tables.now.items c.from-place.result old c.advance.new.self c.in-Some.entry own inside at next)
+    let next : c.advance.new.self ≡ next_state old c.in-Some.entry.now.command = search rules in
+    rw c.in-Some.is (TakeEffect-set c.args.tables.now.items c.from-place.result old c.advance.new.self c.in-Some.entry.now own inside at next)

@@ -1,0 +1,11 @@
+mod Keys
+mod Puts
+mod Quotas
+mod Refusals
+mod Effects
+mod Histories
+mod OneKey
+mod Counting
+mod Equalities
+mod Entries
+mod Rows

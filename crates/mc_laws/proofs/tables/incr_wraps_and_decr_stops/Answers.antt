@@ -1,0 +1,36 @@
+use Rattle.std.proofs.Common.{◌≡◌, ◌+◌, ◌-◌, ◌%◌, ◌^◌, ◌∙◌, ◌↔◌, ap, arith, subst}
+use Rattle.std.specs.FinMap as map
+use Rattle.mc_model.specs.declared.command.Command.TheVariants.{Incr}
+use Rattle.mc_model.specs.declared.item.Item.{Item}
+use Rattle.mc_model.specs.declared.reply.Reply.TheVariants.{Number, Refused}
+use Rattle.mc_model.specs.declared.reply.WireNo.TheVariants.{E7}
+use Rattle.mc_model.specs.declared.settings.Limits.{Limits}
+use Rattle.mc_model.specs.Effect.{Effect}
+use Rattle.mc_model.specs.History.{after, answer, changes}
+use Rattle.mc_laws.proofs.Counting.{decr_there, incr_there, numbered}
+use Rattle.mc_laws.proofs.Histories.{quotas, quotas_stay, within_quotas}
+use Rattle.mc_laws.proofs.OneKey.{stored_or_refused}
+use Rattle.mc_laws.proofs.Quotas.{ExceedsQuotas, stored_refused}
+use Rattle.mc_laws.proofs.tables.incr_wraps_and_decr_stops.Goals as goal
+
+pub returns-clause-sum : goal.returns-clause-sum
+returns-clause-sum c = λ limits list key old number by is value.
+    rw (ap (λ (e : Effect). e.reply) (incr_there (quotas limits list) (after limits list) (changes limits list + 1) key old number by is value))
+    (stored_or_refused (quotas limits list) (after limits list) key _ (Number ((number + by) % (2 ^ 64))))
+
+pub returns-clause-refused : goal.returns-clause-refused
+returns-clause-refused c = λ limits list key old number by is value.
+    let sum : Item = numbered (quotas limits list) (after limits list) (changes limits list + 1) key old ((number + by) % (2 ^ 64)) in
+    subst (λ (l : Limits). (answer limits list (Incr key by) ≡ Refused E7) ↔ ExceedsQuotas l (map.insert (after limits list) key sum)) (quotas_stay limits list)
+    (rw (ap (λ (e : Effect). e.reply) (incr_there (quotas limits list) (after limits list) (changes limits list + 1) key old number by is value))
+    (stored_refused (quotas limits list) (after limits list) key sum (Number ((number + by) % (2 ^ 64))) (λ same. cc)))
+
+pub returns-clause-difference : goal.returns-clause-difference
+returns-clause-difference c = λ limits list key old left by is value.
+    let back : left + by - by ≡ left = omega arith in
+    ap (λ (e : Effect). e.reply) (decr_there (quotas limits list) (after limits list) (changes limits list + 1) key old (left + by) by (within_quotas limits list) is value) ∙ ap Number back
+
+pub returns-clause-zero : goal.returns-clause-zero
+returns-clause-zero c = λ limits list key old number by is value below.
+    let none : number - by ≡ 0 = omega (arith, below) in
+    ap (λ (e : Effect). e.reply) (decr_there (quotas limits list) (after limits list) (changes limits list + 1) key old number by (within_quotas limits list) is value) ∙ ap Number none

@@ -1,0 +1,52 @@
+-- Words of the laws: what they say of commands on one key, and of the change that stored an item. No contract but a law's rests on them.
+use Rattle.std.specs.Prelude.{◌≡◌, ◌≢◌, ◌⊎◌, ℕ, false, IsTrue, List, [], ◌∷◌, ◌++◌, Some}
+use Rattle.std.specs.FinMap as map
+use Rattle.mc_model.specs.declared.command.Command.{Command}
+use Rattle.mc_model.specs.declared.command.Command.TheVariants.{Store, Cas, Get, Delete, Incr, Decr, Flush}
+use Rattle.mc_model.specs.declared.item.Item.{Item}
+use Rattle.mc_model.specs.declared.key.Key.{Key}
+use Rattle.mc_model.specs.declared.reply.Reply.{Reply}
+use Rattle.mc_model.specs.declared.reply.Reply.TheVariants.{Stored, Refused}
+use Rattle.mc_model.specs.declared.reply.WireNo.TheVariants.{E7}
+use Rattle.mc_model.specs.declared.settings.Limits.{Limits}
+use Rattle.mc_model.specs.Effect.{Effect, is_refusal}
+use Rattle.mc_model.specs.History.{accepts, after, answer, changes, state_after}
+use Rattle.mc_model.specs.State.{next_effect}
+
+-- the effect of a command after a list: two commands with one effect do the same there
+abbrev pub effect_after : Limits → List Command → Command → Effect
+effect_after opening list command = next_effect (state_after opening list) command
+
+-- whether a cas is let through by its unique: it is stored then, or the quotas refuse it
+abbrev pub IsLetThrough : Reply → Type 0
+IsLetThrough reply = (reply ≡ Stored) ⊎ (reply ≡ Refused E7)
+
+-- the command, where it isn't refused, changes the item under this key or takes it out
+abbrev pub ActsOn : Key → Command → Type 0
+ActsOn key (Store verb other flags block) = other ≡ key
+ActsOn key (Cas other flags block seen) = other ≡ key
+ActsOn key (Get keys uniques) = ⊥
+ActsOn key (Delete other) = other ≡ key
+ActsOn key (Incr other by) = other ≡ key
+ActsOn key (Decr other by) = other ≡ key
+ActsOn key Flush = Unit {0}
+
+-- after a list, the command changes the item under the key or takes it out
+abbrev pub Touches : Limits → List Command → Key → Command → Type 0
+Touches opening list key command = ActsOn key command × (is_refusal (answer opening list command) ≡ false)
+
+-- none of the commands in between touches the key, each after those before it
+abbrev pub IsUntouched : Limits → List Command → Key → List Command → Type 0
+IsUntouched opening earlier key between =
+    (front back : List Command) (command : Command) → between ≡ front ++ command ∷ back → Touches opening (earlier ++ front) key command → ⊥
+
+-- the change that gave an item: the key didn't hold it before the change, and holds it right after
+pub record IsStoredBy (opening : Limits) (list : List Command) (key : Key) (item : Item) : Type 0 where
+  pub earlier : List Command
+  pub change : Command
+  pub later : List Command
+  pub in_list : list ≡ earlier ++ change ∷ later
+  pub accepted : IsTrue (accepts opening earlier change)
+  pub absent : map.get (after opening earlier) key ≢ Some item
+  pub stored : map.get (after opening (earlier ++ change ∷ [])) key ≡ Some item
+  pub unique : item.unique ≡ changes opening (earlier ++ change ∷ [])

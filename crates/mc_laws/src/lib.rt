@@ -1,0 +1,7 @@
+//! What follows from the definitions of `mc_model`, in the protocol's words. A law is the contract of a function with an empty
+//! body: it is proved, and nothing runs. So a definition that says another thing than the protocol is refused here.
+#![tactic(auto)]
+
+pub mod logs;
+pub mod tables;
+pub mod values;

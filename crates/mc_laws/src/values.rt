@@ -1,0 +1,77 @@
+//! What values are lawful, and when two of them are equal.
+ghost use Rattle.std.specs.Prelude.{◌≡◌, ◌≢◌, ◌↔◌, ◌⊎◌, ℕ, ◌<◌, ◌≤◌, All, Bool, List, length, IsTrue};
+ghost use Rattle.mc_model.specs.declared.command.Command.{Command};
+ghost use Rattle.mc_model.specs.declared.command.Command.TheVariants.{Delete, Flush, Get};
+ghost use Rattle.mc_model.specs.declared.id.TheConstants.{TENANTS, WORKERS};
+ghost use Rattle.mc_model.specs.declared.item.TheConstants.{DATA_BYTES};
+ghost use Rattle.mc_model.specs.declared.key.Key.{Key};
+ghost use Rattle.mc_model.specs.declared.key.KeyList.{KeyList};
+ghost use Rattle.mc_model.specs.declared.key.TheConstants.{KEY_BYTES};
+ghost use Rattle.mc_model.specs.declared.settings.TheConstants.{MAX_BYTES, MAX_ITEMS, MAX_PLACES};
+ghost use Rattle.mc_model.specs.Key.{is_lawful_key};
+ghost use Rattle.mc_model.specs.Kinds.{IsRetrieval, IsTakingOut};
+ghost use Rattle.mc_model.specs.Settings.{Configuration, IsLawful};
+
+use mc_model::{Data, Key, KeyList, ValueList};
+
+/// The numbers of this project's profile.
+pub fn the_profiles_numbers()
+    ensures key { KEY_BYTES ≡ 250 }
+    ensures data_block { DATA_BYTES ≡ 1048576 }
+    ensures tenants { TENANTS ≡ 64 }
+    ensures workers { WORKERS ≡ 16 }
+    ensures places { MAX_PLACES ≡ 1048576 }
+    ensures items { MAX_ITEMS ≡ 1048576 }
+    ensures bytes { MAX_BYTES ≡ 1073741824 }
+{}
+
+/// A lawful key is 1 to 250 bytes, none of them a control character or a space.
+pub fn lawful_keys_are_plain()
+    ensures { (bytes : List ℕ) →
+        IsTrue (is_lawful_key bytes)
+        ↔ (((0 < length bytes) × (length bytes ≤ 250)) × All (λ byte. (32 < byte) × (byte ≢ 127)) bytes) }
+{}
+
+/// Settings are lawful where there are 1 to 16 workers, 1 to 1,048,576 places and 1 to 64 tenants, and each tenant has a
+/// quota of 1 to 1,048,576 items and of 1 to 1,073,741,824 bytes.
+pub fn lawful_settings_are_in_range()
+    ensures { (settings : Configuration) →
+        IsLawful settings
+        ↔ (((1 ≤ settings.workers) × (settings.workers ≤ 16)) × ((1 ≤ settings.places) × (settings.places ≤ 1048576))
+        × ((1 ≤ length settings.tenants) × (length settings.tenants ≤ 64))
+        × All (λ limits. ((1 ≤ limits.items) × (limits.items ≤ 1048576)) × ((1 ≤ limits.bytes) × (limits.bytes ≤ 1073741824))) settings.tenants) }
+{}
+
+/// A retrieval is a get of some keys, and no other command. What takes out is a delete or a flush, and nothing else.
+pub fn kinds_are_by_name()
+    ensures retrieval { (command : Command) → IsRetrieval command ↔ ((keys : KeyList) × (uniques : Bool) × (command ≡ Get keys uniques)) }
+    ensures takes_out { (command : Command) → IsTakingOut command ↔ (((key : Key) × (command ≡ Delete key)) ⊎ (command ≡ Flush)) }
+{}
+
+/// Two keys are equal exactly where their bytes are.
+pub fn keys_are_equal_by_their_bytes(one: &Key, other: &Key) -> bool
+    ensures { IsTrue result ↔ (one.now ≡ other.now) }
+{
+    one == other
+}
+
+/// Two data blocks are equal exactly where their bytes are.
+pub fn data_are_equal_by_their_bytes(one: &Data, other: &Data) -> bool
+    ensures { IsTrue result ↔ (one.now ≡ other.now) }
+{
+    one == other
+}
+
+/// Two lists of keys are equal exactly where they have the same keys in the same order.
+pub fn key_lists_are_equal_by_their_keys(one: &KeyList, other: &KeyList) -> bool
+    ensures { IsTrue result ↔ (one.now ≡ other.now) }
+{
+    one == other
+}
+
+/// Two lists of values are equal exactly where they have the same values in the same order.
+pub fn value_lists_are_equal_by_their_values(one: &ValueList, other: &ValueList) -> bool
+    ensures { IsTrue result ↔ (one.now ≡ other.now) }
+{
+    one == other
+}

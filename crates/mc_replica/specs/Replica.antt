@@ -1,0 +1,29 @@
+-- What a replica is to contracts: this project's profile.
+use Rattle.std.specs.Prelude.{ℕ, ◌≤◌, List, length, refl}
+use Rattle.std.specs.Coded.{Coded, code_by, coded×, coded_ℕ, coded_list}
+use Rattle.mc_model.specs.declared.settings.Limits.{Limits}
+use Rattle.mc_model.specs.Log.{Sighting, coded_sighting, entries}
+use Rattle.mc_model.specs.Replay.{EachStands}
+use Rattle.mc_model.specs.State.{TableState, coded_limits, coded_state}
+
+-- whose it is, how many places its history may have, the quotas that each tenant's table was opened with, what was seen of the
+-- places, and each tenant's table
+pub record ReplicaState : Type 0 where
+  pub worker : ℕ
+  pub places : ℕ
+  pub openings : List Limits
+  pub history : List Sighting
+  pub tables : List TableState
+
+-- how it is stored as a model's value
+abbrev pub coded_replica : Coded ReplicaState
+coded_replica =
+    code_by (ℕ × (ℕ × (List Limits × (List Sighting × List TableState)))) (coded× coded_ℕ (coded× coded_ℕ (coded× (coded_list coded_limits) (coded× (coded_list coded_sighting) (coded_list coded_state)))))
+    (λ r. (r.worker, (r.places, (r.openings, (r.history, r.tables)))))
+    (λ p. record { worker = p.0; places = p.1.0; openings = p.1.1.0; history = p.1.1.1.0; tables = p.1.1.1.1 }) (λ _. refl)
+
+-- what is true of a replica's fields at all times, where its history has room for so many sightings
+pub record IsInOrder (places room : ℕ) (openings : List Limits) (history : List Sighting) (tables : List TableState) : Type 0 where
+  pub few : length history ≤ places
+  pub reserved : places ≤ room
+  pub stands : EachStands openings (entries history) tables
