@@ -19,7 +19,7 @@ pub(crate) fn item_under<'a>(held: &'a BTreeMap<Key, Item>, key: &Key) -> Option
     held.get(key)
 }
 
-/// Puts an item under a key, over what the key held. Where it is known to be held, that takes no memory.
+/// Puts an item under a key, over what the key held. A key that is held takes no memory again.
 pub(crate) fn put(
     held: &mut BTreeMap<Key, Item>,
     key: &Key,

@@ -270,7 +270,7 @@ pub fn decr_undoes_incr()
         answer limits (earlier ++ Incr key by ∷ between) (Decr key by) ≡ Number number }
 {}
 
-/// A get after a delete of that key finds nothing, where no command in between has stored it again. A delete finds exactly
+/// A get after a delete of that key finds nothing, where no command in between has touched it. A delete finds exactly
 /// the keys that are held, and is no change.
 pub fn delete_takes_out()
     ensures gone { (limits : Limits) (earlier between : List Command) (key : Key) (uniques : Bool) →

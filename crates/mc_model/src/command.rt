@@ -12,7 +12,7 @@ pub enum Verb {
     Add,
     /// Stores the data where the key is held.
     Replace,
-    /// Puts the data behind those of the key.
+    /// Puts the data after those of the key.
     Append,
     /// Puts the data before those of the key.
     Prepend,

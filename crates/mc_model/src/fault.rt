@@ -5,7 +5,7 @@ ghost use Rattle.mc_model.specs.declared.fault.Fault.TheVariants.{Memory};
 use std::alloc::{AllocError, AllocFailed};
 use thiserror::Error;
 
-/// How a call fails. A call's clauses name the variants that it can answer, and what each leaves behind.
+/// How a call fails. A call's clauses name the variants that it can answer, and what each leaves.
 #[derive(Clone, Copy, Debug, PartialEq, Eq, Error)]
 pub enum Fault {
     /// A growth was really refused.

@@ -37,7 +37,7 @@ impl Key {
         !bytes.is_empty() && bytes.len() <= KEY_BYTES && are_plain(bytes)
     }
 
-    /// The key of these bytes, or `None` where they are no lawful key. Only a lawful key takes memory.
+    /// The key of these bytes, or `None` where they are no lawful key. Only a lawful key needs memory.
     pub fn new(alloc: Global, bytes: &[u8]) -> Result<Option<Key>, Fault>
         ensures key { IfOk result (λ key. key ≡ key_of bytes.now) }
         ensures memory { IsOkUnless result Fault.Memory }

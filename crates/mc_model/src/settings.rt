@@ -50,7 +50,7 @@ impl Model for Settings {
 }
 
 impl Settings {
-    /// The settings of these numbers. Where one is out of its range: `BadSettings`. Takes no memory.
+    /// The settings of these numbers. Where one is out of its range: `BadSettings`. Needs no memory.
     pub fn check(workers: u64, places: u64, tenants: Vec<Limits>) -> Result<Settings, Fault>
         ensures settings { IfOk result (λ settings. settings ≡ record { workers = workers; places = places; tenants = tenants.items }) }
         ensures lawful { IsOk result ↔ IsLawful (record { workers = workers; places = places; tenants = tenants.items }) }

@@ -16,7 +16,7 @@ pub fn write_reply(reply: &Reply, out: &mut Vec<u8>) -> Result<(), Fault>
     ensures kept { OnErr result (out.new.items ≡ out.old.items) }
     ensures memory { IsOkUnless result Fault.Memory }
 
-    // Where the vector has room for the text, memory isn't wanting.
+    // Where the vector has room for the text, it succeeds.
     ensures room { vec_len out.old + length (text reply.now) ≤ vec_capacity out.old → IsOk result }
 {
     let start = out.len();
