@@ -30,6 +30,10 @@ pub data Held : Type 0 where
   Swallowing : Request → ℕ → List ℕ → Held
   Ended : Held
 
+-- What contracts see of a reader.
+pub record ReaderView : Type 0 where
+  pub held : Held
+
 -- the first of the requests is this one, and P holds of the others
 abbrev pub GoesOn : Request → (List Request → Type 0) → List Request → Type 0
 GoesOn request P [] = ⊥

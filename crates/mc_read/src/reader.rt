@@ -247,12 +247,12 @@ pub struct Reader {
 }
 
 impl Model for Reader {
-    ghost use Rattle.mc_read.specs.Reading.{Held};
+    ghost use Rattle.mc_read.specs.Reading.{ReaderView};
     ghost use Rattle.mc_read.specs.State.{IsStateOf, held_in};
 
-    ghost Value = { Held };
+    ghost Value = { ReaderView };
 
-    ghost view = { λ reader. held_in reader.state reader.buffer };
+    ghost view = { λ reader. record { held = held_in reader.state reader.buffer } };
 
     ghost invariant = { λ reader. IsStateOf reader.state reader.buffer };
 }
@@ -260,7 +260,7 @@ impl Model for Reader {
 impl Reader {
     /// A reader at the beginning of a stream. Takes no memory.
     pub fn new(alloc: Global) -> Reader
-        ensures { result ≡ Kept [] }
+        ensures { result.held ≡ Kept [] }
     {
         Reader {
             alloc,
@@ -271,14 +271,14 @@ impl Reader {
 
     /// Takes the next piece of the stream. After the end it is dropped.
     pub fn feed(&mut self, piece: &[u8]) -> Result<(), Fault>
-        ensures readings { OnOk result (IsFed self.old piece.now self.new) }
+        ensures readings { OnOk result (IsFed self.old.held piece.now self.new.held) }
         ensures memory { IsOkUnless result Fault.Memory }
-        ensures unchanged { OnErr result (self.new ≡ self.old) }
+        ensures unchanged { OnErr result (self.new.held ≡ self.old.held) }
 
         // Within a refused block, and after the end, it takes no memory.
-        ensures swallowed { (request : Request) (left : ℕ) → self.old ≡ Swallowing request left [] → length piece.now ≤ left →
-            IsOk result × (self.new ≡ Swallowing request (left - length piece.now) []) }
-        ensures ended { self.old ≡ Ended → IsOk result × (self.new ≡ Ended) }
+        ensures swallowed { (request : Request) (left : ℕ) → self.old.held ≡ Swallowing request left [] → length piece.now ≤ left →
+            IsOk result × (self.new.held ≡ Swallowing request (left - length piece.now) []) }
+        ensures ended { self.old.held ≡ Ended → IsOk result × (self.new.held ≡ Ended) }
     {
         match &mut self.state {
             State::Line { .. } => self.buffer.extend(piece),
@@ -301,22 +301,22 @@ impl Reader {
     pub fn next(&mut self) -> Result<Option<Request>, Fault>
         // Whatever follows, what was held reads as the request and then as what is held now; without a request, as
         // before, and no request stood in it.
-        ensures answer { IfOk result (λ next. IsAnswer self.old next self.new) }
-        ensures end { IfOk result (λ next. IfSome next (λ request. OnTrue (ends_stream request) (self.new ≡ Ended))) }
-        ensures ended { self.old ≡ Ended → result ≡ Ok None × (self.new ≡ Ended) }
+        ensures answer { IfOk result (λ next. IsAnswer self.old.held next self.new.held) }
+        ensures end { IfOk result (λ next. IfSome next (λ request. OnTrue (ends_stream request) (self.new.held ≡ Ended))) }
+        ensures ended { self.old.held ≡ Ended → result ≡ Ok None × (self.new.held ≡ Ended) }
 
         // Of a refused block only the length is kept, and no memory is taken until its request has come.
         ensures refused { (bytes : List ℕ) (request : Request) (left : ℕ) →
-            self.old ≡ Kept bytes → EndsInRefusal bytes request left → OnOk result (self.new ≡ Swallowing request left []) }
-        ensures swallowing { (request : Request) (left : ℕ) → self.old ≡ Swallowing request left [] → 0 < left → result ≡ Ok None × (self.new ≡ self.old) }
-        ensures swallowed { (request : Request) (bytes : List ℕ) → self.old ≡ Swallowing request 0 bytes → result ≡ Ok (Some request) × (self.new ≡ Kept bytes) }
+            self.old.held ≡ Kept bytes → EndsInRefusal bytes request left → OnOk result (self.new.held ≡ Swallowing request left []) }
+        ensures swallowing { (request : Request) (left : ℕ) → self.old.held ≡ Swallowing request left [] → 0 < left → result ≡ Ok None × (self.new.held ≡ self.old.held) }
+        ensures swallowed { (request : Request) (bytes : List ℕ) → self.old.held ≡ Swallowing request 0 bytes → result ≡ Ok (Some request) × (self.new.held ≡ Kept bytes) }
 
         // Nor is any where no line has ended yet, or the line is too long.
-        ensures unended { (bytes : List ℕ) → self.old ≡ Kept bytes → IsUnended bytes → result ≡ Ok None × (self.new ≡ self.old) }
-        ensures too_long { (text more : List ℕ) (request : Request) → self.old ≡ Kept (text ++ more) → IsTooLongText text request →
-            result ≡ Ok (Some request) × (self.new ≡ Ended) }
+        ensures unended { (bytes : List ℕ) → self.old.held ≡ Kept bytes → IsUnended bytes → result ≡ Ok None × (self.new.held ≡ self.old.held) }
+        ensures too_long { (text more : List ℕ) (request : Request) → self.old.held ≡ Kept (text ++ more) → IsTooLongText text request →
+            result ≡ Ok (Some request) × (self.new.held ≡ Ended) }
         ensures memory { IsOkUnless result Fault.Memory }
-        ensures unchanged { OnErr result (self.new ≡ self.old) }
+        ensures unchanged { OnErr result (self.new.held ≡ self.old.held) }
     {
         match &self.state {
             State::Line { searched } => {

@@ -10,7 +10,7 @@ returns-then-length-left-clause-readings c =
     let bytes = c.self.inside.buffer in
     let request = refused c.in-Refused.refusal c.in-Refused.quiet in
     let empty : 0 < c.in-Refused.left → bytes ≡ [] = subst (λ s. IsStateOf s bytes) c.in-Refused.is c.self.invariant in
-    let held : Swallowing request c.in-Refused.left bytes ≡ c.args.self.now = ap (λ s. held_in s bytes) (sym c.in-Refused.is) ∙ c.self.view_is in
+    let held : Swallowing request c.in-Refused.left bytes ≡ c.args.self.now.held = ap (λ s. held_in s bytes) (sym c.in-Refused.is) ∙ ap (λ view. view.held) c.self.view_is in
     subst (λ h. IsFed h c.args.piece.now (Swallowing request (c.in-Refused.left - length c.args.piece.now) bytes)) held
     (fed_refused request c.in-Refused.left bytes c.args.piece.now empty c.if-length-left.true)
 
