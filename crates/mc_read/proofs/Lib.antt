@@ -6,4 +6,5 @@ pub mod Holdings
 pub mod Lines
 pub mod Steps
 pub mod States
+pub mod Sending
 mod Rows

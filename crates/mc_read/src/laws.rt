@@ -1,8 +1,17 @@
 //! What makes a reading of a byte stream one thing, however the stream is cut. A law is the contract of a function that
 //! does nothing: it holds for every byte list.
-ghost use Rattle.std.specs.Prelude.{◌≡◌, ℕ, List, [], ◌++◌};
+ghost use Rattle.std.specs.Prelude.{◌≡◌, ℕ, ◌^◌, ◌-◌, ◌<◌, ◌≤◌, Bool, true, false, All, IsTrue, List, [], ◌++◌, length};
+ghost use Rattle.mc_model.specs.declared.command.Command.TheVariants.{Cas, Decr, Delete, Flush, Get, Incr, Store};
+ghost use Rattle.mc_model.specs.declared.command.Verb.{Verb};
+ghost use Rattle.mc_model.specs.declared.item.Data.{Data};
+ghost use Rattle.mc_model.specs.declared.key.Key.{Key};
+ghost use Rattle.mc_model.specs.declared.key.KeyList.{KeyList};
 ghost use Rattle.mc_model.specs.declared.request.Request.{Request};
+ghost use Rattle.mc_model.specs.declared.request.Request.TheVariants.{Logged};
+ghost use Rattle.mc_model.specs.Key.{is_lawful_key};
+ghost use Rattle.mc_read.specs.declared.line.TheConstants.{BLOCK_LENGTH, DELTA, FLAGS, LINE_BYTES, UNIQUE};
 ghost use Rattle.mc_read.specs.Reading.{Reads};
+ghost use Rattle.mc_read.specs.Sending.{sent};
 ghost use Rattle.mc_read.specs.Text.{IsRequestText};
 
 /// Every byte list has a reading.
@@ -20,4 +29,36 @@ pub fn a_stream_reads_one_way()
 pub fn no_text_begins_another()
     ensures { (text more : List ℕ) (request other : Request) →
         IsRequestText text request → IsRequestText (text ++ more) other → (more ≡ []) × (request ≡ other) }
+{}
+
+/// The numbers of the profile: how many bytes a line may have, and the greatest length of a block that can be read, flags,
+/// unique and delta.
+pub fn numbers_of_the_profile()
+    ensures line { LINE_BYTES ≡ 65536 }
+    ensures length { BLOCK_LENGTH ≡ 2147483645 }
+    ensures flags { FLAGS ≡ 2 ^ 32 - 1 }
+    ensures unique { UNIQUE ≡ 2 ^ 64 - 1 }
+    ensures delta { DELTA ≡ 2 ^ 64 - 1 }
+{}
+
+/// Each command can be sent: what a client sends for it, as memcached's doc/protocol.txt has it, is the text of that
+/// command, with `noreply` and without. The keys are lawful, and the numbers within the profile; a retrieval has as many
+/// keys as fit into a line of 65,536 bytes and its line feed.
+pub fn each_command_can_be_sent()
+    ensures store { (verb : Verb) (key : Key) (flags : ℕ) (block : Data) (quiet : Bool) →
+        IsTrue (is_lawful_key key) → flags < 2 ^ 32 → length block ≤ 1048576 →
+        IsRequestText (sent (Store verb key flags block) quiet) (Logged (Store verb key flags block) quiet) }
+    ensures cas { (key : Key) (flags : ℕ) (block : Data) (unique : ℕ) (quiet : Bool) →
+        IsTrue (is_lawful_key key) → flags < 2 ^ 32 → length block ≤ 1048576 → unique < 2 ^ 64 →
+        IsRequestText (sent (Cas key flags block unique) quiet) (Logged (Cas key flags block unique) quiet) }
+    ensures get { (keys : KeyList) (uniques : Bool) →
+        0 < length keys → All (λ key. IsTrue (is_lawful_key key)) keys → length (sent (Get keys uniques) false) ≤ 65537 →
+        IsRequestText (sent (Get keys uniques) false) (Logged (Get keys uniques) false) }
+    ensures delete { (key : Key) (quiet : Bool) → IsTrue (is_lawful_key key) →
+        IsRequestText (sent (Delete key) quiet) (Logged (Delete key) quiet) }
+    ensures incr { (key : Key) (by : ℕ) (quiet : Bool) → IsTrue (is_lawful_key key) → by < 2 ^ 64 →
+        IsRequestText (sent (Incr key by) quiet) (Logged (Incr key by) quiet) }
+    ensures decr { (key : Key) (by : ℕ) (quiet : Bool) → IsTrue (is_lawful_key key) → by < 2 ^ 64 →
+        IsRequestText (sent (Decr key by) quiet) (Logged (Decr key by) quiet) }
+    ensures flush { (quiet : Bool) → IsRequestText (sent Flush quiet) (Logged Flush quiet) }
 {}
