@@ -7,4 +7,5 @@ pub mod Lines
 pub mod Steps
 pub mod States
 pub mod Sending
+pub mod Exptimes
 mod Rows

@@ -302,6 +302,13 @@ text_of_block parts storage key flags block quiet fit few is =
     subst (IsRequestText (line_sent parts ++ block_sent block)) (block_stored storage key flags block quiet)
     (text_of_words parts (block_sent block) _ fit (few_words parts fit few) is (length-append block (13 ∷ 10 ∷ [])))
 
+pub name_asked : (verb : Verb) (arguments : List (List ℕ)) → asked_by (verb_name verb ∷ arguments) ≡ asked_of_storage verb arguments
+name_asked Set arguments = refl
+name_asked Add arguments = refl
+name_asked Replace arguments = refl
+name_asked Append arguments = refl
+name_asked Prepend arguments = refl
+
 -- the words of a storage line that is sent
 module _ (key : List ℕ) (flags : ℕ) (block : List ℕ) (quiet : Bool) (lawful : IsTrue (is_lawful_key key)) (small : flags < 2 ^ 32) (short : length block ≤ 1048576) where
   are_flags : number_up_to FLAGS (decimal flags) ≡ Some flags
@@ -326,13 +333,6 @@ module _ (key : List ℕ) (flags : ℕ) (block : List ℕ) (quiet : Bool) (lawfu
       ≡ Stored (record { length = length block; storage = Plain verb; key = key; flags = flags; quiet = quiet })
   store_asked verb false = line_asked (Some (Plain verb)) (Plain verb) None refl refl
   store_asked verb true = line_asked (Some (Plain verb)) (Plain verb) (Some (codes "noreply")) refl refl
-
-  name_asked : (verb : Verb) (arguments : List (List ℕ)) → asked_by (verb_name verb ∷ arguments) ≡ asked_of_storage verb arguments
-  name_asked Set arguments = refl
-  name_asked Add arguments = refl
-  name_asked Replace arguments = refl
-  name_asked Append arguments = refl
-  name_asked Prepend arguments = refl
 
   fit_name : (verb : Verb) → is_fit (verb_name verb) ≡ true
   fit_name Set = refl

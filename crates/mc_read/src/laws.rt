@@ -1,8 +1,10 @@
 //! What makes a reading of a byte stream one thing, however the stream is cut. A law is the contract of a function that
 //! does nothing: it holds for every byte list.
-ghost use Rattle.std.specs.Prelude.{◌≡◌, ℕ, ◌^◌, ◌-◌, ◌<◌, ◌≤◌, Bool, true, false, All, IsTrue, List, [], ◌++◌, length};
+ghost use Rattle.std.specs.Prelude.{◌≡◌, ◌≢◌, ℕ, ◌^◌, ◌-◌, ◌<◌, ◌≤◌, Bool, true, false, All, IsTrue, List, [], ◌∷◌, ◌++◌, length, codes};
+ghost use Rattle.mc_model.specs.declared.command.Command.{Command};
 ghost use Rattle.mc_model.specs.declared.command.Command.TheVariants.{Cas, Decr, Delete, Flush, Get, Incr, Store};
 ghost use Rattle.mc_model.specs.declared.command.Verb.{Verb};
+ghost use Rattle.mc_model.specs.declared.command.Verb.TheVariants.{Append, Prepend};
 ghost use Rattle.mc_model.specs.declared.item.Data.{Data};
 ghost use Rattle.mc_model.specs.declared.key.Key.{Key};
 ghost use Rattle.mc_model.specs.declared.key.KeyList.{KeyList};
@@ -11,8 +13,9 @@ ghost use Rattle.mc_model.specs.declared.request.Request.TheVariants.{Logged};
 ghost use Rattle.mc_model.specs.Key.{is_lawful_key};
 ghost use Rattle.mc_read.specs.declared.line.TheConstants.{BLOCK_LENGTH, DELTA, FLAGS, LINE_BYTES, UNIQUE};
 ghost use Rattle.mc_read.specs.Reading.{Reads};
-ghost use Rattle.mc_read.specs.Sending.{sent};
-ghost use Rattle.mc_read.specs.Text.{IsRequestText};
+ghost use Rattle.mc_read.specs.Sending.{sent, verb_name};
+ghost use Rattle.mc_read.specs.Text.{IsRequestText, IsUnbroken};
+ghost use Rattle.mc_read.specs.Word.{is_zero, words};
 
 /// Every byte list has a reading.
 pub fn every_stream_reads()
@@ -61,4 +64,18 @@ pub fn each_command_can_be_sent()
     ensures decr { (key : Key) (by : ℕ) (quiet : Bool) → IsTrue (is_lawful_key key) → by < 2 ^ 64 →
         IsRequestText (sent (Decr key by) quiet) (Logged (Decr key by) quiet) }
     ensures flush { (quiet : Bool) → IsRequestText (sent Flush quiet) (Logged Flush quiet) }
+{}
+
+/// No command expires: a line that becomes a command has an exptime of zero wherever it has one, but for `append` and
+/// `prepend`, which ignore it.
+pub fn no_command_expires()
+    ensures storage { (line behind key flags exptime : List ℕ) (more : List (List ℕ)) (verb : Verb) (command : Command) (quiet : Bool) →
+        IsUnbroken line → words line ≡ verb_name verb ∷ key ∷ flags ∷ exptime ∷ more → verb ≢ Append → verb ≢ Prepend →
+        IsRequestText (line ++ 10 ∷ behind) (Logged command quiet) → IsTrue (is_zero exptime) }
+    ensures cas { (line behind key flags exptime : List ℕ) (more : List (List ℕ)) (command : Command) (quiet : Bool) →
+        IsUnbroken line → words line ≡ codes "cas" ∷ key ∷ flags ∷ exptime ∷ more →
+        IsRequestText (line ++ 10 ∷ behind) (Logged command quiet) → IsTrue (is_zero exptime) }
+    ensures flush { (line behind exptime : List ℕ) (more : List (List ℕ)) (command : Command) (quiet : Bool) →
+        IsUnbroken line → words line ≡ codes "flush_all" ∷ exptime ∷ more → exptime ≢ codes "noreply" →
+        IsRequestText (line ++ 10 ∷ behind) (Logged command quiet) → IsTrue (is_zero exptime) }
 {}
