@@ -23,16 +23,16 @@ use Rattle.mc_read.proofs.Sending.{name_asked}
 use Rattle.mc_read.proofs.Texts.{before_first_at}
 
 -- the line of a text without a line feed in it is the text's own line
-same_line : (line behind own rest : List ℕ) → IsUnbroken line → IsUnbroken own → line ++ 10 ∷ behind ≡ own ++ 10 ∷ rest → own ≡ line
-same_line line behind own rest unbroken own_unbroken same =
-    sym (before_first_at own rest own_unbroken) ∙ (ap (before_first is_line_feed) (sym same) ∙ before_first_at line behind unbroken)
+same_line : (line body own rest : List ℕ) → IsUnbroken line → IsUnbroken own → line ++ 10 ∷ body ≡ own ++ 10 ∷ rest → own ≡ line
+same_line line body own rest unbroken own_unbroken same =
+    sym (before_first_at own rest own_unbroken) ∙ (ap (before_first is_line_feed) (sym same) ∙ before_first_at line body unbroken)
 
 -- a command is what its line asks for
-asked_on : (line behind : List ℕ) (command : Command) (quiet : Bool) → IsUnbroken line → IsRequestText (line ++ 10 ∷ behind) (Logged command quiet)
+asked_on : (line body : List ℕ) (command : Command) (quiet : Bool) → IsUnbroken line → IsRequestText (line ++ 10 ∷ body) (Logged command quiet)
     → (rest : List ℕ) × (request_of (asked line) rest ≡ Logged command quiet)
-asked_on line behind command quiet unbroken (inl is) =
-    (is.behind, ap (λ l. request_of (asked l) is.behind) (sym (same_line line behind is.line is.behind unbroken is.unbroken is.in_text)) ∙ sym is.is_asked)
-asked_on line behind command quiet unbroken (inr is) = absurd (never is.is_too_long)
+asked_on line body command quiet unbroken (inl is) =
+    (is.body, ap (λ l. request_of (asked l) is.body) (sym (same_line line body is.line is.body unbroken is.unbroken is.in_text)) ∙ sym is.is_asked)
+asked_on line body command quiet unbroken (inr is) = absurd (never is.is_too_long)
   where
     never : Logged command quiet ≡ TooLong → ⊥
     never same = cc
@@ -118,9 +118,9 @@ counts_for Replace no_append no_prepend = refl
 counts_for Append no_append no_prepend = absurd (no_append refl)
 counts_for Prepend no_append no_prepend = absurd (no_prepend refl)
 
-module _ (line behind : List ℕ) (command : Command) (quiet : Bool) (unbroken : IsUnbroken line) (is : IsRequestText (line ++ 10 ∷ behind) (Logged command quiet)) where
+module _ (line body : List ℕ) (command : Command) (quiet : Bool) (unbroken : IsUnbroken line) (is : IsRequestText (line ++ 10 ∷ body) (Logged command quiet)) where
   asked_by_words : (parts : List (List ℕ)) → words line ≡ parts → (rest : List ℕ) × (request_of (asked_by parts) rest ≡ Logged command quiet)
-  asked_by_words parts are = let asks = asked_on line behind command quiet unbroken is in (asks.0, ap (λ w. request_of (asked_by w) asks.0) (sym are) ∙ asks.1)
+  asked_by_words parts are = let asks = asked_on line body command quiet unbroken is in (asks.0, ap (λ w. request_of (asked_by w) asks.0) (sym are) ∙ asks.1)
 
   pub storage_has_zero : (verb : Verb) (key flags exptime : List ℕ) (more : List (List ℕ)) → words line ≡ verb_name verb ∷ key ∷ flags ∷ exptime ∷ more → verb ≢ Append → verb ≢ Prepend → IsTrue (is_zero exptime)
   storage_has_zero verb key flags exptime more are no_append no_prepend =

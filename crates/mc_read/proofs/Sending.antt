@@ -19,16 +19,16 @@ use Rattle.mc_model.specs.declared.request.Request.TheVariants.{Logged}
 use Rattle.mc_model.specs.Key.{is_key_byte, is_lawful_key}
 use Rattle.mc_model.specs.Number.{number_up_to}
 use Rattle.mc_model.proofs.Numerals.{number_up_to-some}
-use Rattle.mc_read.specs.declared.alone.Change.{Change}
-use Rattle.mc_read.specs.declared.alone.Change.TheVariants as change
+use Rattle.mc_read.specs.declared.without_block.Change.{Change}
+use Rattle.mc_read.specs.declared.without_block.Change.TheVariants as change
 use Rattle.mc_read.specs.declared.line.Asked.{Asked}
-use Rattle.mc_read.specs.declared.line.Asked.TheVariants.{Line, Stored}
+use Rattle.mc_read.specs.declared.line.Asked.TheVariants.{LineOnly, StoredBlock}
 use Rattle.mc_read.specs.declared.line.Storage.{Storage}
 use Rattle.mc_read.specs.declared.line.Storage.TheVariants.{CheckAndSet, Plain}
 use Rattle.mc_read.specs.declared.line.TheConstants.{BLOCK_LENGTH, DELTA, FLAGS, LINE_BYTES, UNIQUE}
-use Rattle.mc_read.specs.Line.{Checks, StorageLine, asked, asked_by, asked_of_block, asked_of_cas, asked_of_change, asked_of_length, asked_of_retrieval, asked_of_storage, asked_unless, asked_with, changed, check_and_set, delta_of, ends_in_noreply, first_failure, ignores_exptime, is_delta, storage_checks}
+use Rattle.mc_read.specs.Line.{Checks, StorageLine, asked, asked_by, asked_of_block, asked_of_cas, asked_of_change, asked_of_delta, asked_of_length, asked_of_retrieval, asked_of_storage, asked_unless, asked_with, changed, check_and_set, ends_in_noreply, first_failure, ignores_exptime, storage_checks}
 use Rattle.mc_read.specs.Sending.{block_sent, line_sent, noreply_if, sent, verb_name}
-use Rattle.mc_read.specs.Text.{IsRequestText, IsUnbroken, ends_well, length_behind, request_of, stored, stored_if, storing}
+use Rattle.mc_read.specs.Text.{IsRequestText, IsUnbroken, ends_well, body_length, request_of, stored, stored_if, storing}
 use Rattle.mc_read.specs.Word.{is_exptime, is_space, is_zero, spaced_words, without_return, words}
 
 -- no control character and no space
@@ -122,32 +122,32 @@ length_joined (word ∷ next ∷ others) fit =
     omega (arith, (fit_parts word parts.0).1, length-append word (32 ∷ join_with_byte 32 (next ∷ others)), length_joined (next ∷ others) parts.1)
 
 -- A line of such words is the text of the request that they ask for.
-pub text_of_words : (parts : List (List ℕ)) (behind : List ℕ) (a : Asked) → are_fit parts ≡ true → length (join_with_byte 32 parts) + 1 ≤ LINE_BYTES
-    → asked_by parts ≡ a → length behind ≡ length_behind a → IsRequestText (line_sent parts ++ behind) (request_of a behind)
-text_of_words parts behind a fit short is whole =
+pub text_of_words : (parts : List (List ℕ)) (body : List ℕ) (a : Asked) → are_fit parts ≡ true → length (join_with_byte 32 parts) + 1 ≤ LINE_BYTES
+    → asked_by parts ≡ a → length body ≡ body_length a → IsRequestText (line_sent parts ++ body) (request_of a body)
+text_of_words parts body a fit short is whole =
     let line = join_with_byte 32 parts ++ 13 ∷ [] in
     let is_asked : asked line ≡ a = ap asked_by (words_joined parts fit) ∙ is in
     inl (record {
       line = line;
-      behind = behind;
+      body = body;
       short = omega (arith, short, length-append (join_with_byte 32 parts) (13 ∷ []));
       unbroken = All-append (λ byte. byte ≢ 10) (join_with_byte 32 parts) (13 ∷ []) (unbroken_joined parts fit) (All-cons (λ byte. byte ≢ 10) 13 [] (λ same. omega (arith, same)) (All-nil (λ byte. byte ≢ 10)));
-      whole = whole ∙ ap length_behind (sym is_asked);
-      in_text = append_assoc (join_with_byte 32 parts) (13 ∷ 10 ∷ []) behind ∙ sym (append_assoc (join_with_byte 32 parts) (13 ∷ []) (10 ∷ behind));
-      is_asked = ap (λ b. request_of b behind) (sym is_asked);
+      whole = whole ∙ ap body_length (sym is_asked);
+      in_text = append_assoc (join_with_byte 32 parts) (13 ∷ 10 ∷ []) body ∙ sym (append_assoc (join_with_byte 32 parts) (13 ∷ []) (10 ∷ body));
+      is_asked = ap (λ b. request_of b body) (sym is_asked);
     })
 
 -- without a block
 pub text_of_line : (parts : List (List ℕ)) (request : Request) → are_fit parts ≡ true → length (join_with_byte 32 parts) + 1 ≤ LINE_BYTES
-    → asked_by parts ≡ Line request → IsRequestText (line_sent parts) request
+    → asked_by parts ≡ LineOnly request → IsRequestText (line_sent parts) request
 text_of_line parts request fit short is =
-    subst (λ text. IsRequestText text request) (append-nil (line_sent parts)) (text_of_words parts [] (Line request) fit short is refl)
+    subst (λ text. IsRequestText text request) (append-nil (line_sent parts)) (text_of_words parts [] (LineOnly request) fit short is refl)
 
 -- a line of so few words is short
 few_words : (parts : List (List ℕ)) → are_fit parts ≡ true → length parts ≤ 7 → length (join_with_byte 32 parts) + 1 ≤ LINE_BYTES
 few_words parts fit few = omega (arith, length_joined parts fit, few)
 
-text_of_few : (parts : List (List ℕ)) (request : Request) → are_fit parts ≡ true → length parts ≤ 7 → asked_by parts ≡ Line request → IsRequestText (line_sent parts) request
+text_of_few : (parts : List (List ℕ)) (request : Request) → are_fit parts ≡ true → length parts ≤ 7 → asked_by parts ≡ LineOnly request → IsRequestText (line_sent parts) request
 text_of_few parts request fit few = text_of_line parts request fit (few_words parts fit few)
 
 -- What the words of a command are.
@@ -189,11 +189,11 @@ no_failure [] pass = refl
 no_failure (check ∷ checks) pass =
     let parts = and_parts _ _ pass in cond-true _ _ _ parts.0 ∙ no_failure checks parts.1
 
--- Lines alone.
+-- Lines without a block.
 key_checked : (key : List ℕ) → is_lawful_key key ≡ true → first_failure ((is_lawful_key key, E2) ∷ []) ≡ None
 key_checked key lawful = no_failure ((is_lawful_key key, E2) ∷ []) (and_from (is_lawful_key key) true lawful refl)
 
-delete_asked : (key : List ℕ) (quiet : Bool) → is_lawful_key key ≡ true → asked_by (codes "delete" ∷ key ∷ noreply_if quiet) ≡ Line (Logged (Delete key) quiet)
+delete_asked : (key : List ℕ) (quiet : Bool) → is_lawful_key key ≡ true → asked_by (codes "delete" ∷ key ∷ noreply_if quiet) ≡ LineOnly (Logged (Delete key) quiet)
 delete_asked key false lawful = ap (λ failure. asked_unless failure (Delete key) false) (key_checked key lawful)
 delete_asked key true lawful = ap (λ failure. asked_unless failure (Delete key) true) (key_checked key lawful)
 
@@ -203,23 +203,13 @@ sent_delete key quiet lawful =
     let fit : are_fit parts ≡ true = and_from (is_fit key) (are_fit (noreply_if quiet)) (fit_key key lawful) (fit_noreply quiet) in
     text_of_few parts (Logged (Delete key) quiet) fit (omega (arith, one_more quiet)) (delete_asked key quiet lawful)
 
+delta_checked : (change : Change) (key : List ℕ) (by : ℕ) (noreply : Bool) → is_lawful_key key ≡ true → asked_of_delta change true key (Some by) noreply ≡ LineOnly (Logged (changed change key by) noreply)
+delta_checked change key by noreply lawful = ap (λ failure. asked_unless failure (changed change key by) noreply) (no_failure ((is_lawful_key key, E2) ∷ (true, E9) ∷ []) (and_from (is_lawful_key key) true lawful refl))
+
 change_checked : (change : Change) (key : List ℕ) (by : ℕ) (quiet : Bool) → is_lawful_key key ≡ true → by < 2 ^ 64
-    → asked_of_change change (key ∷ decimal by ∷ noreply_if quiet) ≡ Line (Logged (changed change key by) quiet)
-change_checked change key by quiet lawful small = by_form quiet
-  where
-    is_number : number_up_to DELTA (decimal by) ≡ Some by
-    is_number = number_of_decimal DELTA by (omega (arith, small)) small
-
-    passes : first_failure ((is_lawful_key key, E2) ∷ (is_delta (decimal by), E9) ∷ []) ≡ None
-    passes = no_failure ((is_lawful_key key, E2) ∷ (is_delta (decimal by), E9) ∷ []) (and_from (is_lawful_key key) (is_delta (decimal by) && true) lawful (and_from (is_delta (decimal by)) true (ap is_some is_number) refl))
-
-    by_form : (quiet : Bool) → asked_of_change change (key ∷ decimal by ∷ noreply_if quiet) ≡ Line (Logged (changed change key by) quiet)
-    by_form false =
-        ap (λ failure. asked_unless failure (changed change key (delta_of (decimal by))) false) passes
-        ∙ ap (λ number. Line (Logged (changed change key (unwrap_or number 0)) false)) is_number
-    by_form true =
-        ap (λ failure. asked_unless failure (changed change key (delta_of (decimal by))) true) passes
-        ∙ ap (λ number. Line (Logged (changed change key (unwrap_or number 0)) true)) is_number
+    → asked_of_change change (key ∷ decimal by ∷ noreply_if quiet) ≡ LineOnly (Logged (changed change key by) quiet)
+change_checked change key by false lawful small = ap (λ delta. asked_of_delta change true key delta false) (number_of_decimal DELTA by (omega (arith, small)) small) ∙ delta_checked change key by false lawful
+change_checked change key by true lawful small = ap (λ delta. asked_of_delta change true key delta true) (number_of_decimal DELTA by (omega (arith, small)) small) ∙ delta_checked change key by true lawful
 
 module _ (key : List ℕ) (by : ℕ) (quiet : Bool) (lawful : IsTrue (is_lawful_key key)) (small : by < 2 ^ 64) where
   fit_change : are_fit (key ∷ decimal by ∷ noreply_if quiet) ≡ true
@@ -233,7 +223,7 @@ module _ (key : List ℕ) (by : ℕ) (quiet : Bool) (lawful : IsTrue (is_lawful_
   pub sent_decr : IsRequestText (sent (Decr key by) quiet) (Logged (Decr key by) quiet)
   sent_decr = text_of_few (codes "decr" ∷ key ∷ decimal by ∷ noreply_if quiet) (Logged (Decr key by) quiet) fit_change (omega (arith, one_more quiet)) (change_checked change.Decr key by quiet lawful small)
 
-flush_asked : (quiet : Bool) → asked_by (codes "flush_all" ∷ noreply_if quiet) ≡ Line (Logged Flush quiet)
+flush_asked : (quiet : Bool) → asked_by (codes "flush_all" ∷ noreply_if quiet) ≡ LineOnly (Logged Flush quiet)
 flush_asked false = refl
 flush_asked true = refl
 
@@ -252,7 +242,7 @@ fit_keys (key ∷ keys) lawful =
     let parts = and_parts (is_lawful_key key) (list_all is_lawful_key keys) lawful in
     and_from (is_fit key) (are_fit keys) (fit_key key parts.0) (fit_keys keys parts.1)
 
-retrieval_asked : (keys : List (List ℕ)) (uniques : Bool) → 0 < length keys → list_all is_lawful_key keys ≡ true → asked_of_retrieval uniques keys ≡ Line (Logged (Get keys uniques) false)
+retrieval_asked : (keys : List (List ℕ)) (uniques : Bool) → 0 < length keys → list_all is_lawful_key keys ≡ true → asked_of_retrieval uniques keys ≡ LineOnly (Logged (Get keys uniques) false)
 retrieval_asked [] uniques some lawful = absurd (omega (arith, some))
 retrieval_asked (key ∷ keys) uniques some lawful =
     ap (λ failure. asked_unless failure (Get (key ∷ keys) uniques) false)
@@ -275,11 +265,11 @@ or_right false b passes = passes
 -- a line in which no check fails
 storage_asked : (line : StorageLine) (storage : Storage) (flags size : ℕ) → line.storage ≡ Some storage → line.flags ≡ Some flags → number_up_to BLOCK_LENGTH line.size ≡ Some size
     → ends_in_noreply line.last ≡ true → is_lawful_key line.key ≡ true → is_exptime line.exptime ≡ true → is_zero line.exptime ≡ true → size ≤ DATA_BYTES
-    → asked_of_block line ≡ Stored (record { length = size; storage = storage; key = line.key; flags = flags; quiet = is_some line.last })
+    → asked_of_block line ≡ StoredBlock (record { length = size; storage = storage; key = line.key; flags = flags; quiet = is_some line.last })
 storage_asked line storage flags size is_storage are_flags is_size ends lawful spelled zero small =
     ap (asked_of_length line) is_size
     ∙ (ap (asked_with line size) (no_failure (storage_checks line size) passes)
-    ∙ (λ i. Stored (record { length = size; storage = unwrap_or (is_storage i) (Plain Set); key = line.key; flags = unwrap_or (are_flags i) 0; quiet = is_some line.last })))
+    ∙ (λ i. StoredBlock (record { length = size; storage = unwrap_or (is_storage i) (Plain Set); key = line.key; flags = unwrap_or (are_flags i) 0; quiet = is_some line.last })))
   where
     passes : list_all (λ check. check.0) (storage_checks line size) ≡ true
     passes =
@@ -296,7 +286,7 @@ block_stored storage key flags block quiet = λ i.
     (take_at block (13 ∷ 10 ∷ []) (length block) refl i)
 
 text_of_block : (parts : List (List ℕ)) (storage : Storage) (key : List ℕ) (flags : ℕ) (block : List ℕ) (quiet : Bool) → are_fit parts ≡ true → length parts ≤ 7
-    → asked_by parts ≡ Stored (record { length = length block; storage = storage; key = key; flags = flags; quiet = quiet })
+    → asked_by parts ≡ StoredBlock (record { length = length block; storage = storage; key = key; flags = flags; quiet = quiet })
     → IsRequestText (line_sent parts ++ block_sent block) (Logged (storing storage key flags block) quiet)
 text_of_block parts storage key flags block quiet fit few is =
     subst (IsRequestText (line_sent parts ++ block_sent block)) (block_stored storage key flags block quiet)
@@ -324,13 +314,13 @@ module _ (key : List ℕ) (flags : ℕ) (block : List ℕ) (quiet : Bool) (lawfu
 
   line_asked : (given : Option Storage) (storage : Storage) (last : Option (List ℕ)) → given ≡ Some storage → ends_in_noreply last ≡ true
       → asked_of_block (record { storage = given; key = key; flags = number_up_to FLAGS (decimal flags); exptime = codes "0"; size = decimal (length block); last = last })
-      ≡ Stored (record { length = length block; storage = storage; key = key; flags = flags; quiet = is_some last })
+      ≡ StoredBlock (record { length = length block; storage = storage; key = key; flags = flags; quiet = is_some last })
   line_asked given storage last is_given ends =
       storage_asked (record { storage = given; key = key; flags = number_up_to FLAGS (decimal flags); exptime = codes "0"; size = decimal (length block); last = last })
       storage flags (length block) is_given are_flags is_size ends lawful refl refl short
 
   store_asked : (verb : Verb) (quiet : Bool) → asked_of_storage verb (key ∷ decimal flags ∷ codes "0" ∷ decimal (length block) ∷ noreply_if quiet)
-      ≡ Stored (record { length = length block; storage = Plain verb; key = key; flags = flags; quiet = quiet })
+      ≡ StoredBlock (record { length = length block; storage = Plain verb; key = key; flags = flags; quiet = quiet })
   store_asked verb false = line_asked (Some (Plain verb)) (Plain verb) None refl refl
   store_asked verb true = line_asked (Some (Plain verb)) (Plain verb) (Some (codes "noreply")) refl refl
 
@@ -348,7 +338,7 @@ module _ (key : List ℕ) (flags : ℕ) (block : List ℕ) (quiet : Bool) (lawfu
       (name_asked verb (key ∷ decimal flags ∷ codes "0" ∷ decimal (length block) ∷ noreply_if quiet) ∙ store_asked verb quiet)
 
   cas_asked : (unique : ℕ) (quiet : Bool) → unique < 2 ^ 64 → asked_of_cas (key ∷ decimal flags ∷ codes "0" ∷ decimal (length block) ∷ decimal unique ∷ noreply_if quiet)
-      ≡ Stored (record { length = length block; storage = CheckAndSet unique; key = key; flags = flags; quiet = quiet })
+      ≡ StoredBlock (record { length = length block; storage = CheckAndSet unique; key = key; flags = flags; quiet = quiet })
   cas_asked unique false fits = line_asked (check_and_set (decimal unique)) (CheckAndSet unique) None (ap (option_map CheckAndSet) (number_of_decimal UNIQUE unique (omega (arith, fits)) fits)) refl
   cas_asked unique true fits = line_asked (check_and_set (decimal unique)) (CheckAndSet unique) (Some (codes "noreply")) (ap (option_map CheckAndSet) (number_of_decimal UNIQUE unique (omega (arith, fits)) fits)) refl
 

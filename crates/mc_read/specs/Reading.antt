@@ -24,7 +24,7 @@ Reads bytes (request ∷ requests) rest =
     × MatchBool (ends_stream request) ((requests ≡ []) × (more ≡ rest)) (Reads more requests rest)
 
 -- What a reader holds: bytes; or a request that was refused, with so many bytes still to come of its block
--- and the two bytes behind it, and what is behind those; or nothing, after the end.
+-- and the two bytes after it, and the bytes that follow those; or nothing, after the end.
 pub data Held : Type 0 where
   Kept : List ℕ → Held
   Swallowing : Request → ℕ → List ℕ → Held

@@ -69,13 +69,13 @@ pub fn each_command_can_be_sent()
 /// No command expires: a line that becomes a command has an exptime of zero wherever it has one, but for `append` and
 /// `prepend`, which ignore it.
 pub fn no_command_expires()
-    ensures storage { (line behind key flags exptime : List ℕ) (more : List (List ℕ)) (verb : Verb) (command : Command) (quiet : Bool) →
+    ensures storage { (line body key flags exptime : List ℕ) (more : List (List ℕ)) (verb : Verb) (command : Command) (quiet : Bool) →
         IsUnbroken line → words line ≡ verb_name verb ∷ key ∷ flags ∷ exptime ∷ more → verb ≢ Append → verb ≢ Prepend →
-        IsRequestText (line ++ 10 ∷ behind) (Logged command quiet) → IsTrue (is_zero exptime) }
-    ensures cas { (line behind key flags exptime : List ℕ) (more : List (List ℕ)) (command : Command) (quiet : Bool) →
+        IsRequestText (line ++ 10 ∷ body) (Logged command quiet) → IsTrue (is_zero exptime) }
+    ensures cas { (line body key flags exptime : List ℕ) (more : List (List ℕ)) (command : Command) (quiet : Bool) →
         IsUnbroken line → words line ≡ codes "cas" ∷ key ∷ flags ∷ exptime ∷ more →
-        IsRequestText (line ++ 10 ∷ behind) (Logged command quiet) → IsTrue (is_zero exptime) }
-    ensures flush { (line behind exptime : List ℕ) (more : List (List ℕ)) (command : Command) (quiet : Bool) →
+        IsRequestText (line ++ 10 ∷ body) (Logged command quiet) → IsTrue (is_zero exptime) }
+    ensures flush { (line body exptime : List ℕ) (more : List (List ℕ)) (command : Command) (quiet : Bool) →
         IsUnbroken line → words line ≡ codes "flush_all" ∷ exptime ∷ more → exptime ≢ codes "noreply" →
-        IsRequestText (line ++ 10 ∷ behind) (Logged command quiet) → IsTrue (is_zero exptime) }
+        IsRequestText (line ++ 10 ∷ body) (Logged command quiet) → IsTrue (is_zero exptime) }
 {}
