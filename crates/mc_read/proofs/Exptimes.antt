@@ -38,12 +38,12 @@ asked_on line body command quiet unbroken (inr is) = absurd (never is.is_too_lon
     never same = cc
 
 -- each check passes
-abbrev AllPassing : Checks → Type 0
+abbrev pub AllPassing : Checks → Type 0
 AllPassing [] = ⊤
 AllPassing (check ∷ checks) = (check.0 ≡ true) × AllPassing checks
 
 -- where nothing is refused all checks pass
-all_pass : (checks : Checks) → first_failure checks ≡ None → AllPassing checks
+pub all_pass : (checks : Checks) → first_failure checks ≡ None → AllPassing checks
 all_pass [] none = tt
 all_pass ((true, refusal) ∷ checks) none = (refl, all_pass checks none)
 all_pass ((false, refusal) ∷ checks) none = absurd (never none)

@@ -8,4 +8,5 @@ pub mod Steps
 pub mod States
 pub mod Sending
 pub mod Exptimes
+pub mod Lawful
 mod Rows

@@ -1,13 +1,14 @@
 -- What a client sends for a command. After memcached's doc/protocol.txt, "Storage commands", "Retrieval command",
 -- "Deletion", "Increment/Decrement" and "Other commands". It is written with one space between two words, and with an
 -- exptime of 0.
-use Rattle.std.specs.Prelude.{ℕ, Bool, if◌then◌else◌, List, [], ◌∷◌, ◌++◌, length, codes, decimal}
+use Rattle.std.specs.Prelude.{ℕ, ◌^◌, ◌<◌, ◌≤◌, Bool, if◌then◌else◌, List, [], ◌∷◌, ◌++◌, length, codes, decimal, All, IsTrue}
 use Rattle.std.specs.List.{join_with_byte}
 use Rattle.mc_model.specs.declared.command.Command.{Command}
 use Rattle.mc_model.specs.declared.command.Command.TheVariants.{Cas, Decr, Delete, Flush, Get, Incr, Store}
 use Rattle.mc_model.specs.declared.command.Verb.{Verb}
 use Rattle.mc_model.specs.declared.command.Verb.TheVariants.{Add, Append, Prepend, Replace, Set}
 use Rattle.mc_model.specs.declared.item.Data.{Data}
+use Rattle.mc_model.specs.Key.{is_lawful_key}
 
 -- <command name>
 abbrev pub verb_name : Verb → List ℕ
@@ -40,3 +41,13 @@ sent (Delete key) quiet = line_sent (codes "delete" ∷ key ∷ noreply_if quiet
 sent (Incr key by) quiet = line_sent (codes "incr" ∷ key ∷ decimal by ∷ noreply_if quiet)
 sent (Decr key by) quiet = line_sent (codes "decr" ∷ key ∷ decimal by ∷ noreply_if quiet)
 sent Flush quiet = line_sent (codes "flush_all" ∷ noreply_if quiet)
+
+-- a command whose keys are lawful, with numbers and data that a line can name
+abbrev pub IsLawfulCommand : Command → Type 0
+IsLawfulCommand (Store verb key flags block) = IsTrue (is_lawful_key key) × (flags < 2 ^ 32) × (length block ≤ 1048576)
+IsLawfulCommand (Cas key flags block unique) = IsTrue (is_lawful_key key) × (flags < 2 ^ 32) × (length block ≤ 1048576) × (unique < 2 ^ 64)
+IsLawfulCommand (Get keys uniques) = (0 < length keys) × All (λ key. IsTrue (is_lawful_key key)) keys
+IsLawfulCommand (Delete key) = IsTrue (is_lawful_key key)
+IsLawfulCommand (Incr key by) = IsTrue (is_lawful_key key) × (by < 2 ^ 64)
+IsLawfulCommand (Decr key by) = IsTrue (is_lawful_key key) × (by < 2 ^ 64)
+IsLawfulCommand Flush = Unit {0}

@@ -13,7 +13,7 @@ ghost use Rattle.mc_model.specs.declared.request.Request.TheVariants.{Logged};
 ghost use Rattle.mc_model.specs.Key.{is_lawful_key};
 ghost use Rattle.mc_read.specs.declared.line.TheConstants.{BLOCK_LENGTH, DELTA, FLAGS, LINE_BYTES, UNIQUE};
 ghost use Rattle.mc_read.specs.Reading.{Reads};
-ghost use Rattle.mc_read.specs.Sending.{sent, verb_name};
+ghost use Rattle.mc_read.specs.Sending.{IsLawfulCommand, sent, verb_name};
 ghost use Rattle.mc_read.specs.Text.{IsRequestText, IsUnbroken};
 ghost use Rattle.mc_read.specs.Word.{is_zero, words};
 
@@ -64,6 +64,12 @@ pub fn each_command_can_be_sent()
     ensures decr { (key : Key) (by : ℕ) (quiet : Bool) → IsTrue (is_lawful_key key) → by < 2 ^ 64 →
         IsRequestText (sent (Decr key by) quiet) (Logged (Decr key by) quiet) }
     ensures flush { (quiet : Bool) → IsRequestText (sent Flush quiet) (Logged Flush quiet) }
+{}
+
+/// Only lawful commands are read: the keys are lawful, and the numbers and the data within the profile. So each limit of
+/// the profile is exact, for up to it each command can be sent.
+pub fn only_lawful_commands_are_read()
+    ensures { (text : List ℕ) (command : Command) (quiet : Bool) → IsRequestText text (Logged command quiet) → IsLawfulCommand command }
 {}
 
 /// No command expires: a line that becomes a command has an exptime of zero wherever it has one, but for `append` and
