@@ -1,6 +1,6 @@
 -- What a client sends for a command is the text of that command.
-use Rattle.std.proofs.Common.{◌≡◌, ◌≢◌, ℕ, ◌+◌, ◌*◌, ◌-◌, ◌^◌, ◌<◌, ◌≤◌, Bool, true, false, ◌&&◌, ◌||◌, cond, not, nat_lt, nat_le, ◌==◌, slice_index, List, [], ◌∷◌, ◌++◌, length, take, filter, decimal, codes, Option, Some, None, is_some, unwrap_or, option_map, inl, refl, sym, ◌∙◌, ap, subst, append-nil, append_assoc, length-append, arith}
-use Rattle.std.proofs.lemmas.Bool.{and_from, and_parts, cond-true, le-leb, leb-true, lt-ltb, ltb-true, ne_eqb}
+use Rattle.std.proofs.Common.{◌≡◌, ◌≢◌, ℕ, ◌+◌, ◌*◌, ◌-◌, ◌^◌, ◌<◌, ◌≤◌, Bool, true, false, ◌&&◌, ◌||◌, cond, not, nat_lt, nat_le, ◌==◌, slice_index, List, [], ◌∷◌, ◌++◌, length, take, filter, decimal, codes, Option, Some, None, is_some, unwrap_or, option_map, inl, inr, refl, sym, ◌∙◌, ap, subst, append-nil, append_assoc, length-append, arith}
+use Rattle.std.proofs.lemmas.Bool.{and_from, and_parts, cond-false, cond-true, le-leb, leb-true, lt-leb, lt-ltb, ltb-true, ne_eqb}
 use Rattle.std.proofs.lemmas.Fmt.{decimal_is_IsNumeral, length-decimal-le}
 use Rattle.std.proofs.lemmas.List.{drop_at, get_or_at, take_at}
 use Rattle.std.proofs.lemmas.List.Elements.{All-append, All-cons, All-head, All-nil, All-tail}
@@ -13,20 +13,21 @@ use Rattle.mc_model.specs.declared.command.Command.TheVariants.{Cas, Decr, Delet
 use Rattle.mc_model.specs.declared.command.Verb.{Verb}
 use Rattle.mc_model.specs.declared.command.Verb.TheVariants.{Add, Append, Prepend, Replace, Set}
 use Rattle.mc_model.specs.declared.item.TheConstants.{DATA_BYTES}
-use Rattle.mc_model.specs.declared.reply.WireNo.TheVariants.{E2, E9}
+use Rattle.mc_model.specs.declared.reply.WireNo.{WireNo}
+use Rattle.mc_model.specs.declared.reply.WireNo.TheVariants.{E2, E4, E6, E9}
 use Rattle.mc_model.specs.declared.request.Request.{Request}
-use Rattle.mc_model.specs.declared.request.Request.TheVariants.{Logged}
+use Rattle.mc_model.specs.declared.request.Request.TheVariants.{Logged, TooLong}
 use Rattle.mc_model.specs.Key.{is_key_byte, is_lawful_key}
 use Rattle.mc_model.specs.Number.{number_up_to}
-use Rattle.mc_model.proofs.Numerals.{number_up_to-some}
+use Rattle.mc_model.proofs.Numerals.{number_up_to-none, number_up_to-some}
 use Rattle.mc_read.specs.declared.without_block.Change.{Change}
 use Rattle.mc_read.specs.declared.without_block.Change.TheVariants as change
 use Rattle.mc_read.specs.declared.line.Asked.{Asked}
-use Rattle.mc_read.specs.declared.line.Asked.TheVariants.{LineOnly, StoredBlock}
+use Rattle.mc_read.specs.declared.line.Asked.TheVariants.{LineOnly, RefusedBlock, StoredBlock}
 use Rattle.mc_read.specs.declared.line.Storage.{Storage}
 use Rattle.mc_read.specs.declared.line.Storage.TheVariants.{CheckAndSet, Plain}
 use Rattle.mc_read.specs.declared.line.TheConstants.{BLOCK_LENGTH, DELTA, FLAGS, LINE_BYTES, UNIQUE}
-use Rattle.mc_read.specs.Line.{Checks, StorageLine, asked, asked_by, asked_of_block, asked_of_cas, asked_of_change, asked_of_delta, asked_of_length, asked_of_retrieval, asked_of_storage, asked_unless, asked_with, changed, check_and_set, ends_in_noreply, first_failure, ignores_exptime, storage_checks}
+use Rattle.mc_read.specs.Line.{Checks, StorageLine, asked, asked_by, asked_of_block, asked_of_cas, asked_of_change, asked_of_delta, asked_of_length, asked_of_retrieval, asked_of_storage, asked_unless, asked_with, changed, check_and_set, ends_in_noreply, first_failure, ignores_exptime, refused}
 use Rattle.mc_read.specs.Sending.{block_sent, line_sent, noreply_if, sent, verb_name}
 use Rattle.mc_read.specs.Text.{IsRequestText, IsUnbroken, ends_well, body_length, request_of, stored, stored_if, storing}
 use Rattle.mc_read.specs.Word.{is_exptime, is_space, is_zero, spaced_words, without_return, words}
@@ -262,21 +263,37 @@ or_right : (a b : Bool) → b ≡ true → (a || b) ≡ true
 or_right true b passes = refl
 or_right false b passes = passes
 
--- a line in which no check fails
-storage_asked : (line : StorageLine) (storage : Storage) (flags size : ℕ) → line.storage ≡ Some storage → line.flags ≡ Some flags → number_up_to BLOCK_LENGTH line.size ≡ Some size
-    → ends_in_noreply line.last ≡ true → is_lawful_key line.key ≡ true → is_exptime line.exptime ≡ true → is_zero line.exptime ≡ true → size ≤ DATA_BYTES
-    → asked_of_block line ≡ StoredBlock (record { length = size; storage = storage; key = line.key; flags = flags; quiet = is_some line.last })
-storage_asked line storage flags size is_storage are_flags is_size ends lawful spelled zero small =
-    ap (asked_of_length line) is_size
-    ∙ (ap (asked_with line size) (no_failure (storage_checks line size) passes)
-    ∙ (λ i. StoredBlock (record { length = size; storage = unwrap_or (is_storage i) (Plain Set); key = line.key; flags = unwrap_or (are_flags i) 0; quiet = is_some line.last })))
-  where
-    passes : list_all (λ check. check.0) (storage_checks line size) ≡ true
-    passes =
-        and_from (ends_in_noreply line.last) _ ends (and_from (is_lawful_key line.key) _ lawful (and_from (is_some line.flags) _ (ap is_some are_flags)
-        (and_from (is_exptime line.exptime) _ spelled (and_from (is_some line.storage) _ (ap is_some is_storage)
-        (and_from (ignores_exptime line.storage || is_zero line.exptime) _ (or_right (ignores_exptime line.storage) (is_zero line.exptime) zero)
-        (and_from (nat_le size DATA_BYTES) true (le-leb size DATA_BYTES small) refl))))))
+-- all checks of a storage line but the last, which is on its length
+abbrev word_checks : StorageLine → Checks
+word_checks line =
+    (ends_in_noreply line.last, E2) ∷ (is_lawful_key line.key, E2) ∷ (is_some line.flags, E2) ∷ (is_exptime line.exptime, E2) ∷ (is_some line.storage, E2)
+    ∷ (ignores_exptime line.storage || is_zero line.exptime, E4) ∷ []
+
+-- where the first checks pass, the last decides
+last_decides : (checks : Checks) (test : Bool) (refusal : WireNo) → list_all (λ check. check.0) checks ≡ true → first_failure (checks ++ (test, refusal) ∷ []) ≡ first_failure ((test, refusal) ∷ [])
+last_decides [] test refusal pass = refl
+last_decides (check ∷ checks) test refusal pass =
+    let parts = and_parts check.0 (list_all (λ c. c.0) checks) pass in cond-true _ _ _ parts.0 ∙ last_decides checks test refusal parts.1
+
+module _ (line : StorageLine) (storage : Storage) (flags size : ℕ) (is_storage : line.storage ≡ Some storage) (are_flags : line.flags ≡ Some flags) (is_size : number_up_to BLOCK_LENGTH line.size ≡ Some size) (ends : ends_in_noreply line.last ≡ true) (lawful : is_lawful_key line.key ≡ true) (spelled : is_exptime line.exptime ≡ true) (zero : is_zero line.exptime ≡ true) where
+  words_pass : list_all (λ check. check.0) (word_checks line) ≡ true
+  words_pass =
+      and_from (ends_in_noreply line.last) _ ends (and_from (is_lawful_key line.key) _ lawful (and_from (is_some line.flags) _ (ap is_some are_flags)
+      (and_from (is_exptime line.exptime) _ spelled (and_from (is_some line.storage) _ (ap is_some is_storage)
+      (and_from (ignores_exptime line.storage || is_zero line.exptime) true (or_right (ignores_exptime line.storage) (is_zero line.exptime) zero) refl)))))
+
+  -- a line in which no check fails
+  storage_asked : size ≤ DATA_BYTES → asked_of_block line ≡ StoredBlock (record { length = size; storage = storage; key = line.key; flags = flags; quiet = is_some line.last })
+  storage_asked small =
+      ap (asked_of_length line) is_size
+      ∙ (ap (asked_with line size) (last_decides (word_checks line) (nat_le size DATA_BYTES) E6 words_pass ∙ cond-true _ _ _ (le-leb size DATA_BYTES small))
+      ∙ (λ i. StoredBlock (record { length = size; storage = unwrap_or (is_storage i) (Plain Set); key = line.key; flags = unwrap_or (are_flags i) 0; quiet = is_some line.last })))
+
+  -- a line in which the last one fails
+  too_large_asked : DATA_BYTES < size → asked_of_block line ≡ RefusedBlock size E6 (is_some line.last)
+  too_large_asked large =
+      ap (asked_of_length line) is_size
+      ∙ ap (asked_with line size) (last_decides (word_checks line) (nat_le size DATA_BYTES) E6 words_pass ∙ cond-false _ _ _ (lt-leb size DATA_BYTES large))
 
 -- the block with its end is stored
 block_stored : (storage : Storage) (key : List ℕ) (flags : ℕ) (block : List ℕ) (quiet : Bool)
@@ -298,6 +315,13 @@ name_asked Add arguments = refl
 name_asked Replace arguments = refl
 name_asked Append arguments = refl
 name_asked Prepend arguments = refl
+
+fit_name : (verb : Verb) → is_fit (verb_name verb) ≡ true
+fit_name Set = refl
+fit_name Add = refl
+fit_name Replace = refl
+fit_name Append = refl
+fit_name Prepend = refl
 
 -- the words of a storage line that is sent
 module _ (key : List ℕ) (flags : ℕ) (block : List ℕ) (quiet : Bool) (lawful : IsTrue (is_lawful_key key)) (small : flags < 2 ^ 32) (short : length block ≤ 1048576) where
@@ -324,13 +348,6 @@ module _ (key : List ℕ) (flags : ℕ) (block : List ℕ) (quiet : Bool) (lawfu
   store_asked verb false = line_asked (Some (Plain verb)) (Plain verb) None refl refl
   store_asked verb true = line_asked (Some (Plain verb)) (Plain verb) (Some (codes "noreply")) refl refl
 
-  fit_name : (verb : Verb) → is_fit (verb_name verb) ≡ true
-  fit_name Set = refl
-  fit_name Add = refl
-  fit_name Replace = refl
-  fit_name Append = refl
-  fit_name Prepend = refl
-
   pub sent_store : (verb : Verb) → IsRequestText (sent (Store verb key flags block) quiet) (Logged (Store verb key flags block) quiet)
   sent_store verb =
       text_of_block (verb_name verb ∷ key ∷ decimal flags ∷ codes "0" ∷ decimal (length block) ∷ noreply_if quiet) (Plain verb) key flags block quiet
@@ -347,3 +364,43 @@ module _ (key : List ℕ) (flags : ℕ) (block : List ℕ) (quiet : Bool) (lawfu
       text_of_block (codes "cas" ∷ key ∷ decimal flags ∷ codes "0" ∷ decimal (length block) ∷ decimal unique ∷ noreply_if quiet) (CheckAndSet unique) key flags block quiet
       (fit_storage (decimal unique ∷ noreply_if quiet) (and_from (is_fit (decimal unique)) (are_fit (noreply_if quiet)) (fit_decimal unique fits) (fit_noreply quiet))) (omega (arith, one_more quiet))
       (cas_asked unique quiet fits)
+
+-- Limits.
+module _ (verb : Verb) (key : List ℕ) (flags size : ℕ) (quiet : Bool) (lawful : IsTrue (is_lawful_key key)) (small : flags < 2 ^ 32) (spelled : size < 2 ^ 64) where
+  abbrev parts_sent : List (List ℕ)
+  parts_sent = verb_name verb ∷ key ∷ decimal flags ∷ codes "0" ∷ decimal size ∷ noreply_if quiet
+
+  fit_parts_sent : are_fit parts_sent ≡ true
+  fit_parts_sent =
+      and_from (is_fit (verb_name verb)) _ (fit_name verb) (and_from (is_fit key) _ (fit_key key lawful) (and_from (is_fit (decimal flags)) _ (fit_decimal flags (omega (arith, small)))
+      (and_from (is_fit (decimal size)) (are_fit (noreply_if quiet)) (fit_decimal size spelled) (fit_noreply quiet))))
+
+  abbrev line_of : Option (List ℕ) → StorageLine
+  line_of last = record { storage = Some (Plain verb); key = key; flags = number_up_to FLAGS (decimal flags); exptime = codes "0"; size = decimal size; last = last }
+
+  large_line : (last : Option (List ℕ)) → ends_in_noreply last ≡ true → 1048576 < size → size ≤ 2147483645 → asked_of_block (line_of last) ≡ RefusedBlock size E6 (is_some last)
+  large_line last ends large readable =
+      too_large_asked (line_of last) (Plain verb) flags size refl (number_of_decimal FLAGS flags (omega (arith, small)) (omega (arith, small))) (number_of_decimal BLOCK_LENGTH size (omega (arith, readable)) spelled) ends lawful refl refl (omega (arith, large))
+
+  large_asked : (noreply : Bool) → 1048576 < size → size ≤ 2147483645 → asked_of_storage verb (key ∷ decimal flags ∷ codes "0" ∷ decimal size ∷ noreply_if noreply) ≡ RefusedBlock size E6 noreply
+  large_asked false large readable = large_line None refl large readable
+  large_asked true large readable = large_line (Some (codes "noreply")) refl large readable
+
+  pub large_refused : (block : List ℕ) → length block ≡ size → 1048576 < size → size ≤ 2147483645 → IsRequestText (line_sent parts_sent ++ block_sent block) (refused E6 quiet)
+  large_refused block is_length large readable =
+      text_of_words parts_sent (block_sent block) (RefusedBlock size E6 quiet) fit_parts_sent (few_words parts_sent fit_parts_sent (omega (arith, one_more quiet)))
+      (name_asked verb (key ∷ decimal flags ∷ codes "0" ∷ decimal size ∷ noreply_if quiet) ∙ large_asked quiet large readable) (omega (arith, is_length, length-append block (13 ∷ 10 ∷ [])))
+
+  unreadable : 2147483645 < size → number_up_to BLOCK_LENGTH (decimal size) ≡ None
+  unreadable large = number_up_to-none BLOCK_LENGTH (decimal size) (λ number. omega (arith, number.1, (decimal_is_IsNumeral size spelled).1, large))
+
+  unreadable_asked : (noreply : Bool) → 2147483645 < size → asked_of_storage verb (key ∷ decimal flags ∷ codes "0" ∷ decimal size ∷ noreply_if noreply) ≡ LineOnly (refused E2 false)
+  unreadable_asked false large = ap (asked_of_length (line_of None)) (unreadable large)
+  unreadable_asked true large = ap (asked_of_length (line_of (Some (codes "noreply")))) (unreadable large)
+
+  pub unreadable_refused : 2147483645 < size → IsRequestText (line_sent parts_sent) (refused E2 false)
+  unreadable_refused large =
+      text_of_few parts_sent (refused E2 false) fit_parts_sent (omega (arith, one_more quiet)) (name_asked verb (key ∷ decimal flags ∷ codes "0" ∷ decimal size ∷ noreply_if quiet) ∙ unreadable_asked quiet large)
+
+pub long_line_refused : (text : List ℕ) → length text ≡ 65537 → IsUnbroken text → IsRequestText text TooLong
+long_line_refused text long unbroken = inr (record { long = long; unbroken = unbroken; is_too_long = refl })

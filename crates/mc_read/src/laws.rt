@@ -1,6 +1,6 @@
 //! What makes a reading of a byte stream one thing, however the stream is cut. A law is the contract of a function that
 //! does nothing: it holds for every byte list.
-ghost use Rattle.std.specs.Prelude.{◌≡◌, ◌≢◌, ℕ, ◌^◌, ◌-◌, ◌<◌, ◌≤◌, Bool, true, false, All, IsTrue, List, [], ◌∷◌, ◌++◌, length, codes};
+ghost use Rattle.std.specs.Prelude.{◌≡◌, ◌≢◌, ℕ, ◌^◌, ◌-◌, ◌<◌, ◌≤◌, Bool, true, false, All, IsTrue, List, [], ◌∷◌, ◌++◌, length, codes, decimal};
 ghost use Rattle.mc_model.specs.declared.command.Command.{Command};
 ghost use Rattle.mc_model.specs.declared.command.Command.TheVariants.{Cas, Decr, Delete, Flush, Get, Incr, Store};
 ghost use Rattle.mc_model.specs.declared.command.Verb.{Verb};
@@ -8,12 +8,14 @@ ghost use Rattle.mc_model.specs.declared.command.Verb.TheVariants.{Append, Prepe
 ghost use Rattle.mc_model.specs.declared.item.Data.{Data};
 ghost use Rattle.mc_model.specs.declared.key.Key.{Key};
 ghost use Rattle.mc_model.specs.declared.key.KeyList.{KeyList};
+ghost use Rattle.mc_model.specs.declared.reply.Reply.TheVariants.{Refused};
+ghost use Rattle.mc_model.specs.declared.reply.WireNo.TheVariants.{E2, E6};
 ghost use Rattle.mc_model.specs.declared.request.Request.{Request};
-ghost use Rattle.mc_model.specs.declared.request.Request.TheVariants.{Logged};
+ghost use Rattle.mc_model.specs.declared.request.Request.TheVariants.{Local, Logged, TooLong};
 ghost use Rattle.mc_model.specs.Key.{is_lawful_key};
 ghost use Rattle.mc_read.specs.declared.line.TheConstants.{BLOCK_LENGTH, DELTA, FLAGS, LINE_BYTES, UNIQUE};
 ghost use Rattle.mc_read.specs.Reading.{Reads};
-ghost use Rattle.mc_read.specs.Sending.{IsLawfulCommand, sent, verb_name};
+ghost use Rattle.mc_read.specs.Sending.{IsLawfulCommand, block_sent, line_sent, noreply_if, sent, verb_name};
 ghost use Rattle.mc_read.specs.Text.{IsRequestText, IsUnbroken};
 ghost use Rattle.mc_read.specs.Word.{is_zero, words};
 
@@ -64,6 +66,19 @@ pub fn each_command_can_be_sent()
     ensures decr { (key : Key) (by : ℕ) (quiet : Bool) → IsTrue (is_lawful_key key) → by < 2 ^ 64 →
         IsRequestText (sent (Decr key by) quiet) (Logged (Decr key by) quiet) }
     ensures flush { (quiet : Bool) → IsRequestText (sent Flush quiet) (Logged Flush quiet) }
+{}
+
+/// What is too long is refused. After 65,537 bytes of a line nothing more is read; data above 1,048,576 bytes are taken off
+/// the stream and refused; and a length above 2,147,483,645 can't be read, so that the line is refused alone.
+pub fn too_long_is_refused()
+    ensures line { (text : List ℕ) → length text ≡ 65537 → IsUnbroken text → IsRequestText text TooLong }
+    ensures data { (verb : Verb) (key : Key) (flags : ℕ) (block : List ℕ) (quiet : Bool) →
+        IsTrue (is_lawful_key key) → flags < 2 ^ 32 → 1048576 < length block → length block ≤ 2147483645 →
+        IsRequestText (line_sent (verb_name verb ∷ key ∷ decimal flags ∷ codes "0" ∷ decimal (length block) ∷ noreply_if quiet) ++ block_sent block)
+        (Local (Refused E6) quiet) }
+    ensures length { (verb : Verb) (key : Key) (flags size : ℕ) (quiet : Bool) →
+        IsTrue (is_lawful_key key) → flags < 2 ^ 32 → 2147483645 < size → size < 2 ^ 64 →
+        IsRequestText (line_sent (verb_name verb ∷ key ∷ decimal flags ∷ codes "0" ∷ decimal size ∷ noreply_if quiet)) (Local (Refused E2) false) }
 {}
 
 /// Only lawful commands are read: the keys are lawful, and the numbers and the data within the profile. So each limit of
