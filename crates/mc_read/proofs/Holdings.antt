@@ -5,9 +5,9 @@ use Rattle.std.proofs.lemmas.List.{drop-append-le, drop-drop, drop_at}
 use Rattle.std.specs.Bool.{MatchBool}
 use Rattle.mc_model.specs.declared.reply.WireNo.{WireNo}
 use Rattle.mc_model.specs.declared.request.Request.{Request}
-use Rattle.mc_read.specs.declared.line.Asked.TheVariants.{Refused}
+use Rattle.mc_read.specs.declared.line.Asked.TheVariants.{RefusedBlock}
 use Rattle.mc_read.specs.declared.line.TheConstants.{LINE_BYTES}
-use Rattle.mc_read.specs.First.{first_behind, first_request, found}
+use Rattle.mc_read.specs.First.{first_of_line, first_request, found}
 use Rattle.mc_read.specs.Line.{asked, refused}
 use Rattle.mc_read.specs.Reading.{Ended, GoesOn, HasNone, Held, IsFed, IsNext, Kept, ReadAlike, Reads, ReadsAs, ReadsOn, Swallowing, ends_stream}
 use Rattle.mc_read.specs.Text.{IsUnbroken}
@@ -33,7 +33,7 @@ left_on false left requests = (
   λ reads. (reads.0, subst (λ bytes. Reads bytes requests reads.0) (append-nil left) reads.1),
 )
 
--- the same with more bytes behind
+-- the same with more bytes after
 on_more : (ends : Bool) (left more : List ℕ) (requests : List Request) → ReadsOn (cond ends Ended (Kept (left ++ more))) [] requests ↔ ReadsOn (cond ends Ended (Kept left)) more requests
 on_more true left more requests = (λ none. none, λ none. none)
 on_more false left more requests = (
@@ -113,7 +113,7 @@ module _ (request : Request) (left : ℕ) (bytes more : List ℕ) (requests : Li
         subst (λ b. MatchBool b (requests ≡ []) (GoesOn request (ReadsAs (bytes ++ drop left more)) requests)) (sym test),
       )
 
-  -- behind it the refused request is read, and what follows the block
+  -- after it the refused request is read, and what follows the block
   swallows_all : left ≤ length more → ReadsOn (Swallowing request left bytes) more requests ↔ GoesOn request (ReadsAs (bytes ++ drop left more)) requests
   swallows_all past =
       let test = le-ltb (length more) left past in (
@@ -129,42 +129,42 @@ pub swallowed_is_next : (request : Request) (bytes : List ℕ) → IsNext (Swall
 swallowed_is_next request bytes more requests = swallows_all request 0 bytes more requests (omega arith)
 
 -- Where a line's block is refused and hasn't all come, what has come of it needn't be kept.
-module _ (line behind : List ℕ) (size : ℕ) (refusal : WireNo) (quiet : Bool) (unbroken : IsUnbroken line) (short : length line ≤ LINE_BYTES) (is_asked : asked line ≡ Refused size refusal quiet) (partial : length behind < size + 2) where
+module _ (line body : List ℕ) (size : ℕ) (refusal : WireNo) (quiet : Bool) (unbroken : IsUnbroken line) (short : length line ≤ LINE_BYTES) (is_asked : asked line ≡ RefusedBlock size refusal quiet) (partial : length body < size + 2) where
   kept_line : List ℕ → List ℕ
-  kept_line more = line ++ 10 ∷ (behind ++ more)
+  kept_line more = line ++ 10 ∷ (body ++ more)
 
-  first_of_refused : (more : List ℕ) → first_request (kept_line more) ≡ first_behind (Refused size refusal quiet) (behind ++ more)
+  first_of_refused : (more : List ℕ) → first_request (kept_line more) ≡ first_of_line (RefusedBlock size refusal quiet) (body ++ more)
   unfolding kept_line
-  first_of_refused more = first_request_at line (behind ++ more) unbroken short ∙ ap (λ a. first_behind a (behind ++ more)) is_asked
+  first_of_refused more = first_request_at line (body ++ more) unbroken short ∙ ap (λ a. first_of_line a (body ++ more)) is_asked
 
-  rest_behind : (more : List ℕ) → size + 2 ≤ length behind + length more → drop (size + 2) (behind ++ more) ≡ drop (size + 2 - length behind) more
-  rest_behind more all =
-      let sum : size + 2 ≡ length behind + (size + 2 - length behind) = omega arith in
-      ap (λ n. drop n (behind ++ more)) sum
-      ∙ (sym (drop-drop (size + 2 - length behind) (length behind) (behind ++ more)) ∙ ap (drop (size + 2 - length behind)) (drop_at behind more (length behind) refl))
+  rest_after : (more : List ℕ) → size + 2 ≤ length body + length more → drop (size + 2) (body ++ more) ≡ drop (size + 2 - length body) more
+  rest_after more all =
+      let sum : size + 2 ≡ length body + (size + 2 - length body) = omega arith in
+      ap (λ n. drop n (body ++ more)) sum
+      ∙ (sym (drop-drop (size + 2 - length body) (length body) (body ++ more)) ∙ ap (drop (size + 2 - length body)) (drop_at body more (length body) refl))
 
-  refused_alike_kept : (more : List ℕ) (requests : List Request) → ReadsAs (kept_line more) requests ↔ ReadsOn (Swallowing (refused refusal quiet) (size + 2 - length behind) []) more requests
+  refused_alike_kept : (more : List ℕ) (requests : List Request) → ReadsAs (kept_line more) requests ↔ ReadsOn (Swallowing (refused refusal quiet) (size + 2 - length body) []) more requests
   refused_alike_kept more requests =
       ⊎_elim
       (λ within.
-      let none : first_request (kept_line more) ≡ None = first_of_refused more ∙ cond-false _ _ _ (lt-leb (size + 2) (length (behind ++ more)) (omega (arith, within, length-append behind more))) in
-      iff_then (reads_none (kept_line more) none requests) (iff_back (swallows_more (refused refusal quiet) (size + 2 - length behind) [] more requests (omega (arith, within)))))
+      let none : first_request (kept_line more) ≡ None = first_of_refused more ∙ cond-false _ _ _ (lt-leb (size + 2) (length (body ++ more)) (omega (arith, within, length-append body more))) in
+      iff_then (reads_none (kept_line more) none requests) (iff_back (swallows_more (refused refusal quiet) (size + 2 - length body) [] more requests (omega (arith, within)))))
       (λ past.
-      let all : size + 2 ≤ length (behind ++ more) = omega (arith, past, length-append behind more) in
-      let first = first_of_refused more ∙ cond-true _ _ _ (le-leb (size + 2) (length (behind ++ more)) all) in
+      let all : size + 2 ≤ length (body ++ more) = omega (arith, past, length-append body more) in
+      let first = first_of_refused more ∙ cond-true _ _ _ (le-leb (size + 2) (length (body ++ more)) all) in
       iff_then (reads_of_first (kept_line more) (refused refusal quiet) _ first refl requests)
-      (iff_then (goes_alike (refused refusal quiet) _ _ (rest_behind more (omega (arith, past))) requests)
-      (iff_back (swallows_all (refused refusal quiet) (size + 2 - length behind) [] more requests (omega (arith, past))))))
-      (cases_lt (length behind + length more) (size + 2))
+      (iff_then (goes_alike (refused refusal quiet) _ _ (rest_after more (omega (arith, past))) requests)
+      (iff_back (swallows_all (refused refusal quiet) (size + 2 - length body) [] more requests (omega (arith, past))))))
+      (cases_lt (length body + length more) (size + 2))
 
-  pub refused_alike : ReadAlike (Kept (line ++ 10 ∷ behind)) (Swallowing (refused refusal quiet) (size + 2 - length behind) [])
+  pub refused_alike : ReadAlike (Kept (line ++ 10 ∷ body)) (Swallowing (refused refusal quiet) (size + 2 - length body) [])
   unfolding kept_line
   refused_alike more requests =
-      iff_then (same_reading ((line ++ 10 ∷ behind) ++ more) (kept_line more) (append_assoc line (10 ∷ behind) more) requests) (refused_alike_kept more requests)
+      iff_then (same_reading ((line ++ 10 ∷ body) ++ more) (kept_line more) (append_assoc line (10 ∷ body) more) requests) (refused_alike_kept more requests)
 
-  pub refused_has_none : HasNone (Kept (line ++ 10 ∷ behind))
+  pub refused_has_none : HasNone (Kept (line ++ 10 ∷ body))
   refused_has_none requests =
-      iff_then (refused_alike [] requests) (swallowing_has_none (refused refusal quiet) (size + 2 - length behind) [] (omega (arith, partial)) requests)
+      iff_then (refused_alike [] requests) (swallowing_has_none (refused refusal quiet) (size + 2 - length body) [] (omega (arith, partial)) requests)
 
 -- What a piece adds to what is held.
 pub fed_kept : (bytes piece : List ℕ) → IsFed (Kept bytes) piece (Kept (bytes ++ piece))
@@ -173,9 +173,9 @@ fed_kept bytes piece more requests = same_reading ((bytes ++ piece) ++ more) (by
 pub fed_ended : (piece : List ℕ) → IsFed Ended piece Ended
 fed_ended piece more requests = (λ none. none, λ none. none)
 
--- behind a refused block
-pub fed_behind : (request : Request) (bytes piece : List ℕ) → IsFed (Swallowing request 0 bytes) piece (Swallowing request 0 (bytes ++ piece))
-fed_behind request bytes piece more requests =
+-- after a refused block
+pub fed_after : (request : Request) (bytes piece : List ℕ) → IsFed (Swallowing request 0 bytes) piece (Swallowing request 0 (bytes ++ piece))
+fed_after request bytes piece more requests =
     iff_then (swallows_all request 0 (bytes ++ piece) more requests (omega arith))
     (iff_then (goes_alike request ((bytes ++ piece) ++ more) (bytes ++ (piece ++ more)) (append_assoc bytes piece more) requests)
     (iff_back (swallows_all request 0 bytes (piece ++ more) requests (omega arith))))

@@ -6,4 +6,7 @@ pub mod Holdings
 pub mod Lines
 pub mod Steps
 pub mod States
+pub mod Sending
+pub mod Exptimes
+pub mod Lawful
 mod Rows

@@ -49,7 +49,7 @@ one_reading bytes (request ∷ requests) (twin ∷ others) rest left reads other
 -- a text has at least one byte
 text_some : (text : List ℕ) (request : Request) → IsRequestText text request → 0 < length text
 text_some text request is =
-    ⊎_elim (λ line. omega (arith, ap length line.in_text, length-append line.line (10 ∷ line.behind))) (λ long. omega (arith, long.long)) is
+    ⊎_elim (λ line. omega (arith, ap length line.in_text, length-append line.line (10 ∷ line.body))) (λ long. omega (arith, long.long)) is
 
 abbrev pub HasReading : List ℕ → Type 0
 HasReading bytes = (requests : List Request) × (rest : List ℕ) × Reads bytes requests rest

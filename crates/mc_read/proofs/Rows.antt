@@ -27,7 +27,7 @@ block_holds_line_ends = refl
 input_ends_inside_block : first_request (codes "set a 0 0 3\r\nab") ≡ None
 input_ends_inside_block = refl
 
--- a refused block goes with its line, and so do the two bytes behind it
+-- a refused block goes with its line, and so do the two bytes after it
 bad_data_chunk : first_request (codes "set a 0 0 2\r\nabcde\r\n") ≡ found (refused E3 false) (codes "e\r\n")
 bad_data_chunk = refl
 

@@ -26,7 +26,7 @@ word_in_front piece pieces =
     let others = filter (λ word. nat_lt 0 (length word)) pieces in
     elim (nat_lt 0 (length piece)) as (λ b. cond b (piece ∷ others) others ≡ cond b (piece ∷ []) [] ++ others) [ true ↦ refl | false ↦ refl ]
 
--- the words of a text are its first piece and the words behind it
+-- the words of a text are its first piece and the words after it
 pub spaced_words_first : (text : List ℕ) → spaced_words text ≡ word_of (before_first is_space text) ++ spaced_words (after_first is_space text)
 spaced_words_first text =
     ⊎_elim
@@ -40,8 +40,8 @@ spaced_words_first text =
 
 -- a first piece that isn't empty joins the words before it
 pub word_joins : (found : List (List ℕ)) (text word others : List ℕ) → word ≡ before_first is_space text → others ≡ after_first is_space text → 0 < length word → (found ++ word ∷ []) ++ spaced_words others ≡ found ++ spaced_words text
-word_joins found text word others is_first is_behind some =
+word_joins found text word others is_first is_after some =
     let is_word : word_of word ≡ word ∷ [] = ap (λ b. cond b (word ∷ []) []) (lt-ltb 0 (length word) some) in
     let words_of_text : spaced_words text ≡ (word ∷ []) ++ spaced_words others =
-    spaced_words_first text ∙ (rw (← is_first, ← is_behind) (ap (λ words. words ++ spaced_words others) is_word)) in
+    spaced_words_first text ∙ (rw (← is_first, ← is_after) (ap (λ words. words ++ spaced_words others) is_word)) in
     append_assoc found (word ∷ []) (spaced_words others) ∙ ap (λ words. found ++ words) (sym words_of_text)

@@ -42,7 +42,7 @@ searched_more searched bytes piece is = record {
   few = is.few;
 }
 
-block_more : (line : ℕ) (header : Header) (bytes piece : List ℕ) → IsStateOf (state.Block line header) bytes → IsStateOf (state.Block line header) (bytes ++ piece)
+block_more : (line : ℕ) (header : Header) (bytes piece : List ℕ) → IsStateOf (state.AwaitsBlock line header) bytes → IsStateOf (state.AwaitsBlock line header) (bytes ++ piece)
 block_more line header bytes piece is =
     let at = is.0 in
     let same = line_length-append bytes piece (omega (arith, at.is_length, at.ends)) in (
@@ -53,11 +53,11 @@ block_more line header bytes piece is =
 
 -- a state that keeps all bytes is a state of them and a piece, or of what they were
 pub state_more : (s : State) (old piece new : List ℕ) (r : Result (Unit {0}) Fault)
-    → ((searched : ℕ) × (s ≡ state.Line searched)) ⊎ ((line : ℕ) × (header : Header) × (s ≡ state.Block line header))
+    → ((searched : ℕ) × (s ≡ state.AwaitsLine searched)) ⊎ ((line : ℕ) × (header : Header) × (s ≡ state.AwaitsBlock line header))
     → IsStateOf s old → OnOk r (new ≡ old ++ piece) → OnErr r (new ≡ old) → IsStateOf s new
 state_more s old piece new (Ok u) which is more same = subst (IsStateOf s) (sym more) (grown which)
   where
-    grown : ((searched : ℕ) × (s ≡ state.Line searched)) ⊎ ((line : ℕ) × (header : Header) × (s ≡ state.Block line header)) → IsStateOf s (old ++ piece)
+    grown : ((searched : ℕ) × (s ≡ state.AwaitsLine searched)) ⊎ ((line : ℕ) × (header : Header) × (s ≡ state.AwaitsBlock line header)) → IsStateOf s (old ++ piece)
     grown (inl line) = subst (λ t. IsStateOf t (old ++ piece)) (sym line.1) (searched_more line.0 old piece (subst (λ t. IsStateOf t old) line.1 is))
     grown (inr block) = subst (λ t. IsStateOf t (old ++ piece)) (sym block.2) (block_more block.0 block.1 old piece (subst (λ t. IsStateOf t old) block.2 is))
 state_more s old piece new (Err fault) which is more same = subst (IsStateOf s) (sym same) is
@@ -75,9 +75,9 @@ fed_refused request left bytes piece empty within =
     (cases_lt 0 left)
 
 -- while a block is awaited, its line stands at the front of what is held
-pub line_of_block : (s : State) (inside : List ℕ) (line : ℕ) (header : Header) (bytes : List ℕ) → s ≡ state.Block line header → IsStateOf s inside → held_in s inside ≡ Kept bytes → IsLineAt bytes line
+pub line_of_block : (s : State) (inside : List ℕ) (line : ℕ) (header : Header) (bytes : List ℕ) → s ≡ state.AwaitsBlock line header → IsStateOf s inside → held_in s inside ≡ Kept bytes → IsLineAt bytes line
 line_of_block s inside line header bytes is_block is held =
-    let is_state : IsStateOf (state.Block line header) inside = subst (λ t. IsStateOf t inside) is_block is in
+    let is_state : IsStateOf (state.AwaitsBlock line header) inside = subst (λ t. IsStateOf t inside) is_block is in
     let kept : Kept inside ≡ Kept bytes = ap (λ t. held_in t inside) (sym is_block) ∙ held in
     let same : inside ≡ bytes = cc in
     subst (λ b. IsLineAt b line) same is_state.0

@@ -8,10 +8,10 @@ use Rattle.mc_model.specs.declared.request.Request.{Request}
 use Rattle.mc_model.specs.declared.request.Request.TheVariants.{TooLong}
 use Rattle.mc_read.specs.declared.line.Asked.{Asked}
 use Rattle.mc_read.specs.declared.line.TheConstants.{LINE_BYTES}
-use Rattle.mc_read.specs.First.{first_behind, first_request, found, is_line_feed, line_length}
+use Rattle.mc_read.specs.First.{first_of_line, first_request, found, is_line_feed, line_length}
 use Rattle.mc_read.specs.Line.{asked}
 use Rattle.mc_read.specs.Reading.{HasNoRequest}
-use Rattle.mc_read.specs.Text.{IsRequestText, IsUnbroken, length_behind, request_of}
+use Rattle.mc_read.specs.Text.{IsRequestText, IsUnbroken, body_length, request_of}
 
 cases_le : (m n : ℕ) → (m ≤ n) ⊎ (n < m)
 cases_le m n = ⊎_elim (λ above. inr above) (λ below. inl below) (cases_lt n m)
@@ -38,15 +38,15 @@ module _ (line rest : List ℕ) (unbroken : IsUnbroken line) where
       ∙ (ap (λ bytes. drop (length line + 1) bytes) (sym (append_assoc line (10 ∷ []) rest))
       ∙ drop_at (line ++ 10 ∷ []) rest (length line + 1) (length-append line (10 ∷ [])))
 
-  -- what stands behind a line of lawful length decides
-  pub first_request_at : length line ≤ LINE_BYTES → first_request (line ++ 10 ∷ rest) ≡ first_behind (asked line) rest
+  -- what stands after a line of lawful length decides
+  pub first_request_at : length line ≤ LINE_BYTES → first_request (line ++ 10 ∷ rest) ≡ first_of_line (asked line) rest
   first_request_at short =
       let in_limit : line_length (line ++ 10 ∷ rest) ≤ LINE_BYTES = omega (arith, line_length_at) in
       let stands : line_length (line ++ 10 ∷ rest) < length (line ++ 10 ∷ rest) = omega (arith, line_length_at, length-append line (10 ∷ rest)) in
       cond-false _ _ _ (le-ltb LINE_BYTES _ in_limit)
       ∙ (cond-true _ _ _ (lt-ltb _ _ stands)
-      ∙ (ap (λ text. first_behind (asked text) (after_first is_line_feed (line ++ 10 ∷ rest))) before_first_at
-      ∙ ap (first_behind (asked line)) after_first_at))
+      ∙ (ap (λ text. first_of_line (asked text) (after_first is_line_feed (line ++ 10 ∷ rest))) before_first_at
+      ∙ ap (first_of_line (asked line)) after_first_at))
 
 -- where no line feed stands in the first bytes, the line is longer
 pub line_length-too_long : (text more : List ℕ) → length text ≡ LINE_BYTES + 1 → IsUnbroken text → LINE_BYTES < line_length (text ++ more)
@@ -57,20 +57,20 @@ line_length-too_long text more long unbroken =
     let breaks = eqb-true _ 10 (sym (ap is_line_feed (get_or_append_left text more 0 _ here)) ∙ passes_at_first is_line_feed (text ++ more) 0 stands) in
     absurd (unbroken _ 0 here breaks)) (λ long. long) (cases_le (line_length (text ++ more)) LINE_BYTES)
 
--- what belongs to a line is the front of what stands behind it
-first_behind_at : (a : Asked) (behind more : List ℕ) → length behind ≡ length_behind a → first_behind a (behind ++ more) ≡ found (request_of a behind) more
-first_behind_at a behind more whole =
-    let enough : length_behind a ≤ length (behind ++ more) = omega (arith, whole, length-append behind more) in
+-- what belongs to a line is the front of what stands after it
+first_of_line_at : (a : Asked) (body more : List ℕ) → length body ≡ body_length a → first_of_line a (body ++ more) ≡ found (request_of a body) more
+first_of_line_at a body more whole =
+    let enough : body_length a ≤ length (body ++ more) = omega (arith, whole, length-append body more) in
     cond-true _ _ _ (le-leb _ _ enough)
-    ∙ ap Some (λ i. (request_of a (take_at behind more (length_behind a) whole i), drop_at behind more (length_behind a) whole i))
+    ∙ ap Some (λ i. (request_of a (take_at body more (body_length a) whole i), drop_at body more (body_length a) whole i))
 
 -- the text of a request at the front is the first request, whatever follows
 pub first_of_text : (text more : List ℕ) (request : Request) → IsRequestText text request → first_request (text ++ more) ≡ found request more
 first_of_text text more request (inl is) =
     ap (λ bytes. first_request (bytes ++ more)) is.in_text
-    ∙ (ap first_request (append_assoc is.line (10 ∷ is.behind) more)
-    ∙ (first_request_at is.line (is.behind ++ more) is.unbroken is.short
-    ∙ (first_behind_at (asked is.line) is.behind more is.whole ∙ ap (λ r. found r more) (sym is.is_asked))))
+    ∙ (ap first_request (append_assoc is.line (10 ∷ is.body) more)
+    ∙ (first_request_at is.line (is.body ++ more) is.unbroken is.short
+    ∙ (first_of_line_at (asked is.line) is.body more is.whole ∙ ap (λ r. found r more) (sym is.is_asked))))
 first_of_text text more request (inr is) =
     let long : LINE_BYTES < line_length (text ++ more) = line_length-too_long text more is.long is.unbroken in
     cond-true _ _ _ (lt-ltb LINE_BYTES _ long)
@@ -102,11 +102,11 @@ too_long_at bytes request more long is =
     )
 
 line_at : (bytes : List ℕ) (request : Request) (more : List ℕ) → line_length bytes ≤ LINE_BYTES → line_length bytes < length bytes
-    → first_behind (asked (before_first is_line_feed bytes)) (after_first is_line_feed bytes) ≡ found request more → (text : List ℕ) × IsRequestText text request × (bytes ≡ text ++ more)
+    → first_of_line (asked (before_first is_line_feed bytes)) (after_first is_line_feed bytes) ≡ found request more → (text : List ℕ) × IsRequestText text request × (bytes ≡ text ++ more)
 line_at bytes request more short stands is =
     let line = before_first is_line_feed bytes in
     let after = after_first is_line_feed bytes in
-    let n = length_behind (asked line) in
+    let n = body_length (asked line) in
     let feed : get_or bytes (line_length bytes) 0 ≡ 10 = eqb-true _ 10 (passes_at_first is_line_feed bytes 0 stands) in
     let split : bytes ≡ line ++ 10 ∷ after = split_at_first is_line_feed bytes 0 stands ∙ ap (λ byte. line ++ byte ∷ after) feed in
     ⊎_elim
@@ -116,7 +116,7 @@ line_at bytes request more short stands is =
       line ++ 10 ∷ take n after,
       inl (record {
         line = line;
-        behind = take n after;
+        body = take n after;
         short = omega (arith, short, length-take (line_length bytes) bytes);
         unbroken = before_first-unbroken bytes (line_length bytes) (omega arith);
         whole = length-take-le n after enough;

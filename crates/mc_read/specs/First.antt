@@ -6,7 +6,7 @@ use Rattle.mc_model.specs.declared.request.Request.TheVariants.{TooLong}
 use Rattle.mc_read.specs.declared.line.Asked.{Asked}
 use Rattle.mc_read.specs.declared.line.TheConstants.{LINE_BYTES}
 use Rattle.mc_read.specs.Line.{asked}
-use Rattle.mc_read.specs.Text.{length_behind, request_of}
+use Rattle.mc_read.specs.Text.{body_length, request_of}
 
 abbrev pub is_line_feed : ℕ → Bool
 is_line_feed byte = byte == 10
@@ -20,10 +20,10 @@ abbrev pub found : Request → List ℕ → Option (Request × List ℕ)
 found request more = Some (request, more)
 
 -- the request of a line, and what follows it
-abbrev pub first_behind : Asked → List ℕ → Option (Request × List ℕ)
-first_behind asked behind =
-    if nat_le (length_behind asked) (length behind)
-    then found (request_of asked (take (length_behind asked) behind)) (drop (length_behind asked) behind)
+abbrev pub first_of_line : Asked → List ℕ → Option (Request × List ℕ)
+first_of_line asked body =
+    if nat_le (body_length asked) (length body)
+    then found (request_of asked (take (body_length asked) body)) (drop (body_length asked) body)
     else None
 
 -- the first request and what follows it, where a whole request stands there
@@ -31,5 +31,5 @@ abbrev pub first_request : List ℕ → Option (Request × List ℕ)
 first_request bytes =
     if nat_lt LINE_BYTES (line_length bytes) then found TooLong (drop (LINE_BYTES + 1) bytes)
     else if nat_lt (line_length bytes) (length bytes)
-    then first_behind (asked (before_first is_line_feed bytes)) (after_first is_line_feed bytes)
+    then first_of_line (asked (before_first is_line_feed bytes)) (after_first is_line_feed bytes)
     else None

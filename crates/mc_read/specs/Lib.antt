@@ -5,3 +5,4 @@ pub mod Text
 pub mod Reading
 pub mod First
 pub mod State
+pub mod Sending

@@ -9,7 +9,7 @@ use Rattle.mc_model.specs.declared.command.Verb.{Verb}
 use Rattle.mc_model.specs.declared.command.Verb.TheVariants.{Add, Append, Prepend, Replace, Set}
 use Rattle.mc_model.specs.declared.item.TheConstants.{DATA_BYTES}
 use Rattle.mc_model.specs.declared.key.Key.{Key}
-use Rattle.mc_model.specs.declared.reply.Reply.TheVariants.{Version, Refused as RefusedWith}
+use Rattle.mc_model.specs.declared.reply.Reply.TheVariants.{Refused, Version}
 use Rattle.mc_model.specs.declared.reply.WireNo.{WireNo}
 use Rattle.mc_model.specs.declared.reply.WireNo.TheVariants.{E1, E2, E4, E6, E9}
 use Rattle.mc_model.specs.declared.request.Request.{Request}
@@ -17,9 +17,9 @@ use Rattle.mc_model.specs.declared.request.Request.TheVariants.{Local, Logged, Q
 use Rattle.mc_model.specs.Key.{is_lawful_key}
 use Rattle.mc_model.specs.Number.{number_up_to}
 use Rattle.mc_read.specs.declared.line.Asked.{Asked}
-use Rattle.mc_read.specs.declared.line.Asked.TheVariants.{Line, Refused, Stored}
-use Rattle.mc_read.specs.declared.alone.Change.{Change}
-use Rattle.mc_read.specs.declared.alone.Change.TheVariants as change
+use Rattle.mc_read.specs.declared.line.Asked.TheVariants.{LineOnly, RefusedBlock, StoredBlock}
+use Rattle.mc_read.specs.declared.without_block.Change.{Change}
+use Rattle.mc_read.specs.declared.without_block.Change.TheVariants as change
 use Rattle.mc_read.specs.declared.line.Storage.{Storage}
 use Rattle.mc_read.specs.declared.line.Storage.TheVariants.{CheckAndSet, Plain}
 use Rattle.mc_read.specs.declared.line.TheConstants.{BLOCK_LENGTH, DELTA, FLAGS, UNIQUE}
@@ -27,15 +27,15 @@ use Rattle.mc_read.specs.Word.{is_exptime, is_noreply, is_word, is_zero, words}
 
 -- a refusal, which is answered without the log
 abbrev pub refused : WireNo → Bool → Request
-refused refusal quiet = Local (RefusedWith refusal) quiet
+refused refusal quiet = Local (Refused refusal) quiet
 
 -- no name that is known, or another number of words than its lines have
 abbrev pub no_command : Asked
-no_command = Line (refused E1 false)
+no_command = LineOnly (refused E1 false)
 
 -- words that aren't as they must be, without a block
 abbrev pub malformed : Asked
-malformed = Line (refused E2 false)
+malformed = LineOnly (refused E2 false)
 
 -- checks in their order, each with its refusal
 abbrev pub Checks : Type 0
@@ -53,11 +53,11 @@ is_quiet_refusal E2 = false
 is_quiet_refusal E9 = false
 is_quiet_refusal other = true
 
--- Lines alone.
+-- Lines without a block.
 -- a command that is quiet where its line says noreply, or the refusal
 abbrev pub asked_unless : Option WireNo → Command → Bool → Asked
-asked_unless None command noreply = Line (Logged command noreply)
-asked_unless (Some refusal) command noreply = Line (refused refusal (is_quiet_refusal refusal && noreply))
+asked_unless None command noreply = LineOnly (Logged command noreply)
+asked_unless (Some refusal) command noreply = LineOnly (refused refusal (is_quiet_refusal refusal && noreply))
 
 abbrev pub asked_after : Checks → Command → Bool → Asked
 asked_after checks command noreply = asked_unless (first_failure checks) command noreply
@@ -68,7 +68,7 @@ asked_of_retrieval uniques [] = no_command
 asked_of_retrieval uniques (key ∷ keys) =
     asked_after ((list_all is_lawful_key (key ∷ keys), E2) ∷ []) (Get (key ∷ keys) uniques) false
 
--- a key; behind it a 0, noreply, or both in this order
+-- a key; after it a 0, noreply, or both in this order
 abbrev pub asked_of_delete : List (List ℕ) → Asked
 asked_of_delete (key ∷ []) = asked_after ((is_lawful_key key, E2) ∷ []) (Delete key) false
 asked_of_delete (key ∷ last ∷ []) =
@@ -82,18 +82,16 @@ abbrev pub changed : Change → Key → ℕ → Command
 changed change.Incr key by = Incr key by
 changed change.Decr key by = Decr key by
 
-abbrev pub is_delta : List ℕ → Bool
-is_delta word = is_some (number_up_to DELTA word)
-
--- where no check failed, the delta is a number
-abbrev pub delta_of : List ℕ → ℕ
-delta_of word = unwrap_or (number_up_to DELTA word) 0
+-- a key and a delta, which is open where it is no number; the word after these may have to be lawful
+abbrev pub asked_of_delta : Change → Bool → Key → Option ℕ → Bool → Asked
+asked_of_delta change is_lawful key delta noreply =
+    asked_after ((is_lawful, E2) ∷ (is_lawful_key key, E2) ∷ (is_some delta, E9) ∷ []) (changed change key (unwrap_or delta 0)) noreply
 
 abbrev pub asked_of_change : Change → List (List ℕ) → Asked
 asked_of_change change (key ∷ delta ∷ []) =
-    asked_after ((is_lawful_key key, E2) ∷ (is_delta delta, E9) ∷ []) (changed change key (delta_of delta)) false
+    asked_of_delta change true key (number_up_to DELTA delta) false
 asked_of_change change (key ∷ delta ∷ last ∷ []) =
-    asked_after ((is_noreply last, E2) ∷ (is_lawful_key key, E2) ∷ (is_delta delta, E9) ∷ []) (changed change key (delta_of delta)) true
+    asked_of_delta change (is_noreply last) key (number_up_to DELTA delta) true
 asked_of_change change arguments = no_command
 
 -- an exptime that is spelled as one, and is zero
@@ -108,13 +106,13 @@ asked_of_flush (word ∷ []) =
 asked_of_flush (exptime ∷ last ∷ []) = asked_after ((is_noreply last, E2) ∷ exptime_checks exptime) Flush true
 asked_of_flush arguments = no_command
 
--- a name alone
+-- a name with no arguments
 abbrev pub asked_of_name : Request → List (List ℕ) → Asked
-asked_of_name request [] = Line request
+asked_of_name request [] = LineOnly request
 asked_of_name request arguments = no_command
 
 -- Lines with a block.
--- the words of a storage line behind its name, with a last word in the longer form; how the block is stored is open where
+-- the words of a storage line after its name, with a last word in the longer form; how the block is stored is open where
 -- the unique of cas is no number, and so are the flags where they are none
 pub record StorageLine : Type 0 where
   pub storage : Option Storage
@@ -135,7 +133,7 @@ ignores_exptime (Some (Plain Append)) = true
 ignores_exptime (Some (Plain Prepend)) = true
 ignores_exptime other = false
 
--- the checks of a storage line whose block has this length, but for the two bytes behind the block
+-- the checks of a storage line whose block has this length, but for the two bytes after the block
 abbrev pub storage_checks : StorageLine → ℕ → Checks
 storage_checks line length =
     (ends_in_noreply line.last, E2)
@@ -150,14 +148,14 @@ storage_checks line length =
 -- what becomes of a block of this length; where no check failed, neither the storage nor the flags are open
 abbrev pub asked_with : StorageLine → ℕ → Option WireNo → Asked
 asked_with line length None =
-    Stored (record {
+    StoredBlock (record {
       length = length;
       storage = unwrap_or line.storage (Plain Set);
       key = line.key;
       flags = unwrap_or line.flags 0;
       quiet = is_some line.last;
     })
-asked_with line length (Some refusal) = Refused length refusal (is_quiet_refusal refusal && is_some line.last)
+asked_with line length (Some refusal) = RefusedBlock length refusal (is_quiet_refusal refusal && is_some line.last)
 
 -- without a readable length there is no block, and the format is refused
 abbrev pub asked_of_length : StorageLine → Option ℕ → Asked
@@ -167,12 +165,15 @@ asked_of_length line (Some length) = asked_with line length (first_failure (stor
 abbrev pub asked_of_block : StorageLine → Asked
 asked_of_block line = asked_of_length line (number_up_to BLOCK_LENGTH line.size)
 
+-- the words that all six commands have
+abbrev pub asked_of_words : Option Storage → List ℕ → List ℕ → List ℕ → List ℕ → Option (List ℕ) → Asked
+asked_of_words storage key flags exptime size last =
+    asked_of_block (record { storage = storage; key = key; flags = number_up_to FLAGS flags; exptime = exptime; size = size; last = last })
+
 -- a line of set, add, replace, append or prepend
 abbrev pub asked_of_storage : Verb → List (List ℕ) → Asked
-asked_of_storage verb (key ∷ flags ∷ exptime ∷ size ∷ []) =
-    asked_of_block (record { storage = Some (Plain verb); key = key; flags = number_up_to FLAGS flags; exptime = exptime; size = size; last = None })
-asked_of_storage verb (key ∷ flags ∷ exptime ∷ size ∷ last ∷ []) =
-    asked_of_block (record { storage = Some (Plain verb); key = key; flags = number_up_to FLAGS flags; exptime = exptime; size = size; last = Some last })
+asked_of_storage verb (key ∷ flags ∷ exptime ∷ size ∷ []) = asked_of_words (Some (Plain verb)) key flags exptime size None
+asked_of_storage verb (key ∷ flags ∷ exptime ∷ size ∷ last ∷ []) = asked_of_words (Some (Plain verb)) key flags exptime size (Some last)
 asked_of_storage verb arguments = no_command
 
 -- cas with its unique, where that is a number
@@ -180,10 +181,8 @@ abbrev pub check_and_set : List ℕ → Option Storage
 check_and_set unique = option_map CheckAndSet (number_up_to UNIQUE unique)
 
 abbrev pub asked_of_cas : List (List ℕ) → Asked
-asked_of_cas (key ∷ flags ∷ exptime ∷ size ∷ unique ∷ []) =
-    asked_of_block (record { storage = check_and_set unique; key = key; flags = number_up_to FLAGS flags; exptime = exptime; size = size; last = None })
-asked_of_cas (key ∷ flags ∷ exptime ∷ size ∷ unique ∷ last ∷ []) =
-    asked_of_block (record { storage = check_and_set unique; key = key; flags = number_up_to FLAGS flags; exptime = exptime; size = size; last = Some last })
+asked_of_cas (key ∷ flags ∷ exptime ∷ size ∷ unique ∷ []) = asked_of_words (check_and_set unique) key flags exptime size None
+asked_of_cas (key ∷ flags ∷ exptime ∷ size ∷ unique ∷ last ∷ []) = asked_of_words (check_and_set unique) key flags exptime size (Some last)
 asked_of_cas arguments = no_command
 
 -- All lines.
@@ -213,6 +212,6 @@ asked line = asked_by (words line)
 
 -- a block has a length that a line can name, and is small enough where it is to be stored
 abbrev pub HasLawfulBlock : Asked → Type 0
-HasLawfulBlock (Line request) = Unit {0}
-HasLawfulBlock (Refused length refusal quiet) = length ≤ BLOCK_LENGTH
-HasLawfulBlock (Stored header) = header.length ≤ DATA_BYTES
+HasLawfulBlock (LineOnly request) = Unit {0}
+HasLawfulBlock (RefusedBlock length refusal quiet) = length ≤ BLOCK_LENGTH
+HasLawfulBlock (StoredBlock header) = header.length ≤ DATA_BYTES

@@ -24,11 +24,15 @@ Reads bytes (request ∷ requests) rest =
     × MatchBool (ends_stream request) ((requests ≡ []) × (more ≡ rest)) (Reads more requests rest)
 
 -- What a reader holds: bytes; or a request that was refused, with so many bytes still to come of its block
--- and the two bytes behind it, and what is behind those; or nothing, after the end.
+-- and the two bytes after it, and the bytes that follow those; or nothing, after the end.
 pub data Held : Type 0 where
   Kept : List ℕ → Held
   Swallowing : Request → ℕ → List ℕ → Held
   Ended : Held
+
+-- What contracts see of a reader.
+pub record ReaderView : Type 0 where
+  pub held : Held
 
 -- the first of the requests is this one, and P holds of the others
 abbrev pub GoesOn : Request → (List Request → Type 0) → List Request → Type 0

@@ -4,7 +4,7 @@ use Rattle.mc_model.specs.declared.item.Data.{Data}
 use Rattle.mc_model.specs.declared.item.TheConstants.{DATA_BYTES}
 use Rattle.mc_model.specs.declared.reply.WireNo.{WireNo}
 use Rattle.mc_model.specs.declared.request.Request.{Request}
-use Rattle.mc_read.specs.declared.line.Asked.TheVariants.{Refused as RefusedBlock, Stored}
+use Rattle.mc_read.specs.declared.line.Asked.TheVariants.{RefusedBlock, StoredBlock}
 use Rattle.mc_read.specs.declared.line.TheConstants.{LINE_BYTES}
 use Rattle.mc_read.specs.declared.reader.State.{State}
 use Rattle.mc_read.specs.declared.reader.State.TheVariants as state
@@ -17,9 +17,9 @@ use Rattle.mc_read.specs.Reading.{Ended, HasNone, Held, IsNext, Kept, ReadAlike,
 
 -- what is held in this state with these bytes
 abbrev pub held_in : State → List ℕ → Held
-held_in (state.Line searched) bytes = Kept bytes
-held_in (state.Block line header) bytes = Kept bytes
-held_in (state.Refused refusal quiet left) bytes = Swallowing (refused refusal quiet) left bytes
+held_in (state.AwaitsLine searched) bytes = Kept bytes
+held_in (state.AwaitsBlock line header) bytes = Kept bytes
+held_in (state.SwallowsBlock refusal quiet left) bytes = Swallowing (refused refusal quiet) left bytes
 held_in state.Ended bytes = Ended
 
 -- a line of this length stands at the front of the bytes
@@ -35,9 +35,9 @@ pub record IsSearched (searched : ℕ) (bytes : List ℕ) : Type 0 where
 
 -- what a state says of the bytes
 abbrev pub IsStateOf : State → List ℕ → Type 0
-IsStateOf (state.Line searched) bytes = IsSearched searched bytes
-IsStateOf (state.Block line header) bytes = IsLineAt bytes line × (asked (take line bytes) ≡ Stored header) × (header.length ≤ DATA_BYTES)
-IsStateOf (state.Refused refusal quiet left) bytes = 0 < left → bytes ≡ []
+IsStateOf (state.AwaitsLine searched) bytes = IsSearched searched bytes
+IsStateOf (state.AwaitsBlock line header) bytes = IsLineAt bytes line × (asked (take line bytes) ≡ StoredBlock header) × (header.length ≤ DATA_BYTES)
+IsStateOf (state.SwallowsBlock refusal quiet left) bytes = 0 < left → bytes ≡ []
 IsStateOf state.Ended bytes = bytes ≡ []
 
 -- how many bytes are kept
@@ -46,7 +46,7 @@ kept_length (Kept bytes) = length bytes
 kept_length (Swallowing request left bytes) = length bytes
 kept_length Ended = 0
 
--- no more is kept than a line with its line feed, and of a block and the two bytes behind it all but one
+-- no more is kept than a line with its line feed, and of a block and the two bytes after it all but one
 abbrev pub IsBounded : Held → Type 0
 IsBounded held = kept_length held ≤ LINE_BYTES + 1 + DATA_BYTES + 1
 
@@ -55,7 +55,7 @@ abbrev pub IsAnswer : Held → Option Request → Held → Type 0
 IsAnswer before (Some request) after = IsNext before request after
 IsAnswer before None after = HasNone before × ReadAlike before after × IsBounded after
 
--- the bytes end within a refused block or the two bytes behind it, and so many of these are still to come
+-- the bytes end within a refused block or the two bytes after it, and so many of these are still to come
 pub record EndsInRefusal (bytes : List ℕ) (request : Request) (left : ℕ) : Type 0 where
   pub line : ℕ
   pub size : ℕ
@@ -67,21 +67,21 @@ pub record EndsInRefusal (bytes : List ℕ) (request : Request) (left : ℕ) : T
   pub is_left : length bytes + left ≡ line + 1 + size + 2
   pub some : 0 < left
 
--- a line, and behind it a block of this size and two more bytes, were taken off the front: what is given is the block and
+-- a line, and after it a block of this size and two more bytes, were taken off the front: what is given is the block and
 -- whether the two bytes end it well; or nothing was, for a part is still to come
 abbrev pub IsTaken : List ℕ → ℕ → ℕ → Option (Data × Bool) → List ℕ → Type 0
 IsTaken bytes line size None left = (length bytes < line + 1 + (size + 2)) × (left ≡ bytes)
 IsTaken bytes line size (Some given) left =
-    let behind = take (size + 2) (drop (line + 1) bytes) in
-    (line + 1 + (size + 2) ≤ length bytes) × (given.0 ≡ take size behind) × (given.1 ≡ ends_well (drop size behind))
+    let body = take (size + 2) (drop (line + 1) bytes) in
+    (line + 1 + (size + 2) ≤ length bytes) × (given.0 ≡ take size body) × (given.1 ≡ ends_well (drop size body))
     × (left ≡ drop (line + 1 + (size + 2)) bytes)
 
 -- the state in which a reader goes on after a request
 abbrev pub state_after : Request → State
-state_after request = if ends_stream request then state.Ended else state.Line 0
+state_after request = if ends_stream request then state.Ended else state.AwaitsLine 0
 
 -- what a search says of the bytes
 abbrev pub IsSought : List ℕ → Sought → Type 0
-IsSought bytes (sought.Line line) = IsLineAt bytes line
+IsSought bytes (sought.Found line) = IsLineAt bytes line
 IsSought bytes sought.TooLong = LINE_BYTES < line_length bytes
 IsSought bytes sought.Open = (line_length bytes ≡ length bytes) × (length bytes ≤ LINE_BYTES)

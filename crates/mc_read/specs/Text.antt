@@ -1,5 +1,5 @@
--- The text of a request, after memcached's doc/protocol.txt, "Protocol" and "Storage commands": a line, and behind the
--- line of a storage command a block and two bytes. How long a line may be is this project's profile.
+-- The text of a request, after memcached's doc/protocol.txt, "Protocol" and "Storage commands": a line, and after the
+-- line of a storage command a body, which is a block and two bytes. How long a line may be is this project's profile.
 use Rattle.std.specs.Prelude.{◌≡◌, ◌≢◌, ℕ, ◌+◌, ◌≤◌, ◌⊎◌, Bool, if◌then◌else◌, List, ◌∷◌, ◌++◌, length, take, drop, codes, All}
 use Rattle.mc_model.specs.declared.command.Command.{Command}
 use Rattle.mc_model.specs.declared.command.Command.TheVariants.{Cas, Store}
@@ -9,7 +9,7 @@ use Rattle.mc_model.specs.declared.reply.WireNo.TheVariants.{E3}
 use Rattle.mc_model.specs.declared.request.Request.{Request}
 use Rattle.mc_model.specs.declared.request.Request.TheVariants.{Logged, TooLong}
 use Rattle.mc_read.specs.declared.line.Asked.{Asked}
-use Rattle.mc_read.specs.declared.line.Asked.TheVariants.{Line, Refused, Stored}
+use Rattle.mc_read.specs.declared.line.Asked.TheVariants.{LineOnly, RefusedBlock, StoredBlock}
 use Rattle.mc_read.specs.declared.line.Header.{Header}
 use Rattle.mc_read.specs.declared.line.Storage.TheVariants.{CheckAndSet, Plain}
 use Rattle.mc_read.specs.declared.line.Storage.{Storage}
@@ -17,11 +17,11 @@ use Rattle.mc_read.specs.declared.line.TheConstants.{LINE_BYTES}
 use Rattle.mc_read.specs.Line.{asked, refused}
 use Rattle.mc_read.specs.Word.{is_word}
 
--- how many bytes behind its line belong to a request: none, or a block and two more
-abbrev pub length_behind : Asked → ℕ
-length_behind (Line request) = 0
-length_behind (Refused length refusal quiet) = length + 2
-length_behind (Stored header) = header.length + 2
+-- how many bytes a request has after its line: none, or a block and two more
+abbrev pub body_length : Asked → ℕ
+body_length (LineOnly request) = 0
+body_length (RefusedBlock length refusal quiet) = length + 2
+body_length (StoredBlock header) = header.length + 2
 
 -- the command that stores a block
 abbrev pub storing : Storage → Key → ℕ → Data → Command
@@ -33,19 +33,19 @@ abbrev pub stored_if : Bool → Header → Data → Request
 stored_if is_whole header block =
     if is_whole then Logged (storing header.storage header.key header.flags block) header.quiet else refused E3 header.quiet
 
--- the two bytes behind a block must be a carriage return and a line feed
+-- the two bytes after a block must be a carriage return and a line feed
 abbrev pub ends_well : List ℕ → Bool
 ends_well bytes = is_word bytes (codes "\r\n")
 
--- a block and the two bytes behind it
+-- a block and the two bytes after it
 abbrev pub stored : Header → List ℕ → Request
-stored header behind = stored_if (ends_well (drop header.length behind)) header (take header.length behind)
+stored header body = stored_if (ends_well (drop header.length body)) header (take header.length body)
 
--- the request of a line with these bytes behind it
+-- the request of a line with this body
 abbrev pub request_of : Asked → List ℕ → Request
-request_of (Line request) behind = request
-request_of (Refused length refusal quiet) behind = refused refusal quiet
-request_of (Stored header) behind = stored header behind
+request_of (LineOnly request) body = request
+request_of (RefusedBlock length refusal quiet) body = refused refusal quiet
+request_of (StoredBlock header) body = stored header body
 
 -- no line feed stands in the bytes
 abbrev pub IsUnbroken : List ℕ → Type 0
@@ -56,15 +56,15 @@ pub record IsUnended (bytes : List ℕ) : Type 0 where
   pub unbroken : IsUnbroken bytes
   pub short : length bytes ≤ LINE_BYTES
 
--- a line with its line feed, and behind it what belongs to the request: nothing, or a block and two more bytes
+-- a line with its line feed, and its body: nothing, or a block and two more bytes
 pub record IsLineText (text : List ℕ) (request : Request) : Type 0 where
   pub line : List ℕ
-  pub behind : List ℕ
+  pub body : List ℕ
   pub short : length line ≤ LINE_BYTES
   pub unbroken : IsUnbroken line
-  pub whole : length behind ≡ length_behind (asked line)
-  pub in_text : text ≡ line ++ 10 ∷ behind
-  pub is_asked : request ≡ request_of (asked line) behind
+  pub whole : length body ≡ body_length (asked line)
+  pub in_text : text ≡ line ++ 10 ∷ body
+  pub is_asked : request ≡ request_of (asked line) body
 
 -- one byte more than a line may have, and no line feed among them
 pub record IsTooLongText (text : List ℕ) (request : Request) : Type 0 where

@@ -22,7 +22,7 @@ impl Model for Buffer {
 }
 
 impl Buffer {
-    /// An empty buffer. Takes no memory.
+    /// An empty buffer. Needs no memory.
     pub fn new(alloc: Global) -> Buffer
         ensures { result ≡ [] }
     {

@@ -6,7 +6,6 @@
 
 pub use reader::{Reader, ends_stream};
 
-mod alone;
 mod buffer;
 pub mod laws;
 mod line;
@@ -14,4 +13,5 @@ mod reader;
 mod storage;
 #[cfg(test)]
 mod tests;
+mod without_block;
 mod words;

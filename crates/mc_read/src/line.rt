@@ -3,8 +3,8 @@ ghost use Rattle.std.specs.Prelude.{◌≡◌, IfOk, IsOkUnless};
 ghost use Rattle.mc_read.specs.Line.{HasLawfulBlock, asked, is_quiet_refusal, malformed, no_command, refused};
 ghost use Rattle.mc_read.specs.Text.{storing};
 
-use crate::alone::{Change, ask_change, ask_delete, ask_flush, ask_name, ask_retrieval};
 use crate::storage::{ask_cas, ask_storage};
+use crate::without_block::{Change, ask_change, ask_delete, ask_flush, ask_name, ask_retrieval};
 use crate::words::{is_word, words};
 use mc_model::{Command, Data, Fault, Key, Reply, Request, Verb, WireNo};
 use std::alloc::Global;
@@ -28,15 +28,15 @@ pub const DELTA: u64 = 18_446_744_073_709_551_615;
 #[derive(Debug, PartialEq, Eq, Drop)]
 pub enum Asked {
     /// The line alone is this request.
-    Line(Request),
+    LineOnly(Request),
     /// A block of this length belongs to the line, and is refused whatever it holds.
-    Refused {
+    RefusedBlock {
         length: u64,
         refusal: WireNo,
         quiet: bool,
     },
-    /// A block is to be stored.
-    Stored(Header),
+    /// A block belongs to the line, and is to be stored.
+    StoredBlock(Header),
 }
 
 /// What a storage line says of its block, which may be stored.
@@ -94,14 +94,14 @@ pub fn refused(refusal: WireNo, quiet: bool) -> Request
 pub fn no_command() -> Asked
     ensures { result ≡ no_command }
 {
-    Asked::Line(refused(WireNo::E1, false))
+    Asked::LineOnly(refused(WireNo::E1, false))
 }
 
 /// Words that aren't as they must be.
 pub fn malformed() -> Asked
     ensures { result ≡ malformed }
 {
-    Asked::Line(refused(WireNo::E2, false))
+    Asked::LineOnly(refused(WireNo::E2, false))
 }
 
 /// Whether a refusal of a line that says `noreply` is quiet.

@@ -19,16 +19,16 @@ use std::mem;
 #[derive(Debug, Drop)]
 enum State {
     /// Its line is awaited; no line feed stands in the first `searched` bytes.
-    Line {
+    AwaitsLine {
         searched: usize,
     },
     /// Its line has come, `line` bytes long, and its block is awaited.
-    Block {
+    AwaitsBlock {
         line: usize,
         header: Header,
     },
-    /// Its block is refused; so many bytes of it and of the two behind it are still to come.
-    Refused {
+    /// Its block is refused; so many bytes of it and of the two after it are still to come.
+    SwallowsBlock {
         refusal: WireNo,
         quiet: bool,
         left: u64,
@@ -40,14 +40,14 @@ enum State {
 /// What a search for a line found.
 enum Sought {
     /// A line of this length.
-    Line(usize),
+    Found(usize),
     /// More bytes than a line may have, without a line feed.
     TooLong,
     /// No line feed yet.
     Open,
 }
 
-/// Searches the bytes behind the first `searched` for the end of the first line.
+/// Searches the bytes after the first `searched` for the end of the first line.
 #[tactic(auto, using(crate::proofs::Lines::line_length_le))]
 fn find_line(bytes: &[u8], searched: usize) -> Sought
     requires { IsSearched searched bytes.now }
@@ -55,7 +55,7 @@ fn find_line(bytes: &[u8], searched: usize) -> Sought
 {
     let limit = bytes.len().min(LINE_BYTES + 1);
     match memchr(b'\n', &bytes[searched..limit]) {
-        Some(place) => Sought::Line(searched + place),
+        Some(place) => Sought::Found(searched + place),
         None if bytes.len() > LINE_BYTES => Sought::TooLong,
         None => Sought::Open,
     }
@@ -68,7 +68,7 @@ pub fn ends_stream(request: &Request) -> bool
     matches!(request, Request::Quit | Request::TooLong)
 }
 
-/// The request of a block that has come whole, with the two bytes behind it.
+/// The request of a block that has come whole, with the two bytes after it.
 fn stored(header: Header, block: Data, ends_well: bool) -> Request
     ensures { result ≡ stored_if ends_well header block }
 {
@@ -81,23 +81,23 @@ fn stored(header: Header, block: Data, ends_well: bool) -> Request
     }
 }
 
-/// Copies a block out of the bytes behind its line, and says whether the two bytes behind the block are as they must be.
-fn copy_block(alloc: Global, size: usize, behind: &[u8]) -> Result<(Data, bool), Fault>
+/// Copies a block out of the bytes after its line, and says whether the two bytes after the block are as they must be.
+fn copy_block(alloc: Global, size: usize, body: &[u8]) -> Result<(Data, bool), Fault>
     requires small { size ≤ DATA_BYTES }
-    requires whole { length behind.now ≡ size + 2 }
-    ensures block { IfOk result (λ copied. copied.0 ≡ take size behind.now) }
-    ensures ends_well { IfOk result (λ copied. copied.1 ≡ ends_well (drop size behind.now)) }
+    requires whole { length body.now ≡ size + 2 }
+    ensures block { IfOk result (λ copied. copied.0 ≡ take size body.now) }
+    ensures ends_well { IfOk result (λ copied. copied.1 ≡ ends_well (drop size body.now)) }
     ensures memory { IsOkUnless result Fault.Memory }
 {
-    let ends_well = &behind[size..] == b"\r\n".as_slice();
-    match Data::new(Vec::from_slice(alloc, &behind[..size])?) {
+    let ends_well = &body[size..] == b"\r\n".as_slice();
+    match Data::new(Vec::from_slice(alloc, &body[..size])?) {
         Some(block) => Ok((block, ends_well)),
         None => unreachable!(),
     }
 }
 
-/// Takes a line and its block off the front, where the block has come whole with the two bytes behind it. Gives a copy of
-/// the block, and whether those two are as they must be. In line, since a reader fed byte by byte asks after each.
+/// Takes a line and its block off the front, where the block has come whole with the two bytes after it. Gives a copy of
+/// the block, and whether those two are as they must be. Inlined, since a reader fed byte by byte asks after each.
 #[inline(always)]
 fn take_block(
     alloc: Global,
@@ -122,7 +122,7 @@ fn take_block(
     Ok(Some(copied))
 }
 
-/// Takes a line and what has come of its refused block and of the two bytes behind it off the front. Gives how many of
+/// Takes a line and what has come of its refused block and of the two bytes after it off the front. Gives how many of
 /// these are still to come.
 fn swallow(buffer: &mut Buffer, line: usize, size: u64) -> u64
     requires line_end { line < length buffer.old }
@@ -149,11 +149,11 @@ fn move_on(buffer: &mut Buffer, count: usize, request: &Request) -> State
         State::Ended
     } else {
         buffer.advance(count);
-        State::Line { searched: 0 }
+        State::AwaitsLine { searched: 0 }
     }
 }
 
-/// Looks for a request at the front of the bytes, behind a line of this length. Gives it, if it is whole, and the state in
+/// Looks for a request at the front of the bytes, whose line has this length. Gives it, if it is whole, and the state in
 /// which the reader goes on.
 fn read_line(
     alloc: Global,
@@ -170,34 +170,37 @@ fn read_line(
     ensures unchanged { OnErr result (buffer.new ≡ buffer.old) }
 {
     match ask(alloc, &buffer.as_slice()[..line])? {
-        Asked::Line(request) => {
+        Asked::LineOnly(request) => {
             let state = move_on(buffer, line + 1, &request);
             Ok((Some(request), state))
         }
-        Asked::Refused {
+        Asked::RefusedBlock {
             length,
             refusal,
             quiet,
         } => {
             let left = swallow(buffer, line, length);
             if left > 0 {
-                let state = State::Refused {
+                let state = State::SwallowsBlock {
                     refusal,
                     quiet,
                     left,
                 };
                 return Ok((None, state));
             }
-            Ok((Some(refused(refusal, quiet)), State::Line { searched: 0 }))
+            Ok((
+                Some(refused(refusal, quiet)),
+                State::AwaitsLine { searched: 0 },
+            ))
         }
-        Asked::Stored(header) => {
+        Asked::StoredBlock(header) => {
             let size = header.length as usize;
             match take_block(alloc, buffer, line, size)? {
                 Some((block, ends_well)) => {
                     let request = stored(header, block, ends_well);
-                    Ok((Some(request), State::Line { searched: 0 }))
+                    Ok((Some(request), State::AwaitsLine { searched: 0 }))
                 }
-                None => Ok((None, State::Block { line, header })),
+                None => Ok((None, State::AwaitsBlock { line, header })),
             }
         }
     }
@@ -216,21 +219,21 @@ fn next_line(
     ensures end { IfOk result (λ step. IfSome step.0 (λ request. step.1 ≡ state_after request)) }
     ensures refused { (request : Request) (left : ℕ) → EndsInRefusal buffer.old request left →
         IfOk result (λ step. held_in step.1 buffer.new ≡ Swallowing request left []) }
-    ensures unended { IsUnended buffer.old → result ≡ Ok (None, State.Line (length buffer.old)) × (buffer.new ≡ buffer.old) }
+    ensures unended { IsUnended buffer.old → result ≡ Ok (None, State.AwaitsLine (length buffer.old)) × (buffer.new ≡ buffer.old) }
     ensures too_long { (text more : List ℕ) (request : Request) → buffer.old ≡ text ++ more → IsTooLongText text request →
         result ≡ Ok (Some request, State.Ended) }
     ensures memory { IsOkUnless result Fault.Memory }
     ensures unchanged { OnErr result (buffer.new ≡ buffer.old) }
 {
     match find_line(buffer.as_slice(), searched) {
-        Sought::Line(line) => read_line(alloc, buffer, line),
+        Sought::Found(line) => read_line(alloc, buffer, line),
         Sought::TooLong => {
             buffer.clear();
             Ok((Some(Request::TooLong), State::Ended))
         }
         Sought::Open => {
             let searched = buffer.as_slice().len();
-            Ok((None, State::Line { searched }))
+            Ok((None, State::AwaitsLine { searched }))
         }
     }
 }
@@ -247,43 +250,43 @@ pub struct Reader {
 }
 
 impl Model for Reader {
-    ghost use Rattle.mc_read.specs.Reading.{Held};
+    ghost use Rattle.mc_read.specs.Reading.{ReaderView};
     ghost use Rattle.mc_read.specs.State.{IsStateOf, held_in};
 
-    ghost Value = { Held };
+    ghost Value = { ReaderView };
 
-    ghost view = { λ reader. held_in reader.state reader.buffer };
+    ghost view = { λ reader. record { held = held_in reader.state reader.buffer } };
 
     ghost invariant = { λ reader. IsStateOf reader.state reader.buffer };
 }
 
 impl Reader {
-    /// A reader at the beginning of a stream. Takes no memory.
+    /// A reader at the beginning of a stream. Needs no memory.
     pub fn new(alloc: Global) -> Reader
-        ensures { result ≡ Kept [] }
+        ensures { result.held ≡ Kept [] }
     {
         Reader {
             alloc,
             buffer: Buffer::new(alloc),
-            state: State::Line { searched: 0 },
+            state: State::AwaitsLine { searched: 0 },
         }
     }
 
     /// Takes the next piece of the stream. After the end it is dropped.
     pub fn feed(&mut self, piece: &[u8]) -> Result<(), Fault>
-        ensures readings { OnOk result (IsFed self.old piece.now self.new) }
+        ensures readings { OnOk result (IsFed self.old.held piece.now self.new.held) }
         ensures memory { IsOkUnless result Fault.Memory }
-        ensures unchanged { OnErr result (self.new ≡ self.old) }
+        ensures unchanged { OnErr result (self.new.held ≡ self.old.held) }
 
-        // Within a refused block, and after the end, it takes no memory.
-        ensures swallowed { (request : Request) (left : ℕ) → self.old ≡ Swallowing request left [] → length piece.now ≤ left →
-            IsOk result × (self.new ≡ Swallowing request (left - length piece.now) []) }
-        ensures ended { self.old ≡ Ended → IsOk result × (self.new ≡ Ended) }
+        // Within a refused block, and after the end, it needs no memory.
+        ensures swallowed { (request : Request) (left : ℕ) → self.old.held ≡ Swallowing request left [] → length piece.now ≤ left →
+            IsOk result × (self.new.held ≡ Swallowing request (left - length piece.now) []) }
+        ensures ended { self.old.held ≡ Ended → IsOk result × (self.new.held ≡ Ended) }
     {
         match &mut self.state {
-            State::Line { .. } => self.buffer.extend(piece),
-            State::Block { .. } => self.buffer.extend(piece),
-            State::Refused { left, .. } => {
+            State::AwaitsLine { .. } => self.buffer.extend(piece),
+            State::AwaitsBlock { .. } => self.buffer.extend(piece),
+            State::SwallowsBlock { left, .. } => {
                 let length = piece.len() as u64;
                 if length <= *left {
                     *left -= length;
@@ -301,44 +304,44 @@ impl Reader {
     pub fn next(&mut self) -> Result<Option<Request>, Fault>
         // Whatever follows, what was held reads as the request and then as what is held now; without a request, as
         // before, and no request stood in it.
-        ensures answer { IfOk result (λ next. IsAnswer self.old next self.new) }
-        ensures end { IfOk result (λ next. IfSome next (λ request. OnTrue (ends_stream request) (self.new ≡ Ended))) }
-        ensures ended { self.old ≡ Ended → result ≡ Ok None × (self.new ≡ Ended) }
+        ensures answer { IfOk result (λ next. IsAnswer self.old.held next self.new.held) }
+        ensures end { IfOk result (λ next. IfSome next (λ request. OnTrue (ends_stream request) (self.new.held ≡ Ended))) }
+        ensures ended { self.old.held ≡ Ended → result ≡ Ok None × (self.new.held ≡ Ended) }
 
-        // Of a refused block only the length is kept, and no memory is taken until its request has come.
+        // Of a refused block only the length is kept; until all of it has come, and then for its request, no memory is needed.
         ensures refused { (bytes : List ℕ) (request : Request) (left : ℕ) →
-            self.old ≡ Kept bytes → EndsInRefusal bytes request left → OnOk result (self.new ≡ Swallowing request left []) }
-        ensures swallowing { (request : Request) (left : ℕ) → self.old ≡ Swallowing request left [] → 0 < left → result ≡ Ok None × (self.new ≡ self.old) }
-        ensures swallowed { (request : Request) (bytes : List ℕ) → self.old ≡ Swallowing request 0 bytes → result ≡ Ok (Some request) × (self.new ≡ Kept bytes) }
+            self.old.held ≡ Kept bytes → EndsInRefusal bytes request left → OnOk result (self.new.held ≡ Swallowing request left []) }
+        ensures swallowing { (request : Request) (left : ℕ) → self.old.held ≡ Swallowing request left [] → 0 < left → result ≡ Ok None × (self.new.held ≡ self.old.held) }
+        ensures swallowed { (request : Request) (bytes : List ℕ) → self.old.held ≡ Swallowing request 0 bytes → result ≡ Ok (Some request) × (self.new.held ≡ Kept bytes) }
 
-        // Nor is any where no line has ended yet, or the line is too long.
-        ensures unended { (bytes : List ℕ) → self.old ≡ Kept bytes → IsUnended bytes → result ≡ Ok None × (self.new ≡ self.old) }
-        ensures too_long { (text more : List ℕ) (request : Request) → self.old ≡ Kept (text ++ more) → IsTooLongText text request →
-            result ≡ Ok (Some request) × (self.new ≡ Ended) }
+        // Nor is any needed where no line has ended yet, or where the line is too long.
+        ensures unended { (bytes : List ℕ) → self.old.held ≡ Kept bytes → IsUnended bytes → result ≡ Ok None × (self.new.held ≡ self.old.held) }
+        ensures too_long { (text more : List ℕ) (request : Request) → self.old.held ≡ Kept (text ++ more) → IsTooLongText text request →
+            result ≡ Ok (Some request) × (self.new.held ≡ Ended) }
         ensures memory { IsOkUnless result Fault.Memory }
-        ensures unchanged { OnErr result (self.new ≡ self.old) }
+        ensures unchanged { OnErr result (self.new.held ≡ self.old.held) }
     {
         match &self.state {
-            State::Line { searched } => {
+            State::AwaitsLine { searched } => {
                 let (request, state) = next_line(self.alloc, &mut self.buffer, *searched)?;
                 self.state = state;
                 Ok(request)
             }
-            State::Block { line, header } => {
+            State::AwaitsBlock { line, header } => {
                 let size = header.length as usize;
                 let taken = take_block(self.alloc, &mut self.buffer, *line, size)?;
                 let Some((block, ends_well)) = taken else {
                     return Ok(None);
                 };
-                match mem::replace(&mut self.state, State::Line { searched: 0 }) {
-                    State::Block { header, .. } => Ok(Some(stored(header, block, ends_well))),
+                match mem::replace(&mut self.state, State::AwaitsLine { searched: 0 }) {
+                    State::AwaitsBlock { header, .. } => Ok(Some(stored(header, block, ends_well))),
                     _ => unreachable!(),
                 }
             }
-            State::Refused { left, .. } if *left > 0 => Ok(None),
-            State::Refused { refusal, quiet, .. } => {
+            State::SwallowsBlock { left, .. } if *left > 0 => Ok(None),
+            State::SwallowsBlock { refusal, quiet, .. } => {
                 let request = refused(*refusal, *quiet);
-                self.state = State::Line { searched: 0 };
+                self.state = State::AwaitsLine { searched: 0 };
                 Ok(Some(request))
             }
             State::Ended => Ok(None),

@@ -11,10 +11,10 @@ use mc_model::item::DATA_BYTES;
 use mc_model::{Fault, Key, Verb, WireNo, read_number};
 use std::alloc::Global;
 
-/// The words of a storage line behind its name. Flags that are no number are open.
+/// The words of a storage line after its name. Flags that are no number are left open.
 #[derive(Clone, Copy)]
 struct StorageLine<'a> {
-    /// How the block is stored; it is open where the unique of `cas` can't be read.
+    /// How the block is stored; left open where the unique of `cas` can't be read.
     storage: Option<Storage>,
     key: &'a [u8],
     flags: Option<u32>,
@@ -75,14 +75,14 @@ impl StorageLine<'_> {
         };
         let noreply = self.last.is_some();
         if let Some(refusal) = self.refusal(length) {
-            return Ok(Asked::Refused {
+            return Ok(Asked::RefusedBlock {
                 length,
                 refusal,
                 quiet: noreply && is_quiet_refusal(refusal),
             });
         }
         match (self.storage, Key::new(alloc, self.key)?, self.flags) {
-            (Some(storage), Some(key), Some(flags)) => Ok(Asked::Stored(Header {
+            (Some(storage), Some(key), Some(flags)) => Ok(Asked::StoredBlock(Header {
                 length,
                 storage,
                 key,
@@ -94,7 +94,7 @@ impl StorageLine<'_> {
     }
 }
 
-/// What a line of `set`, `add`, `replace`, `append` or `prepend` asks for, by the words behind its name.
+/// What a line of `set`, `add`, `replace`, `append` or `prepend` asks for, by the words after its name.
 pub fn ask_storage(alloc: Global, verb: Verb, arguments: &[&[u8]]) -> Result<Asked, Fault>
     ensures asked { IfOk result (λ asked. asked ≡ asked_of_storage verb (map (λ word. word.now) arguments.now)) }
     ensures lawful { IfOk result HasLawfulBlock }
@@ -116,7 +116,7 @@ pub fn ask_storage(alloc: Global, verb: Verb, arguments: &[&[u8]]) -> Result<Ask
     line.ask(alloc)
 }
 
-/// What a line of `cas` asks for, by the words behind its name.
+/// What a line of `cas` asks for, by the words after its name.
 pub fn ask_cas(alloc: Global, arguments: &[&[u8]]) -> Result<Asked, Fault>
     ensures asked { IfOk result (λ asked. asked ≡ asked_of_cas (map (λ word. word.now) arguments.now)) }
     ensures lawful { IfOk result HasLawfulBlock }

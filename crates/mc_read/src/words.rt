@@ -18,7 +18,7 @@ fn without_return(line: &[u8]) -> &[u8]
     }
 }
 
-/// What stands before the first space, and what stands behind it: all and nothing where there is no space.
+/// What stands before the first space, and what stands after it: all and nothing where there is no space.
 fn split_at_space(text: &[u8]) -> (&[u8], &[u8])
     ensures front { result.0.now ≡ before_first is_space text.now }
     ensures back { result.1.now ≡ after_first is_space text.now }

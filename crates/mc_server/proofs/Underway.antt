@@ -58,7 +58,7 @@ or_false false = refl
 no_text_empty : (text more : List ℕ) (request : Request) → IsRequestText text request → [] ≡ text ++ more → ⊥
 no_text_empty text more request is empty =
     ⊎_elim
-    (λ line. omega (arith, ap length empty, length-append text more, ap length line.in_text, length-append line.line (10 ∷ line.behind)))
+    (λ line. omega (arith, ap length empty, length-append text more, ap length line.in_text, length-append line.line (10 ∷ line.body)))
     (λ long. omega (arith, ap length empty, length-append text more, long.long))
     is
 

@@ -84,7 +84,7 @@ fn exchange<R: Wait, I: Input, O: Output>(
     input: &mut I,
     output: &mut O,
 ) -> Result<(), Fault>
-    requires begins { reader.old ≡ Kept [] }
+    requires begins { reader.old.held ≡ Kept [] }
     requires stands { Stands session.old.limits session.old.replica.places [] session.old }
     requires nothing_queued { session.old.queue.items ≡ [] }
     ensures serves { OnOk result (Serves session.old.limits session.old.replica.places (both (I.tells input.old) (O.tells output.old)) (both (I.tells input.new) (O.tells output.new))) }
@@ -149,7 +149,7 @@ fn serve<R: Wait, I: Input, O: Output>(
     input: &mut I,
     output: &mut O,
 ) -> Result<(), Fault>
-    requires begins { reader.old ≡ Kept [] }
+    requires begins { reader.old.held ≡ Kept [] }
     requires stands { Stands session.old.limits session.old.replica.places [] session.old }
     requires nothing_queued { session.old.queue.items ≡ [] }
     ensures serves { OnOk result (Serves session.old.limits session.old.replica.places (both (I.tells input.old) (O.tells output.old)) (both (I.tells input.new) (O.tells output.new))) }

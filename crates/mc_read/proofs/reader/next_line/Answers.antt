@@ -3,13 +3,13 @@ use Rattle.mc_read.proofs.Lines.{line_length_le}
 use Rattle.mc_read.proofs.Steps.{answer_first, answer_none, first_open, first_too_long, not_too_long, not_unended}
 use Rattle.mc_read.proofs.reader.next_line.Goals as goal
 
-pub returns-in-Line-clause-unended : goal.returns-in-Line-clause-unended
-returns-in-Line-clause-unended c = λ is.
-    absurd (not_unended c.args.buffer.now c.in-Line.line (rw c.as_slice.ensures at c.in-Line.ensures) is)
+pub returns-in-Found-clause-unended : goal.returns-in-Found-clause-unended
+returns-in-Found-clause-unended c = λ is.
+    absurd (not_unended c.args.buffer.now c.in-Found.line (rw c.as_slice.ensures at c.in-Found.ensures) is)
 
-pub returns-in-Line-clause-too_long : goal.returns-in-Line-clause-too_long
-returns-in-Line-clause-too_long c = λ text more request same is.
-    absurd (not_too_long c.args.buffer.now c.in-Line.line (rw c.as_slice.ensures at c.in-Line.ensures) text more request same is)
+pub returns-in-Found-clause-too_long : goal.returns-in-Found-clause-too_long
+returns-in-Found-clause-too_long c = λ text more request same is.
+    absurd (not_too_long c.args.buffer.now c.in-Found.line (rw c.as_slice.ensures at c.in-Found.ensures) text more request same is)
 
 pub returns-in-TooLong-clause-answer : goal.returns-in-TooLong-clause-answer
 returns-in-TooLong-clause-answer c =

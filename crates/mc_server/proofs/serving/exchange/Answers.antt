@@ -20,33 +20,33 @@ loop-init g c = record {
 pub returns-in_err-request-clause-stops : goal.returns-in_err-request-clause-stops
 returns-in_err-request-clause-stops g c =
     let failed : ◌≡◌ {A = Result (Unit {0}) Fault} c.from_residual.result (Err Memory) = search rules in
-    rw failed (starved_looking _ _ _ _ c.loop.reader c.loop.session c.loop.closed c.loop.invariant.underway c.loop.invariant.output_failures)
+    rw failed (starved_looking _ _ _ _ c.loop.reader.held c.loop.session c.loop.closed c.loop.invariant.underway c.loop.invariant.output_failures)
 
 -- the answer to a request met want of memory
 pub returns-in_err-respond-clause-stops : goal.returns-in_err-respond-clause-stops
 returns-in_err-respond-clause-stops g c =
     let now = c.loop.invariant in
-    let next : IsNext c.loop.reader c.in-Some-2.request c.next-in-loop.new.self = rw c.in-Some-2.is at c.in_ok-request.ensures.answer in
+    let next : IsNext c.loop.reader.held c.in-Some-2.request c.next-in-loop.new.self.held = rw c.in-Some-2.is at c.in_ok-request.ensures.answer in
     let failed : ◌≡◌ {A = Result (Unit {0}) Fault} c.from_residual-in_err-respond.result (Err Memory) = search rules in
-    rw failed (starved_responding _ _ _ _ c.loop.reader c.loop.session c.loop.closed now.underway c.in-Some-2.request c.next-in-loop.new.self c.respond.new.self now.output_failures next c.in_err-respond.ensures.unchanged c.in_err-respond.ensures.starved)
+    rw failed (starved_responding _ _ _ _ c.loop.reader.held c.loop.session c.loop.closed now.underway c.in-Some-2.request c.next-in-loop.new.self.held c.respond.new.self now.output_failures next c.in_err-respond.ensures.unchanged c.in_err-respond.ensures.starved)
 
 -- the output failed behind a request
 pub returns-in_err-make_room-clause-stops : goal.returns-in_err-make_room-clause-stops
 returns-in_err-make_room-clause-stops g c =
     let now = c.loop.invariant in
-    let next : IsNext c.loop.reader c.in-Some-2.request c.next-in-loop.new.self = rw c.in-Some-2.is at c.in_ok-request.ensures.answer in
-    let after = underway_next _ _ _ _ c.loop.reader c.loop.session c.loop.closed now.underway c.in-Some-2.request c.next-in-loop.new.self c.respond.new.self _ (ap (λ b. c.loop.closed || b) c.ends_stream-closed.ensures) next c.in_ok-respond.ensures.stands c.in_ok-respond.ensures.queued in
+    let next : IsNext c.loop.reader.held c.in-Some-2.request c.next-in-loop.new.self.held = rw c.in-Some-2.is at c.in_ok-request.ensures.answer in
+    let after = underway_next _ _ _ _ c.loop.reader.held c.loop.session c.loop.closed now.underway c.in-Some-2.request c.next-in-loop.new.self.held c.respond.new.self _ (ap (λ b. c.loop.closed || b) c.ends_stream-closed.ensures) next c.in_ok-respond.ensures.stands c.in_ok-respond.ensures.queued in
     let failed : ◌≡◌ {A = Result (Unit {0}) Fault} c.from_residual-in_err-make_room.result (Err Output) = search rules in
-    rw failed (serves_in_part _ _ _ _ c.next-in-loop.new.self c.respond.new.self _ after _ c.in_err-make_room.ensures.front)
+    rw failed (serves_in_part _ _ _ _ c.next-in-loop.new.self.held c.respond.new.self _ after _ c.in_err-make_room.ensures.front)
 
 -- a request was answered
 pub loop-preserved-in-Some-2 : goal.loop-preserved-in-Some-2
 loop-preserved-in-Some-2 g c =
     let now = c.loop.invariant in
-    let next : IsNext c.loop.reader c.in-Some-2.request c.next-in-loop.new.self = rw c.in-Some-2.is at c.in_ok-request.ensures.answer in
-    let after = underway_next _ _ _ _ c.loop.reader c.loop.session c.loop.closed now.underway c.in-Some-2.request c.next-in-loop.new.self c.respond.new.self _ (ap (λ b. c.loop.closed || b) c.ends_stream-closed.ensures) next c.in_ok-respond.ensures.stands c.in_ok-respond.ensures.queued in
+    let next : IsNext c.loop.reader.held c.in-Some-2.request c.next-in-loop.new.self.held = rw c.in-Some-2.is at c.in_ok-request.ensures.answer in
+    let after = underway_next _ _ _ _ c.loop.reader.held c.loop.session c.loop.closed now.underway c.in-Some-2.request c.next-in-loop.new.self.held c.respond.new.self _ (ap (λ b. c.loop.closed || b) c.ends_stream-closed.ensures) next c.in_ok-respond.ensures.stands c.in_ok-respond.ensures.queued in
     record {
-      underway = underway_moved _ _ _ _ c.next-in-loop.new.self c.respond.new.self _ after _ _ refl refl c.in_ok-make_room.ensures.pushed;
+      underway = underway_moved _ _ _ _ c.next-in-loop.new.self.held c.respond.new.self _ after _ _ refl refl c.in_ok-make_room.ensures.pushed;
       room = c.in_ok-make_room.ensures.room;
       whole_buffer = now.whole_buffer;
       input_failures = now.input_failures;
@@ -57,13 +57,13 @@ loop-preserved-in-Some-2 g c =
 pub returns-in_err-flush-clause-stops : goal.returns-in_err-flush-clause-stops
 returns-in_err-flush-clause-stops g c =
     let failed : ◌≡◌ {A = Result (Unit {0}) Fault} c.from_residual-in_err-flush.result (Err Output) = search rules in
-    rw failed (serves_in_part _ _ _ _ c.loop.reader c.loop.session c.loop.closed c.loop.invariant.underway _ c.in_err-flush.ensures.front)
+    rw failed (serves_in_part _ _ _ _ c.loop.reader.held c.loop.session c.loop.closed c.loop.invariant.underway _ c.in_err-flush.ensures.front)
 
 pub returns-then-closed-clause-serves : goal.returns-then-closed-clause-serves
 returns-then-closed-clause-serves g c =
     let answer = rw c.in_default.is at c.in_ok-request.ensures.answer in
-    let moved = underway_moved _ _ _ _ c.loop.reader c.loop.session c.loop.closed c.loop.invariant.underway (record c.loop.session { queue = c.flush.new.queue }) _ refl refl c.in_ok-flush.ensures.pushed in
-    serves_at_end _ _ _ _ c.loop.reader _ c.loop.closed moved answer.0 c.in_ok-flush.ensures.empty (inr c.if-closed.true)
+    let moved = underway_moved _ _ _ _ c.loop.reader.held c.loop.session c.loop.closed c.loop.invariant.underway (record c.loop.session { queue = c.flush.new.queue }) _ refl refl c.in_ok-flush.ensures.pushed in
+    serves_at_end _ _ _ _ c.loop.reader.held _ c.loop.closed moved answer.0 c.in_ok-flush.ensures.empty (inr c.if-closed.true)
 
 -- a piece came
 pub loop-preserved : goal.loop-preserved
@@ -72,7 +72,7 @@ loop-preserved g c =
     let answer = rw c.in_default.is at c.in_ok-request.ensures.answer in
     let short : length (take c.in-Bytes.count c.pull.new.buffer) ≤ PULL_BYTES = omega (arith, length-take-le c.in-Bytes.count c.pull.new.buffer c.in-Bytes.ensures.count.1, c.in-Bytes.ensures.count.1, c.pull.auto.buffer, now.whole_buffer) in
     record {
-      underway = underway_fed _ _ _ _ c.loop.reader _ c.loop.closed (underway_moved _ _ _ _ c.loop.reader c.loop.session c.loop.closed now.underway _ _ refl refl c.in_ok-flush.ensures.pushed) (take c.in-Bytes.count c.pull.new.buffer) _ c.feed.new.self answer.0 c.in_ok-flush.ensures.empty short c.in-Bytes.ensures.bytes c.in-Bytes.ensures.last c.in-Bytes.ensures.rest
+      underway = underway_fed _ _ _ _ c.loop.reader.held _ c.loop.closed (underway_moved _ _ _ _ c.loop.reader.held c.loop.session c.loop.closed now.underway _ _ refl refl c.in_ok-flush.ensures.pushed) (take c.in-Bytes.count c.pull.new.buffer) _ c.feed.new.self.held answer.0 c.in_ok-flush.ensures.empty short c.in-Bytes.ensures.bytes c.in-Bytes.ensures.last c.in-Bytes.ensures.rest
           (λ more requests reads. (answer.1 (take c.in-Bytes.count c.pull.new.buffer ++ more) requests).1 ((c.in_ok-feed-in-Bytes.ensures.readings more requests).0 reads));
       room = omega (arith, ap length c.in_ok-flush.ensures.empty);
       whole_buffer = c.pull.auto.buffer ∙ now.whole_buffer;
@@ -87,7 +87,7 @@ returns-in_err-feed-in-Bytes-clause-stops g c =
     let answer = rw c.in_default.is at c.in_ok-request.ensures.answer in
     let short : length (take c.in-Bytes.count c.pull.new.buffer) ≤ PULL_BYTES = omega (arith, length-take-le c.in-Bytes.count c.pull.new.buffer c.in-Bytes.ensures.count.1, c.in-Bytes.ensures.count.1, c.pull.auto.buffer, now.whole_buffer) in
     let failed : ◌≡◌ {A = Result (Unit {0}) Fault} c.from_residual-in_err-feed-in-Bytes.result (Err Memory) = search rules in
-    rw failed (starved_feeding _ _ _ _ c.loop.reader _ c.loop.closed (underway_moved _ _ _ _ c.loop.reader c.loop.session c.loop.closed now.underway _ _ refl refl c.in_ok-flush.ensures.pushed) (take c.in-Bytes.count c.pull.new.buffer) _ (c.in_ok-flush.ensures.failures ∙ now.output_failures) answer.0 c.in_ok-flush.ensures.empty short
+    rw failed (starved_feeding _ _ _ _ c.loop.reader.held _ c.loop.closed (underway_moved _ _ _ _ c.loop.reader.held c.loop.session c.loop.closed now.underway _ _ refl refl c.in_ok-flush.ensures.pushed) (take c.in-Bytes.count c.pull.new.buffer) _ (c.in_ok-flush.ensures.failures ∙ now.output_failures) answer.0 c.in_ok-flush.ensures.empty short
     c.in-Bytes.ensures.bytes c.in-Bytes.ensures.last c.in-Bytes.ensures.rest)
 
 -- nothing came
@@ -96,7 +96,7 @@ loop-preserved-in-Empty g c =
     let now = c.loop.invariant in
     let answer = rw c.in_default.is at c.in_ok-request.ensures.answer in
     record {
-      underway = underway_fed _ _ _ _ c.loop.reader _ c.loop.closed (underway_moved _ _ _ _ c.loop.reader c.loop.session c.loop.closed now.underway _ _ refl refl c.in_ok-flush.ensures.pushed) [] _ c.next-in-loop.new.self answer.0 c.in_ok-flush.ensures.empty (omega arith) c.in-Empty.ensures.bytes c.in-Empty.ensures.last c.in-Empty.ensures.rest
+      underway = underway_fed _ _ _ _ c.loop.reader.held _ c.loop.closed (underway_moved _ _ _ _ c.loop.reader.held c.loop.session c.loop.closed now.underway _ _ refl refl c.in_ok-flush.ensures.pushed) [] _ c.next-in-loop.new.self.held answer.0 c.in_ok-flush.ensures.empty (omega arith) c.in-Empty.ensures.bytes c.in-Empty.ensures.last c.in-Empty.ensures.rest
           (λ more requests reads. (answer.1 more requests).1 reads);
       room = omega (arith, ap length c.in_ok-flush.ensures.empty);
       whole_buffer = c.pull.auto.buffer ∙ now.whole_buffer;
@@ -107,14 +107,14 @@ loop-preserved-in-Empty g c =
 pub returns-in-Ended-clause-serves : goal.returns-in-Ended-clause-serves
 returns-in-Ended-clause-serves g c =
     let answer = rw c.in_default.is at c.in_ok-request.ensures.answer in
-    let moved = underway_moved _ _ _ _ c.loop.reader c.loop.session c.loop.closed c.loop.invariant.underway (record c.loop.session { queue = c.flush.new.queue }) _ refl refl c.in_ok-flush.ensures.pushed in
-    let waits = underway_fed _ _ _ _ c.loop.reader _ c.loop.closed moved [] _ c.loop.reader answer.0 c.in_ok-flush.ensures.empty (omega arith) c.in-Ended.ensures.bytes c.in-Ended.ensures.last c.in-Ended.ensures.rest (λ more requests reads. reads) in
-    serves_at_end _ _ _ _ c.loop.reader _ c.loop.closed waits answer.0 c.in_ok-flush.ensures.empty (inl (c.in-Ended.ensures.ended, c.in-Ended.ensures.no_more refl))
+    let moved = underway_moved _ _ _ _ c.loop.reader.held c.loop.session c.loop.closed c.loop.invariant.underway (record c.loop.session { queue = c.flush.new.queue }) _ refl refl c.in_ok-flush.ensures.pushed in
+    let waits = underway_fed _ _ _ _ c.loop.reader.held _ c.loop.closed moved [] _ c.loop.reader.held answer.0 c.in_ok-flush.ensures.empty (omega arith) c.in-Ended.ensures.bytes c.in-Ended.ensures.last c.in-Ended.ensures.rest (λ more requests reads. reads) in
+    serves_at_end _ _ _ _ c.loop.reader.held _ c.loop.closed waits answer.0 c.in_ok-flush.ensures.empty (inl (c.in-Ended.ensures.ended, c.in-Ended.ensures.no_more refl))
 
 -- the input failed
 pub returns-in-Failed-clause-stops : goal.returns-in-Failed-clause-stops
 returns-in-Failed-clause-stops g c =
     let answer = rw c.in_default.is at c.in_ok-request.ensures.answer in
-    let moved = underway_moved _ _ _ _ c.loop.reader c.loop.session c.loop.closed c.loop.invariant.underway (record c.loop.session { queue = c.flush.new.queue }) _ refl refl c.in_ok-flush.ensures.pushed in
-    let waits = underway_fed _ _ _ _ c.loop.reader _ c.loop.closed moved [] _ c.loop.reader answer.0 c.in_ok-flush.ensures.empty (omega arith) c.in-Failed.ensures.bytes c.in-Failed.ensures.last c.in-Failed.ensures.rest (λ more requests reads. reads) in
-    serves_on _ _ _ _ c.loop.reader _ c.loop.closed waits answer.0 c.in_ok-flush.ensures.empty c.if-closed.false
+    let moved = underway_moved _ _ _ _ c.loop.reader.held c.loop.session c.loop.closed c.loop.invariant.underway (record c.loop.session { queue = c.flush.new.queue }) _ refl refl c.in_ok-flush.ensures.pushed in
+    let waits = underway_fed _ _ _ _ c.loop.reader.held _ c.loop.closed moved [] _ c.loop.reader.held answer.0 c.in_ok-flush.ensures.empty (omega arith) c.in-Failed.ensures.bytes c.in-Failed.ensures.last c.in-Failed.ensures.rest (λ more requests reads. reads) in
+    serves_on _ _ _ _ c.loop.reader.held _ c.loop.closed waits answer.0 c.in_ok-flush.ensures.empty c.if-closed.false

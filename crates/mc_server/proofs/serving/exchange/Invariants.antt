@@ -8,7 +8,7 @@ use Rattle.mc_server.proofs.serving.exchange.Given as goal
 abbrev pub invariant-loop : goal.invariant-loop
 invariant-loop g l =
     record {
-      underway : IsUnderway l.fn.session.limits l.fn.session.replica.places (both (g.I.Input.tells l.fn.input) (g.O.Output.tells l.fn.output)) (both (g.I.Input.tells l.input) (g.O.Output.tells l.output)) l.reader l.session l.closed;
+      underway : IsUnderway l.fn.session.limits l.fn.session.replica.places (both (g.I.Input.tells l.fn.input) (g.O.Output.tells l.fn.output)) (both (g.I.Input.tells l.input) (g.O.Output.tells l.output)) l.reader.held l.session l.closed;
       room : length l.session.queue.items ≤ QUEUE_BYTES;
       whole_buffer : length l.buffer ≡ PULL_BYTES;
       input_failures : (g.I.Input.tells l.input).failures ≡ (g.I.Input.tells l.fn.input).failures;

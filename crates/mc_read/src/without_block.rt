@@ -1,12 +1,13 @@
-//! Lines alone: `get`, `gets`, `delete`, `incr`, `decr`, `flush_all`, and names without words behind them.
+//! Lines without a block: `get`, `gets`, `delete`, `incr`, `decr`, `flush_all`, and names with no words after them.
 ghost use Rattle.std.specs.List.{list_all};
 ghost use Rattle.std.specs.Prelude.{◌≡◌, [], ◌∷◌, IfOk, IfSome, IsOkUnless, is_some, map};
 ghost use Rattle.mc_model.specs.declared.command.Command.TheVariants.{Delete, Flush};
-ghost use Rattle.mc_model.specs.declared.reply.WireNo.TheVariants.{E2, E9};
+ghost use Rattle.mc_model.specs.declared.reply.WireNo.TheVariants.{E2};
 ghost use Rattle.mc_model.specs.declared.request.Request.TheVariants.{Logged};
 ghost use Rattle.mc_model.specs.Key.{is_lawful_key};
-ghost use Rattle.mc_read.specs.declared.line.Asked.TheVariants.{Line};
-ghost use Rattle.mc_read.specs.Line.{HasLawfulBlock, asked_after, asked_of_change, asked_of_delete, asked_of_flush, asked_of_name, asked_of_retrieval, changed, delta_of, exptime_checks, is_delta};
+ghost use Rattle.mc_model.specs.Number.{number_up_to};
+ghost use Rattle.mc_read.specs.declared.line.Asked.TheVariants.{LineOnly};
+ghost use Rattle.mc_read.specs.Line.{HasLawfulBlock, asked_after, asked_of_change, asked_of_delete, asked_of_delta, asked_of_flush, asked_of_name, asked_of_retrieval, changed, exptime_checks};
 
 use crate::line::{Asked, DELTA, malformed, no_command, refused};
 use crate::words::{is_exptime, is_noreply, is_word, is_zero};
@@ -15,9 +16,9 @@ use std::alloc::Global;
 
 /// The line alone is this command.
 fn logged(command: Command, quiet: bool) -> Asked
-    ensures { result ≡ Line (Logged command quiet) }
+    ensures { result ≡ LineOnly (Logged command quiet) }
 {
-    Asked::Line(Request::Logged { command, quiet })
+    Asked::LineOnly(Request::Logged { command, quiet })
 }
 
 /// The keys of a retrieval, or `None` where a word is no lawful key.
@@ -36,7 +37,7 @@ fn read_keys(alloc: Global, words: &[&[u8]]) -> Result<Option<Vec<Key>>, Fault>
     Ok(Some(keys))
 }
 
-/// What a retrieval asks for, by the words behind its name.
+/// What a retrieval asks for, by the words after its name.
 pub fn ask_retrieval(alloc: Global, uniques: bool, arguments: &[&[u8]]) -> Result<Asked, Fault>
     ensures asked { IfOk result (λ asked. asked ≡ asked_of_retrieval uniques (map (λ word. word.now) arguments.now)) }
     ensures memory { IsOkUnless result Fault.Memory }
@@ -53,7 +54,7 @@ pub fn ask_retrieval(alloc: Global, uniques: bool, arguments: &[&[u8]]) -> Resul
     }
 }
 
-/// The deletion of a key, where the words behind it are lawful.
+/// The deletion of a key, where the words after it are lawful.
 fn delete(alloc: Global, key: &[u8], are_lawful: bool, quiet: bool) -> Result<Asked, Fault>
     ensures asked { IfOk result (λ asked. asked ≡ asked_after ((are_lawful, E2) ∷ (is_lawful_key key.now, E2) ∷ []) (Delete key.now) quiet) }
     ensures memory { IsOkUnless result Fault.Memory }
@@ -67,7 +68,7 @@ fn delete(alloc: Global, key: &[u8], are_lawful: bool, quiet: bool) -> Result<As
     }
 }
 
-/// What a deletion asks for, by the words behind its name.
+/// What a deletion asks for, by the words after its name.
 pub fn ask_delete(alloc: Global, arguments: &[&[u8]]) -> Result<Asked, Fault>
     ensures asked { IfOk result (λ asked. asked ≡ asked_of_delete (map (λ word. word.now) arguments.now)) }
     ensures memory { IsOkUnless result Fault.Memory }
@@ -103,7 +104,7 @@ impl Change {
         }
     }
 
-    /// The change of a key's number by a delta, where the word behind these is lawful.
+    /// The change of a key's number by a delta, where the word after these is lawful.
     fn ask(
         self,
         alloc: Global,
@@ -112,8 +113,7 @@ impl Change {
         is_lawful: bool,
         quiet: bool,
     ) -> Result<Asked, Fault>
-        ensures asked { IfOk result (λ asked. asked ≡ asked_after ((is_lawful, E2) ∷ (is_lawful_key key.now, E2) ∷ (is_delta delta.now, E9) ∷ [])
-            (changed self key.now (delta_of delta.now)) quiet) }
+        ensures asked { IfOk result (λ asked. asked ≡ asked_of_delta self is_lawful key.now (number_up_to DELTA delta.now) quiet) }
         ensures memory { IsOkUnless result Fault.Memory }
     {
         if !is_lawful {
@@ -124,12 +124,12 @@ impl Change {
         };
         match read_number(delta, DELTA) {
             Some(by) => Ok(logged(self.command(key, by), quiet)),
-            None => Ok(Asked::Line(refused(WireNo::E9, false))),
+            None => Ok(Asked::LineOnly(refused(WireNo::E9, false))),
         }
     }
 }
 
-/// What a line of `incr` or `decr` asks for, by the words behind its name.
+/// What a line of `incr` or `decr` asks for, by the words after its name.
 pub fn ask_change(alloc: Global, change: Change, arguments: &[&[u8]]) -> Result<Asked, Fault>
     ensures asked { IfOk result (λ asked. asked ≡ asked_of_change change (map (λ word. word.now) arguments.now)) }
     ensures memory { IsOkUnless result Fault.Memory }
@@ -149,13 +149,13 @@ fn flush(exptime: &[u8], quiet: bool) -> Asked
     if !is_exptime(exptime) {
         malformed()
     } else if !is_zero(exptime) {
-        Asked::Line(refused(WireNo::E4, quiet))
+        Asked::LineOnly(refused(WireNo::E4, quiet))
     } else {
         logged(Command::Flush, quiet)
     }
 }
 
-/// What a line of `flush_all` asks for, by the words behind its name.
+/// What a line of `flush_all` asks for, by the words after its name.
 pub fn ask_flush(arguments: &[&[u8]]) -> Asked
     ensures asked { result ≡ asked_of_flush (map (λ word. word.now) arguments.now) }
     ensures lawful { HasLawfulBlock result }
@@ -170,12 +170,12 @@ pub fn ask_flush(arguments: &[&[u8]]) -> Asked
     }
 }
 
-/// What a name that stands alone asks for; `arguments` are the words behind it.
+/// What a name that has no arguments asks for; `arguments` are the words after it.
 pub fn ask_name(request: Request, arguments: &[&[u8]]) -> Asked
     ensures { result ≡ asked_of_name request (map (λ word. word.now) arguments.now) }
 {
     if arguments.is_empty() {
-        Asked::Line(request)
+        Asked::LineOnly(request)
     } else {
         no_command()
     }

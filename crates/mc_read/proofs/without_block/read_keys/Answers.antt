@@ -1,7 +1,7 @@
 use Rattle.std.proofs.Common.{◌≡◌, ℕ, List, [], Bor, get_or, None, sym, ◌∙◌}
 use Rattle.mc_model.specs.Key.{key_of}
 use Rattle.mc_read.proofs.WordTests.{unlawful_at, unlawful_from_none}
-use Rattle.mc_read.proofs.alone.read_keys.Goals as goal
+use Rattle.mc_read.proofs.without_block.read_keys.Goals as goal
 
 pub returns-in_default-clause-lawful : goal.returns-in_default-clause-lawful
 returns-in_default-clause-lawful c =

@@ -1,7 +1,7 @@
 use Rattle.std.proofs.Common.{◌≡◌, true, map, take}
 use Rattle.std.specs.List.{list_all}
 use Rattle.mc_model.specs.Key.{is_lawful_key}
-use Rattle.mc_read.proofs.alone.read_keys.Given as goal
+use Rattle.mc_read.proofs.without_block.read_keys.Given as goal
 
 -- the keys are the words so far, which are all lawful
 abbrev pub invariant-loop-word : goal.invariant-loop-word
