@@ -1,5 +1,5 @@
--- What the words of mc_stdin's command line ask for, of which the first is the program's name, by clap's own definitions of a
--- command; this project's profile.
+-- What the words after the program's name ask for on mc_stdin's command line, by clap's own definitions of a command; this
+-- project's profile.
 use Rattle.std.specs.Prelude.{◌≡◌, ◌≢◌, ◌⊎◌, ◌+◌, ◌-◌, ◌^◌, ℕ, true, List, [], Option, Some, codes, option_and_then, unwrap_or}
 use Rattle.std.specs.Str.Parse.{without_leading_plus}
 use Rattle.clap.specs.Faults.{fault_of}
@@ -29,9 +29,9 @@ number_rule name = record (new_rule name) {
   parser = Some (Unsigned 0 (2 ^ 64 - 1));
 }
 
--- the command without its options: `--help` and `--version`
+-- the command without its options: `--help` and `--version`; its first word is no program's name
 abbrev pub bare_app : App
-bare_app = on_top (λ shape. record shape { has_version = true }) (new_app (codes "mc_stdin"))
+bare_app = on_top (λ shape. record shape { has_version = true; no_binary_name = true }) (new_app (codes "mc_stdin"))
 
 -- the command: `--places`, `--items` and `--bytes`
 abbrev pub stdin_app : App

@@ -55,6 +55,7 @@ fn stdin_command<'a>(alloc: Global) -> Result<Command<'a>, AllocError>
     let items = "How many items may be held, from 1 to 1048576 [default: 1048576]";
     let bytes = "How many bytes keys and data may have, from 1 to 1073741824 [default: 67108864]";
     Command::new(alloc, "mc_stdin")
+        .no_binary_name(true)
         .version("1.0.0")
         .about("A memcached server for one client, from standard input to standard output")
         .arg(number_option(alloc, "places", places))?
@@ -69,7 +70,7 @@ fn number(matches: &ArgMatches, name: &str) -> Option<u64>
     matches.get_one::<u64>(name)
 }
 
-/// What the words of a command line ask for, of which the first is the program's name.
+/// What the words after the program's name ask for.
 pub(crate) fn read_words(alloc: Global, words: &[String]) -> Result<Asked, Error>
     ensures places { IfOk result (λ asked. asked.places ≡ places_asked (map string_bytes words.now)) }
     ensures limits { IfOk result (λ asked. asked.limits ≡ limits_asked (map string_bytes words.now)) }

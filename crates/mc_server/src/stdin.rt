@@ -89,8 +89,7 @@ fn answer_words<R: Wait, O: Output, E: Output>(
     }
 }
 
-/// Does what the words of a command line ask for, of which the first is the program's name, and answers the status that the
-/// program ends with.
+/// Does what the words after the program's name ask for, and answers the status that the program ends with.
 ///
 /// Serves one client from the input to the output: 0 where the input ended or a request ended the stream, and 1 where a fault
 /// ended it, which is told on `errors` by `mc_stdin: TEXT` and a line feed. `--places N` says how many places the log has

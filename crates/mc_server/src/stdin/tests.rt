@@ -46,7 +46,6 @@ fn run_with<R: Wait>(
     tells: Vec<OutputStep>,
 ) -> Result<Ran, Fail> {
     let mut words = Vec::new(alloc);
-    words.push(String::from_str(alloc, "mc_stdin")?)?;
     for text in texts {
         words.push(String::from_str(alloc, text)?)?;
     }
