@@ -1,4 +1,5 @@
 use super::*;
+use crate::fault_text;
 use mc_stream::{InputStep, MemoryInput, MemoryOutput, OutputStep};
 use std::process::Abort;
 use std::test::Fail;
