@@ -2,7 +2,7 @@
 ghost use Rattle.clap.specs.Words.{found_of, kind_of, rule_of};
 ghost use Rattle.std.specs.IoError.{error_kind};
 ghost use Rattle.std.specs.declared.io.ErrorKind.TheVariants.{OutOfMemory as StdOutOfMemory};
-ghost use Rattle.std.specs.Prelude.{◌≡◌, ◌≢◌, ◌⊎◌, ℕ, List, false};
+ghost use Rattle.std.specs.Prelude.{◌≡◌, ◌≢◌, ◌⊎◌, ℕ, Err, IfErr, List, false};
 ghost use Rattle.mc_model.specs.declared.fault.Fault.{Fault};
 ghost use Rattle.mc_server.specs.Faults.{fault_line};
 ghost use Rattle.mc_server.specs.Words.{FailsToAnswer, IsShown, number_given, number_rule, unreadable_line};
@@ -74,9 +74,13 @@ pub(crate) fn answer_words<R: Wait, O: Output, E: Output>(
     }
 }
 
-/// The words after the program's name, of those that std gives.
-pub fn words_after_name(alloc: Global, given: io::Result<Args>) -> io::Result<Vec<String>> {
-    Ok(given?.skip(1).collect(alloc)?)
+/// The words after the program's name, of those that std gives. It fails as std does, or where memory runs out.
+pub fn words_after_name(alloc: Global, given: io::Result<Args>) -> io::Result<Vec<String>>
+    ensures starved { IfErr result (λ error. (given ≡ Err error) ⊎ (error_kind error ≡ StdOutOfMemory)) }
+{
+    let mut words = given?;
+    let _name = words.next();
+    Ok(words.collect(alloc)?)
 }
 
 /// Tells why a program's words couldn't be collected, and answers the status that it ends with: out of memory with 1, and words
