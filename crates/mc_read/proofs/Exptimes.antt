@@ -20,7 +20,7 @@ use Rattle.mc_read.specs.Sending.{verb_name}
 use Rattle.mc_read.specs.Text.{IsRequestText, IsUnbroken, request_of}
 use Rattle.mc_read.specs.Word.{is_noreply, is_zero, words}
 use Rattle.mc_read.proofs.Sending.{name_asked}
-use Rattle.mc_read.proofs.Texts.{before_first_at}
+use Rattle.mc_read.specs.Texts.{before_first_at}
 
 -- the line of a text without a line feed in it is the text's own line
 same_line : (line body own rest : List ℕ) → IsUnbroken line → IsUnbroken own → line ++ 10 ∷ body ≡ own ++ 10 ∷ rest → own ≡ line

@@ -30,7 +30,7 @@ use Rattle.mc_read.specs.Sending.{IsLawfulCommand}
 use Rattle.mc_read.specs.Text.{IsRequestText, ends_well, request_of, stored, stored_if, storing}
 use Rattle.mc_read.specs.Word.{is_noreply, is_word, words}
 use Rattle.mc_read.proofs.Exptimes.{AllPassing, all_pass}
-use Rattle.mc_read.proofs.Texts.{cond_is}
+use Rattle.mc_read.specs.Texts.{cond_is}
 
 abbrev IsLawfulStorage : Storage → Type 0
 IsLawfulStorage (Plain verb) = ⊤

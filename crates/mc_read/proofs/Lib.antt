@@ -1,7 +1,5 @@
 pub mod Splits
 pub mod WordTests
-pub mod Texts
-pub mod Readings
 pub mod Holdings
 pub mod Lines
 pub mod Steps

@@ -19,7 +19,7 @@ use Rattle.mc_read.specs.Reading.{Ended, HasNone, Kept, ReadAlike, Swallowing, e
 use Rattle.mc_read.specs.State.{IsAnswer, IsLineAt, IsStateOf, IsTaken, held_in, state_after}
 use Rattle.mc_read.specs.Text.{IsTooLongText, IsUnbroken, IsUnended, ends_well, body_length, request_of, stored, stored_if}
 use Rattle.mc_read.proofs.Holdings.{has_none, held_after, next_is_first, reads_alike, refused_alike, refused_has_none}
-use Rattle.mc_read.proofs.Texts.{before_first-unbroken, line_length-too_long}
+use Rattle.mc_read.specs.Texts.{before_first-unbroken, line_length-too_long}
 
 -- a first request is answered
 pub answer_first : (bytes : List ℕ) (request : Request) (left : List ℕ) → first_request bytes ≡ found request left → IsAnswer (Kept bytes) (Some request) (held_after request left)

@@ -1,4 +1,3 @@
-pub mod Pieces
 pub mod Owings
 pub mod Underway
 mod Rows

@@ -1,6 +1,6 @@
 -- Worked rows, tried on the definitions: reply text, and what is owed where no table is asked.
 use Rattle.std.specs.Prelude.{codes}
-use Rattle.std.proofs.Common.{◌≡◌, true, false, List, [], ◌∷◌, refl}
+use Rattle.std.proofs.Common.{◌≡◌, true, false, [], ◌∷◌, refl}
 use Rattle.mc_model.specs.declared.command.Command.TheVariants.{Get, Store}
 use Rattle.mc_model.specs.declared.command.Verb.TheVariants.{Set}
 use Rattle.mc_model.specs.declared.reply.Reply.TheVariants.{Stored, Values}
@@ -10,7 +10,6 @@ use Rattle.mc_model.specs.declared.settings.Limits.{Limits}
 use Rattle.mc_model.specs.History.{answer}
 use Rattle.mc_read.specs.Line.{refused}
 use Rattle.clap.specs.Faults.{fault_of}
-use Rattle.clap.specs.Walk.{Text}
 use Rattle.clap.specs.declared.error.kind.ErrorKind.TheVariants as kind
 use Rattle.clap.proofs.OnLiterals.{clap_on_literals}
 use Rattle.mc_server.specs.declared.serving.TheConstants.{PULL_BYTES}
@@ -48,50 +47,51 @@ queue_bytes = refl
 pull_bytes : PULL_BYTES ≡ 16384
 pull_bytes = refl
 
--- what words ask for behind the program's name
-abbrev named : List Text → List Text
-named words = codes "mc_stdin" ∷ words
-
+-- what words ask for
 no_words : places_asked [] ≡ 65536
 unfolding clap_on_literals
 no_words = refl
 
-a_name_alone : limits_asked (named []) ≡ plenty
+no_quotas : limits_asked [] ≡ plenty
 unfolding clap_on_literals
-a_name_alone = refl
+no_quotas = refl
 
-any_name : places_asked (codes "--places=2" ∷ []) ≡ 65536
+first_word : places_asked (codes "--places=2" ∷ []) ≡ 2
 unfolding clap_on_literals
-any_name = refl
+first_word = refl
 
-two_places : places_asked (named (codes "--places" ∷ codes "2" ∷ [])) ≡ 2
+program_name : fault_of stdin_app (codes "mc_stdin" ∷ []) ≡ kind.UnknownArgument ∷ []
+unfolding clap_on_literals
+program_name = refl
+
+two_places : places_asked (codes "--places" ∷ codes "2" ∷ []) ≡ 2
 unfolding clap_on_literals
 two_places = refl
 
-three_places : places_asked (named (codes "--places=3" ∷ [])) ≡ 3
+three_places : places_asked (codes "--places=3" ∷ []) ≡ 3
 unfolding clap_on_literals
 three_places = refl
 
-small_quotas : limits_asked (named (codes "--items" ∷ codes "1" ∷ codes "--bytes=2" ∷ [])) ≡ record { items = 1; bytes = 2 }
+small_quotas : limits_asked (codes "--items" ∷ codes "1" ∷ codes "--bytes=2" ∷ []) ≡ record { items = 1; bytes = 2 }
 unfolding clap_on_literals
 small_quotas = refl
 
-taken : fault_of stdin_app (named (codes "--places" ∷ codes "0" ∷ [])) ≡ []
+taken : fault_of stdin_app (codes "--places" ∷ codes "0" ∷ []) ≡ []
 unfolding clap_on_literals
 taken = refl
 
-no_number : fault_of stdin_app (named (codes "--places" ∷ codes "x" ∷ [])) ≡ kind.ValueValidation ∷ []
+no_number : fault_of stdin_app (codes "--places" ∷ codes "x" ∷ []) ≡ kind.ValueValidation ∷ []
 unfolding clap_on_literals
 no_number = refl
 
-unknown : fault_of stdin_app (named (codes "--bogus" ∷ [])) ≡ kind.UnknownArgument ∷ []
+unknown : fault_of stdin_app (codes "--bogus" ∷ []) ≡ kind.UnknownArgument ∷ []
 unfolding clap_on_literals
 unknown = refl
 
-help : fault_of stdin_app (named (codes "--help" ∷ [])) ≡ kind.DisplayHelp ∷ []
+help : fault_of stdin_app (codes "--help" ∷ []) ≡ kind.DisplayHelp ∷ []
 unfolding clap_on_literals
 help = refl
 
-version : fault_of stdin_app (named (codes "-V" ∷ [])) ≡ kind.DisplayVersion ∷ []
+version : fault_of stdin_app (codes "-V" ∷ []) ≡ kind.DisplayVersion ∷ []
 unfolding clap_on_literals
 version = refl

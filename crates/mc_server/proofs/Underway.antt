@@ -15,30 +15,32 @@ use Rattle.mc_model.specs.declared.reply.Reply.TheVariants.{Refused}
 use Rattle.mc_model.specs.declared.reply.WireNo.TheVariants.{E11}
 use Rattle.mc_read.specs.Reading.{Ended, GoesOn, HasNone, Held, IsNext, Kept, ReadAlike, ReadsAs, ReadsOn, Swallowing, ends_stream}
 use Rattle.mc_read.specs.Text.{IsRequestText}
-use Rattle.mc_read.proofs.Readings.{has_reading}
+use Rattle.mc_read.specs.Readings.{has_reading}
 use Rattle.mc_server.specs.declared.session.Session.{Session}
 use Rattle.mc_server.specs.declared.serving.TheConstants.{PULL_BYTES}
 use Rattle.mc_server.specs.Owed.{applied_by, owed}
-use Rattle.mc_server.specs.Serving.{Comes, IsCaughtUp, Moves, Pushes, PushesAtOnce, PushesFront, Serves, ServesInPart, ServesOn, ServesUntilStarved, Stops, StopsAt}
+use Rattle.mc_server.specs.Serving.{Comes, IsCaughtUp, Serves, ServesInPart, ServesOn, ServesUntilStarved, Stops, StopsAt}
+use Rattle.mc_stream.specs.Event.{has_ended, last_moved, moved}
+use Rattle.mc_stream.specs.Pushing.{IsUnfailed, Pushes, PushesAtOnce, PushesFront, Unqueues}
 use Rattle.mc_server.specs.Session.{IsStarved, Stands, TellsStarved}
 use Rattle.mc_stream.specs.Stream.{Inflow, Outflow, Streams, both}
 use Rattle.mc_write.specs.Text.{text}
 use Rattle.mc_server.proofs.Owings.{applied_by-append, owed-append}
-use Rattle.mc_server.proofs.Pieces.{same_stop}
+use Rattle.mc_stream.specs.Pushed.{same_stop}
 
 -- the requests answered so far, what was sent, and what is still to be pushed
 pub record IsUnderway (limits : Limits) (places : ℕ) (before now : Streams) (held : Held) (session : Session) (closed : Bool) : Type 0 where
   pub came : List ℕ
   pub answered : List Request
   pub sent : List ℕ
-  pub is_pulled : now.input.pulled ≡ before.input.pulled ++ came
+  pub is_pulled : moved now.input.events ≡ moved before.input.events ++ came
   pub is_consumed : Consumes before.input.left now.input.left came
   pub is_pushed : Pushes before.output now.output sent
   pub stands : Stands limits places (applied_by places [] answered) session
   pub reads : (more : List ℕ) (requests : List Request) → ReadsOn held more requests → ReadsAs (came ++ more) (answered ++ requests)
   pub owes : owed limits places [] answered ≡ sent ++ session.queue.items
   pub closes : list_any ends_stream answered ≡ closed
-  pub caught_up : IsCaughtUp limits places came now.input.last_pull sent
+  pub caught_up : IsCaughtUp limits places came (last_moved now.input.events) sent
 
 -- what is held reads on, whatever follows
 swallowed_reads : (short : Bool) (request : Request) (bytes : List ℕ) → (requests : List Request) × MatchBool short (requests ≡ []) (GoesOn request (ReadsAs bytes) requests)
@@ -93,14 +95,14 @@ underway_begins limits places before session stands empty = record {
   came = [];
   answered = [];
   sent = [];
-  is_pulled = sym (append-nil before.input.pulled);
+  is_pulled = sym (append-nil (moved before.input.events));
   is_consumed = Consumes-nil before.input.left;
-  is_pushed = sym (append-nil before.output.pushed);
+  is_pushed = sym (append-nil (moved before.output.events));
   stands = stands;
   reads = λ more requests reads. reads;
   owes = sym empty;
   closes = refl;
-  caught_up = nothing_came limits places before.input.last_pull [];
+  caught_up = nothing_came limits places (last_moved before.input.events) [];
 }
 
 -- nothing was pulled before memory was wanting, and the client is told
@@ -110,7 +112,7 @@ starved_at_once limits places input before after told = record {
     bytes = [];
     requests = [];
     rest = [];
-    came = sym (append-nil input.pulled);
+    came = sym (append-nil (moved input.events));
     consumed = Consumes-nil input.left;
     reads = (refl, no_text_empty);
   };
@@ -122,7 +124,7 @@ starved_at_once limits places input before after told = record {
   owes = told.1.split;
   went = told.1.went;
   stops = told.2;
-  caught_up = nothing_came limits places input.last_pull told.1.front;
+  caught_up = nothing_came limits places (last_moved input.events) told.1.front;
 }
 
 module _ (limits : Limits) (places : ℕ) (before now : Streams) (held : Held) (session : Session) (closed : Bool) (under : IsUnderway limits places before now held session closed) where
@@ -173,7 +175,7 @@ module _ (limits : Limits) (places : ℕ) (before now : Streams) (held : Held) (
       }
 
   -- a front of the queue was pushed
-  pub underway_moved : (later : Session) (output : Outflow) → later.limits ≡ session.limits → later.replica ≡ session.replica → Moves session.queue.items later.queue.items now.output output
+  pub underway_moved : (later : Session) (output : Outflow) → later.limits ≡ session.limits → later.replica ≡ session.replica → Unqueues session.queue.items later.queue.items now.output output
       → IsUnderway limits places before (both now.input output) held later closed
   underway_moved later output same_limits same_replica moves = record {
     came = under.came;
@@ -181,12 +183,12 @@ module _ (limits : Limits) (places : ℕ) (before now : Streams) (held : Held) (
     sent = under.sent ++ moves.front;
     is_pulled = under.is_pulled;
     is_consumed = under.is_consumed;
-    is_pushed = moves.went ∙ (ap (λ known. known ++ moves.front) under.is_pushed ∙ append_assoc before.output.pushed under.sent moves.front);
+    is_pushed = moves.went ∙ (ap (λ known. known ++ moves.front) under.is_pushed ∙ append_assoc (moved before.output.events) under.sent moves.front);
     stands = record { is_limits = same_limits ∙ under.stands.is_limits; is_places = rw same_replica under.stands.is_places; own = rw same_replica under.stands.own; count = rw same_replica under.stands.count };
     reads = under.reads;
     owes = under.owes ∙ (ap (λ queue. under.sent ++ queue) moves.split ∙ sym (append_assoc under.sent moves.front later.queue.items));
     closes = under.closes;
-    caught_up = more_sent limits places under.came now.input.last_pull under.sent moves.front under.caught_up;
+    caught_up = more_sent limits places under.came (last_moved now.input.events) under.sent moves.front under.caught_up;
   }
 
   -- the requests of all that came
@@ -212,13 +214,13 @@ module _ (limits : Limits) (places : ℕ) (before now : Streams) (held : Held) (
   }
 
   -- a piece came, or none, after all that came before was answered and sent
-  pub underway_fed : (piece : List ℕ) (input : Inflow) (after : Held) → HasNone held → session.queue.items ≡ [] → length piece ≤ PULL_BYTES → input.pulled ≡ now.input.pulled ++ piece → input.last_pull ≡ piece → Consumes now.input.left input.left piece
+  pub underway_fed : (piece : List ℕ) (input : Inflow) (after : Held) → HasNone held → session.queue.items ≡ [] → length piece ≤ PULL_BYTES → moved input.events ≡ moved now.input.events ++ piece → (last_moved input.events) ≡ piece → Consumes now.input.left input.left piece
       → ((more : List ℕ) (requests : List Request) → ReadsOn after more requests → ReadsOn held (piece ++ more) requests) → IsUnderway limits places before (both input now.output) after session closed
   underway_fed piece input after none empty short is_later is_last consumed fed = record {
     came = under.came ++ piece;
     answered = under.answered;
     sent = under.sent;
-    is_pulled = is_later ∙ (ap (λ known. known ++ piece) under.is_pulled ∙ append_assoc before.input.pulled under.came piece);
+    is_pulled = is_later ∙ (ap (λ known. known ++ piece) under.is_pulled ∙ append_assoc (moved before.input.events) under.came piece);
     is_consumed = Consumes-trans before.input.left now.input.left input.left under.came piece under.is_consumed consumed;
     is_pushed = under.is_pushed;
     stands = under.stands;
@@ -236,10 +238,10 @@ module _ (limits : Limits) (places : ℕ) (before now : Streams) (held : Held) (
 
   sends_all : session.queue.items ≡ [] → Pushes before.output now.output (owed limits places [] under.answered)
   sends_all empty =
-      under.is_pushed ∙ ap (λ bytes. before.output.pushed ++ bytes) (sym (nothing_more (owed limits places [] under.answered) under.sent session.queue.items under.owes empty))
+      under.is_pushed ∙ ap (λ bytes. moved before.output.events ++ bytes) (sym (nothing_more (owed limits places [] under.answered) under.sent session.queue.items under.owes empty))
 
   -- all that was queued is pushed, and no request is held
-  pub serves_at_end : HasNone held → session.queue.items ≡ [] → (now.input.has_ended ≡ true) × IsAtEnd now.input.left ⊎ (closed ≡ true) → Serves limits places before now
+  pub serves_at_end : HasNone held → session.queue.items ≡ [] → (has_ended now.input.events ≡ true) × IsAtEnd now.input.left ⊎ (closed ≡ true) → Serves limits places before now
   unfolding comes_all
   serves_at_end none empty end = record {
     comes = comes_all none;
@@ -265,12 +267,12 @@ module _ (limits : Limits) (places : ℕ) (before now : Streams) (held : Held) (
             owed-append limits places [] under.answered others.0
             ∙ (ap (λ bytes. bytes ++ later) (under.owes ∙ ap (λ queue. under.sent ++ queue) moves.split)
             ∙ simp append_assoc);
-        went = moves.went ∙ (ap (λ known. known ++ moves.front) under.is_pushed ∙ append_assoc before.output.pushed under.sent moves.front);
-        caught_up = more_sent limits places under.came now.input.last_pull under.sent moves.front under.caught_up;
+        went = moves.went ∙ (ap (λ known. known ++ moves.front) under.is_pushed ∙ append_assoc (moved before.output.events) under.sent moves.front);
+        caught_up = more_sent limits places under.came (last_moved now.input.events) under.sent moves.front under.caught_up;
       }
 
-  -- a look for a request met want of memory
-  pub starved_looking : now.output.failures ≡ before.output.failures → IsStarved limits places before now session
+  -- memory ran out for a look for a request
+  pub starved_looking : IsUnfailed before.output now.output → IsStarved limits places before now held session
   starved_looking unfailed =
       let others = reads_on held [] in
       let whole = reads_with others.0 others.1 in
@@ -278,10 +280,12 @@ module _ (limits : Limits) (places : ℕ) (before now : Streams) (held : Held) (
         comes = record { bytes = under.came; requests = under.answered ++ others.0; rest = whole.0; came = under.is_pulled; consumed = under.is_consumed; reads = whole.1 };
         answered = under.answered;
         met = [];
+        unread = [];
         others = others.0;
         split = refl;
         at_most_one = omega arith;
-        stands = subst (λ requests. Stands limits places (applied_by places [] requests) session) (sym (append-nil under.answered)) under.stands;
+        reads = others.1;
+        stands = inl under.stands;
         sent = under.sent;
         owes = under.owes;
         went = under.is_pushed;
@@ -289,68 +293,56 @@ module _ (limits : Limits) (places : ℕ) (before now : Streams) (held : Held) (
         caught_up = under.caught_up;
       }
 
-  -- the answer to a request met want of memory
-  pub starved_responding : (request : Request) (after : Held) (later : Session) → now.output.failures ≡ before.output.failures → IsNext held request after → later.queue.items ≡ session.queue.items
-      → ((limits : Limits) (places : ℕ) (applied : List Command) → Stands limits places applied session → Stands limits places applied later ⊎ Stands limits places (applied_by places applied (request ∷ [])) later) → IsStarved limits places before now later
+  -- memory ran out for the answer to a request
+  pub starved_responding : (request : Request) (after : Held) (later : Session) → IsUnfailed before.output now.output → IsNext held request after → later.queue.items ≡ session.queue.items
+      → ((limits : Limits) (places : ℕ) (applied : List Command) → Stands limits places applied session → Stands limits places applied later ⊎ Stands limits places (applied_by places applied (request ∷ [])) later) → IsStarved limits places before now after later
   starved_responding request after later unfailed next same stands_then =
       let stands = stands_then limits places (applied_by places [] under.answered) under.stands in
       let others = reads_on after [] in
       let whole = reads_with (request ∷ others.0) ((next [] (request ∷ others.0)).1 (refl, others.1)) in
-      let comes : Comes before now =
-      record { bytes = under.came; requests = under.answered ++ request ∷ others.0; rest = whole.0; came = under.is_pulled; consumed = under.is_consumed; reads = whole.1 } in
-      let owes : owed limits places [] under.answered ≡ under.sent ++ later.queue.items = under.owes ∙ ap (λ queue. under.sent ++ queue) (sym same) in
-      ⊎_elim
-      (λ before_it. record {
-        comes = comes;
-        answered = under.answered;
-        met = [];
-        others = request ∷ others.0;
-        split = refl;
-        at_most_one = omega arith;
-        stands = subst (λ requests. Stands limits places (applied_by places [] requests) later) (sym (append-nil under.answered)) before_it;
-        sent = under.sent;
-        owes = owes;
-        went = under.is_pushed;
-        unfailed = unfailed;
-        caught_up = under.caught_up;
-      })
-      (λ with_it. record {
-        comes = comes;
+      record {
+        comes = record { bytes = under.came; requests = under.answered ++ request ∷ others.0; rest = whole.0; came = under.is_pulled; consumed = under.is_consumed; reads = whole.1 };
         answered = under.answered;
         met = request ∷ [];
+        unread = [];
         others = others.0;
         split = refl;
         at_most_one = omega arith;
-        stands = subst (λ applied. Stands limits places applied later) (sym (applied_by-append places [] under.answered (request ∷ []))) with_it;
+        reads = others.1;
+        stands = ⊎_elim
+            (λ before_it. inl before_it)
+            (λ with_it. inr (subst (λ applied. Stands limits places applied later) (sym (applied_by-append places [] under.answered (request ∷ []))) with_it))
+            stands;
         sent = under.sent;
-        owes = owes;
+        owes = under.owes ∙ ap (λ queue. under.sent ++ queue) (sym same);
         went = under.is_pushed;
         unfailed = unfailed;
         caught_up = under.caught_up;
-      })
-      stands
+      }
 
-  -- a piece that came met want of memory
-  pub starved_feeding : (piece : List ℕ) (input : Inflow) → now.output.failures ≡ before.output.failures → HasNone held → session.queue.items ≡ [] → length piece ≤ PULL_BYTES → input.pulled ≡ now.input.pulled ++ piece → input.last_pull ≡ piece
-      → Consumes now.input.left input.left piece → IsStarved limits places before (both input now.output) session
-  starved_feeding piece input unfailed none empty short is_later is_last consumed =
-      let others = reads_on held piece in
-      let whole = under.reads piece others.0 others.1 in
+  -- memory ran out for a piece that came
+  pub starved_feeding : (piece : List ℕ) (input : Inflow) (after : Held) → IsUnfailed before.output now.output → HasNone held → ReadAlike held after → session.queue.items ≡ [] → length piece ≤ PULL_BYTES → moved input.events ≡ moved now.input.events ++ piece
+      → last_moved input.events ≡ piece → Consumes now.input.left input.left piece → IsStarved limits places before (both input now.output) after session
+  starved_feeding piece input after unfailed none alike empty short is_later is_last consumed =
+      let others = reads_on after piece in
+      let whole = under.reads piece others.0 ((alike piece others.0).1 others.1) in
       record {
         comes = record {
           bytes = under.came ++ piece;
           requests = under.answered ++ others.0;
           rest = whole.0;
-          came = is_later ∙ (ap (λ known. known ++ piece) under.is_pulled ∙ append_assoc before.input.pulled under.came piece);
+          came = is_later ∙ (ap (λ known. known ++ piece) under.is_pulled ∙ append_assoc (moved before.input.events) under.came piece);
           consumed = Consumes-trans before.input.left now.input.left input.left under.came piece under.is_consumed consumed;
           reads = whole.1;
         };
         answered = under.answered;
         met = [];
+        unread = piece;
         others = others.0;
         split = refl;
         at_most_one = omega arith;
-        stands = subst (λ requests. Stands limits places (applied_by places [] requests) session) (sym (append-nil under.answered)) under.stands;
+        reads = others.1;
+        stands = inl under.stands;
         sent = under.sent;
         owes = under.owes;
         went = under.is_pushed;
@@ -359,8 +351,8 @@ module _ (limits : Limits) (places : ℕ) (before now : Streams) (held : Held) (
       }
 
 -- the client is told
-pub tells : (limits : Limits) (places : ℕ) (before after : Streams) (session : Session) → TellsStarved limits places before after session → ServesUntilStarved limits places before after
-tells limits places before after session telling =
+pub tells : (limits : Limits) (places : ℕ) (before after : Streams) (held : Held) (session : Session) → TellsStarved limits places before after held session → ServesUntilStarved limits places before after
+tells limits places before after held session telling =
     let starved = telling.starved in
     let moves = telling.told.1 in
     record {
@@ -382,18 +374,19 @@ tells limits places before after session telling =
           ∙ (append_assoc starved.sent session.queue.items (text (Refused E11))
           ∙ (ap (λ bytes. starved.sent ++ bytes) moves.split
           ∙ sym (append_assoc starved.sent moves.front telling.told.0)));
-      went = moves.went ∙ (ap (λ known. known ++ moves.front) starved.went ∙ append_assoc before.output.pushed starved.sent moves.front);
+      went = moves.went ∙ (ap (λ known. known ++ moves.front) starved.went ∙ append_assoc (moved before.output.events) starved.sent moves.front);
       stops = same_stop telling.told.0 before.output telling.between.output after.output starved.unfailed telling.told.2;
-      caught_up = rw telling.same_input (more_sent limits places starved.comes.bytes telling.between.input.last_pull starved.sent moves.front starved.caught_up);
+      caught_up = rw telling.same_input (more_sent limits places starved.comes.bytes (last_moved telling.between.input.events) starved.sent moves.front starved.caught_up);
     }
 
-pub stops_told : (limits : Limits) (places : ℕ) (result : Result (Unit {0}) Fault) (before after : Streams) (session : Session) → IfErr result (λ fault. StopsAt limits places fault before after (TellsStarved limits places before after session))
+pub stops_told : (limits : Limits) (places : ℕ) (result : Result (Unit {0}) Fault) (before after : Streams) (held : Held) (session : Session)
+    → IfErr result (λ fault. StopsAt limits places fault before after (TellsStarved limits places before after held session))
     → IfErr result (λ fault. Stops limits places fault before after)
-stops_told limits places (Ok done) before after session stops = stops
-stops_told limits places (Err Memory) before after session stops = tells limits places before after session stops
-stops_told limits places (Err LogFull) before after session stops = stops
-stops_told limits places (Err Taken) before after session stops = stops
-stops_told limits places (Err Input) before after session stops = stops
-stops_told limits places (Err Output) before after session stops = stops
-stops_told limits places (Err BadEvent) before after session stops = stops
-stops_told limits places (Err BadSettings) before after session stops = stops
+stops_told limits places (Ok done) before after held session stops = stops
+stops_told limits places (Err Memory) before after held session stops = tells limits places before after held session stops
+stops_told limits places (Err LogFull) before after held session stops = stops
+stops_told limits places (Err Taken) before after held session stops = stops
+stops_told limits places (Err Input) before after held session stops = stops
+stops_told limits places (Err Output) before after held session stops = stops
+stops_told limits places (Err BadEvent) before after held session stops = stops
+stops_told limits places (Err BadSettings) before after held session stops = stops

@@ -3,3 +3,4 @@ pub mod Options
 pub mod Owed
 pub mod Serving
 pub mod Session
+pub mod Words

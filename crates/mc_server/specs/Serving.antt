@@ -11,46 +11,17 @@ use Rattle.mc_model.specs.declared.settings.Limits.{Limits}
 use Rattle.mc_read.specs.Reading.{Reads, ReadsAs, ends_stream}
 use Rattle.mc_server.specs.declared.serving.TheConstants.{PULL_BYTES}
 use Rattle.mc_server.specs.Owed.{owed}
-use Rattle.mc_stream.specs.Stream.{Outflow, Streams}
+use Rattle.mc_stream.specs.Event.{failures, has_ended, last_moved, moved}
+use Rattle.mc_stream.specs.Pushing.{FailsOnce, IsAllOrStopped, IsUnfailed, Pushes}
+use Rattle.mc_stream.specs.Stream.{Inflow, Streams}
 use Rattle.mc_write.specs.Text.{text}
-
--- these bytes were pushed from the one to the other
-abbrev pub Pushes : Outflow → Outflow → List ℕ → Type 0
-Pushes before after bytes = after.pushed ≡ before.pushed ++ bytes
-
--- a front of what was queued is pushed, and the rest is queued then
-pub record Moves (before after : List ℕ) (output_before output : Outflow) : Type 0 where
-  pub front : List ℕ
-  pub split : before ≡ front ++ after
-  pub went : Pushes output_before output front
-
--- a front of the bytes is pushed
-abbrev pub PushesFront : List ℕ → Outflow → Outflow → Type 0
-PushesFront bytes before after = (rest : List ℕ) × Moves bytes rest before after
-
--- the last push found the output full, or the output failed once
-abbrev pub IsStopped : Outflow → Outflow → Type 0
-IsStopped before after = (after.is_full ≡ true) × (after.failures ≡ before.failures) ⊎ (after.failures ≡ before.failures + 1)
-
--- nothing is left unsent, or the output was full then, or it failed
-abbrev pub IsAllOrStopped : List ℕ → Outflow → Outflow → Type 0
-IsAllOrStopped unsent before after = (unsent ≡ []) × (after.failures ≡ before.failures) ⊎ IsStopped before after
-
--- as many of the bytes are pushed as the output takes at once
-abbrev pub PushesAtOnce : List ℕ → Outflow → Outflow → Type 0
-PushesAtOnce bytes before after = (rest : List ℕ) × Moves bytes rest before after × IsAllOrStopped rest before after
-
--- the bytes are pushed, or a front of them where the output failed once
-abbrev pub Tells : List ℕ → Outflow → Outflow → Type 0
-Tells bytes before after =
-    Pushes before after bytes × (after.failures ≡ before.failures) ⊎ PushesFront bytes before after × (after.failures ≡ before.failures + 1)
 
 -- The bytes that came read as these requests and a rest. An input that knows what is left has lost them from its front.
 pub record Comes (before after : Streams) : Type 0 where
   pub bytes : List ℕ
   pub requests : List Request
   pub rest : List ℕ
-  pub came : after.input.pulled ≡ before.input.pulled ++ bytes
+  pub came : moved after.input.events ≡ moved before.input.events ++ bytes
   pub consumed : Consumes before.input.left after.input.left bytes
   pub reads : Reads bytes requests rest
 
@@ -58,7 +29,7 @@ pub record Comes (before after : Streams) : Type 0 where
 pub record Serves (limits : Limits) (places : ℕ) (before after : Streams) : Type 0 where
   pub comes : Comes before after
   pub went : Pushes before.output after.output (owed limits places [] comes.requests)
-  pub end : (after.input.has_ended ≡ true) × IsAtEnd after.input.left ⊎ (list_any ends_stream comes.requests ≡ true)
+  pub end : (has_ended after.input.events ≡ true) × IsAtEnd after.input.left ⊎ (list_any ends_stream comes.requests ≡ true)
 
 -- All that came was answered, and more could have come.
 pub record ServesOn (limits : Limits) (places : ℕ) (before after : Streams) : Type 0 where
@@ -85,11 +56,11 @@ pub record ServesInPart (limits : Limits) (places : ℕ) (before after : Streams
   pub unsent : List ℕ
   pub owes : owed limits places [] comes.requests ≡ sent ++ unsent
   pub went : Pushes before.output after.output sent
-  pub caught_up : IsCaughtUp limits places comes.bytes after.input.last_pull sent
+  pub caught_up : IsCaughtUp limits places comes.bytes (last_moved after.input.events) sent
 
--- The first requests that came were answered, and then the client was told that memory is wanting, as far as the output
--- took it at once. The others are all that came behind them; the first of those is the one that met want of memory, if
--- reading a piece or looking for a request didn't, and it may have been applied.
+-- The first requests that came were answered, and then the client was told that memory ran out, as far as the output took it
+-- at once. The others are all that came after them; the first of those is the one for which memory ran out, if that wasn't
+-- while a piece was read or a request looked for, and it may have been applied.
 pub record ServesUntilStarved (limits : Limits) (places : ℕ) (before after : Streams) : Type 0 where
   pub comes : Comes before after
   pub answered : List Request
@@ -100,9 +71,9 @@ pub record ServesUntilStarved (limits : Limits) (places : ℕ) (before after : S
   pub owes : owed limits places [] answered ++ text (Refused E11) ≡ sent ++ unsent
   pub went : Pushes before.output after.output sent
   pub stops : IsAllOrStopped unsent before.output after.output
-  pub caught_up : IsCaughtUp limits places comes.bytes after.input.last_pull sent
+  pub caught_up : IsCaughtUp limits places comes.bytes (last_moved after.input.events) sent
 
--- what a client was given where a fault ended it, and where memory was wanting this
+-- what a client was given where a fault ended it, and where memory ran out this
 abbrev pub StopsAt : Limits → ℕ → Fault → Streams → Streams → Type 0 → Type 0
 StopsAt limits places Memory before after is_starved = is_starved
 StopsAt limits places Input before after is_starved = ServesOn limits places before after
@@ -116,14 +87,23 @@ StopsAt limits places BadSettings before after is_starved = ⊥
 abbrev pub Stops : Limits → ℕ → Fault → Streams → Streams → Type 0
 Stops limits places fault before after = StopsAt limits places fault before after (ServesUntilStarved limits places before after)
 
+-- the input hasn't failed from the one to the other
+abbrev pub IsUnfailedInput : Inflow → Inflow → Type 0
+IsUnfailedInput before after = failures after.events ≡ failures before.events
+
+-- neither failed
+abbrev pub NeitherFails : Streams → Streams → Type 0
+NeitherFails before after = IsUnfailedInput before.input after.input × IsUnfailed before.output after.output
+
 -- The failures of an input and of an output before and after a call: without a fault there was none; a failure of the
--- input, or of the output, is the one fault that names it; and where memory is wanting, the output may fail once more while
+-- input, or of the output, is the one fault that names it; and where memory ran out, the output may fail once more while
 -- the client is told.
 abbrev pub CountsFailures : Result (Unit {0}) Fault → Streams → Streams → Type 0
-CountsFailures (Ok done) before after = (after.input.failures ≡ before.input.failures) × (after.output.failures ≡ before.output.failures)
-CountsFailures (Err Input) before after = (after.input.failures ≡ before.input.failures + 1) × (after.output.failures ≡ before.output.failures)
-CountsFailures (Err Output) before after = (after.input.failures ≡ before.input.failures) × (after.output.failures ≡ before.output.failures + 1)
-CountsFailures (Err Memory) before after = (after.input.failures ≡ before.input.failures) × (before.output.failures ≤ after.output.failures) × (after.output.failures ≤ before.output.failures + 1)
+CountsFailures (Ok done) before after = NeitherFails before after
+CountsFailures (Err Input) before after = (failures after.input.events ≡ failures before.input.events + 1) × IsUnfailed before.output after.output
+CountsFailures (Err Output) before after = IsUnfailedInput before.input after.input × FailsOnce before.output after.output
+CountsFailures (Err Memory) before after =
+    IsUnfailedInput before.input after.input × (failures before.output.events ≤ failures after.output.events) × (failures after.output.events ≤ failures before.output.events + 1)
 CountsFailures (Err LogFull) before after = ⊥
 CountsFailures (Err Taken) before after = ⊥
 CountsFailures (Err BadEvent) before after = ⊥

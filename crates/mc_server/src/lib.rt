@@ -1,14 +1,19 @@
 //! The functions behind the programs.
 #![tactic(auto)]
 
+pub use faults::fault_text;
 pub use mc_stream::{
     Input, InputStep, MemoryInput, MemoryOutput, Output, OutputStep, Pull, Push, ReadInput,
     WriteOutput,
 };
 pub use serving::pump;
 pub use stdin::run_stdin;
+pub use words::{refuse_words, words_after_name};
 
+mod faults;
 mod options;
 mod serving;
 mod session;
 mod stdin;
+mod waiting;
+mod words;

@@ -1,21 +1,22 @@
 //! The loop between an input and an output.
-ghost use Rattle.std.specs.Bool.{OnFalse, OnTrue};
-ghost use Rattle.std.specs.Prelude.{◌≡◌, ◌+◌, ◌≤◌, ◌++◌, [], length, OnErr, OnOk, IfErr, IsOkUnless, MatchResult};
+ghost use Rattle.std.specs.Prelude.{◌≡◌, ◌≤◌, ◌++◌, [], length, OnErr, OnOk, IfErr, IsOkUnless, MatchResult};
 ghost use Rattle.mc_model.specs.declared.reply.Reply.TheVariants.{Refused};
 ghost use Rattle.mc_model.specs.declared.reply.WireNo.TheVariants.{E11};
 ghost use Rattle.mc_model.specs.Settings.{IsBetween};
 ghost use Rattle.mc_model.specs.declared.settings.TheConstants.{MAX_PLACES};
 ghost use Rattle.mc_read.specs.Reading.{Kept};
 ghost use Rattle.mc_server.specs.declared.session.TheConstants.{QUEUE_BYTES};
-ghost use Rattle.mc_server.specs.Serving.{CountsFailures, IsStopped, Moves, Pushes, PushesAtOnce, PushesFront, Serves, Stops, StopsAt};
-ghost use Rattle.mc_server.specs.Session.{IsStarved, Stands, TellsStarved};
+ghost use Rattle.mc_server.specs.Serving.{CountsFailures, Serves, Stops};
+ghost use Rattle.mc_server.specs.Session.{ServesBy, Stands, StopsTold, StopsUntold};
+ghost use Rattle.mc_stream.specs.Pushing.{FailsOnce, IsUnfailed, PushesAtOnce, PushesFront, Unqueues};
 ghost use Rattle.mc_stream.specs.Stream.{both};
 ghost use Rattle.mc_write.specs.Text.{text};
 
 use crate::session::{QUEUE_BYTES, Session};
+use crate::waiting::push_all;
 use mc_model::{Fault, Limits, WireNo};
 use mc_read::{Reader, ends_stream};
-use mc_stream::{Input, Output, Pull, Push};
+use mc_stream::{Input, Output, Pull, push_while_taken};
 use mc_write::refusal_text;
 use std::alloc::Global;
 use std::sync::Wait;
@@ -23,38 +24,13 @@ use std::sync::Wait;
 /// How many bytes a pull asks for.
 const PULL_BYTES: usize = 16_384;
 
-/// Pushes all of the bytes. An output that is full is asked again.
-pub(crate) fn push_all<R: Wait, O: Output>(
-    rt: &R,
-    bytes: &[u8],
-    output: &mut O,
-) -> Result<(), Fault>
-    ensures pushed { OnOk result (Pushes (O.tells output.old) (O.tells output.new) bytes.now) }
-    ensures front { OnErr result (PushesFront bytes.now (O.tells output.old) (O.tells output.new)) }
-    ensures fault { IsOkUnless result Fault.Output }
-    ensures failures { MatchResult result (λ _. (O.tells output.new).failures ≡ (O.tells output.old).failures) (λ _. (O.tells output.new).failures ≡ (O.tells output.old).failures + 1) }
-{
-    let mut sent = 0;
-    for _ in rt.forever() {
-        if sent == bytes.len() {
-            return Ok(());
-        }
-        match output.push(&bytes[sent..]) {
-            Push::Taken(count) => sent += count,
-            Push::Full => {}
-            Push::Failed => return Err(Fault::Output),
-        }
-    }
-    unreachable!()
-}
-
 /// Pushes all that is queued.
 fn flush<R: Wait, O: Output>(rt: &R, queue: &mut Vec<u8>, output: &mut O) -> Result<(), Fault>
-    ensures pushed { OnOk result (Moves queue.old.items queue.new.items (O.tells output.old) (O.tells output.new)) }
+    ensures pushed { OnOk result (Unqueues queue.old.items queue.new.items (O.tells output.old) (O.tells output.new)) }
     ensures front { OnErr result (PushesFront queue.old.items (O.tells output.old) (O.tells output.new)) }
     ensures empty { OnOk result (queue.new.items ≡ []) }
     ensures fault { IsOkUnless result Fault.Output }
-    ensures failures { MatchResult result (λ _. (O.tells output.new).failures ≡ (O.tells output.old).failures) (λ _. (O.tells output.new).failures ≡ (O.tells output.old).failures + 1) }
+    ensures failures { MatchResult result (λ _. IsUnfailed (O.tells output.old) (O.tells output.new)) (λ _. FailsOnce (O.tells output.old) (O.tells output.new)) }
 {
     push_all(rt, queue, output)?;
     queue.clear();
@@ -63,11 +39,11 @@ fn flush<R: Wait, O: Output>(rt: &R, queue: &mut Vec<u8>, output: &mut O) -> Res
 
 /// Pushes what is queued where it is more than may be queued when a request is taken.
 fn make_room<R: Wait, O: Output>(rt: &R, queue: &mut Vec<u8>, output: &mut O) -> Result<(), Fault>
-    ensures pushed { OnOk result (Moves queue.old.items queue.new.items (O.tells output.old) (O.tells output.new)) }
+    ensures pushed { OnOk result (Unqueues queue.old.items queue.new.items (O.tells output.old) (O.tells output.new)) }
     ensures front { OnErr result (PushesFront queue.old.items (O.tells output.old) (O.tells output.new)) }
     ensures room { OnOk result (length queue.new.items ≤ QUEUE_BYTES) }
     ensures fault { IsOkUnless result Fault.Output }
-    ensures failures { MatchResult result (λ _. (O.tells output.new).failures ≡ (O.tells output.old).failures) (λ _. (O.tells output.new).failures ≡ (O.tells output.old).failures + 1) }
+    ensures failures { MatchResult result (λ _. IsUnfailed (O.tells output.old) (O.tells output.new)) (λ _. FailsOnce (O.tells output.old) (O.tells output.new)) }
 {
     if queue.len() <= QUEUE_BYTES {
         return Ok(());
@@ -87,8 +63,8 @@ fn exchange<R: Wait, I: Input, O: Output>(
     requires begins { reader.old.held ≡ Kept [] }
     requires stands { Stands session.old.limits session.old.replica.places [] session.old }
     requires nothing_queued { session.old.queue.items ≡ [] }
-    ensures serves { OnOk result (Serves session.old.limits session.old.replica.places (both (I.tells input.old) (O.tells output.old)) (both (I.tells input.new) (O.tells output.new))) }
-    ensures stops { IfErr result (λ fault. StopsAt session.old.limits session.old.replica.places fault (both (I.tells input.old) (O.tells output.old)) (both (I.tells input.new) (O.tells output.new)) (IsStarved session.old.limits session.old.replica.places (both (I.tells input.old) (O.tells output.old)) (both (I.tells input.new) (O.tells output.new)) session.new)) }
+    ensures serves { OnOk result (ServesBy session.old (both (I.tells input.old) (O.tells output.old)) (both (I.tells input.new) (O.tells output.new))) }
+    ensures stops { IfErr result (λ fault. StopsUntold session.old fault (both (I.tells input.old) (O.tells output.old)) (both (I.tells input.new) (O.tells output.new)) reader.new.held session.new) }
     ensures failures { CountsFailures result (both (I.tells input.old) (O.tells output.old)) (both (I.tells input.new) (O.tells output.new)) }
 {
     let mut buffer = [0u8; PULL_BYTES];
@@ -114,25 +90,7 @@ fn exchange<R: Wait, I: Input, O: Output>(
     unreachable!()
 }
 
-/// Pushes bytes until all are taken, or the output is full or fails. Says whether all were taken.
-fn push_while_taken<O: Output>(bytes: &[u8], output: &mut O) -> bool
-    ensures pushed { PushesAtOnce bytes.now (O.tells output.old) (O.tells output.new) }
-    ensures all { OnTrue result (Pushes (O.tells output.old) (O.tells output.new) bytes.now) }
-    ensures taken { OnTrue result ((O.tells output.new).failures ≡ (O.tells output.old).failures) }
-    ensures stopped { OnFalse result (IsStopped (O.tells output.old) (O.tells output.new)) }
-{
-    let mut sent = 0;
-    while sent < bytes.len() {
-        match output.push(&bytes[sent..]) {
-            Push::Taken(count) => sent += count,
-            Push::Full => return false,
-            Push::Failed => return false,
-        }
-    }
-    true
-}
-
-/// Tells the client that memory is wanting, behind the replies that are queued, as far as the output takes it at once.
+/// Tells the client that memory ran out, after the replies that are queued, as far as the output takes it at once.
 fn tell_starved<O: Output>(queue: &[u8], output: &mut O)
     ensures { PushesAtOnce (queue.now ++ text (Refused E11)) (O.tells output.old) (O.tells output.new) }
 {
@@ -141,7 +99,7 @@ fn tell_starved<O: Output>(queue: &[u8], output: &mut O)
     }
 }
 
-/// As `exchange`, and where memory is wanting the client is told.
+/// As `exchange`, and where memory ran out the client is told.
 fn serve<R: Wait, I: Input, O: Output>(
     rt: &R,
     reader: &mut Reader,
@@ -152,8 +110,8 @@ fn serve<R: Wait, I: Input, O: Output>(
     requires begins { reader.old.held ≡ Kept [] }
     requires stands { Stands session.old.limits session.old.replica.places [] session.old }
     requires nothing_queued { session.old.queue.items ≡ [] }
-    ensures serves { OnOk result (Serves session.old.limits session.old.replica.places (both (I.tells input.old) (O.tells output.old)) (both (I.tells input.new) (O.tells output.new))) }
-    ensures stops { IfErr result (λ fault. StopsAt session.old.limits session.old.replica.places fault (both (I.tells input.old) (O.tells output.old)) (both (I.tells input.new) (O.tells output.new)) (TellsStarved session.old.limits session.old.replica.places (both (I.tells input.old) (O.tells output.old)) (both (I.tells input.new) (O.tells output.new)) session.new)) }
+    ensures serves { OnOk result (ServesBy session.old (both (I.tells input.old) (O.tells output.old)) (both (I.tells input.new) (O.tells output.new))) }
+    ensures stops { IfErr result (λ fault. StopsTold session.old fault (both (I.tells input.old) (O.tells output.old)) (both (I.tells input.new) (O.tells output.new)) reader.new.held session.new) }
     ensures failures { CountsFailures result (both (I.tells input.old) (O.tells output.old)) (both (I.tells input.new) (O.tells output.new)) }
 {
     let served = exchange(rt, reader, session, input, output);
@@ -166,7 +124,7 @@ fn serve<R: Wait, I: Input, O: Output>(
 /// Serves one client: reads requests from the input, replays the first `places` commands on a table under these quotas,
 /// answers every later one `SERVER_ERROR log full`, and pushes the replies, until the input ends or a request ends the stream.
 ///
-/// Where memory is wanting, the replies that are queued and then `SERVER_ERROR out of memory` are pushed, as far as the
+/// Where memory runs out, the replies that are queued and then `SERVER_ERROR out of memory` are pushed, as far as the
 /// output takes them at once. After a failure of the input or the output nothing more is pushed.
 pub fn pump<R: Wait, I: Input, O: Output>(
     rt: &R,

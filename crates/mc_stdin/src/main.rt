@@ -1,15 +1,17 @@
 //! A memcached server for one client, from standard input to standard output.
 #![tactic(auto)]
 
-use mc_server::{ReadInput, WriteOutput, run_stdin};
-use std::io;
+use mc_server::{ReadInput, WriteOutput, refuse_words, run_stdin, words_after_name};
 use std::process::ExitCode;
 
-fn main(rt: HostRuntime) -> io::Result<ExitCode> {
-    let words = std::env::args(&rt)?.collect(rt.alloc())?;
+fn main(rt: HostRuntime) -> ExitCode {
+    let mut errors = WriteOutput::new(rt.stderr());
+    let words = match words_after_name(rt.alloc(), std::env::args(&rt)) {
+        Ok(words) => words,
+        Err(error) => return ExitCode::from(refuse_words(&rt, b"mc_stdin", &error, &mut errors)),
+    };
     let mut input = ReadInput::new(rt.stdin());
     let mut output = WriteOutput::new(rt.stdout());
-    let mut errors = WriteOutput::new(rt.stderr());
     let status = run_stdin(&rt, rt.alloc(), words, &mut input, &mut output, &mut errors);
-    Ok(ExitCode::from(status))
+    ExitCode::from(status)
 }

@@ -1,13 +1,6 @@
 -- Bytes that are given in pieces.
 use Rattle.std.proofs.Common.{◌≡◌, ℕ, ◌+◌, List, ◌++◌, length, take, drop, sym, ap, ◌∙◌}
-use Rattle.std.proofs.Math.Seq.{take-add}
 use Rattle.std.proofs.lemmas.List.{drop-drop, take-append-drop, take_at}
-
--- what is given joins what was given before
-pub given_more : (bytes buffer piece : List ℕ) (given count : ℕ) → length piece ≡ count → piece ≡ take count (drop given bytes) →
-    take (given + count) bytes ≡ take given bytes ++ take count (piece ++ drop count buffer)
-given_more bytes buffer piece given count long is =
-    take-add given count bytes ∙ ap (λ front. take given bytes ++ front) (sym (take_at piece (drop count buffer) count long ∙ is))
 
 -- what is given is no longer left
 pub left_less : (bytes buffer piece : List ℕ) (given count : ℕ) → length piece ≡ count → piece ≡ take count (drop given bytes) →

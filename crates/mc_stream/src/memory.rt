@@ -1,10 +1,10 @@
 //! An input and an output over memory, for tests and for a server inside another program.
-ghost use Rattle.std.specs.Prelude.{◌≡◌, ◌<◌, ◌+◌, ◌++◌, [], ◌∷◌, false, take, drop, length, min, count_by, MatchOption};
-ghost use Rattle.mc_stream.specs.Memory.{bytes_or_end, given_of, is_empty_pull, is_failing_pull, is_failing_push, is_full_push, kept_of, pull_by, push_by};
-ghost use Rattle.mc_stream.specs.Stream.{GivesAtMost, TakesAtMost, finds_end, finds_full, pull_failures, pull_waits, pulled_by, push_failures, push_waits, pushed_by};
+ghost use Rattle.std.specs.Prelude.{◌≡◌, ◌<◌, ◌++◌, ◌⊎◌, [], ◌∷◌, drop, length, min, MatchOption};
+ghost use Rattle.mc_stream.specs.Event.{moved};
+ghost use Rattle.mc_stream.specs.Memory.{bytes_or_end, given_of, kept_of, pull_by, push_by};
+ghost use Rattle.mc_stream.specs.Stream.{GivesAtMost, TakesAtMost, pull_event, pulled_by, push_event};
 
 use crate::stream::{Input, Output, Pull, Push};
-use crate::tally::Tally;
 use crate::tape::Tape;
 use std::alloc::Global;
 use std::marker::Model;
@@ -39,22 +39,18 @@ pub struct MemoryInput {
     steps: Vec<InputStep>,
     used: usize,
     tape: Tape,
-    ended: bool,
 }
 
 impl Model for MemoryInput {
-    ghost use Rattle.std.specs.Prelude.{◌≤◌, take, drop, vec_len};
+    ghost use Rattle.std.specs.Prelude.{◌≤◌, drop, vec_len};
     ghost use Rattle.mc_stream.specs.Memory.{Source};
 
     ghost Value = { Source };
 
     ghost view = { λ input. record {
-      given = take input.given input.bytes.items;
       rest = drop input.given input.bytes.items;
-      used = take input.used input.steps.items;
       steps = drop input.used input.steps.items;
-      last_pull = input.tape.last;
-      has_ended = input.ended;
+      events = input.tape.events;
     } };
 
     ghost invariant = { λ input. (input.given ≤ vec_len input.bytes) × (input.used ≤ vec_len input.steps) };
@@ -63,7 +59,7 @@ impl Model for MemoryInput {
 impl MemoryInput {
     /// An input that holds these bytes, and goes by these steps first.
     pub fn new(bytes: Vec<u8>, steps: Vec<InputStep>) -> MemoryInput
-        ensures { result ≡ record { given = []; rest = bytes.items; used = []; steps = steps.items; last_pull = []; has_ended = false } }
+        ensures { result ≡ record { rest = bytes.items; steps = steps.items; events = [] } }
     {
         MemoryInput {
             bytes,
@@ -71,7 +67,6 @@ impl MemoryInput {
             steps,
             used: 0,
             tape: Tape::new(),
-            ended: false,
         }
     }
 
@@ -79,7 +74,7 @@ impl MemoryInput {
     fn next_step(&mut self) -> Option<InputStep>
         ensures left { MatchOption result (self.old.steps ≡ []) (λ step. self.old.steps ≡ step ∷ self.new.steps) }
         ensures new { MatchOption result (self.new ≡ self.old) (λ step.
-            self.new ≡ record self.old { used = self.old.used ++ step ∷ []; steps = drop 1 self.old.steps }) }
+            self.new ≡ record self.old { steps = drop 1 self.old.steps }) }
     {
         if self.used == self.steps.len() {
             return None;
@@ -94,22 +89,19 @@ impl MemoryInput {
         requires room { 0 < length buffer.old }
         requires some { 0 < most }
         ensures answer { result ≡ bytes_or_end (min (min (length self.old.rest) most) (length buffer.old)) }
-        ensures given { self.new.given ≡ self.old.given ++ pulled_by result buffer.new }
         ensures rest { self.old.rest ≡ pulled_by result buffer.new ++ self.new.rest }
-        ensures used { self.new.used ≡ self.old.used }
         ensures steps { self.new.steps ≡ self.old.steps }
-        ensures last { self.old.last_pull ≡ [] → self.new.last_pull ≡ pulled_by result buffer.new }
-        ensures ended { self.old.has_ended ≡ false → self.new.has_ended ≡ finds_end result }
+        ensures event { self.new.events ≡ pull_event result buffer.new ∷ self.old.events }
         ensures no_more { result ≡ Pull.Ended → self.new.rest ≡ [] }
     {
         let left = &self.bytes[self.given..];
         let count = left.len().min(most).min(buffer.len());
         if count == 0 {
-            self.ended = true;
+            self.tape.ends();
             return Pull::Ended;
         }
         buffer[..count].copy_from_slice(&left[..count]);
-        self.tape.put(&buffer[..count]);
+        self.tape.moves(&buffer[..count]);
         self.given += count;
         Pull::Bytes(count)
     }
@@ -122,11 +114,7 @@ impl Input for MemoryInput {
         // As of each input.
         requires { 0 < length buffer.old }
         ensures count { GivesAtMost (length buffer.new) result }
-        ensures bytes { self.new.given ≡ self.old.given ++ pulled_by result buffer.new }
-        ensures failed { count_by is_failing_pull self.new.used ≡ count_by is_failing_pull self.old.used + pull_failures result }
-        ensures waited { count_by is_empty_pull self.new.used ≡ count_by is_empty_pull self.old.used + pull_waits result }
-        ensures last { self.new.last_pull ≡ pulled_by result buffer.new }
-        ensures ended { self.new.has_ended ≡ finds_end result }
+        ensures event { self.new.events ≡ pull_event result buffer.new ∷ self.old.events }
         ensures no_more { result ≡ Pull.Ended → self.new.rest ≡ [] }
 
         // What this one gives.
@@ -134,69 +122,66 @@ impl Input for MemoryInput {
         ensures rest { self.old.rest ≡ pulled_by result buffer.new ++ self.new.rest }
         ensures steps { self.new.steps ≡ drop 1 self.old.steps }
     {
-        self.tape.put(&[]);
-        self.ended = false;
         match self.next_step() {
             Some(InputStep::Give(most)) => self.give(most.max(1), buffer),
-            Some(InputStep::Empty) => Pull::Empty,
-            Some(InputStep::Fail) => Pull::Failed,
+            Some(InputStep::Empty) => {
+                self.tape.waits();
+                Pull::Empty
+            }
+            Some(InputStep::Fail) => {
+                self.tape.fails();
+                Pull::Failed
+            }
             None => self.give(usize::MAX, buffer),
         }
     }
 }
 
-/// Keeps the bytes that it takes: each push does a step, and after the last step takes everything. Where memory is
-/// wanting for them, it fails.
+/// Keeps the bytes that it takes: each push does a step, and after the last step takes everything. Where memory runs out for
+/// them, it fails.
 #[derive(Drop)]
 pub struct MemoryOutput {
     bytes: Vec<u8>,
     steps: Vec<OutputStep>,
     used: usize,
-    starved: Tally,
-    full: bool,
+    tape: Tape,
 }
 
 impl Model for MemoryOutput {
-    ghost use Rattle.std.specs.Prelude.{◌≤◌, take, drop, vec_len};
+    ghost use Rattle.std.specs.Prelude.{◌≡◌, ◌≤◌, drop, vec_len};
+    ghost use Rattle.mc_stream.specs.Event.{moved};
     ghost use Rattle.mc_stream.specs.Memory.{Sink};
 
     ghost Value = { Sink };
 
-    ghost view = { λ output. record {
-      bytes = output.bytes.items;
-      used = take output.used output.steps.items;
-      steps = drop output.used output.steps.items;
-      starved = output.starved.count;
-      is_full = output.full;
-    } };
+    ghost view = { λ output. record { steps = drop output.used output.steps.items; events = output.tape.events } };
 
-    ghost invariant = { λ output. output.used ≤ vec_len output.steps };
+    ghost invariant = { λ output. (output.used ≤ vec_len output.steps) × (moved output.tape.events ≡ output.bytes.items) };
 }
 
 impl MemoryOutput {
     /// An output that has no bytes yet, and goes by these steps first.
     pub fn new(alloc: Global, steps: Vec<OutputStep>) -> MemoryOutput
-        ensures { result ≡ record { bytes = []; used = []; steps = steps.items; starved = 0; is_full = false } }
+        ensures { result ≡ record { steps = steps.items; events = [] } }
     {
         MemoryOutput {
             bytes: Vec::new(alloc),
             steps,
             used: 0,
-            starved: Tally::new(),
-            full: false,
+            tape: Tape::new(),
         }
     }
 
     /// The bytes that were taken.
     pub fn as_bytes(&self) -> &[u8]
-        ensures { result.now ≡ self.now.bytes }
+        ensures { result.now ≡ moved self.now.events }
     {
         self.bytes.as_slice()
     }
 
     /// The bytes that were taken, in a vector.
     pub fn into_bytes(self) -> Vec<u8>
-        ensures { result.items ≡ self.bytes }
+        ensures { result.items ≡ moved self.events }
     {
         self.bytes
     }
@@ -205,7 +190,7 @@ impl MemoryOutput {
     fn next_step(&mut self) -> Option<OutputStep>
         ensures left { MatchOption result (self.old.steps ≡ []) (λ step. self.old.steps ≡ step ∷ self.new.steps) }
         ensures new { MatchOption result (self.new ≡ self.old) (λ step.
-            self.new ≡ record self.old { used = self.old.used ++ step ∷ []; steps = drop 1 self.old.steps }) }
+            self.new ≡ record self.old { steps = drop 1 self.old.steps }) }
     {
         if self.used == self.steps.len() {
             return None;
@@ -223,31 +208,30 @@ impl Output for MemoryOutput {
         // As of each output.
         requires { 0 < length bytes.now }
         ensures count { TakesAtMost (length bytes.now) result }
-        ensures bytes { self.new.bytes ≡ self.old.bytes ++ pushed_by result bytes.now }
-        ensures failed { count_by is_failing_push self.new.used + self.new.starved
-            ≡ count_by is_failing_push self.old.used + self.old.starved + push_failures result }
-        ensures waited { count_by is_full_push self.new.used ≡ count_by is_full_push self.old.used + push_waits result }
-        ensures full { self.new.is_full ≡ finds_full result }
+        ensures event { self.new.events ≡ push_event result bytes.now ∷ self.old.events }
 
-        // What this one takes, where memory isn't wanting.
-        ensures answer { self.new.starved ≡ self.old.starved → result ≡ push_by self.old.steps (length bytes.now) }
+        // What this one takes, where there is memory for it.
+        ensures answer { (result ≡ push_by self.old.steps (length bytes.now)) ⊎ (result ≡ Push.Failed) }
         ensures steps { self.new.steps ≡ drop 1 self.old.steps }
     {
-        self.full = false;
         let most = match self.next_step() {
             Some(OutputStep::Take(most)) => most.max(1),
             Some(OutputStep::Full) => {
-                self.full = true;
+                self.tape.waits();
                 return Push::Full;
             }
-            Some(OutputStep::Fail) => return Push::Failed,
+            Some(OutputStep::Fail) => {
+                self.tape.fails();
+                return Push::Failed;
+            }
             None => usize::MAX,
         };
         let count = bytes.len().min(most);
         if self.bytes.extend_from_slice(&bytes[..count]).is_err() {
-            self.starved.rise();
+            self.tape.fails();
             return Push::Failed;
         }
+        self.tape.moves(&bytes[..count]);
         Push::Taken(count)
     }
 }

@@ -1,41 +1,91 @@
-//! Inputs and outputs over std's readers and writers, as the standard streams.
+//! Inputs and outputs over std's readers and writers, as the standard streams and sockets.
 //!
-//! What they tell of the bytes that moved is on a tape, which no memory holds: these bodies put on it what `read` gave and
-//! `write` took, and only they and the clauses `rest` and `written` tie it to a stream. That a write is flushed stands in the
-//! body alone.
-ghost use Rattle.std.specs.Prelude.{◌≡◌, ◌+◌, ◌++◌, ◌<◌, [], false, length};
-ghost use Rattle.mc_stream.specs.Standard.{WritesTaken, read_of, reader_of, writer_of, written_of};
-ghost use Rattle.mc_stream.specs.Stream.{TakesAtMost, finds_full, push_failures, push_waits, pushed_by};
+//! What they tell is on a tape, which no memory holds: what `read`, `write` and `flush` answered is told by `pull_of` and
+//! `push_of`, and put on the tape there. That these answers are handed on, and that a write is flushed, stands in the bodies of
+//! `pull` and `push`; the clauses `rest` and `written` tie their bytes to a stream that tells its own.
+ghost use Rattle.std.specs.IoError.{error_kind};
+ghost use Rattle.std.specs.Prelude.{◌≡◌, ◌∷◌, ◌<◌, ◌≤◌, [], IfOk, length};
+ghost use Rattle.mc_stream.specs.Standard.{WritesTaken, asks_again, pull_of, push_of, read_of, reader_of, writer_of, written_of};
+ghost use Rattle.mc_stream.specs.Stream.{GivesAtMost, TakesAtMost, pull_event, push_event};
 
 use crate::stream::{Input, Output, Pull, Push};
-use crate::tally::Tally;
 use crate::tape::Tape;
+use std::io;
 use std::io::{ErrorKind, Read, Write};
 
-/// An input over a reader. It knows what is left where the reader does. An interrupted read gave nothing, and any other
-/// error is a failure. Its tape has the bytes that `read` gave.
+/// Whether the call did nothing and may be made again.
+fn asks_again(error: &io::Error) -> bool
+    ensures { result ≡ asks_again (error_kind error.now) }
+{
+    matches!(error.kind(), ErrorKind::Interrupted | ErrorKind::WouldBlock)
+}
+
+/// What a pull answers where a read into a buffer with room answered this.
+fn pull_of(given: &io::Result<usize>) -> Pull
+    ensures { result ≡ pull_of given.now }
+{
+    match given {
+        Ok(0) => Pull::Ended,
+        Ok(count) => Pull::Bytes(*count),
+        Err(error) => {
+            if asks_again(error) {
+                Pull::Empty
+            } else {
+                Pull::Failed
+            }
+        }
+    }
+}
+
+/// What a push answers where a write answered this, and the flush after a write that took bytes that.
+fn push_of(written: &io::Result<usize>, flushed: &io::Result<()>) -> Push
+    ensures { result ≡ push_of written.now flushed.now }
+{
+    match (written, flushed) {
+        (Ok(0), _) => Push::Failed,
+        (Ok(count), Ok(())) => Push::Taken(*count),
+        // Not `Full`, also where it was interrupted: the bytes would be pushed again.
+        (Ok(_), Err(_)) => Push::Failed,
+        (Err(error), _) => {
+            if asks_again(error) {
+                Push::Full
+            } else {
+                Push::Failed
+            }
+        }
+    }
+}
+
+/// An input over a reader, which knows what is left where the reader does.
 #[derive(Drop)]
 pub struct ReadInput<R> {
     reader: R,
     tape: Tape,
-    ended: bool,
-    failures: Tally,
-    waits: Tally,
 }
 
 impl<R: Read> ReadInput<R> {
     /// The input over this reader.
     pub fn new(reader: R) -> ReadInput<R>
         ensures reader { reader_of result ≡ reader }
-        ensures tells { read_of R.remaining result ≡ record { pulled = []; last_pull = []; left = R.remaining reader; failures = 0; waits = 0; has_ended = false } }
+        ensures tells { read_of R.remaining result ≡ record { events = []; left = R.remaining reader } }
     {
         ReadInput {
             reader,
             tape: Tape::new(),
-            ended: false,
-            failures: Tally::new(),
-            waits: Tally::new(),
         }
+    }
+}
+
+/// Puts what a pull did on the tape.
+fn note_pull(pull: Pull, buffer: &[u8], tape: &mut Tape)
+    requires { GivesAtMost (length buffer.now) pull }
+    ensures { tape.new.events ≡ pull_event pull buffer.now ∷ tape.old.events }
+{
+    match pull {
+        Pull::Bytes(count) => tape.moves(&buffer[..count]),
+        Pull::Empty => tape.waits(),
+        Pull::Ended => tape.ends(),
+        Pull::Failed => tape.fails(),
     }
 }
 
@@ -43,63 +93,42 @@ impl<R: Read> Input for ReadInput<R> {
     ghost tells = { read_of R.remaining };
 
     fn pull(&mut self, buffer: &mut [u8]) -> Pull {
-        self.ended = false;
-        self.tape.put(&[]);
-        match self.reader.read(buffer) {
-            Ok(0) => {
-                self.ended = true;
-                Pull::Ended
-            }
-            Ok(count) => {
-                self.tape.put(&buffer[..count]);
-                Pull::Bytes(count)
-            }
-            Err(error) => {
-                if error.kind() == ErrorKind::Interrupted {
-                    self.waits.rise();
-                    Pull::Empty
-                } else {
-                    self.failures.rise();
-                    Pull::Failed
-                }
-            }
-        }
+        let given = self.reader.read(buffer);
+        let pull = pull_of(&given);
+        note_pull(pull, buffer, &mut self.tape);
+        pull
     }
 }
 
-/// An output over a writer. An interrupted write took nothing, and any other error is a failure. What was taken is flushed
-/// in the same push. Its tape has the bytes that `write` took, but for those before a `flush` that failed.
+/// An output over a writer. What was taken is flushed in the same push.
 #[derive(Drop)]
 pub struct WriteOutput<W> {
     writer: W,
     tape: Tape,
-    full: bool,
-    failures: Tally,
-    waits: Tally,
 }
 
 impl<W> WriteOutput<W> {
     /// The output over this writer.
     pub fn new(writer: W) -> WriteOutput<W>
         ensures writer { writer_of result ≡ writer }
-        ensures tells { written_of result ≡ record { pushed = []; failures = 0; waits = 0; is_full = false } }
+        ensures tells { written_of result ≡ record { events = [] } }
     {
         WriteOutput {
             writer,
             tape: Tape::new(),
-            full: false,
-            failures: Tally::new(),
-            waits: Tally::new(),
         }
     }
+}
 
-    /// Counts a failure.
-    fn fail(&mut self) -> Push
-        ensures answer { result ≡ Push.Failed }
-        ensures tells { written_of self.new ≡ record (written_of self.old) { failures = (written_of self.old).failures + 1 } }
-    {
-        self.failures.rise();
-        Push::Failed
+/// Puts what a push did on the tape.
+fn note_push(push: Push, bytes: &[u8], tape: &mut Tape)
+    requires { TakesAtMost (length bytes.now) push }
+    ensures { tape.new.events ≡ push_event push bytes.now ∷ tape.old.events }
+{
+    match push {
+        Push::Taken(count) => tape.moves(&bytes[..count]),
+        Push::Full => tape.waits(),
+        Push::Failed => tape.fails(),
     }
 }
 
@@ -110,35 +139,19 @@ impl<W: Write> Output for WriteOutput<W> {
         // As of each output.
         requires { 0 < length bytes.now }
         ensures count { TakesAtMost (length bytes.now) result }
-        ensures bytes { (written_of self.new).pushed ≡ (written_of self.old).pushed ++ pushed_by result bytes.now }
-        ensures failed { (written_of self.new).failures ≡ (written_of self.old).failures + push_failures result }
-        ensures waited { (written_of self.new).waits ≡ (written_of self.old).waits + push_waits result }
-        ensures full { (written_of self.new).is_full ≡ finds_full result }
+        ensures event { (written_of self.new).events ≡ push_event result bytes.now ∷ (written_of self.old).events }
 
         // Where the writer tells its bytes.
         ensures written { WritesTaken (W.contents (writer_of self.old)) (W.contents (writer_of self.new)) result bytes.now }
     {
-        self.full = false;
-        match self.writer.write(bytes) {
-            Ok(0) => self.fail(),
-            Ok(count) => match self.writer.flush() {
-                Ok(()) => {
-                    self.tape.put(&bytes[..count]);
-                    Push::Taken(count)
-                }
-                // Not `Full`, also where it was interrupted: the bytes would be pushed again.
-                Err(_) => self.fail(),
-            },
-            Err(error) => {
-                if error.kind() == ErrorKind::Interrupted {
-                    self.full = true;
-                    self.waits.rise();
-                    Push::Full
-                } else {
-                    self.fail()
-                }
-            }
-        }
+        let written = self.writer.write(bytes);
+        let flushed = match written {
+            Ok(0) | Err(_) => Ok(()),
+            Ok(_) => self.writer.flush(),
+        };
+        let push = push_of(&written, &flushed);
+        note_push(push, bytes, &mut self.tape);
+        push
     }
 }
 

@@ -1,7 +1,7 @@
 //! What gives bytes and what takes them.
 ghost use Rattle.std.specs.Io.KnownBytes.{Consumes, IsAtEnd};
-ghost use Rattle.std.specs.Prelude.{◌≡◌, ◌+◌, ◌++◌, ◌<◌, length};
-ghost use Rattle.mc_stream.specs.Stream.{GivesAtMost, Inflow, Outflow, TakesAtMost, finds_end, finds_full, pull_failures, pull_waits, pulled_by, push_failures, push_waits, pushed_by};
+ghost use Rattle.std.specs.Prelude.{◌≡◌, ◌∷◌, ◌<◌, length};
+ghost use Rattle.mc_stream.specs.Stream.{GivesAtMost, Inflow, Outflow, TakesAtMost, pull_event, pulled_by, push_event};
 
 /// What a pull gave.
 #[derive(Clone, Copy, Debug, PartialEq, Eq)]
@@ -36,12 +36,8 @@ pub trait Input {
     fn pull(&mut self, buffer: &mut [u8]) -> Pull
         requires { 0 < length buffer.old }
         ensures count { GivesAtMost (length buffer.new) result }
-        ensures bytes { (tells self.new).pulled ≡ (tells self.old).pulled ++ pulled_by result buffer.new }
-        ensures last { (tells self.new).last_pull ≡ pulled_by result buffer.new }
+        ensures event { (tells self.new).events ≡ pull_event result buffer.new ∷ (tells self.old).events }
         ensures rest { Consumes (tells self.old).left (tells self.new).left (pulled_by result buffer.new) }
-        ensures failed { (tells self.new).failures ≡ (tells self.old).failures + pull_failures result }
-        ensures waited { (tells self.new).waits ≡ (tells self.old).waits + pull_waits result }
-        ensures ended { (tells self.new).has_ended ≡ finds_end result }
         ensures no_more { result ≡ Pull.Ended → IsAtEnd (tells self.new).left };
 }
 
@@ -54,10 +50,7 @@ pub trait Output {
     fn push(&mut self, bytes: &[u8]) -> Push
         requires { 0 < length bytes.now }
         ensures count { TakesAtMost (length bytes.now) result }
-        ensures bytes { (tells self.new).pushed ≡ (tells self.old).pushed ++ pushed_by result bytes.now }
-        ensures failed { (tells self.new).failures ≡ (tells self.old).failures + push_failures result }
-        ensures waited { (tells self.new).waits ≡ (tells self.old).waits + push_waits result }
-        ensures full { (tells self.new).is_full ≡ finds_full result };
+        ensures event { (tells self.new).events ≡ push_event result bytes.now ∷ (tells self.old).events };
 }
 
 impl<I: Input> Input for &mut I {

@@ -1,15 +1,14 @@
-//! Bytes that only clauses read.
+//! What pulls and pushes did, for clauses alone.
+ghost use Rattle.mc_stream.specs.Event.{Ends, Event, Fails, Moves, Waits};
 ghost use Rattle.std.specs.Borrow.{ftrue};
-ghost use Rattle.std.specs.Prelude.{◌≡◌, ℕ, List, [], ◌++◌};
+ghost use Rattle.std.specs.Prelude.{◌≡◌, List, [], ◌∷◌};
 
 use std::marker::Model;
 
-/// Bytes in the order in which they were put there, and the last piece of them. It takes no memory, and its methods do
-/// nothing at run time.
+/// Events, the latest first. It takes no memory, and its methods do nothing at run time.
 #[derive(Drop)]
 pub struct Tape {
-    pub ghost bytes: { List ℕ },
-    pub ghost last: { List ℕ },
+    pub ghost events: { List Event },
 }
 
 impl Model for Tape {
@@ -17,15 +16,30 @@ impl Model for Tape {
 }
 
 impl Tape {
-    /// Nothing was put there yet.
+    /// Nothing was done yet.
     pub fn new() -> Tape
-        ensures { result ≡ record { bytes = []; last = [] } }
+        ensures { result ≡ record { events = [] } }
     {
         Tape {}
     }
 
-    /// Puts a piece behind those that are there.
-    pub fn put(&mut self, _piece: &[u8])
-        ensures { self.new ≡ record { bytes = self.old.bytes ++ _piece.now; last = _piece.now } }
+    /// These bytes went over.
+    pub fn moves(&mut self, _bytes: &[u8])
+        ensures { self.new ≡ record { events = Moves _bytes.now ∷ self.old.events } }
+    {}
+
+    /// Nothing could go over.
+    pub fn waits(&mut self)
+        ensures { self.new ≡ record { events = Waits ∷ self.old.events } }
+    {}
+
+    /// The end was found.
+    pub fn ends(&mut self)
+        ensures { self.new ≡ record { events = Ends ∷ self.old.events } }
+    {}
+
+    /// It failed.
+    pub fn fails(&mut self)
+        ensures { self.new ≡ record { events = Fails ∷ self.old.events } }
     {}
 }

@@ -1,4 +1,5 @@
 use super::*;
+use crate::fault_text;
 use mc_stream::{InputStep, MemoryInput, MemoryOutput, OutputStep};
 use std::process::Abort;
 use std::test::Fail;
@@ -46,7 +47,6 @@ fn run_with<R: Wait>(
     tells: Vec<OutputStep>,
 ) -> Result<Ran, Fail> {
     let mut words = Vec::new(alloc);
-    words.push(String::from_str(alloc, "mc_stdin")?)?;
     for text in texts {
         words.push(String::from_str(alloc, text)?)?;
     }

@@ -1,4 +1,4 @@
-use Rattle.mc_read.proofs.Readings.{text_is_whole}
+use Rattle.mc_read.specs.Readings.{text_is_whole}
 use Rattle.mc_read.proofs.laws.no_text_begins_another.Goals as goal
 
 pub returns : goal.returns

@@ -3,7 +3,8 @@ use Rattle.std.specs.Prelude.{option_and_then, unwrap_or}
 use Rattle.clap.specs.Words.{app_of, fault_of, found_of, is_simple, is_simple_and_free, matches_of, one_of}
 use Rattle.clap.proofs.OnLiterals.{clap_on_literals}
 use Rattle.clap.proofs.WalkLemmas.{one_text-rows}
-use Rattle.mc_server.specs.Options.{limits_asked, stdin_app, u64_of}
+use Rattle.mc_server.specs.Options.{limits_asked, stdin_app}
+use Rattle.mc_server.specs.Words.{u64_of}
 use Rattle.mc_server.proofs.options.read_words.Goals as goal
 
 app_is_simple : is_simple stdin_app ≡ true

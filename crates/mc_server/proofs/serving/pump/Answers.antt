@@ -9,4 +9,4 @@ returns-in_default-clause-stops g c =
 
 pub returns-clause-stops : goal.returns-clause-stops
 returns-clause-stops g c =
-    let stops = rw (c.in-Ok.ensures.limits, c.in-Ok.ensures.places) at c.serve.ensures.stops in stops_told _ _ _ _ _ _ stops
+    let stops = rw (c.in-Ok.ensures.limits, c.in-Ok.ensures.places) at c.serve.ensures.stops in stops_told _ _ _ _ _ _ _ stops

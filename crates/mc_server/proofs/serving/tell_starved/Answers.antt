@@ -1,4 +1,4 @@
-use Rattle.mc_server.proofs.Pieces.{at_once_more, at_once_stopped}
+use Rattle.mc_stream.specs.Pushed.{at_once_more, at_once_stopped}
 use Rattle.mc_server.proofs.serving.tell_starved.Goals as goal
 
 pub returns-then-push_while_taken : goal.returns-then-push_while_taken

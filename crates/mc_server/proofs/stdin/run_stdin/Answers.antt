@@ -1,22 +1,22 @@
 use Rattle.std.proofs.Common.{codes, inl, inr, map, string_bytes, subst, List, String, Global}
 use Rattle.clap.specs.Words.{kind_of}
-use Rattle.mc_server.specs.Faults.{Fails}
-use Rattle.mc_server.specs.Options.{AsksInRange, IsAnswered, limits_asked, places_asked}
+use Rattle.mc_server.specs.Options.{AsksInRange, Fails, limits_asked, places_asked, stdin_app}
+use Rattle.mc_server.specs.Words.{IsAnswered}
 use Rattle.mc_stream.specs.Stream.{both}
 use Rattle.mc_server.proofs.stdin.run_stdin.Goals as goal
 
--- the kind of a mistake is one that clap names for these words, since memory wasn't wanting
+-- the kind of a mistake is one that clap names for these words, since memory didn't run out
 pub returns-in-Err-clause-refuses : goal.returns-in-Err-clause-refuses
 returns-in-Err-clause-refuses g c =
     λ two.
     let told = c.answer_words.ensures.told two in
     let kind = c.answer_words.ensures.told_kind two in
-    let answered : IsAnswered (map string_bytes c.deref.result.now) (kind_of c.in-Err.error) = elim c.in-Err.ensures.kinds [
+    let answered : IsAnswered stdin_app (map string_bytes c.deref.result.now) (kind_of c.in-Err.error) = elim c.in-Err.ensures.kinds [
       | inl starved ↦ absurd (kind.0 starved)
       | inr among ↦ among
     ] in
-    let is_answered = subst (λ (words : List (String Global)). IsAnswered (map string_bytes words) (kind_of c.in-Err.error)) c.deref.ensures.value answered in
-    inr (record { mistaken = (kind_of c.in-Err.error, is_answered, kind.1); text = told.0; tells = told.1 })
+    let is_answered = subst (λ (words : List (String Global)). IsAnswered stdin_app (map string_bytes words) (kind_of c.in-Err.error)) c.deref.ensures.value answered in
+    inr (record { mistaken = (kind_of c.in-Err.error, is_answered, kind.1); text = told.0; told = told.1 })
 
 -- the run that failed was by the numbers that the words ask for
 pub returns-clause-fails : goal.returns-clause-fails
@@ -26,7 +26,7 @@ returns-clause-fails g c =
     let stops = rw (c.in-Ok.ensures.places, c.in-Ok.ensures.limits) at c.in-Err-pump.ensures.stops in
     inl (subst
     (λ (words : List (String Global)). AsksInRange (map string_bytes words)
-    × Fails (codes "mc_stdin") (limits_asked (map string_bytes words)) (places_asked (map string_bytes words)) (both (g.I.Input.tells c.args.input.now) (g.O.Output.tells c.args.output.now)) (both (g.I.Input.tells c.pump.new.input) (g.O.Output.tells c.pump.new.output))
+    × Fails (limits_asked (map string_bytes words)) (places_asked (map string_bytes words)) (both (g.I.Input.tells c.args.input.now) (g.O.Output.tells c.args.output.now)) (both (g.I.Input.tells c.pump.new.input) (g.O.Output.tells c.pump.new.output))
     (g.E.Output.tells c.args.errors.now) (g.E.Output.tells c.fail.new.errors))
     c.deref.ensures.value
-    ((c.in-Ok.ensures.kinds, in_range), record { fault = c.in-Err-pump.fault; counts = c.in-Err-pump.ensures.failures; stops = stops; tells = c.fail.ensures.tells }))
+    ((c.in-Ok.ensures.kinds, in_range), record { fault = c.in-Err-pump.fault; counts = c.in-Err-pump.ensures.failures; stops = stops; told = c.fail.ensures.told }))

@@ -1,0 +1,49 @@
+-- What one pull or push did, and what a list of such events adds up to; this project's profile. The latest event stands first.
+use Rattle.std.specs.Prelude.{ℕ, ◌+◌, Bool, true, false, List, [], ◌∷◌, ◌++◌}
+
+-- bytes went over, or none could now, or the end was found, or it failed
+pub data Event : Type 0 where
+  Moves : List ℕ → Event
+  Waits : Event
+  Ends : Event
+  Fails : Event
+
+-- all bytes that went over, in their order
+abbrev pub moved : List Event → List ℕ
+moved [] = []
+moved (Moves bytes ∷ earlier) = moved earlier ++ bytes
+moved (Waits ∷ earlier) = moved earlier
+moved (Ends ∷ earlier) = moved earlier
+moved (Fails ∷ earlier) = moved earlier
+
+-- how often it failed
+abbrev pub failures : List Event → ℕ
+failures [] = 0
+failures (Moves bytes ∷ earlier) = failures earlier
+failures (Waits ∷ earlier) = failures earlier
+failures (Ends ∷ earlier) = failures earlier
+failures (Fails ∷ earlier) = failures earlier + 1
+
+-- the bytes of the last event, or none where it moved none
+abbrev pub last_moved : List Event → List ℕ
+last_moved [] = []
+last_moved (Moves bytes ∷ earlier) = bytes
+last_moved (Waits ∷ earlier) = []
+last_moved (Ends ∷ earlier) = []
+last_moved (Fails ∷ earlier) = []
+
+-- the last event found the end
+abbrev pub has_ended : List Event → Bool
+has_ended [] = false
+has_ended (Moves bytes ∷ earlier) = false
+has_ended (Waits ∷ earlier) = false
+has_ended (Ends ∷ earlier) = true
+has_ended (Fails ∷ earlier) = false
+
+-- at the last event nothing could go over
+abbrev pub had_to_wait : List Event → Bool
+had_to_wait [] = false
+had_to_wait (Moves bytes ∷ earlier) = false
+had_to_wait (Waits ∷ earlier) = true
+had_to_wait (Ends ∷ earlier) = false
+had_to_wait (Fails ∷ earlier) = false

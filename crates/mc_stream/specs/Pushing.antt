@@ -1,0 +1,42 @@
+-- What an output took of the bytes that it was given, in one push after another; this project's profile.
+use Rattle.std.specs.Prelude.{◌≡◌, true, ◌+◌, ◌⊎◌, List, [], ◌++◌, ℕ}
+use Rattle.mc_stream.specs.Event.{failures, had_to_wait, moved}
+use Rattle.mc_stream.specs.Stream.{Outflow}
+
+-- these bytes were pushed from the one to the other
+abbrev pub Pushes : Outflow → Outflow → List ℕ → Type 0
+Pushes before after bytes = moved after.events ≡ moved before.events ++ bytes
+
+-- the output hasn't failed from the one to the other
+abbrev pub IsUnfailed : Outflow → Outflow → Type 0
+IsUnfailed before after = failures after.events ≡ failures before.events
+
+-- the output failed once from the one to the other
+abbrev pub FailsOnce : Outflow → Outflow → Type 0
+FailsOnce before after = failures after.events ≡ failures before.events + 1
+
+-- a front of what was queued is pushed, and the rest is queued then
+pub record Unqueues (before after : List ℕ) (output_before output : Outflow) : Type 0 where
+  pub front : List ℕ
+  pub split : before ≡ front ++ after
+  pub went : Pushes output_before output front
+
+-- a front of the bytes is pushed
+abbrev pub PushesFront : List ℕ → Outflow → Outflow → Type 0
+PushesFront bytes before after = (rest : List ℕ) × Unqueues bytes rest before after
+
+-- the last push found the output full, or the output failed once
+abbrev pub IsStopped : Outflow → Outflow → Type 0
+IsStopped before after = (had_to_wait after.events ≡ true) × IsUnfailed before after ⊎ FailsOnce before after
+
+-- nothing is left unsent, or the output was full then, or it failed
+abbrev pub IsAllOrStopped : List ℕ → Outflow → Outflow → Type 0
+IsAllOrStopped unsent before after = (unsent ≡ []) × IsUnfailed before after ⊎ IsStopped before after
+
+-- as many of the bytes are pushed as the output takes at once
+abbrev pub PushesAtOnce : List ℕ → Outflow → Outflow → Type 0
+PushesAtOnce bytes before after = (rest : List ℕ) × Unqueues bytes rest before after × IsAllOrStopped rest before after
+
+-- the bytes are pushed, or a front of them where the output failed once
+abbrev pub PushesOrFails : List ℕ → Outflow → Outflow → Type 0
+PushesOrFails bytes before after = Pushes before after bytes × IsUnfailed before after ⊎ PushesFront bytes before after × FailsOnce before after
