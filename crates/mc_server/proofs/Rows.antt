@@ -35,7 +35,7 @@ refusals = refl
 a_set : answer plenty [] (Store Set (codes "a") 5 (codes "abc")) ≡ Stored → owed plenty 65536 [] (Logged (Store Set (codes "a") 5 (codes "abc")) false ∷ []) ≡ codes "STORED\r\n"
 a_set given = rw given refl
 
--- behind the last place nothing is done, and a quiet command is not answered
+-- after the last place nothing is done, and a quiet command is not answered
 full_log : owed plenty 1 [] (Logged (Store Set (codes "a") 0 []) true ∷ Logged (Get (codes "a" ∷ []) false) false ∷ Logged (Store Set (codes "a") 0 []) true ∷ refused E1 false ∷ [])
     ≡ codes "SERVER_ERROR log full\r\nERROR\r\n"
 full_log = refl

@@ -105,7 +105,7 @@ underway_begins limits places before session stands empty = record {
   caught_up = nothing_came limits places (last_moved before.input.events) [];
 }
 
--- nothing was pulled before memory was wanting, and the client is told
+-- nothing was pulled before memory ran out, and the client is told
 pub starved_at_once : (limits : Limits) (places : ℕ) (input : Inflow) (before after : Outflow) → PushesAtOnce (text (Refused E11)) before after → ServesUntilStarved limits places (both input before) (both input after)
 starved_at_once limits places input before after told = record {
   comes = record {

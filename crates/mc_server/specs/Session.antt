@@ -24,7 +24,7 @@ pub record Stands (limits : Limits) (places : ℕ) (applied : List Command) (ses
   pub count : length session.replica.history ≡ length applied
 
 -- The requests that came are, in their order: those that were answered, all of whose replies are sent or still queued; the one
--- for which memory ran out, where it was taken from the reader; and those that the reader still holds, with a piece behind it
+-- for which memory ran out, where it was taken from the reader; and those that the reader still holds, with a piece after it
 -- that it couldn't keep. The session stands for those that were answered, and may stand for the next one too.
 pub record IsStarved (limits : Limits) (places : ℕ) (before after : Streams) (held : Held) (session : Session) : Type 0 where
   pub comes : Comes before after

@@ -83,7 +83,8 @@ impl Session {
 
     /// Replays a command where a place is left, and queues the reply.
     fn respond_to_command(&mut self, command: Command, quiet: bool) -> Result<(), Fault>
-        ensures stands { OnOk result ((limits : Limits) (places : ℕ) (applied : List Command) → Stands limits places applied self.old → Stands limits places (applied_with places applied command) self.new) }
+        ensures stands { OnOk result ((limits : Limits) (places : ℕ) (applied : List Command) → Stands limits places applied self.old →
+            Stands limits places (applied_with places applied command) self.new) }
         ensures queued { OnOk result ((limits : Limits) (places : ℕ) (applied : List Command) → Stands limits places applied self.old →
             self.new.queue.items ≡ self.old.queue.items ++ answered quiet (logged_reply limits places applied command)) }
         ensures memory { IsOkUnless result Fault.Memory }
@@ -104,7 +105,8 @@ impl Session {
     /// Does what a request asks for, and queues the reply. At a fault no reply is queued, but the command may have been applied.
     pub fn respond(&mut self, request: Request) -> Result<(), Fault>
         requires room { length self.old.queue.items ≤ QUEUE_BYTES }
-        ensures stands { OnOk result ((limits : Limits) (places : ℕ) (applied : List Command) → Stands limits places applied self.old → Stands limits places (applied_by places applied (request ∷ [])) self.new) }
+        ensures stands { OnOk result ((limits : Limits) (places : ℕ) (applied : List Command) → Stands limits places applied self.old →
+            Stands limits places (applied_by places applied (request ∷ [])) self.new) }
         ensures queued { OnOk result ((limits : Limits) (places : ℕ) (applied : List Command) → Stands limits places applied self.old →
             self.new.queue.items ≡ self.old.queue.items ++ owed limits places applied (request ∷ [])) }
         ensures memory { IsOkUnless result Fault.Memory }

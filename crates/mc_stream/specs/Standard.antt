@@ -18,7 +18,7 @@ use Rattle.mc_stream.specs.Stream.{Inflow, Outflow}
 abbrev pub asks_again : ErrorKind → Bool
 asks_again Interrupted = true
 asks_again WouldBlock = true
-asks_again other = false
+asks_again _ = false
 
 -- what a pull answers where a read into a buffer with room answered this
 abbrev pub pull_of : Result ℕ Error → Pull

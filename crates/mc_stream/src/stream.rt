@@ -32,7 +32,7 @@ pub trait Input {
     /// What it tells of itself.
     ghost tells: { Self → Inflow };
 
-    /// Puts bytes at the front of the buffer. What stands behind them is open.
+    /// Puts bytes at the front of the buffer. What stands after them is open.
     fn pull(&mut self, buffer: &mut [u8]) -> Pull
         requires { 0 < length buffer.old }
         ensures count { GivesAtMost (length buffer.new) result }

@@ -1,7 +1,7 @@
 //! Worked streams through the loop, whole and in the smallest pieces, and what it does where the input, the output or
 //! memory fails.
 use super::*;
-use mc_stream::{InputStep, MemoryInput, MemoryOutput, OutputStep};
+use mc_stream::{InputStep, MemoryInput, MemoryOutput, OutputStep, Push};
 use std::alloc::AllocError;
 use std::process::Abort;
 use std::test::Fail;

@@ -31,7 +31,7 @@ returns-in_err-respond-clause-stops g c =
     let failed : ◌≡◌ {A = Result (Unit {0}) Fault} c.from_residual-in_err-respond.result (Err Memory) = search rules in
     rw failed (starved_responding _ _ _ _ c.loop.reader.held c.loop.session c.loop.closed now.underway c.in-Some-2.request c.next-in-loop.new.self.held c.respond.new.self now.output_unfailed next c.in_err-respond.ensures.unchanged c.in_err-respond.ensures.starved)
 
--- the output failed behind a request
+-- the output failed after a request
 pub returns-in_err-make_room-clause-stops : goal.returns-in_err-make_room-clause-stops
 returns-in_err-make_room-clause-stops g c =
     let now = c.loop.invariant in
