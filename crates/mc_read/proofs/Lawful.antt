@@ -1,6 +1,6 @@
 -- Whatever is read as a command is lawful.
-use Rattle.std.proofs.Common.{◌≡◌, ℕ, ◌<◌, ◌≤◌, Bool, true, false, ◌&&◌, ◌||◌, cond, nat_le, List, [], ◌∷◌, ◌++◌, length, take, drop, Option, Some, None, is_some, unwrap_or, option_map, inl, inr, ⊎_elim, refl, sym, ◌∙◌, ap, subst, length-take, arith, true≢false, codes}
-use Rattle.std.proofs.lemmas.Bool.{and_parts, leb-true, ltb-true}
+use Rattle.std.proofs.Common.{◌≡◌, ℕ, ◌≤◌, Bool, true, false, ◌&&◌, ◌||◌, cond, nat_le, List, [], ◌∷◌, length, take, drop, Option, Some, None, is_some, unwrap_or, option_map, inl, inr, refl, sym, subst, length-take, arith, codes}
+use Rattle.std.proofs.lemmas.Bool.{and_parts, leb-true}
 use Rattle.std.proofs.lemmas.List.Elements.{All-cons, All-nil}
 use Rattle.std.specs.List.{All, list_all}
 use Rattle.std.specs.Prelude.{⊤, IsTrue}
@@ -27,10 +27,9 @@ use Rattle.mc_read.specs.declared.without_block.Change.{Change}
 use Rattle.mc_read.specs.declared.without_block.Change.TheVariants as change
 use Rattle.mc_read.specs.Line.{Checks, StorageLine, asked, asked_by, asked_of_block, asked_of_cas, asked_of_change, asked_of_delete, asked_of_delta, asked_of_flush, asked_of_length, asked_of_name, asked_of_retrieval, asked_of_storage, asked_after, asked_of_words, asked_unless, asked_with, changed, check_and_set, exptime_checks, first_failure, refused, storage_checks}
 use Rattle.mc_read.specs.Sending.{IsLawfulCommand}
-use Rattle.mc_read.specs.Text.{IsRequestText, ends_well, request_of, stored, stored_if, storing}
+use Rattle.mc_read.specs.Text.{IsRequestText, ends_well, request_of, stored_if, storing}
 use Rattle.mc_read.specs.Word.{is_noreply, is_word, words}
 use Rattle.mc_read.proofs.Exptimes.{AllPassing, all_pass}
-use Rattle.mc_read.specs.Texts.{cond_is}
 
 abbrev IsLawfulStorage : Storage → Type 0
 IsLawfulStorage (Plain verb) = ⊤

@@ -1,16 +1,17 @@
 -- What is true of a reader's fields stays true when bytes come.
-use Rattle.std.proofs.Common.{◌≡◌, ℕ, ◌-◌, ◌<◌, ◌≤◌, ◌↔◌, inl, inr, ◌⊎◌, List, [], ◌++◌, length, Result, Ok, Err, OnOk, OnErr, sym, ◌∙◌, ap, subst, ⊎_elim, length-append, arith}
+use Rattle.std.proofs.Common.{◌≡◌, ℕ, ◌-◌, ◌<◌, ◌≤◌, ◌↔◌, Bool, inl, inr, ◌⊎◌, List, [], ◌++◌, length, Option, Result, Ok, Err, OnOk, OnErr, sym, ◌∙◌, ap, subst, ⊎_elim, length-append, arith}
 use Rattle.std.proofs.lemmas.Bool.{both_ways, cases_lt}
 use Rattle.std.proofs.lemmas.List.{get_or_append_left, nil_from_length, take-append-le}
 use Rattle.std.proofs.lemmas.List.Sums.{fails_before_first, passes_at_first, position_or_len_is}
 use Rattle.mc_model.specs.declared.fault.Fault.{Fault}
+use Rattle.mc_model.specs.declared.reply.WireNo.{WireNo}
 use Rattle.mc_model.specs.declared.request.Request.{Request}
 use Rattle.mc_read.specs.declared.line.Header.{Header}
 use Rattle.mc_read.specs.declared.reader.State.{State}
 use Rattle.mc_read.specs.declared.reader.State.TheVariants as state
 use Rattle.mc_read.specs.First.{is_line_feed, line_length}
-use Rattle.mc_read.specs.Line.{asked}
-use Rattle.mc_read.specs.Reading.{IsFed, Kept, ReadsOn, Swallowing}
+use Rattle.mc_read.specs.Line.{asked, refused}
+use Rattle.mc_read.specs.Reading.{Ended, Held, IsFed, Kept, ReadsOn, Swallowing}
 use Rattle.mc_read.specs.State.{IsLineAt, IsSearched, IsStateOf, held_in}
 use Rattle.mc_read.proofs.Holdings.{fed_within, reads_alike}
 use Rattle.mc_read.proofs.Lines.{line_length_le}
@@ -81,3 +82,33 @@ line_of_block s inside line header bytes is_block is held =
     let kept : Kept inside ≡ Kept bytes = ap (λ t. held_in t inside) (sym is_block) ∙ held in
     let same : inside ≡ bytes = cc in
     subst (λ b. IsLineAt b line) same is_state.0
+
+-- A refused block that has come whole, and one of which a piece comes.
+pub left_of_block : (refusal other : WireNo) (quiet noreply : Bool) (left more : ℕ) → state.SwallowsBlock refusal quiet left ≡ state.SwallowsBlock other noreply more → left ≡ more
+left_of_block refusal other quiet noreply left more same = cc
+
+pub swallowed_held : (s : State) (inside : List ℕ) (refusal : WireNo) (quiet : Bool) (left : ℕ) (held : Held) → s ≡ state.SwallowsBlock refusal quiet left → left ≡ 0 → held_in s inside ≡ held → Swallowing (refused refusal quiet) 0 inside ≡ held
+swallowed_held s inside refusal quiet left held is none same =
+    ap (λ n. Swallowing (refused refusal quiet) n inside) (sym none) ∙ (ap (λ t. held_in t inside) (sym is) ∙ same)
+
+pub swallowing_parts : (request other : Request) (left : ℕ) (bytes more : List ℕ) → Swallowing request left bytes ≡ Swallowing other left more → (request ≡ other) × (bytes ≡ more)
+swallowing_parts request other left bytes more same = (cc, cc)
+
+-- so many fewer bytes are still to come
+abbrev pub fewer : ℕ → Held → Held
+fewer come (Kept bytes) = Kept bytes
+fewer come (Swallowing request left bytes) = Swallowing request (left - come) bytes
+fewer come Ended = Ended
+
+-- what holds anyhow holds after an error
+pub on_err : {T E P : Type 0} (r : Result T E) → P → OnErr r P
+on_err (Ok value) holds = tt
+on_err (Err error) holds = holds
+
+pub kept_bytes : (bytes more : List ℕ) → Kept bytes ≡ Kept more → bytes ≡ more
+kept_bytes bytes more same = cc
+
+pub step_parts : (request other : Option Request) (before after : State) → ◌≡◌ {A = Result (Option Request × State) Fault} (Ok (request, before)) (Ok (other, after)) → (request ≡ other) × (before ≡ after)
+step_parts request other before after same =
+    let pair : ◌≡◌ {A = Option Request × State} (request, before) (other, after) = cc in
+    (ap (λ (p : Option Request × State). p.0) pair, ap (λ (p : Option Request × State). p.1) pair)

@@ -1,6 +1,7 @@
-//! What makes a reading of a byte stream one thing, however the stream is cut. A law is the contract of a function that
-//! does nothing: it holds for every byte list.
-ghost use Rattle.std.specs.Prelude.{◌≡◌, ◌≢◌, ℕ, ◌^◌, ◌-◌, ◌<◌, ◌≤◌, Bool, true, false, All, IsTrue, List, [], ◌∷◌, ◌++◌, length, codes, decimal};
+//! What follows from the definitions of `specs/`: a byte stream reads one way, however it is cut, and its lines are those
+//! that memcached's doc/protocol.txt tells a client to send, within the profile's limits. A law is the contract of a
+//! function that does nothing: it holds for every byte list.
+ghost use Rattle.std.specs.Prelude.{◌≡◌, ◌≢◌, ℕ, ◌^◌, ◌-◌, ◌<◌, ◌≤◌, Bool, false, All, IsTrue, List, [], ◌∷◌, ◌++◌, length, codes, decimal};
 ghost use Rattle.mc_model.specs.declared.command.Command.{Command};
 ghost use Rattle.mc_model.specs.declared.command.Command.TheVariants.{Cas, Decr, Delete, Flush, Get, Incr, Store};
 ghost use Rattle.mc_model.specs.declared.command.Verb.{Verb};

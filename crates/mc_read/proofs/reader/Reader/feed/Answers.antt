@@ -1,8 +1,8 @@
-use Rattle.std.proofs.Common.{inl, inr, ◌≡◌, ◌-◌, ◌<◌, [], length, sym, ◌∙◌, ap, subst}
+use Rattle.std.proofs.Common.{inl, inr, ◌≡◌, ◌-◌, ◌<◌, [], length, refl, sym, ◌∙◌, ap, subst}
 use Rattle.mc_read.specs.Line.{refused}
 use Rattle.mc_read.specs.Reading.{IsFed, Swallowing}
 use Rattle.mc_read.specs.State.{IsStateOf, held_in}
-use Rattle.mc_read.proofs.States.{fed_refused, state_more}
+use Rattle.mc_read.proofs.States.{fed_refused, fewer, on_err, state_more}
 use Rattle.mc_read.proofs.reader.Reader.feed.Goals as goal
 
 pub returns-then-length-left-clause-readings : goal.returns-then-length-left-clause-readings
@@ -21,3 +21,15 @@ invariant_of-self c =
 pub invariant_of-self-in-AwaitsBlock : goal.invariant_of-self-in-AwaitsBlock
 invariant_of-self-in-AwaitsBlock c =
     state_more c.self.inside.state c.self.inside.buffer c.args.piece.now _ c.extend-in-AwaitsBlock.result (inr (_, _, c.in-AwaitsBlock.is)) c.self.invariant c.extend-in-AwaitsBlock.ensures.bytes c.extend-in-AwaitsBlock.ensures.unchanged
+
+pub returns-then-length-left-clause-swallowed : goal.returns-then-length-left-clause-swallowed
+returns-then-length-left-clause-swallowed c = λ request left is_held short.
+    let bytes = c.self.inside.buffer in
+    let held = ap (λ s. held_in s bytes) (sym c.in-SwallowsBlock.is) ∙ (ap (λ view. view.held) c.self.view_is ∙ is_held) in
+    (refl, ap (fewer (length c.args.piece.now)) held)
+
+pub returns-in_err-extend-in-SwallowsBlock-clause-unchanged : goal.returns-in_err-extend-in-SwallowsBlock-clause-unchanged
+returns-in_err-extend-in-SwallowsBlock-clause-unchanged c =
+    let block = c.in-SwallowsBlock in
+    let same = c.in_err-extend-in-SwallowsBlock.ensures.unchanged in
+    on_err c.from_residual.result (ap (λ bytes. Swallowing (refused block.refusal block.quiet) block.left bytes) same ∙ (ap (λ s. held_in s c.self.inside.buffer) (sym block.is) ∙ ap (λ view. view.held) c.self.view_is))

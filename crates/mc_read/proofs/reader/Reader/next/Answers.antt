@@ -1,9 +1,11 @@
-use Rattle.std.proofs.Common.{◌≡◌, ◌++◌, Some, None, sym, ◌∙◌, ap, refl, subst}
+use Rattle.std.proofs.Common.{◌≡◌, ◌++◌, Ok, Some, None, sym, ◌∙◌, ap, refl, subst, arith}
 use Rattle.mc_read.specs.declared.reader.State.TheVariants as state
-use Rattle.mc_read.specs.Reading.{Kept}
+use Rattle.mc_read.specs.Line.{refused}
+use Rattle.mc_read.specs.Reading.{IsNext, Kept, Swallowing}
+use Rattle.mc_read.proofs.Holdings.{swallowed_is_next}
 use Rattle.mc_read.specs.State.{EndsInRefusal, IsAnswer, IsStateOf, held_in}
 use Rattle.mc_read.specs.Text.{stored_if}
-use Rattle.mc_read.proofs.States.{line_of_block}
+use Rattle.mc_read.proofs.States.{kept_bytes, left_of_block, line_of_block, step_parts, swallowed_held, swallowing_parts}
 use Rattle.mc_read.proofs.Steps.{answer_awaited, answer_taken, not_too_long, not_unended}
 use Rattle.mc_read.proofs.reader.Reader.next.Goals as goal
 
@@ -57,3 +59,33 @@ returns-in-AwaitsBlock-replace-clause-unended c = λ bytes is_held is.
 pub returns-in-AwaitsBlock-replace-clause-too_long : goal.returns-in-AwaitsBlock-replace-clause-too_long
 returns-in-AwaitsBlock-replace-clause-too_long c = λ text more request is_held is.
     absurd (not_too_long (text ++ more) c.in-AwaitsBlock.line (line_of_block c.self.inside.state c.self.inside.buffer c.in-AwaitsBlock.line c.in-AwaitsBlock.header (text ++ more) c.in-AwaitsBlock.is c.self.invariant (ap (λ view. view.held) c.self.view_is ∙ is_held)) text more request refl is)
+
+pub returns-in_ok-request-in-AwaitsLine-clause-answer : goal.returns-in_ok-request-in-AwaitsLine-clause-answer
+returns-in_ok-request-in-AwaitsLine-clause-answer c =
+    let step = c.in_ok-request-in-AwaitsLine in
+    let kept : Kept c.self.inside.buffer ≡ c.args.self.now.held = ap (λ s. held_in s c.self.inside.buffer) (sym c.in-AwaitsLine.is) ∙ ap (λ view. view.held) c.self.view_is in
+    subst (λ h. IsAnswer h step.request (held_in step.state c.next_line.new.buffer)) kept step.ensures.answer
+
+pub returns-in_ok-request-in-AwaitsLine-clause-too_long : goal.returns-in_ok-request-in-AwaitsLine-clause-too_long
+returns-in_ok-request-in-AwaitsLine-clause-too_long c = λ text more request is_held is.
+    let step = c.in_ok-request-in-AwaitsLine in
+    let kept : Kept c.self.inside.buffer ≡ Kept (text ++ more) = ap (λ s. held_in s c.self.inside.buffer) (sym c.in-AwaitsLine.is) ∙ (ap (λ view. view.held) c.self.view_is ∙ is_held) in
+    let parts = step_parts step.request (Some request) step.state state.Ended (step.ensures.too_long text more request (kept_bytes _ _ kept) is) in
+    (ap Ok parts.0, ap (λ s. held_in s c.next_line.new.buffer) parts.1)
+
+pub returns-in-SwallowsBlock-2-clause-answer : goal.returns-in-SwallowsBlock-2-clause-answer
+returns-in-SwallowsBlock-2-clause-answer c =
+    let block = c.in-SwallowsBlock-2 in
+    let same = left_of_block _ _ _ _ _ _ (sym block.is ∙ c.in-SwallowsBlock.is) in
+    let held = swallowed_held c.self.inside.state c.self.inside.buffer block.refusal block.quiet block.left c.args.self.now.held block.is (omega (arith, same, c.if-left-gt0.false)) (ap (λ view. view.held) c.self.view_is) in
+    subst (λ h. IsNext h c.refused-request.result (Kept c.self.inside.buffer)) held
+    (subst (λ r. IsNext (Swallowing (refused block.refusal block.quiet) 0 c.self.inside.buffer) r (Kept c.self.inside.buffer)) (sym c.refused-request.ensures)
+    (swallowed_is_next (refused block.refusal block.quiet) c.self.inside.buffer))
+
+pub returns-in-SwallowsBlock-2-clause-swallowed : goal.returns-in-SwallowsBlock-2-clause-swallowed
+returns-in-SwallowsBlock-2-clause-swallowed c = λ request bytes is_held.
+    let block = c.in-SwallowsBlock-2 in
+    let same = left_of_block _ _ _ _ _ _ (sym block.is ∙ c.in-SwallowsBlock.is) in
+    let held = swallowed_held c.self.inside.state c.self.inside.buffer block.refusal block.quiet block.left c.args.self.now.held block.is (omega (arith, same, c.if-left-gt0.false)) (ap (λ view. view.held) c.self.view_is) in
+    let parts = swallowing_parts (refused block.refusal block.quiet) request 0 c.self.inside.buffer bytes (held ∙ is_held) in
+    (ap (λ r. Ok (Some r)) (c.refused-request.ensures ∙ parts.0), ap (λ b. Kept b) parts.1)
