@@ -7,5 +7,3 @@ pub use mc_model::Item;
 mod blocks;
 mod held;
 pub mod items;
-#[cfg(test)]
-mod tests;

@@ -23,5 +23,3 @@ pub mod number;
 pub mod reply;
 pub mod request;
 pub mod settings;
-#[cfg(test)]
-mod tests;

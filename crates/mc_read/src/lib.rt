@@ -11,7 +11,5 @@ pub mod laws;
 mod line;
 mod reader;
 mod storage;
-#[cfg(test)]
-mod tests;
 mod without_block;
 mod words;

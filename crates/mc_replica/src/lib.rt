@@ -8,5 +8,3 @@ pub mod laws;
 pub mod replica;
 pub mod seen;
 mod tables;
-#[cfg(test)]
-mod tests;

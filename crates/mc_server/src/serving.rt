@@ -150,6 +150,3 @@ pub fn pump<R: Wait, I: Input, O: Output>(
     };
     serve(rt, &mut reader, &mut session, input, output)
 }
-
-#[cfg(test)]
-mod tests;

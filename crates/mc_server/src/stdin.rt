@@ -56,6 +56,3 @@ pub fn run_stdin<R: Wait, I: Input, O: Output, E: Output>(
         Err(fault) => fail(rt, NAME, fault, errors),
     }
 }
-
-#[cfg(test)]
-mod tests;

@@ -235,6 +235,3 @@ impl Output for MemoryOutput {
         Push::Taken(count)
     }
 }
-
-#[cfg(test)]
-mod tests;

@@ -154,6 +154,3 @@ impl<W: Write> Output for WriteOutput<W> {
         push
     }
 }
-
-#[cfg(test)]
-mod tests;

@@ -135,6 +135,3 @@ fn append_digits(number: u64, out: &mut Vec<u8>) -> Result<(), AllocError>
     let mut digits = Buffer::new();
     out.extend_from_slice(digits.format(number).as_bytes())
 }
-
-#[cfg(test)]
-mod tests;

@@ -1,0 +1,111 @@
+//! What tests of whole streams share: bytes put together, and the steps by which they are pulled and pushed.
+use itoa::Buffer;
+use mc_server::{InputStep, MemoryInput, MemoryOutput, OutputStep};
+use std::alloc::{AllocError, Global};
+use std::process::Abort;
+
+/// Stops the test where this doesn't hold.
+pub fn demand(rt: &impl Abort, holds: bool, what: &str, at: usize) {
+    assert!(rt; holds, "{what}, at {at}");
+}
+
+/// Pieces after one another.
+pub fn joined(alloc: Global, pieces: &[&[u8]]) -> Result<Vec<u8>, AllocError> {
+    let mut bytes = Vec::new(alloc);
+    for piece in pieces {
+        bytes.extend_from_slice(piece)?;
+    }
+    Ok(bytes)
+}
+
+/// So many bytes by themselves, with an empty pull before each.
+pub fn single_pulls(alloc: Global, count: usize) -> Result<Vec<InputStep>, AllocError> {
+    let mut steps = Vec::new(alloc);
+    for _ in 0..count {
+        steps.extend_from_slice(&[InputStep::Empty, InputStep::Give(1)])?;
+    }
+    Ok(steps)
+}
+
+/// So many bytes by themselves, with a full push before each.
+pub fn single_pushes(alloc: Global, count: usize) -> Result<Vec<OutputStep>, AllocError> {
+    let mut steps = Vec::new(alloc);
+    for _ in 0..count {
+        steps.extend_from_slice(&[OutputStep::Full, OutputStep::Take(1)])?;
+    }
+    Ok(steps)
+}
+
+/// An input that holds these bytes, and goes by these steps first.
+pub fn input_of(
+    alloc: Global,
+    sent: &[u8],
+    steps: &[InputStep],
+) -> Result<MemoryInput, AllocError> {
+    let bytes = Vec::from_slice(alloc, sent)?;
+    Ok(MemoryInput::new(bytes, Vec::from_slice(alloc, steps)?))
+}
+
+/// An output that goes by these steps first.
+pub fn output_of(alloc: Global, steps: &[OutputStep]) -> Result<MemoryOutput, AllocError> {
+    Ok(MemoryOutput::new(alloc, Vec::from_slice(alloc, steps)?))
+}
+
+/// Appends a text in which `#` stands for a number and `@` for a key.
+fn push_filled(
+    bytes: &mut Vec<u8>,
+    text: &[u8],
+    number: usize,
+    key: &[u8],
+) -> Result<(), AllocError> {
+    let mut buffer = Buffer::new();
+    let digits = buffer.format(number).as_bytes();
+    for byte in text {
+        match *byte {
+            b'#' => bytes.extend_from_slice(digits)?,
+            b'@' => bytes.extend_from_slice(key)?,
+            other => bytes.push(other)?,
+        }
+    }
+    Ok(())
+}
+
+/// The text once for each number from 1,000 to 1,999, which stands for `#`.
+fn for_each_number(alloc: Global, text: &[u8]) -> Result<Vec<u8>, AllocError> {
+    let mut bytes = Vec::new(alloc);
+    for number in 1_000..2_000 {
+        push_filled(&mut bytes, text, number, &[])?;
+    }
+    Ok(bytes)
+}
+
+/// The text once for each length of a key; `#` stands for the length, and `@` for a key that has it.
+pub fn for_each_key(alloc: Global, text: &[u8]) -> Result<Vec<u8>, AllocError> {
+    let mut bytes = Vec::new(alloc);
+    let key = [b'k'; 250];
+    for length in 1..=250 {
+        push_filled(&mut bytes, text, length, &key[..length])?;
+    }
+    Ok(bytes)
+}
+
+/// Sets 1,000 keys, and gets them all in one line.
+pub fn thousand_keys(alloc: Global) -> Result<Vec<u8>, AllocError> {
+    let sets = for_each_number(alloc, b"set k# 0 0 4\r\n#\r\n")?;
+    let keys = for_each_number(alloc, b" k#")?;
+    joined(alloc, &[&sets, b"get", &keys, b"\r\n"])
+}
+
+/// What `thousand_keys` is owed.
+pub fn thousand_values(alloc: Global) -> Result<Vec<u8>, AllocError> {
+    let stored = for_each_number(alloc, b"STORED\r\n")?;
+    let values = for_each_number(alloc, b"VALUE k# 0 4\r\n#\r\n")?;
+    joined(alloc, &[&stored, &values, b"END\r\n"])
+}
+
+/// The three columns of a row, with `|` between them.
+pub fn columns<'a>(row: &'a str) -> (&'a str, &'a str, &'a str) {
+    let (first, others) = row.split_once('|').unwrap_or((row, "?"));
+    let (second, third) = others.split_once('|').unwrap_or((others, "?"));
+    (first, second, third)
+}

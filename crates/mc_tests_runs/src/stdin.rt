@@ -1,0 +1,563 @@
+//! Runs of mc_stdin: its words, what a client sends, and what comes out.
+use crate::runs::{
+    columns, demand, for_each_key, input_of, joined, output_of, single_pulls, single_pushes,
+    thousand_keys, thousand_values,
+};
+use mc_model::Fault;
+use mc_server::{InputStep, MemoryInput, MemoryOutput, OutputStep, fault_text, run_stdin};
+use std::alloc::{AllocError, Global};
+use std::process::Abort;
+use std::sync::Wait;
+use std::test::Fail;
+
+/// The steps of a run's streams.
+#[derive(Clone, Copy)]
+struct Steps<'a> {
+    pulls: &'a [InputStep],
+    pushes: &'a [OutputStep],
+    tells: &'a [OutputStep],
+}
+
+const NO_STEPS: Steps<'static> = Steps {
+    pulls: &[],
+    pushes: &[],
+    tells: &[],
+};
+
+/// A run's streams.
+#[derive(Drop)]
+struct Streams {
+    input: MemoryInput,
+    output: MemoryOutput,
+    errors: MemoryOutput,
+}
+
+/// What a run has to leave.
+#[derive(Clone, Copy)]
+struct Wanted<'a> {
+    status: u8,
+    output: &'a [u8],
+    errors: &'a [u8],
+}
+
+fn push_word(words: &mut Vec<String>, word: &str) -> Result<(), AllocError> {
+    words.push(String::from_str(*words.allocator(), word)?)?;
+    Ok(())
+}
+
+/// The words of a command line, of which these are given with a space between them.
+fn words_of(alloc: Global, given: &str) -> Result<Vec<String>, AllocError> {
+    let mut words = Vec::new(alloc);
+    for word in given.split_terminator(' ') {
+        push_word(&mut words, word)?;
+    }
+    Ok(words)
+}
+
+fn streams_of(alloc: Global, sent: &[u8], steps: Steps) -> Result<Streams, AllocError> {
+    Ok(Streams {
+        input: input_of(alloc, sent, steps.pulls)?,
+        output: output_of(alloc, steps.pushes)?,
+        errors: output_of(alloc, steps.tells)?,
+    })
+}
+
+fn run<R: Wait>(rt: &R, alloc: Global, words: Vec<String>, streams: &mut Streams) -> u8 {
+    run_stdin(
+        rt,
+        alloc,
+        words,
+        &mut streams.input,
+        &mut streams.output,
+        &mut streams.errors,
+    )
+}
+
+/// Whether the run left what it has to.
+fn has_left(wanted: Wanted, status: u8, streams: &Streams) -> bool {
+    status == wanted.status
+        && streams.output.as_bytes() == wanted.output
+        && streams.errors.as_bytes() == wanted.errors
+}
+
+/// A run by these words.
+fn run_given<R: Wait + AllocGlobal>(
+    rt: &R,
+    given: &str,
+    streams: &mut Streams,
+) -> Result<u8, AllocError> {
+    let words = words_of(rt.alloc(), given)?;
+    Ok(run(rt, rt.alloc(), words, streams))
+}
+
+/// A run by these words and steps leaves what it has to.
+fn check_run(
+    rt: &(impl AllocGlobal + Wait + Abort),
+    given: &str,
+    sent: &[u8],
+    steps: Steps,
+    wanted: Wanted,
+) -> Result<(), AllocError> {
+    let mut streams = streams_of(rt.alloc(), sent, steps)?;
+    let status = run_given(rt, given, &mut streams)?;
+    demand(rt, has_left(wanted, status, &streams), given, sent.len());
+    Ok(())
+}
+
+/// As `check_run`, of a run that ends well.
+fn check_serves(
+    rt: &(impl AllocGlobal + Wait + Abort),
+    given: &str,
+    sent: &[u8],
+    pulls: &[InputStep],
+    pushes: &[OutputStep],
+    replies: &[u8],
+) -> Result<(), AllocError> {
+    let steps = Steps {
+        pulls,
+        pushes,
+        tells: &[],
+    };
+    let wanted = Wanted {
+        status: 0,
+        output: replies,
+        errors: &[],
+    };
+    check_run(rt, given, sent, steps, wanted)
+}
+
+/// Runs a stream whole, by these pulls, by these pushes, and by both.
+fn check_ways(
+    rt: &(impl AllocGlobal + Wait + Abort),
+    given: &str,
+    sent: &[u8],
+    pulls: &[InputStep],
+    pushes: &[OutputStep],
+    replies: &[u8],
+) -> Result<(), AllocError> {
+    check_serves(rt, given, sent, &[], &[], replies)?;
+    check_serves(rt, given, sent, pulls, &[], replies)?;
+    check_serves(rt, given, sent, &[], pushes, replies)?;
+    check_serves(rt, given, sent, pulls, pushes, replies)
+}
+
+/// Runs a stream whole, a byte a pull, a byte a push, and both.
+fn check_served(
+    rt: &(impl AllocGlobal + Wait + Abort),
+    given: &str,
+    sent: &[u8],
+    replies: &[u8],
+) -> Result<(), AllocError> {
+    let pulls = single_pulls(rt.alloc(), sent.len())?;
+    let pushes = single_pushes(rt.alloc(), replies.len())?;
+    check_ways(rt, given, sent, &pulls, &pushes, replies)
+}
+
+const FIRST_RUN: &[u8] = b"set a 5 0 3\r\nabc\r\nget a\r\n";
+
+#[test]
+fn ends_well(rt: HostRuntime) -> Result<(), Fail> {
+    let wanted = Wanted {
+        status: 0,
+        output: b"STORED\r\nVALUE a 5 3\r\nabc\r\nEND\r\n",
+        errors: b"",
+    };
+    check_run(&rt, "", FIRST_RUN, NO_STEPS, wanted)?;
+    Ok(())
+}
+
+#[test]
+fn tells_a_failed_input(rt: HostRuntime) -> Result<(), Fail> {
+    let steps = Steps {
+        pulls: &[InputStep::Give(18), InputStep::Fail],
+        pushes: &[],
+        tells: &[OutputStep::Take(3), OutputStep::Full, OutputStep::Take(1)],
+    };
+    let wanted = Wanted {
+        status: 1,
+        output: b"STORED\r\n",
+        errors: b"mc_stdin: input failed\n",
+    };
+    check_run(&rt, "", FIRST_RUN, steps, wanted)?;
+    Ok(())
+}
+
+#[test]
+fn tells_a_failed_output(rt: HostRuntime) -> Result<(), Fail> {
+    let steps = Steps {
+        pulls: &[],
+        pushes: &[OutputStep::Take(4), OutputStep::Fail],
+        tells: &[],
+    };
+    let wanted = Wanted {
+        status: 1,
+        output: b"STOR",
+        errors: b"mc_stdin: output failed\n",
+    };
+    check_run(&rt, "", FIRST_RUN, steps, wanted)?;
+    Ok(())
+}
+
+#[test]
+fn passes_over_failed_errors(rt: HostRuntime) -> Result<(), Fail> {
+    let steps = Steps {
+        pulls: &[InputStep::Fail],
+        pushes: &[],
+        tells: &[OutputStep::Take(3), OutputStep::Fail],
+    };
+    let wanted = Wanted {
+        status: 1,
+        output: b"",
+        errors: b"mc_",
+    };
+    check_run(&rt, "", FIRST_RUN, steps, wanted)?;
+    Ok(())
+}
+
+fn check_fault_text(rt: &(impl AllocGlobal + Abort), fault: Fault) -> Result<(), Fail> {
+    let shown = format!(in rt.alloc(); "{fault}")?;
+    demand(
+        rt,
+        fault_text(fault) == shown.as_bytes(),
+        "another text",
+        shown.len(),
+    );
+    Ok(())
+}
+
+#[test]
+fn names_faults_as_they_are_displayed(rt: HostRuntime) -> Result<(), Fail> {
+    for fault in [
+        Fault::Memory,
+        Fault::LogFull,
+        Fault::Taken,
+        Fault::Input,
+        Fault::Output,
+        Fault::BadEvent,
+        Fault::BadSettings,
+    ] {
+        check_fault_text(&rt, fault)?;
+    }
+    Ok(())
+}
+
+/// Of each row, with `~` between them: what it shows, a stream, and the replies with which it is served, with `|` between them.
+fn check_rows(rt: &(impl AllocGlobal + Wait + Abort), rows: &str) -> Result<(), AllocError> {
+    for row in rows.split('~') {
+        let (_, sent, replies) = columns(row);
+        check_served(rt, "", sent.as_bytes(), replies.as_bytes())?;
+    }
+    Ok(())
+}
+
+#[test]
+fn serves_worked_runs_however_they_are_cut(rt: HostRuntime) -> Result<(), Fail> {
+    check_rows(
+        &rt,
+        "\
+        A stored value is given back with its flags and length\
+        |set a 5 0 3\r\nabc\r\nget a\r\n\
+        |STORED\r\nVALUE a 5 3\r\nabc\r\nEND\r\n~\
+        Gets shows the unique; empty data; an absent key gives no value\
+        |set e 0 0 0\r\n\r\ngets e x\r\n\
+        |STORED\r\nVALUE e 0 0 1\r\n\r\nEND\r\n~\
+        Line ends inside a data block do not end it\
+        |set k 0 0 7\r\n\r\nEND\r\n\r\nget k\r\n\
+        |STORED\r\nVALUE k 0 7\r\n\r\nEND\r\n\r\nEND\r\n~\
+        A block without its line end is refused; line, block and two bytes are consumed\
+        |set a 0 0 2\r\nabcde\r\n\
+        |CLIENT_ERROR bad data chunk\r\nERROR\r\n~\
+        Cas stores, finds another unique, finds no key\
+        |set a 0 0 1\r\nx\r\ncas a 0 0 1 1\r\ny\r\ncas a 0 0 1 1\r\nz\r\ncas b 0 0 1 1\r\nw\r\ngets a\r\n\
+        |STORED\r\nSTORED\r\nEXISTS\r\nNOT_FOUND\r\nVALUE a 0 1 2\r\ny\r\nEND\r\n~\
+        Incr wraps at 2^64, decr stops at 0 and does not pad\
+        |set n 7 0 20\r\n18446744073709551615\r\nincr n 1\r\nset n 0 0 1\r\n5\r\ndecr n 9\r\nset n 0 0 2\r\n10\r\ndecr n 1\r\ngets n\r\n\
+        |STORED\r\n0\r\nSTORED\r\n0\r\nSTORED\r\n9\r\nVALUE n 0 1 6\r\n9\r\nEND\r\n~\
+        A nonzero exptime is refused and its block swallowed; append ignores it and keeps the old flags\
+        |set a 0 60 3\r\nget\r\nget a\r\nset a 7 0 1\r\nx\r\nappend a 9 60 1\r\ny\r\ngets a\r\n\
+        |CLIENT_ERROR expiry is not supported\r\nEND\r\nSTORED\r\nSTORED\r\nVALUE a 7 2 2\r\nxy\r\nEND\r\n~\
+        Noreply sends nothing; delete takes an optional 0\
+        |set a 0 0 1\r\nx\r\nadd a 0 0 1 noreply\r\ny\r\ndelete a 0\r\ndelete a\r\n\
+        |STORED\r\nDELETED\r\nNOT_FOUND\r\n~\
+        An input that ends inside a block gives nothing\
+        |set a 0 0 3\r\nab\
+        |~\
+        A bad line with noreply is answered, and its block swallowed\
+        |set a x 0 1 noreply\r\ny\r\nget a\r\n\
+        |CLIENT_ERROR bad command line format\r\nEND\r\n~\
+        Where the length is unreadable the line alone is consumed\
+        |set a 0 0 x\r\nabc\r\n\
+        |CLIENT_ERROR bad command line format\r\nERROR\r\n~\
+        Unknown, empty, upper-case and short lines; runs of spaces; a bare line feed\
+        |stats\r\n\r\nGET a\r\nget\r\nget  a \n\
+        |ERROR\r\nERROR\r\nERROR\r\nERROR\r\nEND\r\n~\
+        Incr of a value above 2^64 - 1, by an unreadable delta, of an absent key\
+        |set n 0 0 20\r\n18446744073709551616\r\nincr n 1\r\nincr n x\r\nincr m 1\r\n\
+        |STORED\r\nCLIENT_ERROR cannot increment or decrement non-numeric value\r\nCLIENT_ERROR invalid numeric delta argument\r\nNOT_FOUND\r\n~\
+        Flush_all empties the table and does not reset the uniques; a key twice is answered twice\
+        |set a 0 0 1\r\nx\r\nflush_all 0\r\nappend a 0 0 1\r\ny\r\nset a 0 0 1\r\nz\r\ngets a a\r\n\
+        |STORED\r\nOK\r\nNOT_STORED\r\nSTORED\r\nVALUE a 0 1 2\r\nz\r\nVALUE a 0 1 2\r\nz\r\nEND\r\n~\
+        A refused expiry with noreply is quiet; nothing is read after quit\
+        |set a 0 9 1 noreply\r\nx\r\nversion\r\nquit\r\nversion\r\n\
+        |VERSION 1.0.0\r\n~\
+        Prepend keeps the old flags; replace of an absent and add of a held key store nothing\
+        |set p 4 0 2\r\nbc\r\nprepend p 9 0 1\r\na\r\nreplace q 0 0 1\r\nx\r\nadd p 0 0 1\r\nx\r\ngets p\r\n\
+        |STORED\r\nSTORED\r\nNOT_STORED\r\nNOT_STORED\r\nVALUE p 4 3 2\r\nabc\r\nEND\r\n~\
+        Wrong words of delete, flush_all, cas and incr, each with its refusal\
+        |delete a 1\r\nflush_all 5\r\nflush_all x\r\nflush_all noreply\r\ncas a 0 0 1 x\r\ny\r\nincr a\r\n\
+        |CLIENT_ERROR bad command line format\r\nCLIENT_ERROR expiry is not supported\r\nCLIENT_ERROR bad command line format\r\nCLIENT_ERROR bad command line format\r\nERROR\r\n~\
+        Append, prepend and incr on one item are seen joined\
+        |set n 3 0 1\r\n1\r\nappend n 0 0 1\r\n0\r\nprepend n 0 0 1\r\n2\r\nincr n 5\r\nappend n 0 0 2\r\nab\r\ngets n\r\n\
+        |STORED\r\nSTORED\r\nSTORED\r\n215\r\nSTORED\r\nVALUE n 3 5 5\r\n215ab\r\nEND\r\n",
+    )?;
+    Ok(())
+}
+
+#[test]
+fn serves_worked_runs_under_options(rt: HostRuntime) -> Result<(), Fail> {
+    for (words, sent, replies) in [
+        // A full log refuses table commands and nothing else; the connection stays.
+        (
+            "--places 2",
+            "set a 0 0 1\r\nx\r\nset b 0 0 1\r\ny\r\nget a\r\nversion\r\n",
+            "STORED\r\nSTORED\r\nSERVER_ERROR log full\r\nVERSION 1.0.0\r\n",
+        ),
+        // The quota of items refuses a new key; an old key may be set again.
+        (
+            "--items 1",
+            "set a 0 0 1\r\nx\r\ngets a\r\nset b 0 0 1\r\ny\r\nset a 0 0 1\r\nz\r\ngets a b\r\n",
+            "STORED\r\nVALUE a 0 1 1\r\nx\r\nEND\r\nSERVER_ERROR out of memory storing object\r\nSTORED\r\nVALUE a 0 1 2\r\nz\r\nEND\r\n",
+        ),
+        // The quota of bytes refuses an incr that grows the number.
+        (
+            "--bytes 2",
+            "set n 0 0 1\r\n9\r\nincr n 1\r\ndecr n 1\r\n",
+            "STORED\r\nSERVER_ERROR out of memory storing object\r\n8\r\n",
+        ),
+        // The quota of bytes counts keys and data; a refused set keeps the old item and uses no unique.
+        (
+            "--bytes 4",
+            "set ab 0 0 2\r\nxy\r\nset ab 0 0 3\r\nxyz\r\nreplace ab 0 0 1\r\nx\r\nset c 0 0 1\r\ny\r\ndelete ab\r\nset c 0 0 3\r\nyyy\r\ngets ab c\r\n",
+            "STORED\r\nSERVER_ERROR out of memory storing object\r\nSTORED\r\nSERVER_ERROR out of memory storing object\r\nDELETED\r\nSTORED\r\nVALUE c 0 3 3\r\nyyy\r\nEND\r\n",
+        ),
+    ] {
+        check_served(&rt, words, sent.as_bytes(), replies.as_bytes())?;
+    }
+    Ok(())
+}
+
+#[test]
+fn a_key_has_at_most_250_bytes(rt: HostRuntime) -> Result<(), Fail> {
+    let key = [b'k'; 250];
+    let sent = joined(
+        rt.alloc(),
+        &[
+            b"set ",
+            &key,
+            b" 0 0 1\r\nx\r\nset ",
+            &key,
+            b"k 0 0 1\r\ny\r\nget ",
+            &key,
+            b"\r\n",
+        ],
+    )?;
+    let replies = joined(
+        rt.alloc(),
+        &[
+            b"STORED\r\nCLIENT_ERROR bad command line format\r\nVALUE ",
+            &key,
+            b" 0 1\r\nx\r\nEND\r\n",
+        ],
+    )?;
+    check_served(&rt, "", &sent, &replies)?;
+    Ok(())
+}
+
+#[test]
+fn a_line_has_at_most_65_536_bytes(rt: HostRuntime) -> Result<(), Fail> {
+    let line = "a".repeat(rt.alloc(), 65_535)?;
+    let line = line.as_bytes();
+    let sent = joined(rt.alloc(), &[line, b"\r\n", line, b"a\r\nversion\r\n"])?;
+    let replies = b"ERROR\r\nCLIENT_ERROR line too long\r\n";
+    check_served(&rt, "", &sent, replies)?;
+    Ok(())
+}
+
+// A byte a pull is quick as the gate runs it; under `rt try` this one takes more than its minute.
+#[test]
+fn data_have_at_most_1_048_576_bytes(rt: HostRuntime) -> Result<(), Fail> {
+    let block = "z".repeat(rt.alloc(), 1_048_576)?;
+    let block = block.as_bytes();
+    let sent = joined(
+        rt.alloc(),
+        &[
+            b"set b 0 0 1048577\r\n",
+            block,
+            b"z\r\nset b 0 0 1048576\r\n",
+            block,
+            b"\r\nappend b 0 0 1\r\nz\r\n",
+        ],
+    )?;
+    let replies =
+        b"SERVER_ERROR object too large for cache\r\nSTORED\r\nSERVER_ERROR object too large for cache\r\n";
+    check_served(&rt, "", &sent, replies)?;
+    Ok(())
+}
+
+const FOUR_REQUESTS: &[u8] = b"set a 0 0 1\r\nx\r\nset b 0 0 1\r\ny\r\nget a\r\nversion\r\n";
+
+#[test]
+fn applies_as_many_commands_as_are_asked_for(rt: HostRuntime) -> Result<(), Fail> {
+    let replies = b"STORED\r\nSTORED\r\nSERVER_ERROR log full\r\nVERSION 1.0.0\r\n";
+    check_serves(&rt, "--places 2", FOUR_REQUESTS, &[], &[], replies)?;
+    check_serves(&rt, "--places=2", FOUR_REQUESTS, &[], &[], replies)?;
+    Ok(())
+}
+
+const HELP: &str = "A memcached server for one client, from standard input to standard output
+
+Usage: mc_stdin [OPTIONS]
+
+Options:
+      --places <N>  How many commands are applied, from 1 to 1048576 [default: 65536]
+      --items <N>   How many items may be held, from 1 to 1048576 [default: 1048576]
+      --bytes <N>   How many bytes keys and data may have, from 1 to 1073741824 [default: 67108864]
+  -h, --help        Print help
+  -V, --version     Print version
+";
+
+/// These words are answered on standard output.
+fn check_shown(
+    rt: &(impl AllocGlobal + Wait + Abort),
+    given: &str,
+    text: &str,
+) -> Result<(), AllocError> {
+    check_serves(rt, given, FOUR_REQUESTS, &[], &[], text.as_bytes())
+}
+
+/// These words are refused on standard error.
+fn check_refused(
+    rt: &(impl AllocGlobal + Wait + Abort),
+    given: &str,
+    text: &str,
+) -> Result<(), AllocError> {
+    let wanted = Wanted {
+        status: 2,
+        output: &[],
+        errors: text.as_bytes(),
+    };
+    check_run(rt, given, FOUR_REQUESTS, NO_STEPS, wanted)
+}
+
+#[test]
+fn shows_help_and_the_version(rt: HostRuntime) -> Result<(), Fail> {
+    for (given, text) in [
+        ("--help", HELP),
+        ("-h", HELP),
+        ("--version", "mc_stdin 1.0.0\n"),
+    ] {
+        check_shown(&rt, given, text)?;
+    }
+    Ok(())
+}
+
+#[test]
+fn refuses_words_that_ask_for_no_service(rt: HostRuntime) -> Result<(), Fail> {
+    for (given, text) in [
+        ("--places 0", "mc_stdin: bad settings\n"),
+        ("--places 1048577", "mc_stdin: bad settings\n"),
+        ("--items 0", "mc_stdin: bad settings\n"),
+        ("--items 1048577", "mc_stdin: bad settings\n"),
+        ("--bytes 0", "mc_stdin: bad settings\n"),
+        ("--bytes 1073741825", "mc_stdin: bad settings\n"),
+        (
+            "--places x",
+            "error: invalid value 'x' for '--places <N>': invalid digit found in string\n\nFor more information, try '--help'.\n",
+        ),
+        (
+            "--bogus",
+            "error: unexpected argument '--bogus' found\n\nUsage: mc_stdin [OPTIONS]\n\nFor more information, try '--help'.\n",
+        ),
+    ] {
+        check_refused(&rt, given, text)?;
+    }
+    Ok(())
+}
+
+#[test]
+fn tells_a_failed_output_at_help(rt: HostRuntime) -> Result<(), Fail> {
+    let steps = Steps {
+        pulls: &[],
+        pushes: &[OutputStep::Take(10), OutputStep::Fail],
+        tells: &[],
+    };
+    let wanted = Wanted {
+        status: 1,
+        output: b"A memcache",
+        errors: b"mc_stdin: output failed\n",
+    };
+    check_run(&rt, "--help", FOUR_REQUESTS, steps, wanted)?;
+    Ok(())
+}
+
+#[test]
+fn serves_a_thousand_keys_of_one_line(rt: HostRuntime) -> Result<(), Fail> {
+    let sent = thousand_keys(rt.alloc())?;
+    let replies = thousand_values(rt.alloc())?;
+    check_served(&rt, "", &sent, &replies)?;
+    Ok(())
+}
+
+/// As many keys as the longest line has.
+const MOST_KEYS: usize = 32_766;
+
+/// What asks for one held key in the longest line.
+fn longest_get(alloc: Global) -> Result<Vec<u8>, AllocError> {
+    let keys = " a".repeat(alloc, MOST_KEYS)?;
+    joined(
+        alloc,
+        &[b"set a 0 0 1\r\nx\r\nget", keys.as_bytes(), b"\r\n"],
+    )
+}
+
+#[test]
+fn serves_the_longest_line_of_keys(rt: HostRuntime) -> Result<(), Fail> {
+    let sent = longest_get(rt.alloc())?;
+    let values = "VALUE a 0 1\r\nx\r\n".repeat(rt.alloc(), MOST_KEYS)?;
+    let replies = joined(rt.alloc(), &[b"STORED\r\n", values.as_bytes(), b"END\r\n"])?;
+    // The line feed isn't a byte of the line.
+    assert!(rt; sent.len() == "set a 0 0 1\r\nx\r\n".len() + 65_536 + 1);
+    check_served(&rt, "", &sent, &replies)?;
+    Ok(())
+}
+
+/// Sets a key of each length, and then gets each.
+fn keys_sent(alloc: Global) -> Result<Vec<u8>, AllocError> {
+    let sets = for_each_key(alloc, b"set @ # 0 1\r\nx\r\n")?;
+    let gets = for_each_key(alloc, b"get @\r\n")?;
+    joined(alloc, &[&sets, &gets])
+}
+
+#[test]
+fn serves_keys_of_every_length(rt: HostRuntime) -> Result<(), Fail> {
+    let sent = keys_sent(rt.alloc())?;
+    let stored = for_each_key(rt.alloc(), b"STORED\r\n")?;
+    let values = for_each_key(rt.alloc(), b"VALUE @ # 1\r\nx\r\nEND\r\n")?;
+    let replies = joined(rt.alloc(), &[&stored, &values])?;
+    check_served(&rt, "", &sent, &replies)?;
+    Ok(())
+}
+
+/// The replies to commands of which all but the last find a place in the log, where the words don't say how many it has.
+fn full_log_replies(alloc: Global) -> Result<Vec<u8>, AllocError> {
+    let answers = "NOT_FOUND\r\n".repeat(alloc, 65_536)?;
+    joined(alloc, &[answers.as_bytes(), b"SERVER_ERROR log full\r\n"])
+}
+
+#[test]
+fn applies_65_536_commands_unless_told_otherwise(rt: HostRuntime) -> Result<(), Fail> {
+    let sent = "delete a\r\n".repeat(rt.alloc(), 65_537)?;
+    let replies = full_log_replies(rt.alloc())?;
+    check_serves(&rt, "", sent.as_bytes(), &[], &[], &replies)?;
+    Ok(())
+}

@@ -1,0 +1,303 @@
+//! Each constructor at its bounds, and each call that takes memory, with ample memory.
+use crate::values::{Shown, block_of, copied, key_of, value_of};
+use mc_model::{
+    Data, Fault, Key, KeyList, Limits, Settings, TenantId, ValueList, WorkerId, read_number,
+};
+use std::alloc::Global;
+use std::process::Abort;
+use std::test::Fail;
+
+/// Whether the bytes make a key, which then has these bytes and a copy like it.
+fn is_key(rt: &impl Abort, alloc: Global, bytes: &[u8]) -> Result<bool, Fault> {
+    let Some(key) = Key::new(alloc, bytes)? else {
+        return Ok(false);
+    };
+    assert!(rt; key.as_bytes() == bytes);
+    assert!(rt; key.try_clone()? == key);
+    Ok(true)
+}
+
+fn assert_key(rt: &impl Abort, alloc: Global, bytes: &[u8], lawful: bool) -> Result<(), Fault> {
+    assert!(rt; Key::is_lawful(bytes) == lawful, "{bytes:?}");
+    assert!(rt; is_key(rt, alloc, bytes)? == lawful, "{bytes:?}");
+    Ok(())
+}
+
+#[test]
+fn keys_at_their_bounds(rt: HostRuntime) -> Result<(), Fail> {
+    let longest = vec![in rt.alloc(); b'k'; 250]?;
+    let too_long = vec![in rt.alloc(); b'k'; 251]?;
+    let cases = [
+        (longest.as_slice(), true),
+        (too_long.as_slice(), false),
+        (b"k".as_slice(), true),
+        (b"".as_slice(), false),
+        (b"!~".as_slice(), true),
+        (b"\x80\xff".as_slice(), true),
+        (b"a\x7fb".as_slice(), false),
+        (b"a b".as_slice(), false),
+        (b"a\x1f".as_slice(), false),
+    ];
+    for (bytes, lawful) in cases {
+        assert_key(&rt, rt.alloc(), bytes, lawful)?;
+    }
+    Ok(())
+}
+
+#[test]
+fn blocks_at_their_bound(rt: HostRuntime) -> Result<(), Fail> {
+    let largest = Data::new(vec![in rt.alloc(); 7u8; 1_048_576]?).ok_or("a block")?;
+    assert!(rt; largest.as_bytes().len() == 1_048_576);
+    assert!(rt; largest.try_clone()? == largest);
+    assert!(rt; Data::new(vec![in rt.alloc(); 7u8; 1_048_577]?).is_none());
+    Ok(())
+}
+
+/// Blocks of one length are alike where their bytes are, in order.
+#[test]
+fn blocks_compared(rt: HostRuntime) -> Result<(), Fail> {
+    let block = block_of(rt.alloc(), b"ab")?;
+    for (bytes, alike) in [("ab", true), ("ba", false), ("ac", false), ("a", false)] {
+        assert!(rt;
+            (block_of(rt.alloc(), bytes.as_bytes())? == block) == alike,
+            "{bytes}"
+        );
+    }
+    Ok(())
+}
+
+fn two_keys(alloc: Global, first: &str, second: &str) -> Result<Vec<Key>, Fail> {
+    let (first, second) = (key_of(alloc, first)?, key_of(alloc, second)?);
+    Ok(vec![in alloc; first, second]?)
+}
+
+/// The list of two keys.
+fn keys_of(alloc: Global, first: &str, second: &str) -> Result<KeyList, Fail> {
+    Ok(KeyList::new(two_keys(alloc, first, second)?).ok_or("no key")?)
+}
+
+/// The list shows these keys, has a copy like it, and gives them back.
+fn assert_keys(rt: &impl Abort, list: KeyList, keys: &[Key]) -> Result<(), Fault> {
+    assert!(rt; list.as_slice() == keys);
+    assert!(rt; list.try_clone()? == list);
+    assert!(rt; list.into_keys().as_slice() == keys);
+    Ok(())
+}
+
+#[test]
+fn keys_there_and_back(rt: HostRuntime) -> Result<(), Fail> {
+    let list = keys_of(rt.alloc(), "a", "b")?;
+    let keys = two_keys(rt.alloc(), "a", "b")?;
+    assert_keys(&rt, list, &keys)?;
+    Ok(())
+}
+
+#[test]
+fn no_list_without_keys(rt: HostRuntime) {
+    assert!(rt; KeyList::new(Vec::new(rt.alloc())).is_none());
+}
+
+fn is_keys(alloc: Global, list: &KeyList, first: &str, second: &str) -> Result<bool, Fail> {
+    let keys = keys_of(alloc, first, second)?;
+    Ok(*list == keys)
+}
+
+/// Lists of as many keys are alike where their keys are, in order.
+#[test]
+fn keys_compared(rt: HostRuntime) -> Result<(), Fail> {
+    const CASES: [(&str, &str, bool); 5] = [
+        ("a", "b", true),
+        ("b", "a", false),
+        ("a", "c", false),
+        ("c", "b", false),
+        ("a", "a", false),
+    ];
+    let list = keys_of(rt.alloc(), "a", "b")?;
+    for (first, second, alike) in CASES {
+        assert!(rt;
+            is_keys(rt.alloc(), &list, first, second)? == alike,
+            "{first} {second}"
+        );
+    }
+    Ok(())
+}
+
+fn values_of(alloc: Global, first: Shown, second: Shown) -> Result<ValueList, Fail> {
+    let (first, second) = (value_of(alloc, first)?, value_of(alloc, second)?);
+    Ok(ValueList::new(vec![in alloc; first, second]?))
+}
+
+#[test]
+fn values_there_and_back(rt: HostRuntime) -> Result<(), Fail> {
+    let values = vec![in rt.alloc(); value_of(rt.alloc(), ("a", 5, "", Some(1)))?]?;
+    let list = ValueList::new(values);
+    assert!(rt; list.as_slice().len() == 1);
+    assert!(rt; list.into_values().len() == 1);
+    assert!(rt; ValueList::new(Vec::new(rt.alloc())).as_slice().is_empty());
+    Ok(())
+}
+
+fn is_values(alloc: Global, list: &ValueList, first: Shown, second: Shown) -> Result<bool, Fail> {
+    let values = values_of(alloc, first, second)?;
+    Ok(*list == values)
+}
+
+const FIRST: Shown = ("a", 5, "x", Some(1));
+
+const SECOND: Shown = ("b", 6, "y", None);
+
+/// Lists of as many values are alike where each part of their values is, in order.
+#[test]
+fn values_compared(rt: HostRuntime) -> Result<(), Fail> {
+    const CASES: [(Shown, Shown, bool); 8] = [
+        (FIRST, SECOND, true),
+        (SECOND, FIRST, false),
+        (("c", 5, "x", Some(1)), SECOND, false),
+        (("a", 4, "x", Some(1)), SECOND, false),
+        (("a", 5, "y", Some(1)), SECOND, false),
+        (("a", 5, "x", Some(2)), SECOND, false),
+        (FIRST, ("b", 6, "y", Some(0)), false),
+        (FIRST, FIRST, false),
+    ];
+    let list = values_of(rt.alloc(), FIRST, SECOND)?;
+    for (first, second, alike) in CASES {
+        assert!(rt; is_values(rt.alloc(), &list, first, second)? == alike);
+    }
+    Ok(())
+}
+
+#[test]
+fn each_command_copied(rt: HostRuntime) -> Result<(), Fail> {
+    const TEXTS: [&str; 11] = [
+        "cas a 1 0 1 2\r\nx\r\n",
+        "gets a a\r\n",
+        "delete a\r\n",
+        "incr a 3\r\n",
+        "decr a 4\r\n",
+        "flush_all\r\n",
+        "set a 5 0 1\r\nx\r\n",
+        "add a 5 0 1\r\nx\r\n",
+        "replace a 5 0 1\r\nx\r\n",
+        "append a 5 0 1\r\nx\r\n",
+        "prepend a 5 0 1\r\nx\r\n",
+    ];
+    for text in TEXTS {
+        let _ = copied(&rt, rt.alloc(), text)?;
+    }
+    Ok(())
+}
+
+#[test]
+fn numbers_of_tenants_and_workers(rt: HostRuntime) {
+    for (number, lawful) in [(0, true), (63, true), (64, false), (255, false)] {
+        let shown = TenantId::new(number).map(|id| id.number());
+        assert!(rt; shown == lawful.then_some(number), "{number}");
+    }
+    for (number, lawful) in [(0, true), (15, true), (16, false), (255, false)] {
+        let shown = WorkerId::new(number).map(|id| id.number());
+        assert!(rt; shown == lawful.then_some(number), "{number}");
+    }
+}
+
+#[test]
+fn numbers_in_a_line(rt: HostRuntime) {
+    const CASES: [(&str, u64, Option<u64>); 7] = [
+        ("0042", 42, Some(42)),
+        ("43", 42, None),
+        ("+1", 42, None),
+        ("-1", 42, None),
+        ("", 42, None),
+        ("18446744073709551615", u64::MAX, Some(u64::MAX)),
+        ("18446744073709551616", u64::MAX, None),
+    ];
+    for (text, limit, number) in CASES {
+        assert!(rt; read_number(text.as_bytes(), limit) == number, "{text}");
+    }
+}
+
+/// Each tenant's quotas are looked at, and not the first one's alone.
+#[test]
+fn the_second_tenants_quotas_count(rt: HostRuntime) -> Result<(), Fail> {
+    let lawful = Limits { items: 1, bytes: 1 };
+    let unlawful = Limits { items: 0, bytes: 1 };
+    let quotas = vec![in rt.alloc(); lawful, unlawful]?;
+    assert!(rt; Settings::check(1, 1, quotas).is_err());
+    Ok(())
+}
+
+/// Whether the numbers make settings, which then show them.
+fn are_settings(
+    rt: &impl Abort,
+    alloc: Global,
+    workers: u64,
+    places: u64,
+    tenants: usize,
+    limits: Limits,
+) -> Result<bool, Fail> {
+    let quotas = vec![in alloc; limits; tenants]?;
+    match Settings::check(workers, places, quotas) {
+        Ok(settings) => {
+            assert!(rt; settings.workers() == workers && settings.places() == places);
+            assert!(rt; settings.tenants().len() == tenants);
+            Ok(true)
+        }
+        Err(fault) => {
+            assert!(rt; fault == Fault::BadSettings);
+            Ok(false)
+        }
+    }
+}
+
+#[test]
+fn settings_at_their_bounds(rt: HostRuntime) -> Result<(), Fail> {
+    // Workers, places, tenants, and the items and the bytes of each tenant.
+    const CASES: [(u64, u64, usize, u64, u64, bool); 16] = [
+        (0, 1, 1, 1, 1, false),
+        (1, 1, 1, 1, 1, true),
+        (16, 1, 1, 1, 1, true),
+        (17, 1, 1, 1, 1, false),
+        (1, 0, 1, 1, 1, false),
+        (1, 1_048_576, 1, 1, 1, true),
+        (1, 1_048_577, 1, 1, 1, false),
+        (1, 1, 0, 1, 1, false),
+        (1, 1, 64, 1, 1, true),
+        (1, 1, 65, 1, 1, false),
+        (1, 1, 1, 0, 1, false),
+        (1, 1, 1, 1_048_576, 1, true),
+        (1, 1, 1, 1_048_577, 1, false),
+        (1, 1, 1, 1, 0, false),
+        (1, 1, 1, 1, 1_073_741_824, true),
+        (1, 1, 1, 1, 1_073_741_825, false),
+    ];
+    for (workers, places, tenants, items, bytes, lawful) in CASES {
+        let limits = Limits { items, bytes };
+        let made = are_settings(&rt, rt.alloc(), workers, places, tenants, limits)?;
+        assert!(rt;
+            made == lawful,
+            "{workers} {places} {tenants} {items} {bytes}"
+        );
+    }
+    Ok(())
+}
+
+fn is_text_of(alloc: Global, fault: Fault, text: &str) -> Result<bool, Fail> {
+    let shown = format!(in alloc; "{fault}")?;
+    Ok(shown.as_str() == text)
+}
+
+#[test]
+fn texts_of_faults(rt: HostRuntime) -> Result<(), Fail> {
+    const CASES: [(Fault, &str); 7] = [
+        (Fault::Memory, "out of memory"),
+        (Fault::LogFull, "log full"),
+        (Fault::Taken, "cell taken"),
+        (Fault::Input, "input failed"),
+        (Fault::Output, "output failed"),
+        (Fault::BadEvent, "event not enabled"),
+        (Fault::BadSettings, "bad settings"),
+    ];
+    for (fault, text) in CASES {
+        assert!(rt; is_text_of(rt.alloc(), fault, text)?, "{text}");
+    }
+    Ok(())
+}

@@ -1,0 +1,357 @@
+//! What a replica answers, with ample memory: the worked examples that speak of several tenants or workers. Each row is a
+//! command as a client writes it, and the reply as the client reads it, which is empty where none comes.
+use crate::values::{assert_text, command_of, numbered_get, numbered_set, numbered_values};
+use mc_model::{Command, Entry, Fault, Limits, Reply, TenantId, Ticket, WorkerId};
+use mc_replica::{Replica, Seen};
+use std::alloc::Global;
+use std::process::Abort;
+use std::test::Fail;
+
+const QUOTAS: Limits = Limits {
+    items: 4,
+    bytes: 100,
+};
+
+const FULL: &str = "SERVER_ERROR out of memory storing object\r\n";
+
+fn worker_of(number: u8) -> Result<WorkerId, Fail> {
+    Ok(WorkerId::new(number).ok_or("no worker")?)
+}
+
+fn tenant_of(number: u8) -> Result<TenantId, Fail> {
+    Ok(TenantId::new(number).ok_or("no tenant")?)
+}
+
+/// What is seen of a worker's command on a tenant's table.
+fn seen_of(worker: WorkerId, number: u64, tenant: TenantId, command: Command) -> Seen {
+    let ticket = Ticket { worker, number };
+    let entry = Entry {
+        ticket,
+        tenant,
+        command,
+    };
+    Seen::new(ticket, Some(entry))
+}
+
+fn replay(rt: &impl Abort, replica: &mut Replica, seen: Seen) -> Result<Option<Reply>, Fault> {
+    assert!(rt; replica.has_place());
+    replica.replay(seen)
+}
+
+/// The unique of the latest change of a tenant's table.
+fn unique_at(rt: &impl Abort, replica: &Replica, tenant: TenantId) -> u64 {
+    assert!(rt; replica.has_tenant(tenant));
+    replica.table(tenant).last_unique()
+}
+
+fn assert_unique(rt: &impl Abort, replica: &Replica, tenant: u8, unique: u64) -> Result<(), Fail> {
+    let tenant = tenant_of(tenant)?;
+    assert!(rt; unique_at(rt, replica, tenant) == unique);
+    Ok(())
+}
+
+/// A client reads this text for the reply, and nothing where there is none.
+fn assert_shown(
+    rt: &impl Abort,
+    alloc: Global,
+    reply: Option<Reply>,
+    want: &str,
+) -> Result<(), Fail> {
+    match reply {
+        Some(reply) => assert_text(rt, alloc, &reply, want.as_bytes()),
+        None => {
+            assert!(rt; want.is_empty(), "{want}");
+            Ok(())
+        }
+    }
+}
+
+/// What is seen is answered so.
+fn assert_reply(
+    rt: &impl Abort,
+    alloc: Global,
+    replica: &mut Replica,
+    seen: Seen,
+    want: &str,
+) -> Result<(), Fail> {
+    let reply = replay(rt, replica, seen)?;
+    assert_shown(rt, alloc, reply, want)
+}
+
+/// A worker, a tenant, what is asked and what is wanted.
+type Row = (u8, u8, &'static str, &'static str);
+
+fn row_seen(alloc: Global, worker: u8, number: u64, tenant: u8, text: &str) -> Result<Seen, Fail> {
+    let command = command_of(alloc, text.as_bytes())?;
+    let (worker, tenant) = (worker_of(worker)?, tenant_of(tenant)?);
+    Ok(seen_of(worker, number, tenant, command))
+}
+
+fn assert_row(
+    rt: &impl Abort,
+    alloc: Global,
+    replica: &mut Replica,
+    number: u64,
+    row: Row,
+) -> Result<(), Fail> {
+    let (worker, tenant, text, want) = row;
+    let seen = row_seen(alloc, worker, number, tenant, text)?;
+    assert_reply(rt, alloc, replica, seen, want)
+}
+
+/// Rows one after another.
+fn assert_rows(
+    rt: &impl Abort,
+    alloc: Global,
+    replica: &mut Replica,
+    rows: &[Row],
+) -> Result<(), Fail> {
+    for (number, row) in rows.iter().enumerate() {
+        assert_row(rt, alloc, replica, number as u64, *row)?;
+    }
+    Ok(())
+}
+
+fn opened(alloc: Global, worker: u8, limits: &[Limits], places: u64) -> Result<Replica, Fail> {
+    let worker = worker_of(worker)?;
+    Ok(Replica::open(alloc, worker, limits, places)?)
+}
+
+/// A replica of this worker after these rows.
+fn replayed(
+    rt: &impl Abort,
+    alloc: Global,
+    worker: u8,
+    limits: &[Limits],
+    rows: &[Row],
+) -> Result<Replica, Fail> {
+    let mut replica = opened(alloc, worker, limits, 8)?;
+    assert_rows(rt, alloc, &mut replica, rows)?;
+    Ok(replica)
+}
+
+/// So many places are replayed, and the uniques of two tenants' tables are these.
+fn assert_stands(
+    rt: &impl Abort,
+    replica: &Replica,
+    places: usize,
+    uniques: (u64, u64),
+) -> Result<(), Fail> {
+    assert!(rt; replica.history().len() == places);
+    assert_unique(rt, replica, 0, uniques.0)?;
+    assert_unique(rt, replica, 1, uniques.1)
+}
+
+#[test]
+fn tenants_are_apart(rt: HostRuntime) -> Result<(), Fail> {
+    const ROWS: [Row; 5] = [
+        (0, 0, "set a 0 0 1\r\nx\r\n", "STORED\r\n"),
+        (0, 0, "set a 0 0 1\r\nx\r\n", "STORED\r\n"),
+        (0, 0, "set a 0 0 1\r\nx\r\n", "STORED\r\n"),
+        (0, 1, "set a 0 0 1\r\nq\r\n", "STORED\r\n"),
+        (0, 1, "gets a\r\n", "VALUE a 0 1 1\r\nq\r\nEND\r\n"),
+    ];
+    let replica = replayed(&rt, rt.alloc(), 0, &[QUOTAS, QUOTAS], &ROWS)?;
+    assert!(rt; replica.worker().number() == 0);
+    assert_stands(&rt, &replica, 5, (3, 1))
+}
+
+/// Nothing is found for this worker's second ticket.
+fn assert_absent(rt: &impl Abort, replica: &mut Replica) -> Result<(), Fail> {
+    let worker = worker_of(0)?;
+    let ticket = Ticket { worker, number: 1 };
+    let reply = replay(rt, replica, Seen::new(ticket, None))?;
+    assert!(rt; reply.is_none());
+    Ok(())
+}
+
+/// What is found for this worker's third ticket has its fourth, and counts as absent.
+fn assert_strange(rt: &impl Abort, replica: &mut Replica, command: Command) -> Result<(), Fail> {
+    let worker = worker_of(0)?;
+    let found = Entry {
+        ticket: Ticket { worker, number: 3 },
+        tenant: tenant_of(0)?,
+        command,
+    };
+    let seen = Seen::new(Ticket { worker, number: 2 }, Some(found));
+    let reply = replay(rt, replica, seen)?;
+    assert!(rt; reply.is_none());
+    Ok(())
+}
+
+fn knows_tenant(replica: &Replica, tenant: u8) -> Result<bool, Fail> {
+    let tenant = tenant_of(tenant)?;
+    Ok(replica.has_tenant(tenant))
+}
+
+#[test]
+fn nobodys_entries_change_no_table(rt: HostRuntime) -> Result<(), Fail> {
+    const KNOWN: [Row; 1] = [(0, 1, "set a 0 0 1\r\nx\r\n", "STORED\r\n")];
+    const UNKNOWN: Row = (0, 2, "set a 0 0 1\r\ny\r\n", "");
+    let mut replica = replayed(&rt, rt.alloc(), 0, &[QUOTAS, QUOTAS], &KNOWN)?;
+    assert_absent(&rt, &mut replica)?;
+    assert_row(&rt, rt.alloc(), &mut replica, 2, UNKNOWN)?;
+    assert!(rt; !knows_tenant(&replica, 2)?);
+    assert_stands(&rt, &replica, 3, (0, 1))
+}
+
+#[test]
+fn an_entry_of_another_ticket_counts_as_absent(rt: HostRuntime) -> Result<(), Fail> {
+    const KNOWN: [Row; 1] = [(0, 1, "set a 0 0 1\r\nx\r\n", "STORED\r\n")];
+    let mut replica = replayed(&rt, rt.alloc(), 0, &[QUOTAS, QUOTAS], &KNOWN)?;
+    let command = command_of(rt.alloc(), b"set a 0 0 1\r\ny\r\n")?;
+    assert_strange(&rt, &mut replica, command)?;
+    assert_stands(&rt, &replica, 2, (0, 1))
+}
+
+#[test]
+fn another_workers_commands_are_applied_without_reply(rt: HostRuntime) -> Result<(), Fail> {
+    const ROWS: [Row; 7] = [
+        (0, 0, "set a 0 0 1\r\nx\r\n", ""),
+        (0, 0, "set b 0 0 1\r\ny\r\n", ""),
+        (1, 0, "gets b\r\n", "VALUE b 0 1 2\r\ny\r\nEND\r\n"),
+        (2, 0, "delete b\r\n", ""),
+        (0, 0, "gets b\r\n", ""),
+        (1, 0, "gets b\r\n", "END\r\n"),
+        (1, 0, "delete a\r\n", "DELETED\r\n"),
+    ];
+    let _ = replayed(&rt, rt.alloc(), 1, &[QUOTAS], &ROWS)?;
+    Ok(())
+}
+
+#[test]
+fn quotas_are_each_tenants_own(rt: HostRuntime) -> Result<(), Fail> {
+    let one_item = Limits {
+        items: 1,
+        bytes: 100,
+    };
+    let three_bytes = Limits {
+        items: 100,
+        bytes: 3,
+    };
+    const ROWS: [Row; 8] = [
+        (0, 0, "set a 0 0 1\r\nx\r\n", "STORED\r\n"),
+        (0, 1, "set a 0 0 1\r\nx\r\n", "STORED\r\n"),
+        (0, 2, "set a 0 0 1\r\nx\r\n", "STORED\r\n"),
+        (0, 0, "set b 0 0 1\r\ny\r\n", FULL),
+        (0, 1, "set b 0 0 1\r\ny\r\n", FULL),
+        (0, 2, "set b 0 0 1\r\ny\r\n", "STORED\r\n"),
+        (0, 0, "set a 0 0 1\r\nz\r\n", "STORED\r\n"),
+        (0, 1, "gets b\r\n", "END\r\n"),
+    ];
+    let limits = [one_item, three_bytes, QUOTAS];
+    let replica = replayed(&rt, rt.alloc(), 0, &limits, &ROWS)?;
+    assert!(rt; !replica.has_place());
+    Ok(())
+}
+
+/// Two replicas of one log answer alike in their tables, whosever the commands are.
+fn assert_both(
+    rt: &impl Abort,
+    alloc: Global,
+    short: &mut Replica,
+    long: &mut Replica,
+    tenant: u8,
+) -> Result<(), Fail> {
+    let (number, text) = (u64::from(tenant), "set a 0 0 1\r\nx\r\n");
+    assert_row(rt, alloc, short, number, (0, tenant, text, "STORED\r\n"))?;
+    assert_row(rt, alloc, long, number, (0, tenant, text, ""))?;
+    assert_unique(rt, short, tenant, 1)?;
+    assert_unique(rt, long, tenant, 1)
+}
+
+fn assert_places(rt: &impl Abort, replica: &Replica, places: u64, has_place: bool) {
+    assert!(rt; replica.places() == places && replica.has_place() == has_place);
+}
+
+/// One history, of two places and of a thousand.
+fn assert_unequal(rt: &impl Abort, short: &Replica, long: &Replica) {
+    assert!(rt; short.history() == long.history());
+    assert_places(rt, short, 2, false);
+    assert_places(rt, long, 1000, true);
+}
+
+#[test]
+fn replicas_of_unequal_places_agree(rt: HostRuntime) -> Result<(), Fail> {
+    let mut short = opened(rt.alloc(), 0, &[QUOTAS, QUOTAS], 2)?;
+    let mut long = opened(rt.alloc(), 1, &[QUOTAS, QUOTAS], 1000)?;
+    assert_both(&rt, rt.alloc(), &mut short, &mut long, 0)?;
+    assert_both(&rt, rt.alloc(), &mut short, &mut long, 1)?;
+    assert_unequal(&rt, &short, &long);
+    Ok(())
+}
+
+/// Each worker has replayed as much of one log as it has learned, and answers its own commands alone. The row of a worker's
+/// own command has its reply; in the log of another worker it is silent.
+fn assert_worker(
+    rt: &impl Abort,
+    alloc: Global,
+    worker: u8,
+    learned: &[LogRow],
+) -> Result<(), Fail> {
+    let two_items = Limits {
+        items: 2,
+        bytes: 50,
+    };
+    let one_item = Limits { items: 1, bytes: 9 };
+    let mut replica = opened(alloc, worker, &[two_items, one_item], 9)?;
+    for (owner, number, tenant, text, want) in learned {
+        let want = if *owner == worker { *want } else { "" };
+        assert_row(
+            rt,
+            alloc,
+            &mut replica,
+            *number,
+            (*owner, *tenant, text, want),
+        )?;
+    }
+    assert_stands(rt, &replica, learned.len(), (1, 1))
+}
+
+/// An owner, its ticket's number, a tenant, what is asked and what the owner is answered.
+type LogRow = (u8, u64, u8, &'static str, &'static str);
+
+#[test]
+fn three_workers_answer_their_own_commands_of_one_log(rt: HostRuntime) -> Result<(), Fail> {
+    const LOG: [LogRow; 4] = [
+        (2, 0, 1, "set a 0 0 1\r\nq\r\n", "STORED\r\n"),
+        (1, 0, 0, "set a 0 0 1\r\nx\r\n", "STORED\r\n"),
+        (0, 0, 1, "set b 0 0 1\r\nq\r\n", FULL),
+        (2, 1, 0, "gets a\r\n", "VALUE a 0 1 1\r\nx\r\nEND\r\n"),
+    ];
+    assert_worker(&rt, rt.alloc(), 0, &LOG[..3])?;
+    assert_worker(&rt, rt.alloc(), 1, &LOG[..2])?;
+    assert_worker(&rt, rt.alloc(), 2, &LOG)
+}
+
+/// This worker's command on its tenant's table.
+fn own_seen(number: u64, command: Command) -> Result<Seen, Fail> {
+    let (worker, tenant) = (worker_of(0)?, tenant_of(0)?);
+    Ok(seen_of(worker, number, tenant, command))
+}
+
+fn assert_set(
+    rt: &impl Abort,
+    alloc: Global,
+    replica: &mut Replica,
+    number: u64,
+) -> Result<(), Fail> {
+    let seen = own_seen(number, numbered_set(alloc, number)?)?;
+    assert_reply(rt, alloc, replica, seen, "STORED\r\n")
+}
+
+/// A retrieval shows each of a thousand keys that are held, in the order asked.
+#[test]
+fn a_thousand_keys(rt: HostRuntime) -> Result<(), Fail> {
+    let quotas = Limits {
+        items: 1_000,
+        bytes: 1_048_577,
+    };
+    let mut replica = opened(rt.alloc(), 0, &[quotas], 1_001)?;
+    for number in 0..1_000 {
+        assert_set(&rt, rt.alloc(), &mut replica, number)?;
+    }
+    let seen = own_seen(1_000, numbered_get(rt.alloc(), 1_000)?)?;
+    let want = numbered_values(rt.alloc(), 1_000)?;
+    assert_reply(&rt, rt.alloc(), &mut replica, seen, &want)
+}
