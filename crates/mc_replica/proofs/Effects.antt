@@ -6,9 +6,8 @@ use Rattle.std.proofs.lemmas.List.{map-append}
 use Rattle.std.proofs.lemmas.Option.{none-some, same_Some, slice_get_past, slice_get_read}
 use Rattle.std.specs.Option.{option_map}
 use Rattle.mc_model.specs.State.{TableState, next_state}
-use Rattle.mc_model.specs.declared.command.Command.{Command}
 use Rattle.mc_model.specs.declared.request.Entry.{Entry}
-use Rattle.mc_model.specs.Log.{Sighting, entries, entry_of, own_command}
+use Rattle.mc_model.specs.Log.{Sighting, entries, entry_of}
 use Rattle.mc_model.specs.declared.settings.Limits.{Limits}
 use Rattle.mc_model.specs.Replay.{EachStands, EachStands-length, EachStands-push, IsNobodys, TakeEffect, with_command}
 

@@ -1,4 +1,4 @@
-use Rattle.std.proofs.Common.{List, Option, sym, ap, ap₂, ◌∙◌}
+use Rattle.std.proofs.Common.{List, Option, sym, ap₂, ◌∙◌}
 use Rattle.std.specs.Option.{option_map}
 use Rattle.mc_model.specs.declared.command.Command.{Command}
 use Rattle.mc_model.specs.declared.settings.Limits.{Limits}
