@@ -1,5 +1,5 @@
 -- How what an output took adds up, one part after another: lemmas on `Pushing.antt`.
-use Rattle.std.proofs.Common.{◌≡◌, ℕ, ◌+◌, inl, inr, ⊎_elim, Result, Ok, Err, OnOk, OnErr, MatchResult, List, [], ◌++◌, take, drop, sym, ap, ◌∙◌, append_assoc}
+use Rattle.std.proofs.Common.{◌≡◌, ℕ, ◌+◌, inl, inr, ⊎_elim, Result, Ok, Err, OnOk, OnErr, MatchResult, List, ◌++◌, take, drop, sym, ap, ◌∙◌, append_assoc}
 use Rattle.std.proofs.Math.Seq.{take-add}
 use Rattle.std.proofs.lemmas.List.{take-append-drop}
 use Rattle.mc_stream.specs.Event.{moved}

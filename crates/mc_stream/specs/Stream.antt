@@ -1,5 +1,5 @@
 -- What a pull gives and a push takes, and what an input and an output tell of themselves; this project's profile.
-use Rattle.std.specs.Prelude.{ℕ, ◌≤◌, List, [], ◌∷◌, take, Option}
+use Rattle.std.specs.Prelude.{ℕ, ◌≤◌, List, [], take, Option}
 use Rattle.mc_stream.specs.Event.{Event, Moves, Waits, Ends, Fails}
 use Rattle.mc_stream.specs.declared.stream.Pull.{Pull}
 use Rattle.mc_stream.specs.declared.stream.Pull.TheVariants.{Bytes, Empty, Ended, Failed as InputFailed}

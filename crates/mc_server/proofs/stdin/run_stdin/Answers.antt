@@ -1,4 +1,4 @@
-use Rattle.std.proofs.Common.{codes, inl, inr, map, refl, string_bytes, subst, List, String, Global}
+use Rattle.std.proofs.Common.{inl, inr, map, refl, string_bytes, subst, List, String, Global}
 use Rattle.clap.specs.Words.{kind_of}
 use Rattle.mc_model.specs.declared.fault.Fault.{Fault}
 use Rattle.mc_model.specs.declared.fault.Fault.TheVariants.{Memory, LogFull, Taken, Input, Output, BadEvent, BadSettings}

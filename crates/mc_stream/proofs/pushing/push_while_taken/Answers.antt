@@ -1,4 +1,4 @@
-use Rattle.std.proofs.Common.{◌+◌, inl, inr, length, refl, ◌∙◌, ap, length-drop, arith}
+use Rattle.std.proofs.Common.{◌+◌, inl, inr, length, ◌∙◌, ap, length-drop, arith}
 use Rattle.std.proofs.lemmas.List.{take_rest}
 use Rattle.mc_stream.specs.Event.{failures, had_to_wait, moved}
 use Rattle.mc_stream.specs.Pushed.{at_once_sent, sent_more}
