@@ -22,15 +22,18 @@ fn tenant_of(number: u8) -> Result<TenantId, Fail> {
     Ok(TenantId::new(number).ok_or("no tenant")?)
 }
 
+fn ticket_of(worker: WorkerId, number: u64) -> Ticket {
+    Ticket { worker, number }
+}
+
 /// What is seen of a worker's command on a tenant's table.
 fn seen_of(worker: WorkerId, number: u64, tenant: TenantId, command: Command) -> Seen {
-    let ticket = Ticket { worker, number };
     let entry = Entry {
-        ticket,
+        ticket: ticket_of(worker, number),
         tenant,
         command,
     };
-    Seen::new(ticket, Some(entry))
+    Seen::new(ticket_of(worker, number), Some(entry))
 }
 
 fn replay(rt: &impl Abort, replica: &mut Replica, seen: Seen) -> Result<Option<Reply>, Fault> {
