@@ -10,3 +10,7 @@ pub mod History
 pub mod Kinds
 pub mod Log
 pub mod Replay
+pub mod Legal
+pub mod Shown
+pub mod Lawful
+pub mod Helping

@@ -37,6 +37,12 @@ abbrev pub reply_to : List Limits → List (Option Entry) → Option Entry → O
 reply_to openings log None = None
 reply_to openings log (Some entry) = option_map (λ opening. answer opening (own entry.tenant log) entry.command) (slice_get openings entry.tenant)
 
+-- what a worker answers from its tables: the reply of the tenant's table, where the entry's ticket is the worker's own
+abbrev pub reply_from : ℕ → List TableState → Option Entry → Option Reply
+reply_from worker tables None = None
+reply_from worker tables (Some entry) =
+    if entry.ticket.worker == worker then option_map (λ (table : TableState). next_reply table entry.command) (slice_get tables entry.tenant) else None
+
 -- what this worker answers: the reply, where the entry's ticket is its own
 abbrev pub answer_to : ℕ → List Limits → List (Option Entry) → Option Entry → Option Reply
 answer_to worker openings log None = None

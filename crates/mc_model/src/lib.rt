@@ -13,6 +13,7 @@ pub use number::read_number;
 pub use reply::{Reply, Value, ValueList, WireNo};
 pub use request::{Entry, Request};
 pub use settings::{Limits, Settings};
+pub use shown::{LogSize, Phase, ShownState, WorkerState};
 
 pub mod command;
 pub mod fault;
@@ -23,3 +24,4 @@ pub mod number;
 pub mod reply;
 pub mod request;
 pub mod settings;
+pub mod shown;

@@ -1,0 +1,23 @@
+-- Tickets, and lists of them that a log can have. A ticket names a command by the worker that announced it and by how many that
+-- worker had announced before: the cell that a process threads onto the list (Herlihy, Wait-Free Synchronization, TOPLAS 1991, the
+-- universal construction).
+use Rattle.std.specs.Prelude.{◌≡◌, ℕ, ◌<◌, ◌==◌, List, length, take, Option, Some, slice_get}
+use Rattle.std.specs.List.{count_by}
+use Rattle.mc_model.specs.declared.id.Ticket.{Ticket}
+
+-- the worker's command of this number, from 0
+abbrev pub ticket_of : ℕ → ℕ → Ticket
+ticket_of worker number = record { worker = worker; number = number }
+
+-- how many of the worker's tickets stand in the list
+abbrev pub count : ℕ → List Ticket → ℕ
+count worker tickets = count_by (λ (ticket : Ticket). ticket.worker == worker) tickets
+
+-- each worker's tickets stand in the order of their numbers, none left out: before number k stand exactly k of that worker. So no
+-- ticket stands twice.
+abbrev pub IsLegal : List Ticket → Type 0
+IsLegal tickets = (place : ℕ) (ticket : Ticket) → slice_get tickets place ≡ Some ticket → count ticket.worker (take place tickets) ≡ ticket.number
+
+-- the ticket stands before this place
+abbrev pub StandsBefore : ℕ → Ticket → List Ticket → Type 0
+StandsBefore end ticket tickets = (place : ℕ) × (place < end) × (slice_get tickets place ≡ Some ticket)

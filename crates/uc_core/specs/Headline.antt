@@ -1,0 +1,82 @@
+-- The theorem of this project, clause by clause, as statements about a core and the replies that were given on the way to it. The laws
+-- of the crate say that they are true of every run, whatever its events.
+use Rattle.std.specs.Prelude.{◌≡◌, ℕ, ◌+◌, ◌<◌, ◌≤◌, List, length, map, take, Option, Some, None, slice_get}
+use Rattle.std.specs.Option.{option_map}
+use Rattle.mc_model.specs.declared.command.Command.{Command}
+use Rattle.mc_model.specs.declared.id.Ticket.{Ticket}
+use Rattle.mc_model.specs.declared.reply.Reply.{Reply}
+use Rattle.mc_model.specs.declared.request.Entry.{Entry}
+use Rattle.mc_model.specs.declared.settings.Limits.{Limits}
+use Rattle.mc_model.specs.declared.shown.WorkerState.{WorkerState}
+use Rattle.mc_model.specs.History.{answer}
+use Rattle.mc_model.specs.Lawful.{IsWorker, announced_by}
+use Rattle.mc_model.specs.Legal.{IsLegal}
+use Rattle.mc_model.specs.Log.{Sighting, entries, own}
+use Rattle.mc_model.specs.Replay.{EachStands}
+use Rattle.uc_core.specs.Core.{CoreState, ReplayState, entry_under, log_of}
+use Rattle.uc_core.specs.Run.{Given}
+
+-- "each announced command stands at most once in the log": no ticket stands at two places,
+abbrev pub StandsOnce : CoreState → Type 0
+StandsOnce core = (ticket : Ticket) (one other : ℕ) →
+    slice_get core.shown.decided one ≡ Some ticket → slice_get core.shown.decided other ≡ Some ticket → one ≡ other
+
+-- each worker's commands stand in the order in which it announced them, and nothing stands there that wasn't announced
+pub record LogIsSound (core : CoreState) : Type 0 where
+  pub once : StandsOnce core
+  pub legal : IsLegal core.shown.decided
+  pub announced : (place : ℕ) (ticket : Ticket) → slice_get core.shown.decided place ≡ Some ticket →
+      (entry : Entry) × (entry_under core ticket ≡ Some entry) × (entry.ticket ≡ ticket) × (entry.tenant < length core.openings)
+
+-- a worker's replica: what it has replayed of the places that it has learned, in their order
+abbrev pub replica_of : CoreState → WorkerState → ReplayState → List Sighting
+replica_of core worker replay =
+    take replay.replayed (map (λ (ticket : Ticket). let seen : Sighting = record { ticket = ticket; entry = entry_under core ticket } in seen) worker.learned)
+
+-- a worker of this number is shown so and has replayed so
+abbrev pub HasReplica : CoreState → ℕ → WorkerState → ReplayState → Type 0
+HasReplica core number worker replay = IsWorker core.shown number worker × (slice_get core.replays number ≡ Some replay)
+
+-- "all replicas agree on every replayed prefix": of two workers, the one that has replayed no more has replayed the same tickets and
+-- entries as the other at those places; where both have replayed as many, their tables are equal
+pub record ReplicasAgree (core : CoreState) : Type 0 where
+  pub prefixes : (one other : ℕ) (v w : WorkerState) (r s : ReplayState) → HasReplica core one v r → HasReplica core other w s →
+      r.replayed ≤ s.replayed → replica_of core v r ≡ take r.replayed (replica_of core w s)
+  pub tables : (one other : ℕ) (v w : WorkerState) (r s : ReplayState) → HasReplica core one v r → HasReplica core other w s →
+      r.replayed ≡ s.replayed → r.tables ≡ s.tables
+
+-- each worker has replayed no more than it has learned, and each of its tables stands for its tenant's commands that it has replayed
+abbrev pub TablesStand : CoreState → Type 0
+TablesStand core = (number : ℕ) (worker : WorkerState) (replay : ReplayState) → HasReplica core number worker replay →
+    (replay.replayed ≤ length worker.learned) × EachStands core.openings (entries (replica_of core worker replay)) replay.tables
+
+-- the reply to a worker's own command at a place is the answer after only its tenant's commands at the places before
+pub record IsAnswer (core : CoreState) (worker place : ℕ) (reply : Reply) : Type 0 where
+  pub entry : Entry
+  pub opening : Limits
+  pub stands : slice_get core.shown.decided place ≡ Some entry.ticket
+  pub found : slice_get (log_of core) place ≡ Some (Some entry)
+  pub mine : entry.ticket.worker ≡ worker
+  pub limits : slice_get core.openings entry.tenant ≡ Some opening
+  pub replied : reply ≡ answer opening (own entry.tenant (take place (log_of core))) entry.command
+
+-- "each replied command's reply is the bytes that memcached's commands give on a table holding only its tenant's commands in log order"
+abbrev pub RepliesAreAnswers : CoreState → List Given → Type 0
+RepliesAreAnswers core given = (k worker place : ℕ) (reply : Reply) → slice_get given k ≡ Some (worker, place, reply) → IsAnswer core worker place reply
+
+-- a reply was given to the tenant's command number j, from 0, of the log
+pub record Answered (core : CoreState) (given : List Given) (tenant j : ℕ) (reply : Reply) : Type 0 where
+  pub at : ℕ
+  pub worker : ℕ
+  pub place : ℕ
+  pub entry : Entry
+  pub told : slice_get given at ≡ Some (worker, place, reply)
+  pub found : slice_get (log_of core) place ≡ Some (Some entry)
+  pub whose : entry.tenant ≡ tenant
+  pub number : length (own tenant (take place (log_of core))) ≡ j
+
+-- two runs' logs agree for a tenant of each up to its command number j: both tables were opened with the same quotas, and the tenants'
+-- commands up to that one are the same
+pub record LogsAgree (one other : CoreState) (tenant other_tenant j : ℕ) : Type 0 where
+  pub limits : slice_get one.openings tenant ≡ slice_get other.openings other_tenant
+  pub commands : take (j + 1) (own tenant (log_of one)) ≡ take (j + 1) (own other_tenant (log_of other))

@@ -1,0 +1,4 @@
+pub mod Core
+pub mod Step
+pub mod Run
+pub mod Headline

@@ -1,0 +1,31 @@
+-- A run of the core: any finite list of events, of any workers in any order.
+use Rattle.std.specs.Prelude.{◌≡◌, ℕ, List, [], ◌∷◌, ◌++◌, Option, slice_get}
+use Rattle.std.specs.Option.{option_map, option_map_or, option_to_list}
+use Rattle.mc_model.specs.declared.reply.Reply.{Reply}
+use Rattle.mc_model.specs.Settings.{Configuration}
+use Rattle.uc_core.specs.Core.{CoreState, ReplayState, new_core}
+use Rattle.uc_core.specs.Step.{CoreStep, actor}
+use Rattle.uc_core.specs.declared.event.Event.{Event}
+
+-- a reply that was given: the worker, the place of its command in the log, and the reply
+abbrev pub Given : Type 0
+Given = ℕ × ℕ × Reply
+
+-- how many places a worker has replayed
+abbrev pub replayed_by : CoreState → ℕ → ℕ
+replayed_by core number = option_map_or (λ (replay : ReplayState). replay.replayed) (slice_get core.replays number) 0
+
+-- what an event gives: its reply, if it has one, under its worker and the place that the worker replays
+abbrev pub given_by : CoreState → Event → Option Reply → List Given
+given_by core event reply = option_to_list (option_map (λ (it : Reply). (actor event, replayed_by core (actor event), it)) reply)
+
+-- events in their order lead from one state to another, and give these replies
+abbrev pub Runs : CoreState → List Event → CoreState → List Given → Type 0
+Runs old [] new given = (new ≡ old) × (given ≡ [])
+Runs old (event ∷ events) new given =
+    (next : CoreState) × (reply : Option Reply) × (later : List Given)
+    × CoreStep old event next reply × Runs next events new later × (given ≡ given_by old event reply ++ later)
+
+-- a run from the core's opening
+abbrev pub IsRun : Configuration → List Event → CoreState → List Given → Type 0
+IsRun settings events core given = Runs (new_core settings) events core given

@@ -1,0 +1,29 @@
+//! What can happen to the core, and how a run of it ends early.
+use mc_model::{Command, Fault};
+
+/// One step of one worker. The first number is the worker's; a worker or tenant that doesn't exist makes an event that
+/// isn't enabled.
+#[derive(Debug, PartialEq, Eq, Drop)]
+pub enum Event {
+    /// The worker announces a command of a tenant.
+    Announce(u8, u8, Command),
+    /// The worker learns what stands at its next place, or finds it empty.
+    Read(u8),
+    /// The worker looks at whom to help at its next place.
+    Look(u8),
+    /// The worker proposes at its next place, and learns what stands there then.
+    Propose(u8),
+    /// The worker replays the next place that it has learned on its own tables.
+    Replay(u8),
+    /// The worker stops for good.
+    Stop(u8),
+}
+
+/// Why a run ended before its last event.
+#[derive(Clone, Copy, Debug, PartialEq, Eq)]
+pub struct RunFault {
+    /// Which event met the fault, from 0.
+    pub at: usize,
+    /// What it met.
+    pub fault: Fault,
+}

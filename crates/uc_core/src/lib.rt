@@ -1,0 +1,10 @@
+//! The shared log as a pure machine: every worker's steps as events, taken one at a time. It is Herlihy's universal construction
+//! (Wait-Free Synchronization, TOPLAS 1991) with memcached's commands, and the theorem of this project stands here as `laws`
+//! and `two_worlds`.
+#![tactic(auto)]
+
+pub use event::{Event, RunFault};
+pub use theorem::{laws, shown_states, two_worlds};
+
+pub mod event;
+pub mod theorem;
