@@ -1,6 +1,8 @@
 #!/usr/bin/env bash
 # Proves and builds a program with the libraries that it stands on, those that don't wait for each other side by side.
 # Prints a line as each crate begins and one as it ends; where one fails, its log stays and the last line says where.
+# rt keeps others out of a crate's folder and of all below it while it works, so each crate is proved in a room of its own, made of
+# hard links; what it has made comes back when it ends.
 set -euo pipefail
 cd "$(dirname "$0")/.."
 program=$1
@@ -37,6 +39,26 @@ for ((at = ${#order[@]} - 1; at >= 0; at--)); do
 done
 mapfile -t order < <(for crate in "${order[@]}"; do echo "${chain[$crate]} $crate"; done | sort -rn | cut -d' ' -f2)
 
+# The libraries of this repository at and below a crate.
+closure() {
+    local library
+    echo "$1"
+    for library in ${below[$1]}; do closure "$library"; done
+}
+
+# A room for one crate: its folder, those of the libraries below it, and a list of these alone.
+rooms=$PWD/out/rooms
+make_room() {
+    local crate=$1 room=$rooms/$1 it
+    rm -rf "$room"
+    mkdir -p "$room/crates"
+    cp HANDLES "$room"
+    for it in $(closure "$crate" | sort -u); do
+        cp -al "crates/$it" "$room/crates/"
+        grep "^$it *:" crates.txt >>"$room/crates.txt"
+    done
+}
+
 # Proves one crate with so many jobs, in the background.
 logs=$(mktemp -d)
 declare -A state jobs_of process_of
@@ -45,12 +67,21 @@ begin() {
     local crate=$1 jobs=$2
     begun=$((begun + 1))
     echo "proving $crate ($begun of ${#order[@]})"
+    make_room "$crate"
     if [ "$crate" = "$program" ]; then
-        (cd "crates/$crate" && rt run --jobs "$jobs" <stdin) >"$logs/$crate" 2>&1 &
+        (cd "$rooms/$crate/crates/$crate" && rt run --jobs "$jobs" <stdin) >"$logs/$crate" 2>&1 &
     else
-        (cd "crates/$crate" && rt lib --jobs "$jobs") >"$logs/$crate" 2>&1 &
+        (cd "$rooms/$crate/crates/$crate" && rt lib --jobs "$jobs") >"$logs/$crate" 2>&1 &
     fi
     state[$crate]=$SECONDS jobs_of[$crate]=$jobs process_of[$!]=$crate
+}
+
+# What was made for a crate, proved or not, is kept with its text.
+leave_room() {
+    local crate=$1
+    [ -d "$rooms/$crate/crates/$crate/out" ] || return 0
+    rm -rf "crates/$crate/out"
+    mv "$rooms/$crate/crates/$crate/out" "crates/$crate/out"
 }
 
 is_ready() {
@@ -61,7 +92,7 @@ is_ready() {
 
 idle=$(nproc)
 left=${#order[@]}
-trap 'kill $(jobs -p) 2>/dev/null || true' EXIT
+trap 'kill $(jobs -p) 2>/dev/null || true; rm -rf "$rooms"' EXIT
 while [ "$left" -gt 0 ]; do
     ready=()
     for crate in "${order[@]}"; do ! is_ready "$crate" || ready+=("$crate"); done
@@ -76,6 +107,7 @@ while [ "$left" -gt 0 ]; do
     wait -n -p ended "${!process_of[@]}" || status=$?
     crate=${process_of[$ended]}
     unset "process_of[$ended]"
+    leave_room "$crate"
     if [ "$status" -ne 0 ]; then
         tail -n 20 "$logs/$crate" | cut -c1-300
         echo "$crate isn't proved; its whole log is $logs/$crate" >&2
