@@ -3,6 +3,7 @@
 # prover must refuse each. Its words are the crates whose edits are tried; without words, those of all crates are.
 # The last lines name what wasn't refused, and then 'N passed, M failed'.
 set -euo pipefail
+tools=$(cd "$(dirname "$0")" && pwd)
 cd "${REPOSITORY:-$(dirname "$0")/..}"
 
 folder=$(mktemp -d)
@@ -12,10 +13,12 @@ for crate in "$@"; do
     [ -d "crates/$crate/must-fail" ] || [ -d "crates/$crate/more-edits" ] || { echo "$crate is no crate that has edits" >&2; exit 2; }
 done
 
-# The copy has what earlier checks kept, so that the libraries below a crate needn't be proved again.
+# The copy has what earlier checks kept. The crates are proved there first: several of them that found a library not proved yet would each
+# begin with it, and get in each other's way.
 mkdir "$folder/copy"
 tar -cf - --exclude=./.git . | tar -xf - -C "$folder/copy"
 cd "$folder/copy"
+REPOSITORY=$folder/copy "$tools/prove.sh" "$@"
 for crate in "$@"; do
     mkdir -p "crates/$crate/must-fail"
     [ ! -d "crates/$crate/more-edits" ] || mv -n "crates/$crate/more-edits/"*.edit "crates/$crate/must-fail/"

@@ -1,11 +1,12 @@
 #!/usr/bin/env bash
-# Proves and builds a program with the libraries that it stands on, those that don't wait for each other side by side.
+# Proves and builds the named crates with the libraries that they stand on, those that don't wait for each other side by side. A
+# program is run on its stored input.
 # Prints a line as each crate begins and one as it ends; where one fails, its log stays and the last line says where.
 # rt keeps others out of a crate's folder and of all below it while it works, so each crate is proved in a room of its own, made of
 # hard links; what it has made comes back when it ends.
 set -euo pipefail
-cd "$(dirname "$0")/.."
-program=$1
+cd "${REPOSITORY:-$(dirname "$0")/..}"
+[ $# -gt 0 ] || { echo "which crates?" >&2; exit 2; }
 
 # Each crate's libraries of this repository, by crates.txt.
 declare -A below
@@ -25,7 +26,7 @@ add() {
     for crate in ${below[$1]}; do add "$crate"; done
     [[ " ${order[*]} " == *" $1 "* ]] || order+=("$1")
 }
-add "$program"
+for crate in "$@"; do add "$crate"; done
 
 # How much text waits for a crate with its own: the longest chain begins first, and gets the processors that are left over.
 declare -A chain
@@ -68,7 +69,7 @@ begin() {
     begun=$((begun + 1))
     echo "proving $crate ($begun of ${#order[@]})"
     make_room "$crate"
-    if [ "$crate" = "$program" ]; then
+    if [ -e "crates/$crate/src/main.rt" ]; then
         (cd "$rooms/$crate/crates/$crate" && rt run --jobs "$jobs" <stdin) >"$logs/$crate" 2>&1 &
     else
         (cd "$rooms/$crate/crates/$crate" && rt lib --jobs "$jobs") >"$logs/$crate" 2>&1 &
