@@ -3,7 +3,7 @@ use Rattle.std.proofs.Common.{◌≡◌, ℕ, ◌+◌, ◌-◌, ◌≤◌, ◌<�
 use Rattle.std.proofs.lemmas.Grind.{common_steps}
 use Rattle.std.proofs.lemmas.Option.{none-some, same_Some}
 use Rattle.std.specs.FinMap as map
-use Rattle.std.specs.FinMap.{len-empty, len-insert, len-remove}
+use Rattle.std.specs.FinMap.{len-empty, len-insert}
 use Rattle.std.specs.Option.{is_some, option_map, unwrap_or}
 use Rattle.std.specs.Prelude.{Option, is_ok}
 use Rattle.std.specs.Result.{result_unwrap_or}
@@ -16,7 +16,7 @@ use Rattle.mc_model.specs.declared.reply.WireNo.TheVariants.{E6, E7}
 use Rattle.mc_model.specs.declared.settings.Limits.{Limits}
 use Rattle.mc_model.specs.State.{TableState}
 use Rattle.mc_model.specs.Table.{Table, count_of, is_within, key_cmp, key_cmp_total, use_of, weight}
-use Rattle.mc_model.specs.Use.{use-empty, use-insert, use-remove, use_under, weight_of}
+use Rattle.mc_model.specs.Use.{count-remove, use-empty, use-insert, use-remove, use_under, weight_of, within_parts}
 use Rattle.mc_items.specs.Held.{IsWithin}
 use Rattle.mc_items.specs.Storing.{allows, joined_or_refusal, weight_at}
 
@@ -32,24 +32,17 @@ empty_within limits = record {
 pub under_le : (table : Table) (key : Key) → use_under table key ≤ use_of table
 under_le table key = omega (arith, use-remove table key)
 
-kept_count : (there : Bool) (n : ℕ) → cond there (n - 1) n ≤ n
-kept_count true n = omega arith
-kept_count false n = omega arith
-
 -- taking a key out keeps a table within its quotas, and lowers the total
 pub removed_within : (limits : Limits) (table : Table) (key : Key) (total : ℕ) → IsWithin limits table total →
     IsWithin limits (map.remove table key) (total - use_under table key)
 removed_within limits table key total within =
     let sum = use-remove table key in
-    let count : count_of (map.remove table key) ≤ count_of table = subst (λ n. n ≤ count_of table) (sym (len-remove key_cmp_total table key)) (kept_count (map.contains_key table key) (count_of table)) in
+    let count = count-remove table key in
     record {
       total_is = omega (arith, sum, within.total_is);
       bytes = omega (arith, within.bytes);
       items = omega (arith, count, within.items);
     }
-
-both_le : (a b c d : ℕ) → (nat_le a b && nat_le c d) ≡ true → (a ≤ b) × (c ≤ d)
-both_le a b c d is = grind arith
 
 -- putting an item under a key where the quotas allow it
 inserted_within : (limits : Limits) (table : Table) (key : Key) (item : Item) (total : ℕ) → IsWithin limits table total → is_within limits (map.insert table key item) ≡ true →
@@ -57,7 +50,7 @@ inserted_within : (limits : Limits) (table : Table) (key : Key) (item : Item) (t
 inserted_within limits table key item total within allowed =
     let sum = use-insert table key item in
     let part = under_le table key in
-    let limited = both_le (use_of (map.insert table key item)) limits.bytes (count_of (map.insert table key item)) limits.items allowed in
+    let limited = within_parts limits (map.insert table key item) allowed in
     let total_is : (total - use_under table key) + (length key + length item.block) ≡ use_of (map.insert table key item) = omega (arith, sum, part, within.total_is) in
     record {
       total_is = total_is;

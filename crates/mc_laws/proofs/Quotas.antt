@@ -1,9 +1,8 @@
 -- What keeps a table within its quotas.
-use Rattle.std.proofs.Common.{◌≡◌, ◌≢◌, ◌↔◌, inl, inr, ⊎_elim, ℕ, ◌+◌, ◌-◌, ◌<◌, ◌≤◌, ◌⊎◌, nat_le, if◌then◌else◌, Bool, true, false, cond, is_some, length, Option, Some, None, refl, sym, ◌∙◌, ap, arith}
-use Rattle.std.proofs.lemmas.Bool.{and_from, and_parts, le-leb, leb-true}
+use Rattle.std.proofs.Common.{◌≡◌, ◌≢◌, ◌↔◌, inl, inr, ⊎_elim, ℕ, ◌+◌, ◌<◌, ◌≤◌, ◌⊎◌, nat_le, if◌then◌else◌, true, false, cond, is_some, length, Option, Some, None, refl, sym, ◌∙◌, ap, arith}
 use Rattle.std.proofs.lemmas.Bool.Decides.{nat_tests}
 use Rattle.std.specs.FinMap as map
-use Rattle.std.specs.FinMap.{len-empty, len-insert, len-remove}
+use Rattle.std.specs.FinMap.{len-empty, len-insert}
 use Rattle.mc_model.specs.declared.item.Item.{Item}
 use Rattle.mc_model.specs.declared.key.Key.{Key}
 use Rattle.mc_model.specs.declared.reply.Reply.{Reply}
@@ -12,13 +11,7 @@ use Rattle.mc_model.specs.declared.reply.WireNo.TheVariants.{E7}
 use Rattle.mc_model.specs.declared.settings.Limits.{Limits}
 use Rattle.mc_model.specs.Effect.{stored, unchanged}
 use Rattle.mc_model.specs.Table.{Table, count_of, is_within, key_cmp, key_cmp_total, use_of}
-use Rattle.mc_model.specs.Use.{removed, restored, use-empty, use-insert, use-remove, weight_of}
-
-pub within_parts : (limits : Limits) (table : Table) → is_within limits table ≡ true → (use_of table ≤ limits.bytes) × (count_of table ≤ limits.items)
-within_parts limits table within = let parts = and_parts _ _ within in (leb-true _ _ parts.0, leb-true _ _ parts.1)
-
-pub within_from : (limits : Limits) (table : Table) → use_of table ≤ limits.bytes → count_of table ≤ limits.items → is_within limits table ≡ true
-within_from limits table bytes items = and_from _ _ (le-leb _ _ bytes) (le-leb _ _ items)
+use Rattle.mc_model.specs.Use.{count-remove, removed, restored, use-empty, use-insert, use-remove, weight_of, within_from, within_parts}
 
 -- a table with no more than one within the quotas is within them
 pub less_within : (limits : Limits) (table other : Table) → use_of other ≤ use_of table → count_of other ≤ count_of table → is_within limits table ≡ true → is_within limits other ≡ true
@@ -29,13 +22,9 @@ less_within limits table other bytes items within =
 pub empty_within : (limits : Limits) → is_within limits map.empty ≡ true
 empty_within limits = within_from limits map.empty (omega (arith, use-empty)) (omega (arith, len-empty key_cmp Item))
 
-fewer : (b : Bool) (n : ℕ) → cond b (n - 1) n ≤ n
-fewer true n = omega arith
-fewer false n = omega arith
-
 pub remove_within : (limits : Limits) (table : Table) (key : Key) → is_within limits table ≡ true → is_within limits (map.remove table key) ≡ true
 remove_within limits table key =
-    less_within limits table (map.remove table key) (omega (arith, use-remove table key)) (omega (arith, len-remove key_cmp_total table key, fewer (map.contains_key table key) (count_of table)))
+    less_within limits table (map.remove table key) (omega (arith, use-remove table key)) (count-remove table key)
 
 -- an item under a new key, one in the place of another, and one that is taken out
 same_count : (there : Option Item) (n : ℕ) (old : Item) → there ≡ Some old → cond (is_some there) n (n + 1) ≡ n

@@ -25,8 +25,8 @@ use Rattle.mc_model.specs.Effect.{Effect, effect, is_acceptance, stored, unchang
 use Rattle.mc_model.specs.Key.{is_lawful_key}
 use Rattle.mc_model.specs.Log.{own}
 use Rattle.mc_model.specs.Table.{Table, count_of, is_within, key_cmp, use_of}
-use Rattle.mc_model.specs.Use.{use-empty}
-use Rattle.mc_laws.proofs.Quotas.{ExceedsQuotas, added, replaced, taken_out, within_from, within_or_exceeds}
+use Rattle.mc_model.specs.Use.{use-empty, within_from}
+use Rattle.mc_laws.proofs.Quotas.{ExceedsQuotas, added, replaced, taken_out, within_or_exceeds}
 use Rattle.mc_laws.proofs.Puts.{get-insert_same}
 use Rattle.mc_model.specs.Number.{number_up_to}
 

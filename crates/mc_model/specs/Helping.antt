@@ -1,10 +1,10 @@
 -- What is true of every state that events lead to: the log is legal, each worker knows a beginning of it, and a command that waits is
 -- helped by turns (Herlihy, Wait-Free Synchronization, TOPLAS 1991: at each place the worker whose number is the place modulo the
 -- number of workers is helped first). `Lawful` says which states those are; these are statements about them.
-use Rattle.std.specs.Prelude.{◌≡◌, ◌≢◌, ◌⊎◌, ℕ, ◌+◌, ◌-◌, ◌%◌, ◌<◌, ◌≤◌, List, ◌++◌, length, slice_get, Option, Some, None}
+use Rattle.std.specs.Prelude.{◌≡◌, ◌≢◌, ◌⊎◌, ℕ, ◌+◌, ◌-◌, ◌%◌, ◌<◌, ◌≤◌, List, ◌++◌, length, slice_get, Some, None}
 use Rattle.mc_model.specs.declared.id.Ticket.{Ticket}
 use Rattle.mc_model.specs.declared.shown.LogSize.{LogSize}
-use Rattle.mc_model.specs.declared.shown.Phase.TheVariants.{Idle, Pending, Looked, Stopped}
+use Rattle.mc_model.specs.declared.shown.Phase.TheVariants.{Idle, Pending, Looked}
 use Rattle.mc_model.specs.declared.shown.ShownState.{ShownState}
 use Rattle.mc_model.specs.declared.shown.WorkerState.{WorkerState}
 use Rattle.mc_model.specs.Lawful.{HasRoom, IsReached, IsWorker, LeadOn, ShownEvent, Step, announced_by, announces}
@@ -50,7 +50,7 @@ abbrev pub HelpingLaw : LogSize → ShownState → Type 0
 HelpingLaw size state = (number : ℕ) (worker : WorkerState) → IsWorker state number worker → Waits number worker →
     (worker.mark ≡ None → worker.proposals ≡ 0)
     × ((mark : ℕ) → worker.mark ≡ Some mark →
-        IsHelped size state (ticket_of number (worker.announced - 1)) mark × (worker.proposals + mark ≤ length worker.learned))
+    IsHelped size state (ticket_of number (worker.announced - 1)) mark × (worker.proposals + mark ≤ length worker.learned))
 
 -- a command that is announced while d places of a log of n workers are decided stands among the first d + n + 1 places, once so many are
 -- decided, whatever happens in between and whichever workers stop

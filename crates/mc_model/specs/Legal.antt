@@ -1,7 +1,7 @@
 -- Tickets, and lists of them that a log can have. A ticket names a command by the worker that announced it and by how many that
 -- worker had announced before: the cell that a process threads onto the list (Herlihy, Wait-Free Synchronization, TOPLAS 1991, the
 -- universal construction).
-use Rattle.std.specs.Prelude.{◌≡◌, ℕ, ◌<◌, ◌==◌, List, length, take, Option, Some, slice_get}
+use Rattle.std.specs.Prelude.{◌≡◌, ℕ, ◌<◌, ◌==◌, List, take, Some, slice_get}
 use Rattle.std.specs.List.{count_by}
 use Rattle.mc_model.specs.declared.id.Ticket.{Ticket}
 

@@ -1,7 +1,7 @@
 -- What each event of the log makes of the worker that takes it: one function an event. A worker announces, helps by turns, and
 -- proposes at the next place, as in Herlihy's universal construction (Wait-Free Synchronization, TOPLAS 1991), whose consensus objects
 -- are the places. What is shown of it, the mark and the count of proposals are this project's profile.
-use Rattle.std.specs.Prelude.{ℕ, ◌+◌, ◌-◌, ◌==◌, ◌&&◌, Bool, if◌then◌else◌, List, [], ◌∷◌, ◌++◌, length, replicate, ltb, Option, Some, None}
+use Rattle.std.specs.Prelude.{ℕ, ◌+◌, ◌-◌, ◌==◌, ◌&&◌, Bool, if◌then◌else◌, [], ◌∷◌, ◌++◌, length, replicate, ltb, Option, Some, None}
 use Rattle.std.specs.Option.{unwrap_or}
 use Rattle.mc_model.specs.declared.id.Ticket.{Ticket}
 use Rattle.mc_model.specs.declared.shown.LogSize.{LogSize}

@@ -1,15 +1,17 @@
--- What use and count become once an item goes under a key, or a key is taken out.
-use Rattle.std.specs.Prelude.{◌≡◌, ℕ, suc, ◌+◌, ◌&&◌, Bool, true, false, T, List, [], ◌∷◌, Option, Some, None, cond, is_some, length, sum_by, refl}
+-- What use and count become once an item goes under a key, or a key is taken out, and what quotas say of them.
+use Rattle.std.specs.Prelude.{◌≡◌, ℕ, suc, ◌+◌, ◌-◌, ◌≤◌, ◌&&◌, Bool, true, false, T, List, [], ◌∷◌, Option, Some, None, cond, is_some, length, sum_by, refl}
 use Rattle.std.proofs.Common.{ap, sym, subst, ◌∙◌, arith}
+use Rattle.std.proofs.lemmas.Bool.{and_from, and_parts, le-leb, leb-true}
 use Rattle.std.proofs.lemmas.List.Sums.{sum_by-cons}
 use Rattle.std.specs.declared.cmp.Ordering.TheVariants.{Less, Equal, Greater}
 use Rattle.std.specs.FinMap as map
-use Rattle.std.specs.FinMap.{entries-insert, entries_sorted, get-entries, get-insert, get-remove, len-empty, len-entries, same_map}
+use Rattle.std.specs.FinMap.{entries-insert, entries_sorted, get-entries, get-insert, get-remove, len-empty, len-entries, len-remove, same_map}
 use Rattle.std.specs.FinMap.Entries.{by_order, find, is_sorted, length-put, put}
 use Rattle.std.specs.Ordering.{is_eq}
 use Rattle.mc_model.specs.declared.item.Item.{Item}
 use Rattle.mc_model.specs.declared.key.Key.{Key}
-use Rattle.mc_model.specs.Table.{Table, is_tied, key_cmp, key_cmp_exact, key_cmp_total, tied_itself, tied_keys, use_of, weight}
+use Rattle.mc_model.specs.declared.settings.Limits.{Limits}
+use Rattle.mc_model.specs.Table.{Table, count_of, is_tied, is_within, key_cmp, key_cmp_exact, key_cmp_total, tied_itself, tied_keys, use_of, weight}
 
 -- what counts for a key under which this is, and in a table
 abbrev pub weight_of : Key → Option Item → ℕ
@@ -89,3 +91,18 @@ use-remove table key =
           let back = use-insert (map.remove table key) key item in
           omega (arith, ap use_of (restored table key item is), ap (weight_of key) (removed table key), back)
     ] refl
+
+-- a table within its quotas, in numbers
+pub within_parts : (limits : Limits) (table : Table) → is_within limits table ≡ true → (use_of table ≤ limits.bytes) × (count_of table ≤ limits.items)
+within_parts limits table within = let parts = and_parts _ _ within in (leb-true _ _ parts.0, leb-true _ _ parts.1)
+
+pub within_from : (limits : Limits) (table : Table) → use_of table ≤ limits.bytes → count_of table ≤ limits.items → is_within limits table ≡ true
+within_from limits table bytes items = and_from _ _ (le-leb _ _ bytes) (le-leb _ _ items)
+
+-- taking a key out leaves no more items
+fewer : (is_there : Bool) (n : ℕ) → cond is_there (n - 1) n ≤ n
+fewer true n = omega arith
+fewer false n = omega arith
+
+pub count-remove : (table : Table) (key : Key) → count_of (map.remove table key) ≤ count_of table
+count-remove table key = omega (arith, len-remove key_cmp_total table key, fewer (map.contains_key table key) (count_of table))

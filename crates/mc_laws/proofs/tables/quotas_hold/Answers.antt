@@ -9,7 +9,8 @@ use Rattle.mc_model.specs.declared.settings.Limits.{Limits}
 use Rattle.mc_model.specs.Effect.{Effect, effect}
 use Rattle.mc_model.specs.History.{after, answer, changes}
 use Rattle.mc_laws.proofs.Histories.{quotas, quotas_stay, stays_within, within_quotas}
-use Rattle.mc_laws.proofs.Quotas.{ExceedsQuotas, stored_refused, within_parts}
+use Rattle.mc_laws.proofs.Quotas.{ExceedsQuotas, stored_refused}
+use Rattle.mc_model.specs.Use.{within_parts}
 use Rattle.mc_laws.proofs.Refusals.{refused_exactly}
 use Rattle.mc_laws.proofs.tables.quotas_hold.Goals as goal
 

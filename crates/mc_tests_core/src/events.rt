@@ -1,0 +1,83 @@
+//! What the tests share: cores, events as text, and what a core answers and shows as text.
+//!
+//! Events are separated by `/`: `announce WORKER TENANT COMMAND`, where the command is what a client writes, or `read`, `look`,
+//! `propose`, `replay` or `stop` and a worker.
+use mc_model::{Command, Fault, Limits, Phase, Reply, Request, Settings, WorkerId};
+use mc_read::Reader;
+use mc_write::write_reply;
+use std::alloc::Global;
+use std::test::Fail;
+use uc_core::{Core, Event, RunFault};
+
+/// Quotas that the worked runs don't reach.
+pub(crate) const AMPLE: Limits = Limits {
+    items: 4,
+    bytes: 100,
+};
+
+/// A core of so many workers and places, with these tenants.
+pub(crate) fn opened(
+    alloc: Global,
+    workers: u64,
+    places: u64,
+    tenants: &[Limits],
+) -> Result<Core, Fail> {
+    let tenants = Vec::from_slice(alloc, tenants)?;
+    let settings = Settings::check(workers, places, tenants)?;
+    Ok(Core::new(alloc, &settings)?)
+}
+
+/// The command that a client writes so.
+fn command_of(alloc: Global, text: &str) -> Result<Command, Fail> {
+    match request_of(alloc, text)? {
+        Some(Request::Logged { command, .. }) => Ok(command),
+        _ => Err(Fail::from("no command")),
+    }
+}
+
+fn request_of(alloc: Global, text: &str) -> Result<Option<Request>, Fault> {
+    let mut reader = Reader::new(alloc);
+    reader.feed(text.as_bytes())?;
+    reader.next()
+}
+
+fn number_of(word: Option<&str>) -> Result<u8, Fail> {
+    let word = word.ok_or("a number is missing")?;
+    word.parse::<u8>().map_err(|_| Fail::from("no number"))
+}
+
+fn announcement(
+    alloc: Global,
+    worker: u8,
+    tenant: Option<&str>,
+    text: Option<&str>,
+) -> Result<Event, Fail> {
+    let tenant = number_of(tenant)?;
+    let command = command_of(alloc, text.ok_or("a command is missing")?)?;
+    Ok(Event::Announce(worker, tenant, command))
+}
+
+/// The event of this text.
+pub(crate) fn event_of(alloc: Global, text: &str) -> Result<Event, Fail> {
+    let mut words = text.splitn(4, ' ');
+    let name = words.next().ok_or("an event is missing")?;
+    let worker = number_of(words.next())?;
+    match name {
+        "announce" => announcement(alloc, worker, words.next(), words.next()),
+        "read" => Ok(Event::Read(worker)),
+        "look" => Ok(Event::Look(worker)),
+        "propose" => Ok(Event::Propose(worker)),
+        "replay" => Ok(Event::Replay(worker)),
+        "stop" => Ok(Event::Stop(worker)),
+        _ => Err(Fail::from("no event")),
+    }
+}
+
+/// All events of a text.
+pub(crate) fn events_of(alloc: Global, text: &str) -> Result<Vec<Event>, Fail> {
+    let mut events = Vec::new(alloc);
+    for event in text.split('/') {
+        events.push(event_of(alloc, event)?)?;
+    }
+    Ok(events)
+}
