@@ -1,3 +1,4 @@
 pub mod Lists
 pub mod Tickets
 pub mod StateLaws
+pub mod Helped
