@@ -2,3 +2,5 @@ pub mod Lists
 pub mod Tickets
 pub mod StateLaws
 pub mod Helped
+pub mod Turns
+pub mod Waiting
