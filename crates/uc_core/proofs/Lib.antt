@@ -1,1 +1,7 @@
 mod Rows
+pub mod Lists
+pub mod Tickets
+pub mod StateLaws
+pub mod Helped
+pub mod Turns
+pub mod Waiting
