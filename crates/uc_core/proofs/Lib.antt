@@ -1,0 +1,2 @@
+pub mod StateLaws
+pub mod CoreLaws
