@@ -1,2 +1,4 @@
+mod Lookups
+mod Moves
 pub mod StateLaws
 pub mod CoreLaws
