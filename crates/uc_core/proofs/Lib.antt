@@ -1,4 +1,6 @@
 mod Lookups
 mod Moves
+mod Entries
+mod Replays
 pub mod StateLaws
 pub mod CoreLaws
