@@ -23,11 +23,12 @@ use Rattle.uc_core.specs.declared.event.Event.{Event}
 use Rattle.uc_core.specs.declared.event.Event.TheVariants.{Announce, Look, Propose, Read, Replay, Stop}
 pub use Rattle.uc_core.proofs.Entries.{AreEntries, EntriesLaw, HasEntry, KeepsEntries}
 use Rattle.uc_core.proofs.Entries.{announcement-entries, announcement-keeps, entries_stay, has_entry, log-begins}
-use Rattle.uc_core.proofs.Lookups.{get-replicate, get-set_cases, there}
-use Rattle.uc_core.proofs.Moves.{BeginsWith-itself, IsSilent, Moves, announced_before, announced_elsewhere, announced_here, looks_quietly, one_moves, proposes_quietly, reads_quietly, stops_quietly}
+use Rattle.uc_core.proofs.Lists.{at_replicated, at_set, begins_self}
+use Rattle.uc_core.proofs.Lookups.{there}
+use Rattle.uc_core.proofs.Moves.{IsSilent, Moves, announced_elsewhere, looks_quietly, one_moves, proposes_quietly, reads_quietly, stops_quietly}
 pub use Rattle.uc_core.proofs.Replays.{AreReplays, ReplayLaw}
 use Rattle.uc_core.proofs.Replays.{replay_more, replay_stays}
-use Rattle.uc_core.proofs.StateLaws.{IsSound}
+use Rattle.uc_core.proofs.StateLaws.{IsSound, announced_after, announced_is, learned_few}
 use Rattle.uc_core.proofs.StateLaws as state_laws
 
 -- events lead to what the log shows, which is sound, and every worker has its entries and its replay, which keep to their laws
@@ -46,20 +47,15 @@ pub record Grows (old new : CoreState) : Type 0 where
   pub log : BeginsWith (log_of new) (log_of old)
 
 pub Grows-itself : (core : CoreState) → Grows core core
-Grows-itself core = record { openings = refl; decided = BeginsWith-itself core.shown.decided; log = BeginsWith-itself (log_of core) }
+Grows-itself core = record { openings = refl; decided = begins_self core.shown.decided; log = begins_self (log_of core) }
 
 -- what follows from the law: each decided ticket has its entry, and a worker has learned no more than the places of the log
 module _ (core : CoreState) (law : CoreLaw core) where
   pub stands_with_entry : (place : ℕ) (ticket : Ticket) → slice_get core.shown.decided place ≡ Some ticket → HasEntry core ticket
-  stands_with_entry place ticket at = has_entry core ticket law.listed law.entries (law.sound.log.announced place ticket at)
-
-  pub learned_few : (number : ℕ) (worker : WorkerState) → IsWorker core.shown number worker → length worker.learned ≤ length core.shown.decided
-  learned_few number worker at =
-      let begins = (law.sound.log.each number worker at).begins in
-      omega (arith, ap length begins.1, length-append worker.learned begins.0)
+  stands_with_entry place ticket at = has_entry core ticket law.listed law.entries (law.sound.announced place ticket at)
 
   pub learned_in_log : (number : ℕ) (worker : WorkerState) → IsWorker core.shown number worker → length worker.learned ≤ length (log_of core)
-  learned_in_log number worker at = omega (arith, learned_few number worker at, length-map core.shown.decided (entry_under core))
+  learned_in_log number worker at = omega (arith, learned_few (size_of core) core.shown number worker law.sound at, length-map core.shown.decided (entry_under core))
 
 -- before any event nothing is announced and nothing replayed
 nothing_announced : (size : LogSize) (number : ℕ) → announced_by (new_log size) number ≡ 0
@@ -67,7 +63,7 @@ nothing_announced size number = of_found (slice_get (replicate size.workers new_
   where
     of_found : (found : Option WorkerState) → slice_get (replicate size.workers new_worker) number ≡ found → option_map_or (λ (worker : WorkerState). worker.announced) found 0 ≡ 0
     of_found None at = refl
-    of_found (Some worker) at = ap (λ (it : WorkerState). it.announced) (get-replicate size.workers number new_worker worker at)
+    of_found (Some worker) at = ap (λ (it : WorkerState). it.announced) (sym (at_replicated size.workers number new_worker worker at))
 
 new_entries : (settings : Configuration) (number : ℕ) (announced : List Entry) → announced ≡ [] → EntriesLaw (new_core settings) number announced
 new_entries settings number announced none = subst (EntriesLaw (new_core settings) number) (sym none) record {
@@ -89,8 +85,8 @@ opens settings =
       sound = subst (λ n. IsSound (sized n) core.shown) (sym many) (state_laws.opens (sized settings.workers));
       listed = length-replicate settings.workers [] ∙ sym many;
       kept = length-replicate settings.workers _ ∙ sym many;
-      entries = λ number announced at. new_entries settings number announced (get-replicate settings.workers number [] announced at);
-      replays = λ number worker replay at. new_replay settings worker replay (get-replicate settings.workers number _ replay at.1);
+      entries = λ number announced at. new_entries settings number announced (sym (at_replicated settings.workers number [] announced at));
+      replays = λ number worker replay at. new_replay settings worker replay (sym (at_replicated settings.workers number _ replay at.1));
     }
 
 -- one event of what the log shows
@@ -142,12 +138,11 @@ module _ (old : CoreState) (number tenant : ℕ) (command : Command) (worker : W
   announce-goes_on : Step (size_of old) old.shown (announces number) shown → GoesOn old announced
   announce-goes_on step =
       let list = there old.entries number (omega (arith, law.listed, slice_get_within old.shown.workers number worker at)) in
-      let moves = one_moves old.shown old.shown.decided number worker (announce worker) at (BeginsWith-itself old.shown.decided) (le_refl (length worker.learned)) in
-      let before = announced_before old.shown old.shown.decided number worker (announce worker) at in
-      let here = announced_here old.shown old.shown.decided number worker (announce worker) at in
+      let moves = one_moves old.shown old.shown.decided number worker (announce worker) at (begins_self old.shown.decided) (le_refl (length worker.learned)) in
+      let raised = announced_after old.shown old.shown.decided number worker (announce worker) at ∙ ap (λ (n : ℕ). n + 1) (sym (announced_is old.shown number worker at)) in
       let elsewhere = announced_elsewhere old.shown old.shown.decided number worker (announce worker) at in
       let keeps = announcement-keeps old shown list.0 entry list.1 in
-      let entries = announcement-entries old shown list.0 entry list.1 law.entries known refl (here ∙ ap (λ (n : ℕ). n + 1) (sym before)) elsewhere in
+      let entries = announcement-entries old shown list.0 entry list.1 law.entries known refl raised elsewhere in
       (shown-keeps old law shown (with_entry old.entries entry) (announces number) step moves keeps (length-set old.entries number _) entries,
       shown-grows old law shown (with_entry old.entries entry) moves keeps)
 
@@ -162,11 +157,11 @@ module _ (old : CoreState) (number : ℕ) (worker : WorkerState) (replay : Repla
 
   stays_replayed : (other : ℕ) (found : WorkerState) (known : ReplayState) → HasReplica old other found known → ReplayLaw replayed found known
   stays_replayed other found known is =
-      replay_stays old replayed found found known (law.replays other found known is) refl (BeginsWith-itself (log_of old)) (learned_in_log old law other found is.0) (le_refl (length found.learned))
+      replay_stays old replayed found found known (law.replays other found known is) refl (begins_self (log_of old)) (learned_in_log old law other found is.0) (le_refl (length found.learned))
 
   replay-goes_on : replay.replayed < length worker.learned → TakeEffect (entry_at old replay.replayed) replay.tables tables → GoesOn old replayed
   replay-goes_on more takes =
-      let inside : replay.replayed < length old.shown.decided = omega (arith, more, learned_few old law number worker has.0) in
+      let inside : replay.replayed < length old.shown.decided = omega (arith, more, learned_few (size_of old) old.shown number worker law.sound has.0) in
       let mine : ReplayLaw replayed worker further = replay_more replayed worker replay tables (stays_replayed number worker replay has) more inside takes in
       (record {
         reached = law.reached;
@@ -179,9 +174,9 @@ module _ (old : CoreState) (number : ℕ) (worker : WorkerState) (replay : Repla
                 let same : worker ≡ found = same_Some worker found (sym has.0 ∙ ap (slice_get old.shown.workers) (sym here.0) ∙ is.0) in
                 subst (λ (it : WorkerState × ReplayState). ReplayLaw replayed it.0 it.1) (λ i. (same i, here.1 i)) mine)
             (λ apart. stays_replayed other found known (is.0, apart.1))
-            (get-set_cases old.replays number other further known is.1);
+            (at_set old.replays number other further known is.1);
       },
-      record { openings = refl; decided = BeginsWith-itself old.shown.decided; log = BeginsWith-itself (log_of old) })
+      record { openings = refl; decided = begins_self old.shown.decided; log = begins_self (log_of old) })
 
 -- one event
 goes_on : (old new : CoreState) (event : Event) (reply : Option Reply) → CoreLaw old → CoreStep old event new reply → GoesOn old new

@@ -15,7 +15,8 @@ use Rattle.mc_model.specs.Lawful.{announced_by}
 use Rattle.mc_model.specs.Legal.{ticket_of}
 use Rattle.uc_core.specs.Core.{CoreState, entry_under, log_of}
 use Rattle.uc_core.specs.Step.{announced_entry, entry_at, with_entry}
-use Rattle.uc_core.proofs.Lookups.{get-append, get-push_cases, get-set_cases, get-set_other, get-set_same, map-agree, there}
+use Rattle.uc_core.proofs.Lists.{at_pushed, set_elsewhere, set_here}
+use Rattle.uc_core.proofs.Lookups.{at_longer, map-agree, there}
 
 -- a worker's entries: as many as it has announced, each under its own ticket and of a known tenant
 pub record EntriesLaw (core : CoreState) (number : ℕ) (announced : List Entry) : Type 0 where
@@ -101,10 +102,10 @@ module _ (old : CoreState) (shown : ShownState) (list : List Entry) (entry : Ent
 
   listed_here : slice_get (with_entry old.entries entry) entry.ticket.worker ≡ Some (list ++ entry ∷ [])
   listed_here = ap (λ (lists : List (List Entry)). slice_get lists entry.ticket.worker) is_listed
-      ∙ get-set_same old.entries entry.ticket.worker (list ++ entry ∷ []) (slice_get_within old.entries entry.ticket.worker list at)
+      ∙ set_here old.entries entry.ticket.worker (list ++ entry ∷ []) (slice_get_within old.entries entry.ticket.worker list at)
 
   listed_elsewhere : (other : ℕ) → other ≢ entry.ticket.worker → slice_get (with_entry old.entries entry) other ≡ slice_get old.entries other
-  listed_elsewhere other apart = get-set_other old.entries entry.ticket.worker other _ apart
+  listed_elsewhere other apart = set_elsewhere old.entries entry.ticket.worker other _ apart
 
   pub announcement-keeps : KeepsEntries old announced_core
   announcement-keeps ticket found is =
@@ -113,7 +114,7 @@ module _ (old : CoreState) (shown : ShownState) (list : List Entry) (entry : Ent
       (λ (here : ticket.worker ≡ entry.ticket.worker).
           let same : list ≡ parts.0 = same_Some list parts.0 (sym at ∙ ap (slice_get old.entries) (sym here) ∙ parts.1) in
           from_parts announced_core ticket found (list ++ entry ∷ []) (ap (slice_get (with_entry old.entries entry)) here ∙ listed_here)
-          (get-append list (entry ∷ []) ticket.number found (ap (λ (known : List Entry). slice_get known ticket.number) same ∙ parts.2)))
+          (at_longer list (entry ∷ []) ticket.number found (ap (λ (known : List Entry). slice_get known ticket.number) same ∙ parts.2)))
       (λ apart. from_parts announced_core ticket found parts.0 (listed_elsewhere ticket.worker apart ∙ parts.1) parts.2)
       (cases_eq ticket.worker entry.ticket.worker)
 
@@ -127,11 +128,11 @@ module _ (old : CoreState) (shown : ShownState) (list : List Entry) (entry : Ent
       tickets = λ k found is. ⊎_elim
           (λ before. law.tickets k found before)
           (λ (last : (k ≡ length list) × (entry ≡ found)). ap (λ (e : Entry). e.ticket) (sym last.1) ∙ ap (ticket_of entry.ticket.worker) (next ∙ sym law.many ∙ sym last.0))
-          (get-push_cases list k entry found is);
+          (at_pushed list entry found k is);
       tenants = λ k found is. ⊎_elim
           (λ before. law.tenants k found before)
           (λ last. subst (λ (e : Entry). e.tenant < length old.openings) last.1 known)
-          (get-push_cases list k entry found is);
+          (at_pushed list entry found k is);
     }
 
     pub announcement-entries : AreEntries announced_core

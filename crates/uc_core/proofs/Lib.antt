@@ -1,6 +1,11 @@
+pub mod Lists
+pub mod Tickets
+pub mod StateLaws
+pub mod Helped
+pub mod Turns
+pub mod Waiting
 mod Lookups
 mod Moves
 mod Entries
 mod Replays
-pub mod StateLaws
 pub mod CoreLaws
