@@ -5,3 +5,8 @@ pub mod StateLaws
 pub mod Helped
 pub mod Turns
 pub mod Waiting
+mod Lookups
+mod Moves
+mod Entries
+mod Replays
+pub mod CoreLaws
