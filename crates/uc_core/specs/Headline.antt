@@ -10,11 +10,14 @@ use Rattle.mc_model.specs.declared.settings.Limits.{Limits}
 use Rattle.mc_model.specs.declared.shown.WorkerState.{WorkerState}
 use Rattle.mc_model.specs.History.{answer}
 use Rattle.mc_model.specs.Lawful.{IsWorker, announced_by}
-use Rattle.mc_model.specs.Legal.{IsLegal}
+use Rattle.mc_model.specs.Legal.{IsLegal, StandsBefore, ticket_of}
 use Rattle.mc_model.specs.Log.{Sighting, entries, own}
 use Rattle.mc_model.specs.Replay.{EachStands}
 use Rattle.uc_core.specs.Core.{CoreState, ReplayState, entry_under, log_of}
-use Rattle.uc_core.specs.Run.{Given}
+use Rattle.uc_core.specs.Run.{Given, Runs}
+use Rattle.uc_core.specs.Step.{CoreStep}
+use Rattle.uc_core.specs.declared.event.Event.{Event}
+use Rattle.uc_core.specs.declared.event.Event.TheVariants.{Announce}
 
 -- "each announced command stands at most once in the log": no ticket stands at two places,
 abbrev pub StandsOnce : CoreState → Type 0
@@ -63,6 +66,14 @@ pub record IsAnswer (core : CoreState) (worker place : ℕ) (reply : Reply) : Ty
 -- "each replied command's reply is the bytes that memcached's commands give on a table holding only its tenant's commands in log order"
 abbrev pub RepliesAreAnswers : CoreState → List Given → Type 0
 RepliesAreAnswers core given = (k worker place : ℕ) (reply : Reply) → slice_get given k ≡ Some (worker, place, reply) → IsAnswer core worker place reply
+
+-- a command that is announced while d places of a log of n workers are decided stands among the first d + n + 1 places, once so many
+-- are decided, whatever happens in between and whichever workers stop
+abbrev pub IsDecidedSoon : CoreState → Type 0
+IsDecidedSoon old = (number tenant : ℕ) (command : Command) (announced new : CoreState) (events : List Event) (given : List Given) →
+    CoreStep old (Announce number tenant command) announced None → Runs announced events new given →
+    length old.shown.decided + length old.shown.workers + 1 ≤ length new.shown.decided →
+    StandsBefore (length old.shown.decided + length old.shown.workers + 1) (ticket_of number (announced_by old.shown number)) new.shown.decided
 
 -- a reply was given to the tenant's command number j, from 0, of the log
 pub record Answered (core : CoreState) (given : List Given) (tenant j : ℕ) (reply : Reply) : Type 0 where

@@ -7,7 +7,7 @@ ghost use Rattle.mc_model.specs.declared.reply.Reply.{Reply};
 ghost use Rattle.mc_model.specs.declared.shown.LogSize as size;
 ghost use Rattle.mc_model.specs.declared.shown.ShownState as state;
 ghost use Rattle.uc_core.specs.Core.{CoreState, size_of};
-ghost use Rattle.uc_core.specs.Headline.{Answered, LogIsSound, LogsAgree, RepliesAreAnswers, ReplicasAgree, TablesStand};
+ghost use Rattle.uc_core.specs.Headline.{Answered, IsDecidedSoon, LogIsSound, LogsAgree, RepliesAreAnswers, ReplicasAgree, TablesStand};
 ghost use Rattle.uc_core.specs.Run.{Given, IsRun};
 ghost use Rattle.uc_core.specs.declared.event.Event as event;
 
@@ -24,6 +24,9 @@ pub fn laws()
 
     // Each table stands for its tenant's commands that its worker has replayed.
     ensures tables { (settings : Configuration) (events : List event.Event) (core : CoreState) (given : List Given) → IsRun settings events core given → TablesStand core }
+
+    // An announced command stands in the log soon, whether or not its worker has stopped.
+    ensures helped { (settings : Configuration) (events : List event.Event) (core : CoreState) (given : List Given) → IsRun settings events core given → IsDecidedSoon core }
 
     // Whatever the log shows, events of the shown log alone lead there.
     ensures shown { (settings : Configuration) (events : List event.Event) (core : CoreState) (given : List Given) → IsRun settings events core given → IsReached (size_of core) core.shown }
