@@ -81,3 +81,44 @@ pub(crate) fn events_of(alloc: Global, text: &str) -> Result<Vec<Event>, Fail> {
     }
     Ok(events)
 }
+
+/// Appends a reply with its worker and place, as a client reads it.
+fn tell(said: &mut Vec<u8>, worker: u8, place: u64, reply: &Reply) -> Result<(), Fault> {
+    write!(said, "{worker} {place} ")?;
+    write_reply(reply, said)
+}
+
+/// What a core answers to these events, taken one at a time: each reply behind its worker and its place.
+pub(crate) fn stepped(alloc: Global, core: &mut Core, text: &str) -> Result<Vec<u8>, Fail> {
+    let mut said = Vec::new(alloc);
+    for event in text.split('/') {
+        step(alloc, core, event, &mut said)?;
+    }
+    Ok(said)
+}
+
+fn step(alloc: Global, core: &mut Core, text: &str, said: &mut Vec<u8>) -> Result<(), Fail> {
+    let worker = number_of(text.split(' ').nth(1))?;
+    let place = replayed_by(core, worker)?;
+    let event = event_of(alloc, text)?;
+    if let Some(reply) = core.step(event)? {
+        tell(said, worker, place, &reply)?;
+    }
+    Ok(())
+}
+
+/// The same of a run of all these events.
+pub(crate) fn ran(alloc: Global, core: &mut Core, text: &str) -> Result<Vec<u8>, Fail> {
+    let events = events_of(alloc, text)?;
+    let mut replies = Vec::new(alloc);
+    core.run(&events, &mut replies)?;
+    told(alloc, &replies)
+}
+
+fn told(alloc: Global, replies: &[(WorkerId, u64, Reply)]) -> Result<Vec<u8>, Fail> {
+    let mut said = Vec::new(alloc);
+    for (worker, place, reply) in replies {
+        tell(&mut said, worker.number(), *place, reply)?;
+    }
+    Ok(said)
+}

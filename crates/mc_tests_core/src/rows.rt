@@ -1,0 +1,131 @@
+//! Worked runs, as single events: what is answered, and what the log and its workers show at the end. Each is taken by `step` and
+//! by `run`.
+use crate::events::{AMPLE, opened, ran, shown_by, stepped};
+use mc_model::Limits;
+use std::alloc::Global;
+use std::process::Abort;
+use std::test::Fail;
+
+/// A core of so many workers and places takes these events, answers so and then shows this.
+struct Row<'a> {
+    size: (u64, u64),
+    tenants: &'a [Limits],
+    events: &'a str,
+    replies: &'a str,
+    shows: &'a str,
+}
+
+fn assert_stepped(rt: &impl Abort, alloc: Global, row: &Row<'_>) -> Result<(), Fail> {
+    let mut core = opened(alloc, row.size.0, row.size.1, row.tenants)?;
+    let said = stepped(alloc, &mut core, row.events)?;
+    assert_eq!(rt; said.as_slice(), row.replies.as_bytes());
+    assert_eq!(rt; shown_by(alloc, &core)?.as_str(), row.shows);
+    Ok(())
+}
+
+fn assert_ran(rt: &impl Abort, alloc: Global, row: &Row<'_>) -> Result<(), Fail> {
+    let mut core = opened(alloc, row.size.0, row.size.1, row.tenants)?;
+    let said = ran(alloc, &mut core, row.events)?;
+    assert_eq!(rt; said.as_slice(), row.replies.as_bytes());
+    assert_eq!(rt; shown_by(alloc, &core)?.as_str(), row.shows);
+    Ok(())
+}
+
+fn assert_row(rt: &impl Abort, alloc: Global, row: &Row<'_>) -> Result<(), Fail> {
+    assert_stepped(rt, alloc, row)?;
+    assert_ran(rt, alloc, row)
+}
+
+#[test]
+fn tenants_are_apart(rt: HostRuntime) -> Result<(), Fail> {
+    let row = Row {
+        size: (1, 8),
+        tenants: &[AMPLE, AMPLE],
+        events: "announce 0 0 set a 0 0 1\r\nx\r\n/read 0/look 0/propose 0/replay 0\
+            /announce 0 0 set a 0 0 1\r\nx\r\n/read 0/look 0/propose 0/replay 0\
+            /announce 0 0 set a 0 0 1\r\nx\r\n/read 0/look 0/propose 0/replay 0\
+            /announce 0 1 set a 0 0 1\r\nq\r\n/read 0/look 0/propose 0/replay 0\
+            /announce 0 1 gets a\r\n/read 0/look 0/propose 0/replay 0",
+        replies: "0 0 STORED\r\n0 1 STORED\r\n0 2 STORED\r\n0 3 STORED\r\n\
+            0 4 VALUE a 0 1 1\r\nq\r\nEND\r\n",
+        shows: "log (0,0) (0,1) (0,2) (0,3) (0,4)\n\
+            worker 0 idle learned 5 replayed 5 proposals 1\n",
+    };
+    assert_row(&rt, rt.alloc(), &row)
+}
+
+#[test]
+fn helped_after_stop(rt: HostRuntime) -> Result<(), Fail> {
+    let row = Row {
+        size: (2, 8),
+        tenants: &[AMPLE],
+        events: "announce 0 0 set a 0 0 1\r\nx\r\n/stop 0\
+            /announce 1 0 get a\r\n/read 1/look 1/propose 1/look 1/propose 1/replay 1/replay 1",
+        replies: "1 1 VALUE a 0 1\r\nx\r\nEND\r\n",
+        shows: "log (0,0) (1,0)\n\
+            worker 0 stopped learned 0 replayed 0 proposals 0\n\
+            worker 1 idle learned 2 replayed 2 proposals 2\n",
+    };
+    assert_row(&rt, rt.alloc(), &row)
+}
+
+#[test]
+fn helping_changes_the_proposal(rt: HostRuntime) -> Result<(), Fail> {
+    let row = Row {
+        size: (2, 8),
+        tenants: &[AMPLE],
+        events: "announce 1 0 set a 0 0 1\r\nx\r\n/read 1/look 1\
+            /announce 0 0 set b 0 0 1\r\ny\r\n/read 0/propose 1\
+            /announce 1 0 set a 0 0 1\r\nz\r\n/read 1/look 1/propose 1/replay 1/replay 1\
+            /announce 1 0 get b\r\n/read 1/look 1/propose 1/look 1/propose 1/replay 1/replay 1\
+            /look 0/propose 0/look 0/propose 0/look 0/propose 0/replay 0/replay 0/replay 0",
+        replies: "1 0 STORED\r\n1 1 STORED\r\n1 3 VALUE b 0 1\r\ny\r\nEND\r\n0 2 STORED\r\n",
+        shows: "log (1,0) (1,1) (0,0) (1,2)\n\
+            worker 0 idle learned 3 replayed 3 proposals 3\n\
+            worker 1 idle learned 4 replayed 4 proposals 2\n",
+    };
+    assert_row(&rt, rt.alloc(), &row)
+}
+
+#[test]
+fn three_workers_two_tenants(rt: HostRuntime) -> Result<(), Fail> {
+    let row = Row {
+        size: (3, 9),
+        tenants: &[
+            Limits {
+                items: 2,
+                bytes: 50,
+            },
+            Limits { items: 1, bytes: 9 },
+        ],
+        events: "announce 2 1 set a 0 0 1\r\nq\r\n/read 2/look 2/propose 2/replay 2\
+            /announce 1 0 set a 0 0 1\r\nx\r\n/read 1/read 1/look 1/propose 1/replay 1/replay 1\
+            /announce 0 1 set b 0 0 1\r\nq\r\n/read 0/read 0/read 0/look 0/propose 0/replay 0/replay 0/replay 0\
+            /announce 2 0 gets a\r\n/read 2/read 2/read 2/look 2/propose 2/replay 2/replay 2/replay 2",
+        replies: "2 0 STORED\r\n1 1 STORED\r\n0 2 SERVER_ERROR out of memory storing object\r\n\
+            2 3 VALUE a 0 1 1\r\nx\r\nEND\r\n",
+        shows: "log (2,0) (1,0) (0,0) (2,1)\n\
+            worker 0 idle learned 3 replayed 3 proposals 1\n\
+            worker 1 idle learned 2 replayed 2 proposals 1\n\
+            worker 2 idle learned 4 replayed 4 proposals 1\n",
+    };
+    assert_row(&rt, rt.alloc(), &row)
+}
+
+/// This log agrees for its tenant with that of `three_workers_two_tenants` for the first of its two, and the replies to the
+/// tenant's commands are the same.
+#[test]
+fn agreeing_logs_answer_alike(rt: HostRuntime) -> Result<(), Fail> {
+    let row = Row {
+        size: (1, 4),
+        tenants: &[Limits {
+            items: 2,
+            bytes: 50,
+        }],
+        events: "announce 0 0 set a 0 0 1\r\nx\r\n/read 0/look 0/propose 0/replay 0\
+            /announce 0 0 gets a\r\n/read 0/look 0/propose 0/replay 0",
+        replies: "0 0 STORED\r\n0 1 VALUE a 0 1 1\r\nx\r\nEND\r\n",
+        shows: "log (0,0) (0,1)\nworker 0 idle learned 2 replayed 2 proposals 1\n",
+    };
+    assert_row(&rt, rt.alloc(), &row)
+}
