@@ -6,16 +6,16 @@ use Rattle.std.proofs.lemmas.Option.{none-some, same_Some, slice_get_within}
 use Rattle.mc_model.specs.declared.id.Ticket.{Ticket}
 use Rattle.mc_model.specs.declared.shown.LogSize.{LogSize}
 use Rattle.mc_model.specs.declared.shown.Phase.{Phase}
-use Rattle.mc_model.specs.declared.shown.Phase.TheVariants.{Idle, Pending, Looked, Stopped}
+use Rattle.mc_model.specs.declared.shown.Phase.TheVariants.{Idle, Pending, Looked}
 use Rattle.mc_model.specs.declared.shown.ShownState.{ShownState}
 use Rattle.mc_model.specs.declared.shown.WorkerState.{WorkerState}
-use Rattle.mc_model.specs.Helping.{BeginsWith, HelpingLaw, LogLaw, Waits, WorkerLaw}
+use Rattle.mc_model.specs.Helping.{HelpingLaw, LogLaw, Waits}
 use Rattle.mc_model.specs.Lawful.{IsReached, IsWorker, Leads, ShownEvent, Step, announced_by, announces, decided_with, looks, next, proposes, reads, stops, turn, with_worker}
-use Rattle.mc_model.specs.Legal.{count, ticket_of}
+use Rattle.mc_model.specs.Legal.{count}
 use Rattle.mc_model.specs.Shown.{announce, learn, look, marked, new_log, new_worker, proposal, propose, read, stop}
 use Rattle.uc_core.proofs.Helped.{Helps, helps_keeps, is_helped}
-use Rattle.uc_core.proofs.Lists.{at_replicated, at_set, begins_longer, begins_self, nothing_next}
-use Rattle.uc_core.proofs.StateLaws.{IsSound, after, announced_is, is_sound, keeps, learned_few, opens}
+use Rattle.uc_core.proofs.Lists.{at_replicated, at_set, begins_longer, nothing_next}
+use Rattle.uc_core.proofs.StateLaws.{IsSound, after, announced_is, is_sound, learned_few}
 use Rattle.uc_core.proofs.Tickets.{count_begins, count_known}
 use Rattle.uc_core.proofs.Turns.{turn_after}
 
@@ -60,9 +60,9 @@ module _ (size : LogSize) where
   after_helpful state decided number new helpful stay own few = record {
     waits = λ other worker there open_. ⊎_elim
         (λ (here : (other ≡ number) × (new ≡ worker)).
-            subst (λ (z : ℕ × WorkerState). Waits z.0 z.1 → IsWaiting size (after state decided number new) z.0 z.1) (λ i. (sym here.0 i, here.1 i)) own open_)
+        subst (λ (z : ℕ × WorkerState). Waits z.0 z.1 → IsWaiting size (after state decided number new) z.0 z.1) (λ i. (sym here.0 i, here.1 i)) own open_)
         (λ (apart : (other ≢ number) × IsWorker state other worker). let waiting = helpful.waits other worker apart.1 open_ in
-            (waiting.0, λ mark is. let marked = waiting.1 mark is in (stay other (worker.announced - 1) mark marked.0, marked.1)))
+        (waiting.0, λ mark is. let marked = waiting.1 mark is in (stay other (worker.announced - 1) mark marked.0, marked.1)))
         (at_set state.workers number other new worker there);
     proposals = λ other worker there. ⊎_elim
         (λ (here : (other ≡ number) × (new ≡ worker)). subst (λ (some : WorkerState). some.proposals ≤ size.workers + 1) here.1 few)
@@ -111,9 +111,10 @@ module _ (size : LogSize) where
       IsWaiting size new number (record (learn number phase ticket worker) { look = found; proposals = proposals })
   learns_waiting old new number worker phase ticket found proposals waits stay one_more same open_ =
       let least = count_begins number (worker.learned ++ ticket ∷ []) worker.learned (ticket ∷ [], refl) in let waiting = waits (omega arith) in
-      let long = length-append worker.learned (ticket ∷ []) in
-      ((λ unmarked. same unmarked ∙ waiting.0 unmarked),
-      (λ mark is. let marked = waiting.1 mark is in let room = marked.1 in (stay number (worker.announced - 1) mark marked.0, omega arith)))
+      let long = length-append worker.learned (ticket ∷ []) in (
+        (λ unmarked. same unmarked ∙ waiting.0 unmarked),
+        (λ mark is. let marked = waiting.1 mark is in let room = marked.1 in (stay number (worker.announced - 1) mark marked.0, omega arith)),
+      )
 
   reads_helpful : (state : ShownState) (number : ℕ) (worker : WorkerState) → IsSound size state → IsHelpful size state → IsWorker state number worker →
       (worker.phase ≡ Idle) ⊎ (worker.phase ≡ Pending) → StayHelped size state (with_worker state number (read number (next state worker) worker)) →
@@ -126,7 +127,7 @@ module _ (size : LogSize) where
       unread empty new stay (inr pending) open_ =
           subst (λ (phase : Phase). IsWaiting size new number (record worker { mark = marked phase worker.mark (length worker.learned) })) (sym pending)
           (marked_waiting new number worker worker.mark refl (same_waiting state new number worker stay (helpful.waits number worker is open_))
-            (stay number (worker.announced - 1) (length worker.learned) (empty_helps state number worker sound is pending empty)))
+          (stay number (worker.announced - 1) (length worker.learned) (empty_helps state number worker sound is pending empty)))
 
       by_next : (found : Option Ticket) → next state worker ≡ found → StayHelped size state (with_worker state number (read number found worker)) →
           IsHelpful size (with_worker state number (read number found worker))
@@ -134,7 +135,7 @@ module _ (size : LogSize) where
           (unread empty (with_worker state number (read number None worker)) stay at) (helpful.proposals number worker is)
       by_next (Some ticket) there stay = after_helpful state state.decided number (read number (Some ticket) worker) helpful stay
           (learns_waiting state (with_worker state number (read number (Some ticket) worker)) number worker worker.phase ticket worker.look worker.proposals
-            (helpful.waits number worker is) stay (omega arith) (λ _. refl))
+          (helpful.waits number worker is) stay (omega arith) (λ _. refl))
           (helpful.proposals number worker is)
 
   proposes_helpful : (state : ShownState) (number : ℕ) (worker : WorkerState) (decided : List Ticket) (found : Option Ticket) → IsSound size state → IsHelpful size state →
@@ -145,7 +146,7 @@ module _ (size : LogSize) where
       let few = few_proposals state number worker sound is open_ (helpful.waits number worker is open_) in
       after_helpful state decided number (propose number found worker) helpful stay
       (learns_waiting state (after state decided number (propose number found worker)) number worker Pending (unwrap_or found (proposal number worker)) None
-        (worker.proposals + 1) (helpful.waits number worker is) stay (le_refl (worker.proposals + 1)) (λ unmarked. absurd (looked.2 unmarked)))
+      (worker.proposals + 1) (helpful.waits number worker is) stay (le_refl (worker.proposals + 1)) (λ unmarked. absurd (looked.2 unmarked)))
       (omega arith)
 
   -- every step keeps it
@@ -165,7 +166,7 @@ module _ (size : LogSize) where
           let worker = step.0 in let new_worker = look (turn size worker) (announced_by old (turn size worker)) worker in
           as_written (with_worker old number new_worker) step.5 stay
           (λ there. after_helpful old old.decided number new_worker helpful there
-            (λ open_. same_waiting old (with_worker old number new_worker) number worker there (helpful.waits number worker step.1 open_)) (helpful.proposals number worker step.1))
+          (λ open_. same_waiting old (with_worker old number new_worker) number worker there (helpful.waits number worker step.1 open_)) (helpful.proposals number worker step.1))
       by_event (proposes number) step stay =
           let worker = step.0 in let decided = decided_with (proposal number worker) old.decided (next old worker) in
           as_written (after old decided number (propose number (next old worker) worker)) step.3 stay
@@ -173,7 +174,7 @@ module _ (size : LogSize) where
       by_event (stops number) step stay =
           let worker = step.0 in as_written (with_worker old number (stop worker)) step.3 stay
           (λ there. after_helpful old old.decided number (stop worker) helpful there
-            (λ open_. same_waiting old (with_worker old number (stop worker)) number worker there (helpful.waits number worker step.1 open_)) (helpful.proposals number worker step.1))
+          (λ open_. same_waiting old (with_worker old number (stop worker)) number worker there (helpful.waits number worker step.1 open_)) (helpful.proposals number worker step.1))
 
   helpful_opens : IsHelpful size (new_log size)
   helpful_opens = record {
