@@ -55,20 +55,21 @@ module _ (size : LogSize) (state : ShownState) (number command from : ℕ) (help
       command < count number (take (place + 1) decided)) →
       (new.phase ≡ Looked → from < length new.learned → length new.learned % size.workers ≡ number → Finds number command new) →
       Helps size (after state decided mover new) number command from
-  helps_after decided mover old new is more longer new_places new_look = let here = helps.here in let long = begins_longer decided state.decided longer in record {
-    announced = lt_of_lt_of_le helps.announced (rises state decided mover old new is more number);
-    here = omega arith;
-    before = ap (λ (tickets : List Ticket). count number (take from tickets)) longer.1
-        ∙ (ap (count number) (take-append-le from state.decided longer.0 here) ∙ helps.before);
-    decided = λ place above below own. by_place place above below own (dec_le (length state.decided) place);
-    looks = λ other worker there at above own. ⊎_elim
-        (λ (mine : (other ≡ mover) × (new ≡ worker)). subst (Finds number command) mine.1
-        (new_look (ap (λ (some : WorkerState). some.phase) mine.1 ∙ at)
-        (subst (λ (some : WorkerState). from < length some.learned) (sym mine.1) above)
-        (ap (λ (some : WorkerState). length some.learned % size.workers) mine.1 ∙ own)))
-        (λ (apart : (other ≢ mover) × IsWorker state other worker). helps.looks other worker apart.1 at above own)
-        (at_set state.workers mover other new worker there);
-  }
+  helps_after decided mover old new is more longer new_places new_look =
+      let here = helps.here in let long = begins_longer decided state.decided longer in record {
+        announced = lt_of_lt_of_le helps.announced (rises state decided mover old new is more number);
+        here = omega arith;
+        before = ap (λ (tickets : List Ticket). count number (take from tickets)) longer.1
+            ∙ (ap (count number) (take-append-le from state.decided longer.0 here) ∙ helps.before);
+        decided = λ place above below own. by_place place above below own (dec_le (length state.decided) place);
+        looks = λ other worker there at above own. ⊎_elim
+            (λ (mine : (other ≡ mover) × (new ≡ worker)). subst (Finds number command) mine.1
+            (new_look (ap (λ (some : WorkerState). some.phase) mine.1 ∙ at)
+            (subst (λ (some : WorkerState). from < length some.learned) (sym mine.1) above)
+            (ap (λ (some : WorkerState). length some.learned % size.workers) mine.1 ∙ own)))
+            (λ (apart : (other ≢ mover) × IsWorker state other worker). helps.looks other worker apart.1 at above own)
+            (at_set state.workers mover other new worker there);
+      }
     where
       by_place : (place : ℕ) → from < place → place < length decided → place % size.workers ≡ number → Dec (length state.decided ≤ place) →
           command < count number (take (place + 1) decided)
@@ -107,7 +108,8 @@ module _ (size : LogSize) (state : ShownState) (number command from : ℕ) (help
       helps_worker mover worker (look (turn size worker) (announced_by state (turn size worker)) worker) is (le_refl worker.announced) (λ _ above own.
       let least = count_known number from state.decided worker.learned begins (omega arith) in let before = helps.before in
       subst (λ (helped : ℕ). Finds number command (look helped (announced_by state helped) worker)) (sym own)
-      (look_finds (count number worker.learned) (announced_by state number) (ltb (count number worker.learned) (announced_by state number)) refl helps.announced (omega arith)))
+      (let first = count number worker.learned in let announced = announced_by state number in
+      look_finds first announced (ltb first announced) refl helps.announced (omega arith)))
 
   -- the ticket that decides the next place, whose turn is that worker's, is the command unless that stands before
   helps_decide : (mover : ℕ) (worker : WorkerState) → IsSound size state → IsWorker state mover worker → worker.phase ≡ Looked → next state worker ≡ None →
@@ -141,7 +143,8 @@ module _ (size : LogSize) (state : ShownState) (number command from : ℕ) (help
       stands_before more = let known = ap (count number) all in let grown = count_begins number decided state.decided (ticket ∷ [], refl) in omega arith
 
   helps_propose : (mover : ℕ) (worker : WorkerState) → IsSound size state → IsWorker state mover worker → worker.phase ≡ Looked →
-      Helps size (after state (decided_with (proposal mover worker) state.decided (next state worker)) mover (propose mover (next state worker) worker)) number command from
+      let found : Option Ticket = next state worker in
+      Helps size (after state (decided_with (proposal mover worker) state.decided found) mover (propose mover found worker)) number command from
   helps_propose mover worker sound is at = by_next (next state worker) refl
     where
       by_next : (found : Option Ticket) → next state worker ≡ found →

@@ -94,7 +94,8 @@ module _ (size : LogSize) where
   -- an event that decides no place
   pub worker_sound : (state : ShownState) (number : ℕ) (old new : WorkerState) → IsSound size state → IsWorker state number old → old.announced ≤ new.announced →
       IsSoundWorker size (with_worker state number new) number new → IsSound size (with_worker state number new)
-  worker_sound state number old new sound is more own = after_sound state state.decided number old new sound is more (begins_self state.decided) sound.few sound.legal
+  worker_sound state number old new sound is more own =
+      after_sound state state.decided number old new sound is more (begins_self state.decided) sound.few sound.legal
       (λ place ticket at. lt_of_lt_of_le (sound.announced place ticket at) (rises state state.decided number old new is more ticket.worker)) own
 
 -- a worker is idle or pending, and so many of its commands stand in what it has learned
@@ -314,7 +315,7 @@ module _ (size : LogSize) (state : ShownState) (number : ℕ) (worker : WorkerSt
       all_announced below place some there = let up = rises state decided number worker new is (le_refl worker.announced) in ⊎_elim
           (λ (before : slice_get state.decided place ≡ Some some). lt_of_lt_of_le (sound.announced place some before) (up some.worker))
           (λ (last : (place ≡ length state.decided) × (ticket ≡ some)).
-            subst (λ (z : Ticket). z.number < announced_by (after state decided number new) z.worker) last.1 (lt_of_lt_of_le below (up ticket.worker)))
+          subst (λ (z : Ticket). z.number < announced_by (after state decided number new) z.worker) last.1 (lt_of_lt_of_le below (up ticket.worker)))
           (at_pushed state.decided ticket some place there)
 
   proposes_sound : worker.phase ≡ Looked →

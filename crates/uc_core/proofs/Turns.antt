@@ -1,6 +1,6 @@
 -- Turns: within as many places as there are workers each worker's turn comes. So a command that is announced stands in the log once so
 -- many places more are decided.
-use Rattle.std.proofs.Common.{◌≡◌, ◌≢◌, ℕ, suc, ◌+◌, ◌*◌, ◌/◌, ◌%◌, ◌<◌, ◌≤◌, List, [], ◌∷◌, length, take_all, sym, ap, ◌∙◌, subst, ⊎_elim, arith, le_refl, div-add-mod', suc-mul, mod-lt, Some}
+use Rattle.std.proofs.Common.{◌≡◌, ◌≢◌, ℕ, suc, ◌+◌, ◌*◌, ◌/◌, ◌%◌, ◌<◌, ◌≤◌, List, [], ◌∷◌, length, take_all, sym, ap, ◌∙◌, subst, ⊎_elim, arith, le_refl, div-add-mod', suc-mul, mod-lt}
 use Rattle.std.proofs.Math.Decide.{dec_le}
 use Rattle.std.proofs.lemmas.Nat.{mod-mul-add}
 use Rattle.std.proofs.lemmas.Option.{slice_get_within}
@@ -35,16 +35,19 @@ turn_after place workers number below = by_turn (dec_le now number)
     small = let some : 0 < workers = omega arith in mod-lt (place + 1) some
 
     by_turn : Dec (now ≤ number) → (turn : ℕ) × (place < turn) × (turn ≤ place + workers) × (turn % workers ≡ number)
-    by_turn (yes later) = let all = whole in let rest = small in (round + number, omega arith, omega arith, mod-mul-add ((place + 1) / workers) workers number below)
-    by_turn (no past) = let all = whole in let rest = small in let next : round + workers ≡ suc ((place + 1) / workers) * workers = sym (suc-mul ((place + 1) / workers) workers) in (
-      round + workers + number,
-      omega arith,
-      omega arith,
-      ap (λ (some : ℕ). (some + number) % workers) next ∙ mod-mul-add (suc ((place + 1) / workers)) workers number below,
-    )
+    by_turn (yes later) = let all = whole in let rest = small in
+        (round + number, omega arith, omega arith, mod-mul-add ((place + 1) / workers) workers number below)
+    by_turn (no past) = let all = whole in let rest = small in
+        let next : round + workers ≡ suc ((place + 1) / workers) * workers = sym (suc-mul ((place + 1) / workers) workers) in (
+          round + workers + number,
+          omega arith,
+          omega arith,
+          ap (λ (some : ℕ). (some + number) % workers) next ∙ mod-mul-add (suc ((place + 1) / workers)) workers number below,
+        )
 
 -- a command is helped from the place that comes next as it is announced
-announced_helps : (size : LogSize) (state : ShownState) (number : ℕ) (worker : WorkerState) → IsSound size state → IsWorker state number worker → worker.phase ≡ Idle →
+announced_helps : (size : LogSize) (state : ShownState) (number : ℕ) (worker : WorkerState) → IsSound size state →
+    IsWorker state number worker → worker.phase ≡ Idle →
     Helps size (with_worker state number (announce worker)) number worker.announced (length state.decided)
 announced_helps size state number worker sound is idle = record {
   announced = let up = announced_after state state.decided number worker (announce worker) is in omega arith;
@@ -55,20 +58,24 @@ announced_helps size state number worker sound is idle = record {
 }
   where
     all_decided : count number state.decided ≡ worker.announced
-    all_decided = let own = sound.each number worker is in let most = count_announced size state number sound in let same = announced_is state number worker is in
-        let least = count_begins number state.decided worker.learned own.begins in let known = own.idle idle in omega arith
+    all_decided =
+        let own = sound.each number worker is in let known = own.idle idle in let same = announced_is state number worker is in
+        let least = count_begins number state.decided worker.learned own.begins in let most = count_announced size state number sound in omega arith
 
-    looked_few : (other : ℕ) (some : WorkerState) → IsWorker (with_worker state number (announce worker)) other some → some.phase ≡ Looked → length some.learned ≤ length state.decided
+    looked_few : (other : ℕ) (some : WorkerState) → IsWorker (with_worker state number (announce worker)) other some →
+        some.phase ≡ Looked → length some.learned ≤ length state.decided
     looked_few other some there looked = ⊎_elim
         (λ (mine : (other ≡ number) × (announce worker ≡ some)). absurd (let pending = ap (λ (one : WorkerState). one.phase) mine.1 ∙ looked in cc))
-        (λ (apart : (other ≢ number) × IsWorker state other some). learned_few size state other some sound apart.1) (at_set state.workers number other (announce worker) some there)
+        (λ (apart : (other ≢ number) × IsWorker state other some). learned_few size state other some sound apart.1)
+        (at_set state.workers number other (announce worker) some there)
 
 -- what is helped stays so through any events
 helps_on : (size : LogSize) (events : List ShownEvent) (old new : ShownState) (number command from : ℕ) → IsSound size old → LeadOn size old events new →
     Helps size old number command from → IsSound size new × Helps size new number command from
 helps_on size [] old new number command from sound same helps =
     subst (λ (state : ShownState). IsSound size state × Helps size state number command from) (sym same) (sound, helps)
-helps_on size (event ∷ events) old new number command from sound run helps = helps_on size events run.0 new number command from (keeps size old run.0 event sound run.1) run.2
+helps_on size (event ∷ events) old new number command from sound run helps =
+    helps_on size events run.0 new number command from (keeps size old run.0 event sound run.1) run.2
     (helps_keeps size old run.0 event number command from sound run.1 helps)
 
 -- what is helped from a place on stands among the next places, one more of them than there are workers, once so many are decided
