@@ -9,3 +9,6 @@ mod Moves
 mod Entries
 mod Replays
 pub mod CoreLaws
+mod Runs
+mod Agreement
+mod Worlds
