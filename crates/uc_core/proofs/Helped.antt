@@ -6,12 +6,12 @@ use Rattle.std.proofs.lemmas.List.{take-append-le}
 use Rattle.mc_model.specs.declared.id.Ticket.{Ticket}
 use Rattle.mc_model.specs.declared.shown.LogSize.{LogSize}
 use Rattle.mc_model.specs.declared.shown.Phase.{Phase}
-use Rattle.mc_model.specs.declared.shown.Phase.TheVariants.{Idle, Pending, Looked, Stopped}
+use Rattle.mc_model.specs.declared.shown.Phase.TheVariants.{Idle, Pending, Looked}
 use Rattle.mc_model.specs.declared.shown.ShownState.{ShownState}
 use Rattle.mc_model.specs.declared.shown.WorkerState.{WorkerState}
 use Rattle.mc_model.specs.Helping.{BeginsWith, IsHelped}
 use Rattle.mc_model.specs.Lawful.{IsWorker, ShownEvent, Step, announced_by, announces, decided_with, looks, next, proposes, reads, stops, turn, with_worker}
-use Rattle.mc_model.specs.Legal.{IsLegal, StandsBefore, count, ticket_of}
+use Rattle.mc_model.specs.Legal.{count, ticket_of}
 use Rattle.mc_model.specs.Shown.{announce, is_latest, look, proposal, propose, read, stop}
 use Rattle.uc_core.proofs.Lists.{at_set, begins_longer, begins_self, nothing_next}
 use Rattle.uc_core.proofs.StateLaws.{IsSound, after, learned_is, proposal_legal, rises}
@@ -38,7 +38,7 @@ is_helped size state number command from sound helps = record {
   decided = λ place above below own. stands state.decided number command (place + 1) sound.legal (helps.decided place above below own);
   looks = λ other worker is at above own. ⊎_elim inl
       (λ (more : command < count number worker.learned). inr (stands state.decided number command (length worker.learned) sound.legal
-          (subst (λ (front : List Ticket). command < count number front) (learned_is size state other worker sound is) more)))
+      (subst (λ (front : List Ticket). command < count number front) (learned_is size state other worker sound is) more)))
       (helps.looks other worker is at above own);
 }
 
@@ -52,23 +52,24 @@ module _ (size : LogSize) (state : ShownState) (number command from : ℕ) (help
   helps_after : (decided : List Ticket) (mover : ℕ) (old new : WorkerState) → IsWorker state mover old → old.announced ≤ new.announced →
       BeginsWith decided state.decided →
       ((place : ℕ) → from < place → length state.decided ≤ place → place < length decided → place % size.workers ≡ number →
-        command < count number (take (place + 1) decided)) →
+      command < count number (take (place + 1) decided)) →
       (new.phase ≡ Looked → from < length new.learned → length new.learned % size.workers ≡ number → Finds number command new) →
       Helps size (after state decided mover new) number command from
-  helps_after decided mover old new is more longer new_places new_look = let here = helps.here in let long = begins_longer decided state.decided longer in record {
-    announced = lt_of_lt_of_le helps.announced (rises state decided mover old new is more number);
-    here = omega arith;
-    before = ap (λ (tickets : List Ticket). count number (take from tickets)) longer.1
-        ∙ (ap (count number) (take-append-le from state.decided longer.0 here) ∙ helps.before);
-    decided = λ place above below own. by_place place above below own (dec_le (length state.decided) place);
-    looks = λ other worker there at above own. ⊎_elim
-        (λ (mine : (other ≡ mover) × (new ≡ worker)). subst (Finds number command) mine.1
+  helps_after decided mover old new is more longer new_places new_look =
+      let here = helps.here in let long = begins_longer decided state.decided longer in record {
+        announced = lt_of_lt_of_le helps.announced (rises state decided mover old new is more number);
+        here = omega arith;
+        before = ap (λ (tickets : List Ticket). count number (take from tickets)) longer.1
+            ∙ (ap (count number) (take-append-le from state.decided longer.0 here) ∙ helps.before);
+        decided = λ place above below own. by_place place above below own (dec_le (length state.decided) place);
+        looks = λ other worker there at above own. ⊎_elim
+            (λ (mine : (other ≡ mover) × (new ≡ worker)). subst (Finds number command) mine.1
             (new_look (ap (λ (some : WorkerState). some.phase) mine.1 ∙ at)
-              (subst (λ (some : WorkerState). from < length some.learned) (sym mine.1) above)
-              (ap (λ (some : WorkerState). length some.learned % size.workers) mine.1 ∙ own)))
-        (λ (apart : (other ≢ mover) × IsWorker state other worker). helps.looks other worker apart.1 at above own)
-        (at_set state.workers mover other new worker there);
-  }
+            (subst (λ (some : WorkerState). from < length some.learned) (sym mine.1) above)
+            (ap (λ (some : WorkerState). length some.learned % size.workers) mine.1 ∙ own)))
+            (λ (apart : (other ≢ mover) × IsWorker state other worker). helps.looks other worker apart.1 at above own)
+            (at_set state.workers mover other new worker there);
+      }
     where
       by_place : (place : ℕ) → from < place → place < length decided → place % size.workers ≡ number → Dec (length state.decided ≤ place) →
           command < count number (take (place + 1) decided)
@@ -107,18 +108,19 @@ module _ (size : LogSize) (state : ShownState) (number command from : ℕ) (help
       helps_worker mover worker (look (turn size worker) (announced_by state (turn size worker)) worker) is (le_refl worker.announced) (λ _ above own.
       let least = count_known number from state.decided worker.learned begins (omega arith) in let before = helps.before in
       subst (λ (helped : ℕ). Finds number command (look helped (announced_by state helped) worker)) (sym own)
-      (look_finds (count number worker.learned) (announced_by state number) (ltb (count number worker.learned) (announced_by state number)) refl helps.announced (omega arith)))
+      (let first = count number worker.learned in let announced = announced_by state number in
+      look_finds first announced (ltb first announced) refl helps.announced (omega arith)))
 
   -- the ticket that decides the next place, whose turn is that worker's, is the command unless that stands before
   helps_decide : (mover : ℕ) (worker : WorkerState) → IsSound size state → IsWorker state mover worker → worker.phase ≡ Looked → next state worker ≡ None →
       Helps size (after state (state.decided ++ proposal mover worker ∷ []) mover (propose mover None worker)) number command from
   helps_decide mover worker sound is at empty =
       helps_after decided mover worker (propose mover None worker) is (le_refl worker.announced) (ticket ∷ [], refl) (λ place above far near own.
-        let long : length decided ≡ length state.decided + 1 = length-append state.decided (ticket ∷ []) in
-        let last : place ≡ length state.decided = omega arith in let same = ap length all in let next_is : length worker.learned ≡ place = omega arith in
-        let whole : take (place + 1) decided ≡ decided = take_all (place + 1) decided (omega arith) in
-        subst (λ (tickets : List Ticket). command < count number tickets) (sym whole)
-        (⊎_elim found_last stands_before (helps.looks mover worker is at (omega arith) (ap (λ (some : ℕ). some % size.workers) next_is ∙ own))))
+      let long : length decided ≡ length state.decided + 1 = length-append state.decided (ticket ∷ []) in
+      let last : place ≡ length state.decided = omega arith in let same = ap length all in let next_is : length worker.learned ≡ place = omega arith in
+      let whole : take (place + 1) decided ≡ decided = take_all (place + 1) decided (omega arith) in
+      subst (λ (tickets : List Ticket). command < count number tickets) (sym whole)
+      (⊎_elim found_last stands_before (helps.looks mover worker is at (omega arith) (ap (λ (some : ℕ). some % size.workers) next_is ∙ own))))
       (λ now. absurd (not_looked (is_latest mover worker ticket) Pending (λ same. cc) now))
     where
       ticket : Ticket
@@ -134,14 +136,15 @@ module _ (size : LogSize) (state : ShownState) (number command from : ℕ) (help
       found_last found =
           let same : ticket ≡ ticket_of number command = ap (λ (some : Option Ticket). unwrap_or some (ticket_of mover (worker.announced - 1))) found in
           let before : count number worker.learned ≡ command = sym (ap (λ (some : Ticket). count some.worker worker.learned) same)
-              ∙ ((proposal_legal size state mover worker sound is at).0 ∙ ap (λ (some : Ticket). some.number) same) in
+          ∙ ((proposal_legal size state mover worker sound is at).0 ∙ ap (λ (some : Ticket). some.number) same) in
           let grown = count_own number state.decided ticket (ap (λ (some : Ticket). some.worker) same) in let known = ap (count number) all in omega arith
 
       stands_before : command < count number worker.learned → command < count number decided
       stands_before more = let known = ap (count number) all in let grown = count_begins number decided state.decided (ticket ∷ [], refl) in omega arith
 
   helps_propose : (mover : ℕ) (worker : WorkerState) → IsSound size state → IsWorker state mover worker → worker.phase ≡ Looked →
-      Helps size (after state (decided_with (proposal mover worker) state.decided (next state worker)) mover (propose mover (next state worker) worker)) number command from
+      let found : Option Ticket = next state worker in
+      Helps size (after state (decided_with (proposal mover worker) state.decided found) mover (propose mover found worker)) number command from
   helps_propose mover worker sound is at = by_next (next state worker) refl
     where
       by_next : (found : Option Ticket) → next state worker ≡ found →
@@ -157,7 +160,7 @@ helps_keeps size old new (announces mover) number command from sound step helps 
     (helps_worker size old number command from helps mover step.0 (announce step.0) step.1 (omega arith) (λ at. absurd (cc)))
 helps_keeps size old new (reads mover) number command from sound step helps = subst (λ (some : ShownState). Helps size some number command from) (sym step.4)
     (helps_read size old number command from helps mover step.0 (next old step.0) step.1
-      (λ at. ⊎_elim (λ (idle : step.0.phase ≡ Idle). cc) (λ (pending : step.0.phase ≡ Pending). cc) step.2))
+    (λ at. ⊎_elim (λ (idle : step.0.phase ≡ Idle). cc) (λ (pending : step.0.phase ≡ Pending). cc) step.2))
 helps_keeps size old new (looks mover) number command from sound step helps = subst (λ (some : ShownState). Helps size some number command from) (sym step.5)
     (helps_look size old number command from helps mover step.0 sound step.1)
 helps_keeps size old new (proposes mover) number command from sound step helps = subst (λ (some : ShownState). Helps size some number command from) (sym step.3)

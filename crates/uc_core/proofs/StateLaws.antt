@@ -9,15 +9,15 @@ use Rattle.std.specs.Option.{option_map_or}
 use Rattle.mc_model.specs.declared.id.Ticket.{Ticket}
 use Rattle.mc_model.specs.declared.shown.LogSize.{LogSize}
 use Rattle.mc_model.specs.declared.shown.Phase.{Phase}
-use Rattle.mc_model.specs.declared.shown.Phase.TheVariants.{Idle, Pending, Looked, Stopped}
+use Rattle.mc_model.specs.declared.shown.Phase.TheVariants.{Idle, Pending, Looked}
 use Rattle.mc_model.specs.declared.shown.ShownState.{ShownState}
 use Rattle.mc_model.specs.declared.shown.WorkerState.{WorkerState}
 use Rattle.mc_model.specs.Helping.{BeginsWith}
 use Rattle.mc_model.specs.Lawful.{HasRoom, IsWorker, Leads, ShownEvent, Step, announced_by, announces, decided_with, looks, next, proposes, reads, stops, turn, with_worker}
 use Rattle.mc_model.specs.Legal.{IsLegal, count, ticket_of}
-use Rattle.mc_model.specs.Shown.{announce, is_latest, learn, look, marked, new_log, new_worker, proposal, propose, read, stop}
+use Rattle.mc_model.specs.Shown.{announce, is_latest, learn, look, new_log, new_worker, proposal, propose, read, stop}
 use Rattle.uc_core.proofs.Lists.{at_pushed, at_replicated, at_set, begins_longer, begins_self, begins_through, front_is_taken, next_begins, nothing_next, set_elsewhere, set_here}
-use Rattle.uc_core.proofs.Tickets.{count_begins, count_other, count_own, legal_push, stands}
+use Rattle.uc_core.proofs.Tickets.{count_other, count_own, legal_push, stands}
 
 -- what is known of a worker: the law of workers but for its proposals
 pub record IsSoundWorker (size : LogSize) (state : ShownState) (number : ℕ) (worker : WorkerState) : Type 0 where
@@ -94,7 +94,8 @@ module _ (size : LogSize) where
   -- an event that decides no place
   pub worker_sound : (state : ShownState) (number : ℕ) (old new : WorkerState) → IsSound size state → IsWorker state number old → old.announced ≤ new.announced →
       IsSoundWorker size (with_worker state number new) number new → IsSound size (with_worker state number new)
-  worker_sound state number old new sound is more own = after_sound state state.decided number old new sound is more (begins_self state.decided) sound.few sound.legal
+  worker_sound state number old new sound is more own =
+      after_sound state state.decided number old new sound is more (begins_self state.decided) sound.few sound.legal
       (λ place ticket at. lt_of_lt_of_le (sound.announced place ticket at) (rises state state.decided number old new is more ticket.worker)) own
 
 -- a worker is idle or pending, and so many of its commands stand in what it has learned
@@ -117,16 +118,23 @@ rests_sound size state number worker begins rests = record {
     not_looked at (inl idle) = let same = sym at ∙ idle.0 in cc
     not_looked at (inr pending) = let same = sym at ∙ pending.0 in cc
 
-latest_is : (number : ℕ) (worker : WorkerState) (ticket : Ticket) → is_latest number worker ticket ≡ true → (ticket.worker ≡ number) × (ticket.number + 1 ≡ worker.announced)
+-- whether a ticket is the latest, as a test and as equations
+latest_is : (number : ℕ) (worker : WorkerState) (ticket : Ticket) → is_latest number worker ticket ≡ true →
+    (ticket.worker ≡ number) × (ticket.number + 1 ≡ worker.announced)
 latest_is number worker ticket latest = both (ticket.worker == number) (ticket.number + 1 == worker.announced) refl refl latest
   where
-    both : (a b : Bool) → (ticket.worker == number) ≡ a → (ticket.number + 1 == worker.announced) ≡ b → (a && b) ≡ true → (ticket.worker ≡ number) × (ticket.number + 1 ≡ worker.announced)
+    both : (own last : Bool) → (ticket.worker == number) ≡ own → (ticket.number + 1 == worker.announced) ≡ last → (own && last) ≡ true →
+        (ticket.worker ≡ number) × (ticket.number + 1 ≡ worker.announced)
     both true true own last _ = (eqb-true ticket.worker number own, eqb-true (ticket.number + 1) worker.announced last)
     both true false own last is = absurd (true≢false (sym is))
-    both false b own last is = absurd (true≢false (sym is))
+    both false _ own last is = absurd (true≢false (sym is))
 
-not_latest : (number : ℕ) (worker : WorkerState) (ticket : Ticket) → is_latest number worker ticket ≡ false → ticket.worker ≡ number → ticket.number + 1 ≢ worker.announced
-not_latest number worker ticket other own last = true≢false ((λ i. sym (eq-eqb ticket.worker number own) i && sym (eq-eqb (ticket.number + 1) worker.announced last) i) ∙ other)
+not_latest : (number : ℕ) (worker : WorkerState) (ticket : Ticket) → is_latest number worker ticket ≡ false → ticket.worker ≡ number →
+    ticket.number + 1 ≢ worker.announced
+not_latest number worker ticket other own last = true≢false (both ∙ other)
+  where
+    both : true ≡ is_latest number worker ticket
+    both i = sym (eq-eqb ticket.worker number own) i && sym (eq-eqb (ticket.number + 1) worker.announced last) i
 
 -- a worker that rests learns a ticket that is legal there, and rests again
 rests_on : (number : ℕ) (worker : WorkerState) (phase : Phase) (ticket : Ticket) → count ticket.worker worker.learned ≡ ticket.number →
@@ -134,32 +142,38 @@ rests_on : (number : ℕ) (worker : WorkerState) (phase : Phase) (ticket : Ticke
     Rests (if is_latest number worker ticket then Idle else phase) (count number (worker.learned ++ ticket ∷ [])) worker.announced
 rests_on number worker phase ticket legal below rests = by_latest (is_latest number worker ticket) refl rests
   where
-    own_count : ticket.worker ≡ number → (count number worker.learned ≡ ticket.number) × (count number (worker.learned ++ ticket ∷ []) ≡ count number worker.learned + 1)
-    own_count own = (ap (λ (some : ℕ). count some worker.learned) (sym own) ∙ legal, count_own number worker.learned ticket own)
+    own_number : ticket.worker ≡ number → count number worker.learned ≡ ticket.number
+    own_number own = ap (λ (some : ℕ). count some worker.learned) (sym own) ∙ legal
+
+    more : ℕ
+    more = count number (worker.learned ++ ticket ∷ [])
+
+    -- its own ticket that isn't its latest can't come next: there is no such one where it is idle, and that is the latest where it is pending
+    idle_still : count number worker.learned ≡ worker.announced → more ≡ worker.announced
+    idle_still all = dite (ℕ_discrete ticket.worker number)
+        (λ own. let number_is = own_number own in let few = below own in absurd (omega arith))
+        (λ other. let same = count_other number worker.learned ticket other in omega arith)
+
+    pending_still : is_latest number worker ticket ≡ false → count number worker.learned + 1 ≡ worker.announced → more + 1 ≡ worker.announced
+    pending_still is but_one = dite (ℕ_discrete ticket.worker number)
+        (λ own. let number_is = own_number own in absurd (not_latest number worker ticket is own (omega arith)))
+        (λ other. let same = count_other number worker.learned ticket other in omega arith)
 
     by_latest : (latest : Bool) → is_latest number worker ticket ≡ latest → Rests phase (count number worker.learned) worker.announced →
-        Rests (if latest then Idle else phase) (count number (worker.learned ++ ticket ∷ [])) worker.announced
-    by_latest true is _ = let own = latest_is number worker ticket is in let counts = own_count own.0 in
-        let number_is = counts.0 in let grown = counts.1 in let last = own.1 in inl (refl, omega arith)
-    by_latest false is (inl idle) = inl (
-      idle.0,
-      dite (ℕ_discrete ticket.worker number)
-          (λ own. let counts = own_count own in let number_is = counts.0 in let few = below own in let all = idle.1 in absurd (omega arith))
-          (λ other. let same = count_other number worker.learned ticket other in let all = idle.1 in omega arith),
-    )
-    by_latest false is (inr pending) = inr (
-      pending.0,
-      dite (ℕ_discrete ticket.worker number)
-          (λ own. let counts = own_count own in let number_is = counts.0 in let but_one = pending.1 in absurd (not_latest number worker ticket is own (omega arith)))
-          (λ other. let same = count_other number worker.learned ticket other in let but_one = pending.1 in omega arith),
-    )
+        Rests (if latest then Idle else phase) more worker.announced
+    by_latest true is _ = let own = latest_is number worker ticket is in let last = own.1 in
+        let number_is = own_number own.0 in let grown = count_own number worker.learned ticket own.0 in inl (refl, omega arith)
+    by_latest false is (inl idle) = inl (idle.0, idle_still idle.1)
+    by_latest false is (inr pending) = inr (pending.0, pending_still is pending.1)
 
 module _ (size : LogSize) where
   -- a worker has learned no more than is decided, and that is a front of it
-  pub learned_few : (state : ShownState) (number : ℕ) (worker : WorkerState) → IsSound size state → IsWorker state number worker → length worker.learned ≤ length state.decided
+  pub learned_few : (state : ShownState) (number : ℕ) (worker : WorkerState) → IsSound size state → IsWorker state number worker →
+      length worker.learned ≤ length state.decided
   learned_few state number worker sound is = begins_longer state.decided worker.learned (sound.each number worker is).begins
 
-  pub learned_is : (state : ShownState) (number : ℕ) (worker : WorkerState) → IsSound size state → IsWorker state number worker → worker.learned ≡ take (length worker.learned) state.decided
+  pub learned_is : (state : ShownState) (number : ℕ) (worker : WorkerState) → IsSound size state → IsWorker state number worker →
+      worker.learned ≡ take (length worker.learned) state.decided
   learned_is state number worker sound is = front_is_taken state.decided worker.learned (sound.each number worker is).begins
 
   -- the log has no more tickets of a worker than it has announced
@@ -176,142 +190,162 @@ module _ (size : LogSize) where
   -- the worker of a decided ticket exists, and has announced it
   pub decided_worker : (state : ShownState) (place : ℕ) (ticket : Ticket) → IsSound size state → slice_get state.decided place ≡ Some ticket →
       (worker : WorkerState) × IsWorker state ticket.worker worker × (ticket.number < worker.announced)
-  decided_worker state place ticket sound at = by_worker (slice_get state.workers ticket.worker) refl
+  decided_worker state place ticket sound at = by_worker (slice_get state.workers ticket.worker) refl (sound.announced place ticket at)
     where
-      below : ticket.number < announced_by state ticket.worker
-      below = sound.announced place ticket at
-
-      by_worker : (found : Option WorkerState) → slice_get state.workers ticket.worker ≡ found → (worker : WorkerState) × IsWorker state ticket.worker worker × (ticket.number < worker.announced)
-      by_worker None is = let few = below in let none : announced_by state ticket.worker ≡ 0 = ap announced_in is in absurd (omega arith)
-      by_worker (Some worker) is = let few = below in let same = announced_is state ticket.worker worker is in (worker, is, omega arith)
+      by_worker : (found : Option WorkerState) → slice_get state.workers ticket.worker ≡ found → ticket.number < announced_by state ticket.worker →
+          (worker : WorkerState) × IsWorker state ticket.worker worker × (ticket.number < worker.announced)
+      by_worker None is below = let none : announced_by state ticket.worker ≡ 0 = ap announced_in is in absurd (omega arith)
+      by_worker (Some worker) is below = let same = announced_is state ticket.worker worker is in (worker, is, omega arith)
 
   -- what stands at a worker's next place is legal there, and announced
-  pub next_legal : (state : ShownState) (number : ℕ) (worker : WorkerState) (ticket : Ticket) → IsSound size state → IsWorker state number worker → next state worker ≡ Some ticket →
-      (count ticket.worker worker.learned ≡ ticket.number) × (ticket.number < announced_by state ticket.worker) × BeginsWith state.decided (worker.learned ++ ticket ∷ [])
+  pub next_legal : (state : ShownState) (number : ℕ) (worker : WorkerState) (ticket : Ticket) → IsSound size state → IsWorker state number worker →
+      next state worker ≡ Some ticket →
+      (count ticket.worker worker.learned ≡ ticket.number) × (ticket.number < announced_by state ticket.worker)
+      × BeginsWith state.decided (worker.learned ++ ticket ∷ [])
   next_legal state number worker ticket sound is at = (
     ap (count ticket.worker) (learned_is state number worker sound is) ∙ sound.legal (length worker.learned) ticket at,
     sound.announced (length worker.learned) ticket at,
     next_begins state.decided worker.learned ticket (sound.each number worker is).begins at,
   )
 
-  -- what a worker that has looked proposes would be legal at its next place, and is announced
-  pub proposal_legal : (state : ShownState) (number : ℕ) (worker : WorkerState) → IsSound size state → IsWorker state number worker → worker.phase ≡ Looked →
-      (count (proposal number worker).worker worker.learned ≡ (proposal number worker).number) × ((proposal number worker).number < announced_by state (proposal number worker).worker)
-  proposal_legal state number worker sound is at = by_look worker.look refl
-    where
-      own : IsSoundWorker size state number worker
-      own = sound.each number worker is
+-- one worker of a state of which all this is known
+module _ (size : LogSize) (state : ShownState) (number : ℕ) (worker : WorkerState) (sound : IsSound size state) (is : IsWorker state number worker) where
+  own_law : IsSoundWorker size state number worker
+  own_law = sound.each number worker is
 
+  -- what it proposes once it has looked would be legal at its next place, and is announced
+  pub proposal_legal : worker.phase ≡ Looked → let ticket : Ticket = proposal number worker in
+      (count ticket.worker worker.learned ≡ ticket.number) × (ticket.number < announced_by state ticket.worker)
+  proposal_legal at = by_look worker.look refl
+    where
       by_look : (found : Option Ticket) → worker.look ≡ found → let ticket : Ticket = unwrap_or found (ticket_of number (worker.announced - 1)) in
           (count ticket.worker worker.learned ≡ ticket.number) × (ticket.number < announced_by state ticket.worker)
-      by_look (Some ticket) found = let both = own.looks ticket at found in (both.1, both.0)
-      by_look None found = let but_one = (own.looked at).0 in let same = announced_is state number worker is in (omega arith, omega arith)
+      by_look (Some ticket) found = let both = own_law.looks ticket at found in (both.1, both.0)
+      by_look None found = let but_one = (own_law.looked at).0 in let same = announced_is state number worker is in (omega arith, omega arith)
 
-  -- a worker that learns: which place stands next is its ticket's
-  learns_sound : (state new : ShownState) (number : ℕ) (worker : WorkerState) (phase : Phase) (ticket : Ticket) (found : Option Ticket) (proposals : ℕ) →
-      BeginsWith new.decided (worker.learned ++ ticket ∷ []) → announced_by state number ≡ worker.announced →
-      count ticket.worker worker.learned ≡ ticket.number → ticket.number < announced_by state ticket.worker → Rests phase (count number worker.learned) worker.announced →
-      IsSoundWorker size new number (record (learn number phase ticket worker) { look = found; proposals = proposals })
-  learns_sound state new number worker phase ticket found proposals begins same legal below rests =
-      rests_sound size new number (record (learn number phase ticket worker) { look = found; proposals = proposals }) begins
+  -- it learns a ticket that is legal at its next place
+  learns_sound : (decided : List Ticket) (phase : Phase) (ticket : Ticket) (found : Option Ticket) (proposals : ℕ) →
+      let new : WorkerState = record (learn number phase ticket worker) { look = found; proposals = proposals } in
+      BeginsWith decided (worker.learned ++ ticket ∷ []) → count ticket.worker worker.learned ≡ ticket.number →
+      ticket.number < announced_by state ticket.worker → Rests phase (count number worker.learned) worker.announced →
+      IsSoundWorker size (after state decided number new) number new
+  learns_sound decided phase ticket found proposals begins legal below rests =
+      let new : WorkerState = record (learn number phase ticket worker) { look = found; proposals = proposals } in
+      let same = announced_is state number worker is in
+      rests_sound size (after state decided number new) number new begins
       (rests_on number worker phase ticket legal
       (λ own. let few = subst (λ (some : ℕ). ticket.number < announced_by state some) own below in omega arith) rests)
 
-  announces_sound : (state : ShownState) (number : ℕ) (worker : WorkerState) → IsSound size state → IsWorker state number worker → worker.phase ≡ Idle →
-      IsSound size (with_worker state number (announce worker))
-  announces_sound state number worker sound is at =
-      let own = sound.each number worker is in worker_sound size state number worker (announce worker) sound is (omega arith)
-      (rests_sound size (with_worker state number (announce worker)) number (announce worker) own.begins (inr (refl, ap (λ (n : ℕ). n + 1) (own.idle at))))
+  -- an event after which it has announced no more, and no place more is decided
+  same_sound : (new : WorkerState) → new.announced ≡ worker.announced → IsSoundWorker size (with_worker state number new) number new →
+      IsSound size (with_worker state number new)
+  same_sound new same own = worker_sound size state number worker new sound is (omega arith) own
 
-  reads_sound : (state : ShownState) (number : ℕ) (worker : WorkerState) → IsSound size state → IsWorker state number worker →
-      (worker.phase ≡ Idle) ⊎ (worker.phase ≡ Pending) → IsSound size (with_worker state number (read number (next state worker) worker))
-  reads_sound state number worker sound is at = by_next (next state worker) refl
+  announces_sound : worker.phase ≡ Idle → IsSound size (with_worker state number (announce worker))
+  announces_sound at =
+      let one_more = ap (λ (some : ℕ). some + 1) (own_law.idle at) in
+      worker_sound size state number worker (announce worker) sound is (omega arith)
+      (rests_sound size (with_worker state number (announce worker)) number (announce worker) own_law.begins (inr (refl, one_more)))
+
+  reads_sound : (worker.phase ≡ Idle) ⊎ (worker.phase ≡ Pending) → IsSound size (with_worker state number (read number (next state worker) worker))
+  reads_sound at = by_next (next state worker) refl
     where
-      own : IsSoundWorker size state number worker
-      own = sound.each number worker is
-
       rests : (worker.phase ≡ Idle) ⊎ (worker.phase ≡ Pending) → Rests worker.phase (count number worker.learned) worker.announced
-      rests (inl idle) = inl (idle, own.idle idle)
-      rests (inr pending) = inr (pending, own.pending pending)
+      rests (inl idle) = inl (idle, own_law.idle idle)
+      rests (inr pending) = inr (pending, own_law.pending pending)
 
       by_next : (found : Option Ticket) → next state worker ≡ found → IsSound size (with_worker state number (read number found worker))
-      by_next None empty = worker_sound size state number worker (read number None worker) sound is (le_refl worker.announced)
-          (rests_sound size (with_worker state number (read number None worker)) number (read number None worker) own.begins (rests at))
-      by_next (Some ticket) there = let legal = next_legal state number worker ticket sound is there in
-          worker_sound size state number worker (read number (Some ticket) worker) sound is (le_refl worker.announced)
-          (learns_sound state (with_worker state number (read number (Some ticket) worker)) number worker worker.phase ticket worker.look worker.proposals
-          legal.2 (announced_is state number worker is) legal.0 legal.1 (rests at))
+      by_next None empty = let new = read number None worker in
+          same_sound new refl (rests_sound size (with_worker state number new) number new own_law.begins (rests at))
+      by_next (Some ticket) there = let legal = next_legal size state number worker ticket sound is there in
+          same_sound (read number (Some ticket) worker) refl
+          (learns_sound state.decided worker.phase ticket worker.look worker.proposals legal.2 legal.0 legal.1 (rests at))
 
-  -- what a look finds is the first ticket that isn't learned, where the worker has announced it
-  look_finds : (number first announced : ℕ) (below : Bool) (ticket : Ticket) → ltb first announced ≡ below → (if below then Some (ticket_of number first) else None) ≡ Some ticket →
-      (ticket ≡ ticket_of number first) × (first < announced)
-  look_finds number first announced true ticket below found = (cc, ltb-true first announced below)
-  look_finds number first announced false ticket below found = absurd (none-some ticket found)
+  -- what a look finds is the first ticket that isn't learned, where its worker has announced that
+  look_finds : (helped first announced : ℕ) (below : Bool) (ticket : Ticket) → ltb first announced ≡ below →
+      (if below then Some (ticket_of helped first) else None) ≡ Some ticket → (ticket ≡ ticket_of helped first) × (first < announced)
+  look_finds helped first announced true ticket below found = (cc, ltb-true first announced below)
+  look_finds helped first announced false ticket below found = absurd (none-some ticket found)
 
-  looks_sound : (state : ShownState) (number : ℕ) (worker : WorkerState) → IsSound size state → IsWorker state number worker → worker.phase ≡ Pending → HasRoom size worker →
-      worker.mark ≢ None → IsSound size (with_worker state number (look (turn size worker) (announced_by state (turn size worker)) worker))
-  looks_sound state number worker sound is at room mark =
-      let own = sound.each number worker is in let helped = turn size worker in let new = look helped (announced_by state helped) worker in let state' = with_worker state number new in
-      worker_sound size state number worker new sound is (le_refl worker.announced) record {
-        begins = own.begins;
-        idle = λ same. absurd (cc);
-        pending = λ same. absurd (cc);
-        looked = λ _. (own.pending at, room, mark);
-        looks = λ ticket same found.
-            let first = count helped worker.learned in
-            let is_first = look_finds helped first (announced_by state helped) (ltb first (announced_by state helped)) ticket refl found in
-            subst (λ (some : Ticket). (some.number < announced_by state' some.worker) × (count some.worker worker.learned ≡ some.number)) (sym is_first.0)
-            (lt_of_lt_of_le is_first.1 (rises state state.decided number worker new is (le_refl worker.announced) helped), refl);
-      }
+  looks_sound : worker.phase ≡ Pending → HasRoom size worker → worker.mark ≢ None →
+      IsSound size (with_worker state number (look (turn size worker) (announced_by state (turn size worker)) worker))
+  looks_sound at room mark = same_sound new refl record {
+    begins = own_law.begins;
+    idle = λ same. absurd (cc);
+    pending = λ same. absurd (cc);
+    looked = λ _. (own_law.pending at, room, mark);
+    looks = λ ticket same found.
+        let first = look_finds helped (count helped worker.learned) announced (ltb (count helped worker.learned) announced) ticket refl found in
+        subst (λ (some : Ticket). (some.number < announced_by (with_worker state number new) some.worker) × (count some.worker worker.learned ≡ some.number))
+        (sym first.0) (lt_of_lt_of_le first.1 (rises state state.decided number worker new is (le_refl worker.announced) helped), refl);
+  }
+    where
+      helped : ℕ
+      helped = turn size worker
+
+      announced : ℕ
+      announced = announced_by state helped
+
+      new : WorkerState
+      new = look helped announced worker
 
   -- a proposal that decides the next place
-  decides_sound : (state : ShownState) (number : ℕ) (worker : WorkerState) → IsSound size state → IsWorker state number worker → worker.phase ≡ Looked → next state worker ≡ None →
+  decides_sound : worker.phase ≡ Looked → next state worker ≡ None →
       IsSound size (after state (state.decided ++ proposal number worker ∷ []) number (propose number None worker))
-  decides_sound state number worker sound is at empty =
-      let own = sound.each number worker is in let ticket = proposal number worker in let decided = state.decided ++ ticket ∷ [] in let new = propose number None worker in
-      let all : state.decided ≡ worker.learned = nothing_next state.decided worker.learned own.begins empty in
-      let legal = proposal_legal state number worker sound is at in let room = (own.looked at).1 in
-      let up = rises state decided number worker new is (le_refl worker.announced) in
-      after_sound size state decided number worker new sound is (le_refl worker.announced) (ticket ∷ [], refl)
-      (let long = length-append state.decided (ticket ∷ []) in let same = ap length all in omega arith)
-      (legal_push state.decided ticket sound.legal (ap (count ticket.worker) all ∙ legal.0))
-      (λ place some there. ⊎_elim
-      (λ (before : slice_get state.decided place ≡ Some some). lt_of_lt_of_le (sound.announced place some before) (up some.worker))
-      (λ (last : (place ≡ length state.decided) × (ticket ≡ some)).
-      subst (λ (z : Ticket). z.number < announced_by (after state decided number new) z.worker) last.1 (lt_of_lt_of_le legal.1 (up ticket.worker)))
-      (at_pushed state.decided ticket some place there))
-      (learns_sound state (after state decided number new) number worker Pending ticket None (worker.proposals + 1)
-      (subst (λ (front : List Ticket). BeginsWith decided (front ++ ticket ∷ [])) all (begins_self decided))
-      (announced_is state number worker is) legal.0 legal.1 (inr (refl, (own.looked at).0)))
+  decides_sound at empty =
+      let all : state.decided ≡ worker.learned = nothing_next state.decided worker.learned own_law.begins empty in
+      let legal = proposal_legal at in let looked = own_law.looked at in let room = looked.1 in
+      let long = length-append state.decided (ticket ∷ []) in let same = ap length all in
+      after_sound size state decided number worker new sound is (le_refl worker.announced) (ticket ∷ [], refl) (omega arith)
+      (legal_push state.decided ticket sound.legal (ap (count ticket.worker) all ∙ legal.0)) (all_announced legal.1)
+      (learns_sound decided Pending ticket None (worker.proposals + 1)
+      (subst (λ (front : List Ticket). BeginsWith decided (front ++ ticket ∷ [])) all (begins_self decided)) legal.0 legal.1 (inr (refl, looked.0)))
+    where
+      ticket : Ticket
+      ticket = proposal number worker
 
-  proposes_sound : (state : ShownState) (number : ℕ) (worker : WorkerState) → IsSound size state → IsWorker state number worker → worker.phase ≡ Looked →
+      decided : List Ticket
+      decided = state.decided ++ ticket ∷ []
+
+      new : WorkerState
+      new = propose number None worker
+
+      all_announced : ticket.number < announced_by state ticket.worker → (place : ℕ) (some : Ticket) → slice_get decided place ≡ Some some →
+          some.number < announced_by (after state decided number new) some.worker
+      all_announced below place some there = let up = rises state decided number worker new is (le_refl worker.announced) in ⊎_elim
+          (λ (before : slice_get state.decided place ≡ Some some). lt_of_lt_of_le (sound.announced place some before) (up some.worker))
+          (λ (last : (place ≡ length state.decided) × (ticket ≡ some)).
+          subst (λ (z : Ticket). z.number < announced_by (after state decided number new) z.worker) last.1 (lt_of_lt_of_le below (up ticket.worker)))
+          (at_pushed state.decided ticket some place there)
+
+  proposes_sound : worker.phase ≡ Looked →
       IsSound size (after state (decided_with (proposal number worker) state.decided (next state worker)) number (propose number (next state worker) worker))
-  proposes_sound state number worker sound is at = by_next (next state worker) refl
+  proposes_sound at = by_next (next state worker) refl
     where
       by_next : (found : Option Ticket) → next state worker ≡ found →
           IsSound size (after state (decided_with (proposal number worker) state.decided found) number (propose number found worker))
-      by_next None empty = decides_sound state number worker sound is at empty
-      by_next (Some ticket) there = let own = sound.each number worker is in let legal = next_legal state number worker ticket sound is there in
-          worker_sound size state number worker (propose number (Some ticket) worker) sound is (le_refl worker.announced)
-          (learns_sound state (with_worker state number (propose number (Some ticket) worker)) number worker Pending ticket None (worker.proposals + 1)
-          legal.2 (announced_is state number worker is) legal.0 legal.1 (inr (refl, (own.looked at).0)))
+      by_next None empty = decides_sound at empty
+      by_next (Some ticket) there = let legal = next_legal size state number worker ticket sound is there in
+          same_sound (propose number (Some ticket) worker) refl
+          (learns_sound state.decided Pending ticket None (worker.proposals + 1) legal.2 legal.0 legal.1 (inr (refl, (own_law.looked at).0)))
 
-  stops_sound : (state : ShownState) (number : ℕ) (worker : WorkerState) → IsSound size state → IsWorker state number worker → IsSound size (with_worker state number (stop worker))
-  stops_sound state number worker sound is = worker_sound size state number worker (stop worker) sound is (le_refl worker.announced) record {
-    begins = (sound.each number worker is).begins;
+  stops_sound : IsSound size (with_worker state number (stop worker))
+  stops_sound = same_sound (stop worker) refl record {
+    begins = own_law.begins;
     idle = λ same. absurd (cc);
     pending = λ same. absurd (cc);
     looked = λ same. absurd (cc);
     looks = λ ticket same found. absurd (cc);
   }
 
+module _ (size : LogSize) where
   -- every step keeps it
   pub keeps : (old new : ShownState) (event : ShownEvent) → IsSound size old → Step size old event new → IsSound size new
-  keeps old new (announces number) sound step = subst (IsSound size) (sym step.4) (announces_sound old number step.0 sound step.1 step.2)
-  keeps old new (reads number) sound step = subst (IsSound size) (sym step.4) (reads_sound old number step.0 sound step.1 step.2)
-  keeps old new (looks number) sound step = subst (IsSound size) (sym step.5) (looks_sound old number step.0 sound step.1 step.2 step.3 step.4)
-  keeps old new (proposes number) sound step = subst (IsSound size) (sym step.3) (proposes_sound old number step.0 sound step.1 step.2)
-  keeps old new (stops number) sound step = subst (IsSound size) (sym step.3) (stops_sound old number step.0 sound step.1)
+  keeps old new (announces number) sound step = subst (IsSound size) (sym step.4) (announces_sound size old number step.0 sound step.1 step.2)
+  keeps old new (reads number) sound step = subst (IsSound size) (sym step.4) (reads_sound size old number step.0 sound step.1 step.2)
+  keeps old new (looks number) sound step = subst (IsSound size) (sym step.5) (looks_sound size old number step.0 sound step.1 step.2 step.3 step.4)
+  keeps old new (proposes number) sound step = subst (IsSound size) (sym step.3) (proposes_sound size old number step.0 sound step.1 step.2)
+  keeps old new (stops number) sound step = subst (IsSound size) (sym step.3) (stops_sound size old number step.0 sound step.1)
 
   -- a log before any event
   pub opens : IsSound size (new_log size)
