@@ -10,3 +10,6 @@ mod Moves
 mod Entries
 mod Replays
 pub mod CoreLaws
+mod Runs
+mod Agreement
+mod Worlds
