@@ -13,3 +13,4 @@ pub mod CoreLaws
 mod Runs
 mod Agreement
 mod Worlds
+mod Soon

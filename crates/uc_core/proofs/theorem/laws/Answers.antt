@@ -1,6 +1,7 @@
 -- Every run keeps the core's law (`Runs`), and the clauses follow from it.
 use Rattle.uc_core.proofs.Agreement.{log_is_sound, replicas_agree, tables_stand}
 use Rattle.uc_core.proofs.Runs.{answers_of, law_of}
+use Rattle.uc_core.proofs.Soon.{decided_soon}
 use Rattle.uc_core.proofs.theorem.laws.Goals as goal
 
 pub returns-clause-once : goal.returns-clause-once
@@ -17,3 +18,6 @@ returns-clause-tables c = λ settings events core given run. tables_stand core (
 
 pub returns-clause-shown : goal.returns-clause-shown
 returns-clause-shown c = λ settings events core given run. (law_of settings events core given run).reached
+
+pub returns-clause-helped : goal.returns-clause-helped
+returns-clause-helped c = λ settings events core given run. decided_soon core (law_of settings events core given run)
