@@ -1,2 +1,5 @@
 pub mod Workers
 pub mod Opened
+mod Enabled
+mod Shows
+mod Ties
