@@ -7,4 +7,4 @@ pub use seen::Seen;
 pub mod laws;
 pub mod replica;
 pub mod seen;
-mod tables;
+pub mod tables;

@@ -2,7 +2,7 @@
 ghost use Rattle.std.specs.Option.{option_copied};
 ghost use Rattle.std.specs.Prelude.{◌≡◌, ◌≢◌, ℕ, ◌-◌, ◌^◌, ◌<◌, List, Option, Some, slice_get, IfOk, IfSome, OnOk, OnErr, IsOk, IsOkUnless};
 ghost use Rattle.mc_model.specs.Kinds.{IsRetrieval, IsTakingOut};
-ghost use Rattle.mc_model.specs.Replay.{EachStands, IsRefused, TakeEffect, answer_to, empty_tables};
+ghost use Rattle.mc_model.specs.Replay.{EachStands, IsRefused, TakeEffect, answer_to, empty_tables, reply_from};
 ghost use Rattle.mc_model.specs.State.{TableState, empty_table};
 ghost use Rattle.mc_model.specs.declared.request.Entry.{Entry};
 ghost use Rattle.mc_model.specs.declared.settings.Limits.{Limits};
@@ -19,7 +19,7 @@ fn empty(alloc: Global, limits: &Limits) -> Items
 }
 
 /// An empty table for each tenant's quotas.
-pub(crate) fn tables_of(alloc: Global, limits: &[Limits]) -> Result<Vec<Items>, Fault>
+pub fn tables_of(alloc: Global, limits: &[Limits]) -> Result<Vec<Items>, Fault>
     ensures tables { IfOk result (λ tables. tables.items ≡ empty_tables limits.now) }
     ensures memory { IsOkUnless result Fault.Memory }
 {
@@ -32,7 +32,7 @@ pub(crate) fn tables_of(alloc: Global, limits: &[Limits]) -> Result<Vec<Items>, 
 
 /// Does what an entry says to its tenant's table, if there is an entry and its tenant is among these, and answers where it
 /// is the worker's own. Where memory runs out: `Memory`, and nothing changes.
-pub(crate) fn take_effect(
+pub fn take_effect(
     tables: &mut Vec<Items>,
     worker: WorkerId,
     found: Option<&Entry>,
@@ -40,6 +40,7 @@ pub(crate) fn take_effect(
     requires { (tenant : ℕ) (state : TableState) → slice_get tables.old.items tenant ≡ Some state → state.last_unique < 2 ^ 64 - 1 }
     ensures reply { IfOk result (λ reply. (openings : List Limits) (log : List (Option Entry)) → EachStands openings log tables.old.items →
         reply ≡ answer_to worker openings log (option_copied found.entry)) }
+    ensures answer { IfOk result (λ reply. reply ≡ reply_from worker tables.old.items (option_copied found.entry)) }
     ensures tables { OnOk result (TakeEffect (option_copied found.entry) tables.old.items tables.new.items) }
     ensures takes_out { IfSome (option_copied found.entry) (λ entry. IsTakingOut entry.command) → IsOk result }
     ensures reads { IfSome (option_copied found.entry) (λ entry. IsRetrieval entry.command × (entry.ticket.worker ≢ worker)) → IsOk result }

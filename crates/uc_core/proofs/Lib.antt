@@ -14,3 +14,8 @@ mod Runs
 mod Agreement
 mod Worlds
 mod Soon
+pub mod Workers
+pub mod Opened
+mod Enabled
+mod Shows
+mod Ties

@@ -2,3 +2,4 @@ pub mod Core
 pub mod Step
 pub mod Run
 pub mod Headline
+pub mod Fields

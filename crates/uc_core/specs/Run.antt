@@ -29,3 +29,7 @@ Runs old (event ∷ events) new given =
 -- a run from the core's opening
 abbrev pub IsRun : Configuration → List Event → CoreState → List Given → Type 0
 IsRun settings events core given = Runs (new_core settings) events core given
+
+-- some run from some opening leads to the core
+abbrev pub IsReachedCore : CoreState → Type 0
+IsReachedCore core = (settings : Configuration) × (events : List Event) × (given : List Given) × IsRun settings events core given

@@ -112,3 +112,21 @@ CoreStep old (Replay number) new reply =
     × (tables : List TableState) × TakeEffect (entry_at old replay.replayed) replay.tables tables
     × (new ≡ record old { replays = slice_set old.replays number (record { replayed = replay.replayed + 1; tables = tables }) })
     × (reply ≡ reply_from number replay.tables (entry_at old replay.replayed))
+
+-- the same of what is shown alone
+abbrev pub StepShows : CoreState → Event → CoreState → Type 0
+StepShows old (Announce number tenant command) new = Step (size_of old) old.shown (announces number) new.shown
+StepShows old (Read number) new = Step (size_of old) old.shown (reads number) new.shown
+StepShows old (Look number) new = Step (size_of old) old.shown (looks number) new.shown
+StepShows old (Propose number) new = Step (size_of old) old.shown (proposes number) new.shown
+StepShows old (Stop number) new = Step (size_of old) old.shown (stops number) new.shown
+StepShows old (Replay number) new = new.shown ≡ old.shown
+
+-- the event never needs memory
+abbrev pub is_quiet : Event → Bool
+is_quiet (Announce number tenant command) = false
+is_quiet (Read number) = true
+is_quiet (Look number) = true
+is_quiet (Propose number) = true
+is_quiet (Replay number) = false
+is_quiet (Stop number) = true

@@ -19,6 +19,42 @@ pub enum Event {
     Stop(u8),
 }
 
+impl Event {
+    ghost use Rattle.std.specs.Prelude.{◌≡◌, IfOk, IsOkUnless};
+    ghost use Rattle.uc_core.specs.Step.{actor};
+
+    /// The number of the worker that takes the event.
+    pub fn actor(&self) -> u8
+        ensures { result ≡ actor self.now }
+    {
+        match self {
+            Event::Announce(worker, _, _)
+            | Event::Read(worker)
+            | Event::Look(worker)
+            | Event::Propose(worker)
+            | Event::Replay(worker)
+            | Event::Stop(worker) => *worker,
+        }
+    }
+
+    /// The same event in memory of its own.
+    pub fn try_clone(&self) -> Result<Event, Fault>
+        ensures event { IfOk result (λ event. event ≡ self.now) }
+        ensures memory { IsOkUnless result Fault.Memory }
+    {
+        Ok(match self {
+            Event::Announce(worker, tenant, command) => {
+                Event::Announce(*worker, *tenant, command.try_clone()?)
+            }
+            Event::Read(worker) => Event::Read(*worker),
+            Event::Look(worker) => Event::Look(*worker),
+            Event::Propose(worker) => Event::Propose(*worker),
+            Event::Replay(worker) => Event::Replay(*worker),
+            Event::Stop(worker) => Event::Stop(*worker),
+        })
+    }
+}
+
 /// Why a run ended before its last event.
 #[derive(Clone, Copy, Debug, PartialEq, Eq)]
 pub struct RunFault {

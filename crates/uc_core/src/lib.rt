@@ -4,7 +4,11 @@
 #![tactic(auto)]
 
 pub use event::{Event, RunFault};
+pub use machine::Core;
 pub use theorem::{laws, shown_states, two_worlds};
 
 pub mod event;
+pub mod machine;
+pub mod steps;
 pub mod theorem;
+pub mod worker;

@@ -1,0 +1,204 @@
+//! One worker of the core, and what each event makes of it.
+ghost use Rattle.std.specs.Option.{option_copied, unwrap_or};
+ghost use Rattle.std.specs.Prelude.{◌≡◌, ◌≢◌, ◌+◌, ◌-◌, ◌^◌, ◌<◌, ◌≤◌, ℕ, List, [], ◌∷◌, ◌++◌, length, take, vec_len, vec_capacity, slice_get, if◌then◌else◌, Some, IfOk, OnOk, OnErr, IsOkUnless};
+ghost use Rattle.mc_model.specs.declared.id.Ticket.{Ticket};
+ghost use Rattle.mc_model.specs.declared.shown.Phase.TheVariants.{Idle, Looked};
+ghost use Rattle.mc_model.specs.Lawful.{decided_with};
+ghost use Rattle.mc_model.specs.Legal.{count};
+ghost use Rattle.mc_model.specs.Replay.{TakeEffect, reply_from};
+ghost use Rattle.mc_model.specs.State.{TableState};
+ghost use Rattle.mc_model.specs.Shown.{announce, look, propose, proposal, read, stop};
+
+use mc_items::Items;
+use mc_model::{Entry, Fault, Limits, Phase, Reply, Ticket, WorkerId};
+use mc_replica::tables::{tables_of, take_effect};
+use std::alloc::Global;
+
+/// What the core keeps of a worker, apart from what it announced.
+#[derive(Debug, Drop)]
+pub struct Worker {
+    pub(crate) phase: Phase,
+    /// How many commands it has announced.
+    pub(crate) announced: u64,
+    /// How many of the decided places it has learned.
+    pub(crate) learned: usize,
+    /// How many of those it has replayed.
+    pub(crate) replayed: usize,
+    pub(crate) mark: Option<u64>,
+    pub(crate) look: Option<Ticket>,
+    pub(crate) proposals: u64,
+    /// One table a tenant, by the tenants' numbers.
+    pub(crate) tables: Vec<Items>,
+}
+
+impl Worker {
+    ghost use Rattle.uc_core.specs.Fields.{IsFresh, IsInOrder, is_latest_of, shown_worker, replay_of};
+
+    /// A worker before any event.
+    pub(crate) fn new(alloc: Global, openings: &[Limits]) -> Result<Worker, Fault>
+        ensures fresh { IfOk result (λ worker. IsFresh openings.now worker) }
+        ensures memory { IsOkUnless result Fault.Memory }
+    {
+        Ok(Worker {
+            phase: Phase::Idle,
+            announced: 0,
+            learned: 0,
+            replayed: 0,
+            mark: None,
+            look: None,
+            proposals: 0,
+            tables: tables_of(alloc, openings)?,
+        })
+    }
+
+    /// It announces one more command.
+    pub(crate) fn announce(&mut self)
+        requires { self.old.announced < 2 ^ 64 - 1 }
+        ensures shown { (decided : List Ticket) → shown_worker decided self.new ≡ announce (shown_worker decided self.old) }
+        ensures order { (places decided : ℕ) → IsInOrder places decided self.old → self.old.announced ≤ self.old.learned → IsInOrder places decided self.new }
+        ensures replay { replay_of self.new ≡ replay_of self.old }
+    {
+        self.phase = Phase::Pending;
+        self.announced += 1;
+        self.mark = None;
+        self.proposals = 0;
+    }
+
+    /// It learns the ticket of its next place, and is at `phase` where that isn't the ticket of its latest command.
+    fn learn(&mut self, number: WorkerId, phase: Phase, ticket: Ticket)
+        requires { self.old.learned < 2 ^ 64 - 1 }
+        ensures phase { self.new.phase ≡ (if is_latest_of number self.old.announced ticket then Idle else phase) }
+        ensures others { self.new ≡ record self.old { phase = self.new.phase; learned = self.old.learned + 1 } }
+    {
+        let is_latest =
+            ticket.worker == number && self.announced.checked_sub(1) == Some(ticket.number);
+        self.phase = if is_latest { Phase::Idle } else { phase };
+        self.learned += 1;
+    }
+
+    /// It reads its next place: it learns what stands there, or an empty place can become its mark.
+    pub(crate) fn read(&mut self, number: WorkerId, decided: &[Ticket])
+        requires few { length decided.now < 2 ^ 64 - 1 }
+        requires learned { self.old.learned ≤ length decided.now }
+        ensures shown { shown_worker decided.now self.new ≡ read number (slice_get decided.now self.old.learned) (shown_worker decided.now self.old) }
+        ensures order { (places : ℕ) → IsInOrder places (length decided.now) self.old → self.old.phase ≢ Looked → IsInOrder places (length decided.now) self.new }
+        ensures replay { replay_of self.new ≡ replay_of self.old }
+    {
+        let Some(ticket) = decided.get(self.learned) else {
+            if self.phase == Phase::Pending && self.mark.is_none() {
+                self.mark = Some(self.learned as u64);
+            }
+            return;
+        };
+        self.learn(number, self.phase, *ticket);
+    }
+
+    /// It looks at the worker to help, who has announced so many commands: it finds the first of them that it hasn't learned.
+    pub(crate) fn look(&mut self, helped: WorkerId, announced: u64, decided: &[Ticket])
+        requires { self.old.learned ≤ length decided.now }
+        ensures shown { shown_worker decided.now self.new ≡ look helped announced (shown_worker decided.now self.old) }
+        ensures order { (places : ℕ) → IsInOrder places (length decided.now) self.old → self.old.learned < places → IsInOrder places (length decided.now) self.new }
+        ensures replay { replay_of self.new ≡ replay_of self.old }
+    {
+        let learned = count_of(helped, &decided[..self.learned]);
+        self.phase = Phase::Looked;
+        self.look = if learned < announced {
+            Some(Ticket {
+                worker: helped,
+                number: learned,
+            })
+        } else {
+            None
+        };
+    }
+
+    /// It proposes what it found, or its own command, at its next place, and learns what stands there then.
+    pub(crate) fn propose(&mut self, number: WorkerId, decided: &mut Vec<Ticket>)
+        requires learned { self.old.learned ≤ vec_len decided.old }
+        requires room { self.old.learned ≡ vec_len decided.old → vec_len decided.old < vec_capacity decided.old }
+        requires proposals { self.old.proposals ≤ self.old.learned }
+        ensures decided { decided.new.items ≡ decided_with (proposal number (shown_worker decided.old.items self.old)) decided.old.items (slice_get decided.old.items self.old.learned) }
+        ensures shown { shown_worker decided.new.items self.new ≡ propose number (slice_get decided.old.items self.old.learned) (shown_worker decided.old.items self.old) }
+        ensures room { vec_capacity decided.new ≡ vec_capacity decided.old }
+        ensures order { (places : ℕ) → IsInOrder places (vec_len decided.old) self.old → IsInOrder places (vec_len decided.new) self.new }
+        ensures replay { replay_of self.new ≡ replay_of self.old }
+    {
+        let ticket = decide(decided, self.learned, self.proposal(number));
+        self.learn(number, Phase::Pending, ticket);
+        self.look = None;
+        self.proposals += 1;
+    }
+
+    /// What it proposes: the ticket that it found, or its own latest.
+    fn proposal(&self, number: WorkerId) -> Ticket
+        ensures { (decided : List Ticket) → result ≡ proposal number (shown_worker decided self.now) }
+    {
+        match self.look {
+            Some(ticket) => ticket,
+            None => Ticket {
+                worker: number,
+                number: self.announced.saturating_sub(1),
+            },
+        }
+    }
+
+    /// It replays its next place, where this is the entry that stands there. Where memory runs out: `Memory`, and nothing
+    /// changes.
+    pub(crate) fn replay(
+        &mut self,
+        number: WorkerId,
+        found: Option<&Entry>,
+    ) -> Result<Option<Reply>, Fault>
+        requires few { self.old.replayed < 2 ^ 64 - 1 }
+        requires uniques { (tenant : ℕ) (state : TableState) → slice_get self.old.tables.items tenant ≡ Some state → state.last_unique ≤ self.old.replayed }
+        ensures reply { IfOk result (λ reply. reply ≡ reply_from number self.old.tables.items (option_copied found.entry)) }
+        ensures replayed { OnOk result (self.new.replayed ≡ self.old.replayed + 1) }
+        ensures tables { OnOk result (TakeEffect (option_copied found.entry) self.old.tables.items self.new.tables.items) }
+        ensures shown { (decided : List Ticket) → shown_worker decided self.new ≡ shown_worker decided self.old }
+        ensures order { (places decided : ℕ) → IsInOrder places decided self.old → IsInOrder places decided self.new }
+        ensures memory { IsOkUnless result Fault.Memory }
+        ensures unchanged { OnErr result (replay_of self.new ≡ replay_of self.old) }
+    {
+        let reply = take_effect(&mut self.tables, number, found)?;
+        self.replayed += 1;
+        Ok(reply)
+    }
+
+    /// It stops for good.
+    pub(crate) fn stop(&mut self)
+        ensures shown { (decided : List Ticket) → shown_worker decided self.new ≡ stop (shown_worker decided self.old) }
+        ensures order { (places decided : ℕ) → IsInOrder places decided self.old → IsInOrder places decided self.new }
+        ensures replay { replay_of self.new ≡ replay_of self.old }
+    {
+        self.phase = Phase::Stopped;
+    }
+}
+
+/// The proposal stands at the place, where the place is empty and the next. What stands there then is the answer.
+fn decide(decided: &mut Vec<Ticket>, place: usize, proposal: Ticket) -> Ticket
+    requires place { place ≤ vec_len decided.old }
+    requires room { place ≡ vec_len decided.old → vec_len decided.old < vec_capacity decided.old }
+    ensures decided { decided.new.items ≡ decided_with proposal decided.old.items (slice_get decided.old.items place) }
+    ensures found { result ≡ unwrap_or (slice_get decided.old.items place) proposal }
+    ensures learned { take (place + 1) decided.new.items ≡ take place decided.old.items ++ result ∷ [] }
+    ensures within { place < vec_len decided.new }
+    ensures grows { vec_len decided.old ≤ vec_len decided.new }
+    ensures room { vec_capacity decided.new ≡ vec_capacity decided.old }
+{
+    if let Some(found) = decided.get(place) {
+        return *found;
+    }
+    let ticket = proposal;
+    decided.push_reserved(proposal);
+    ticket
+}
+
+/// How many of the tickets are the worker's.
+fn count_of(worker: WorkerId, tickets: &[Ticket]) -> u64
+    ensures { result ≡ count worker tickets.now }
+{
+    tickets
+        .iter()
+        .filter(|ticket| ticket.worker == worker)
+        .count() as u64
+}
