@@ -7,7 +7,7 @@ use mc_read::Reader;
 use mc_write::write_reply;
 use std::alloc::Global;
 use std::test::Fail;
-use uc_core::{Core, Event, RunFault};
+use uc_core::{Core, Event, WorkerView};
 
 /// Quotas that the worked runs don't reach.
 pub(crate) const AMPLE: Limits = Limits {
@@ -82,6 +82,53 @@ pub(crate) fn events_of(alloc: Global, text: &str) -> Result<Vec<Event>, Fail> {
     Ok(events)
 }
 
+/// What the core shows of a worker.
+pub(crate) fn view_of(core: &Core, worker: u8) -> Result<WorkerView, Fail> {
+    let worker = WorkerId::new(worker).ok_or("no worker")?;
+    Ok(core.worker(worker).ok_or("no such worker")?)
+}
+
+fn phase_name(phase: Phase) -> &'static str {
+    match phase {
+        Phase::Idle => "idle",
+        Phase::Pending => "pending",
+        Phase::Looked => "looked",
+        Phase::Stopped => "stopped",
+    }
+}
+
+/// What the core shows: the log, and each worker in a line.
+pub(crate) fn shown_by(alloc: Global, core: &Core) -> Result<String, Fail> {
+    let mut text = String::from_str(alloc, "log")?;
+    for ticket in core.decided() {
+        write!(text, " ({},{})", ticket.worker.number(), ticket.number)?;
+    }
+    text.push_str("\n")?;
+    for number in 0..16u8 {
+        push_worker(&mut text, core, number)?;
+    }
+    Ok(text)
+}
+
+fn push_worker(text: &mut String, core: &Core, number: u8) -> Result<(), Fail> {
+    let worker = WorkerId::new(number).ok_or("no worker")?;
+    if let Some(view) = core.worker(worker) {
+        let WorkerView {
+            phase,
+            learned,
+            replayed,
+            proposals,
+            ..
+        } = view;
+        let phase = phase_name(phase);
+        write!(
+            text,
+            "worker {number} {phase} learned {learned} replayed {replayed} proposals {proposals}\n"
+        )?;
+    }
+    Ok(())
+}
+
 /// Appends a reply with its worker and place, as a client reads it.
 fn tell(said: &mut Vec<u8>, worker: u8, place: u64, reply: &Reply) -> Result<(), Fault> {
     write!(said, "{worker} {place} ")?;
@@ -98,8 +145,10 @@ pub(crate) fn stepped(alloc: Global, core: &mut Core, text: &str) -> Result<Vec<
 }
 
 fn step(alloc: Global, core: &mut Core, text: &str, said: &mut Vec<u8>) -> Result<(), Fail> {
-    let worker = number_of(text.split(' ').nth(1))?;
-    let place = replayed_by(core, worker)?;
+    let mut words = text.split(' ');
+    let _ = words.next();
+    let worker = number_of(words.next())?;
+    let place = view_of(core, worker)?.replayed as u64;
     let event = event_of(alloc, text)?;
     if let Some(reply) = core.step(event)? {
         tell(said, worker, place, &reply)?;
