@@ -28,7 +28,7 @@ pub(crate) fn opened(
 }
 
 /// The command that a client writes so.
-fn command_of(alloc: Global, text: &str) -> Result<Command, Fail> {
+pub(crate) fn command_of(alloc: Global, text: &str) -> Result<Command, Fail> {
     match request_of(alloc, text)? {
         Some(Request::Logged { command, .. }) => Ok(command),
         _ => Err(Fail::from("no command")),
@@ -130,8 +130,15 @@ fn push_worker(text: &mut String, core: &Core, number: u8) -> Result<(), Fail> {
 }
 
 /// Appends a reply with its worker and place, as a client reads it.
-fn tell(said: &mut Vec<u8>, worker: u8, place: u64, reply: &Reply) -> Result<(), Fault> {
-    write!(said, "{worker} {place} ")?;
+fn tell(
+    alloc: Global,
+    said: &mut Vec<u8>,
+    worker: u8,
+    place: u64,
+    reply: &Reply,
+) -> Result<(), Fault> {
+    let who = format!(in alloc; "{worker} {place} ")?;
+    said.extend_from_slice(who.as_bytes())?;
     write_reply(reply, said)
 }
 
@@ -151,7 +158,7 @@ fn step(alloc: Global, core: &mut Core, text: &str, said: &mut Vec<u8>) -> Resul
     let place = view_of(core, worker)?.replayed as u64;
     let event = event_of(alloc, text)?;
     if let Some(reply) = core.step(event)? {
-        tell(said, worker, place, &reply)?;
+        tell(alloc, said, worker, place, &reply)?;
     }
     Ok(())
 }
@@ -167,7 +174,7 @@ pub(crate) fn ran(alloc: Global, core: &mut Core, text: &str) -> Result<Vec<u8>,
 fn told(alloc: Global, replies: &[(WorkerId, u64, Reply)]) -> Result<Vec<u8>, Fail> {
     let mut said = Vec::new(alloc);
     for (worker, place, reply) in replies {
-        tell(&mut said, worker.number(), *place, reply)?;
+        tell(alloc, &mut said, worker.number(), *place, reply)?;
     }
     Ok(said)
 }

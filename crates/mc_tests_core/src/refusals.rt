@@ -89,8 +89,9 @@ fn a_worker_that_does_not_exist_does_nothing(rt: HostRuntime) -> Result<(), Fail
     assert_all_refused(&rt, rt.alloc(), 4, "", LAST, Fault::BadEvent)
 }
 
-/// Worker 0 has learned the only place, worker 1 too, whose command waits.
-const FULL: &str = "announce 1 0 get a\r\n/announce 0 0 get a\r\n/read 0/look 0/propose 0/read 1";
+/// The only place is decided, and learned by both workers; worker 1's command waits.
+const FULL: &str = "announce 0 0 set a 0 0 1\r\nx\r\n/read 0/look 0/propose 0/replay 0\
+    /announce 1 0 get a\r\n/read 1";
 
 #[test]
 fn a_full_log_is_told(rt: HostRuntime) -> Result<(), Fail> {

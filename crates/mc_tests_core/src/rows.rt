@@ -7,6 +7,7 @@ use std::process::Abort;
 use std::test::Fail;
 
 /// A core of so many workers and places takes these events, answers so and then shows this.
+#[derive(Clone, Copy)]
 struct Row<'a> {
     size: (u64, u64),
     tenants: &'a [Limits],

@@ -1,21 +1,21 @@
 //! A second opinion on the theorem: every state of a small core, whatever the events, is looked at by plain code that knows none of
 //! the definitions.
 //!
-//! Two workers share three places. Ways of events are tried breadth first, each event at the end of each way; a way that leads to a
-//! state that was seen goes no further, so all event lists of any length are covered.
-use crate::events::{AMPLE, event_of, opened, view_of};
-use mc_model::{Fault, Phase, Ticket};
+//! Two workers share three places. Each move is tried at the end of each way, shorter ways first; a way that leads to a state that was
+//! seen goes no further. So event lists of any length are covered.
+use crate::events::{AMPLE, command_of, opened, view_of};
+use mc_model::{Key, Phase, TenantId, Ticket, WorkerId};
 use mc_write::write_reply;
 use std::alloc::Global;
 use std::collections::BTreeSet;
 use std::process::Abort;
 use std::test::Fail;
-use uc_core::Core;
+use uc_core::{Core, Event};
 
 const PLACES: u64 = 3;
 
-/// More ways than there are.
-const MANY: usize = 1_000_000;
+/// More moves than lead to a state that is new.
+const MOVES: usize = 40;
 
 #[derive(Clone, Copy, PartialEq, Eq)]
 enum Deed {
@@ -59,25 +59,29 @@ const NONE: Notes = Notes {
     looked_at: 0,
 };
 
-/// A core at the end of a way.
+/// A way of moves from the opening, and the notes at its end.
 #[derive(Drop)]
-struct Watched {
-    core: Core,
+struct Way {
+    moves: Vec<Move>,
     first: Notes,
     second: Notes,
 }
 
-impl Watched {
+impl Way {
     fn notes(&self, worker: u8) -> Notes {
         if worker == 0 { self.first } else { self.second }
     }
 
-    fn notes_mut(&mut self, worker: u8) -> &mut Notes {
-        if worker == 0 {
-            &mut self.first
-        } else {
-            &mut self.second
-        }
+    /// The way with one more move, and what is noted of its worker.
+    fn longer(&self, alloc: Global, made: Move, notes: Notes) -> Result<Way, Fail> {
+        let mut moves = Vec::from_slice(alloc, &self.moves)?;
+        moves.push(made)?;
+        let is_first = made.worker == 0;
+        Ok(Way {
+            moves,
+            first: if is_first { notes } else { self.first },
+            second: if is_first { self.second } else { notes },
+        })
     }
 }
 
@@ -142,54 +146,46 @@ fn answer_at(alloc: Global, decided: &[Ticket], place: usize) -> Result<String, 
     plain.answer(alloc, ticket)
 }
 
-/// The core's event for a move.
-fn event_text(alloc: Global, notes: Notes, made: Move) -> Result<String, Fail> {
+/// The event of a move by a worker that has announced so many commands.
+fn event_for(alloc: Global, announced: u64, made: Move) -> Result<Event, Fail> {
     let worker = made.worker;
-    let text = match made.deed {
+    Ok(match made.deed {
         Deed::Announce => {
-            let command = text_of(alloc, worker, notes.announced)?;
-            format!(in alloc; "announce {worker} 0 {command}")?
+            let text = text_of(alloc, worker, announced)?;
+            Event::Announce(worker, 0, command_of(alloc, text.as_str())?)
         }
-        Deed::Read => format!(in alloc; "read {worker}")?,
-        Deed::Look => format!(in alloc; "look {worker}")?,
-        Deed::Propose => format!(in alloc; "propose {worker}")?,
-        Deed::Replay => format!(in alloc; "replay {worker}")?,
-        Deed::Stop => format!(in alloc; "stop {worker}")?,
-    };
-    Ok(text)
+        Deed::Read => Event::Read(worker),
+        Deed::Look => Event::Look(worker),
+        Deed::Propose => Event::Propose(worker),
+        Deed::Replay => Event::Replay(worker),
+        Deed::Stop => Event::Stop(worker),
+    })
 }
 
-/// What the core answered to an event, as a client reads it; nothing where the event was refused.
-fn answered(alloc: Global, core: &mut Core, text: &str) -> Result<Option<Vec<u8>>, Fail> {
-    let event = event_of(alloc, text)?;
-    match core.step(event) {
-        Ok(reply) => {
-            let mut bytes = Vec::new(alloc);
-            if let Some(reply) = reply {
-                write_reply(&reply, &mut bytes)?;
-            }
-            Ok(Some(bytes))
-        }
-        Err(Fault::BadEvent) | Err(Fault::LogFull) => Ok(None),
-        Err(fault) => Err(Fail::from(fault)),
+/// How many commands of its worker are announced by these moves.
+fn announced_in(moves: &[Move], worker: u8) -> u64 {
+    moves
+        .iter()
+        .filter(|made| made.worker == worker && made.deed == Deed::Announce)
+        .count() as u64
+}
+
+/// A core that has taken these moves.
+fn core_after(alloc: Global, moves: &[Move]) -> Result<Core, Fail> {
+    let mut core = opened(alloc, 2, PLACES, &[AMPLE])?;
+    let mut events = Vec::new(alloc);
+    for (at, made) in moves.iter().enumerate() {
+        let announced = announced_in(&moves[..at], made.worker);
+        events.push(event_for(alloc, announced, *made)?)?;
+    }
+    let mut replies = Vec::new(alloc);
+    match core.run(&events, &mut replies) {
+        Ok(()) => Ok(core),
+        Err(_) => Err(Fail::from("a way that was taken is refused")),
     }
 }
 
-/// Remembers an event that was taken.
-fn note(watched: &mut Watched, made: Move, other_announced: u64, decided: u64) {
-    let notes = watched.notes_mut(made.worker);
-    match made.deed {
-        Deed::Announce => {
-            notes.announced = notes.announced.wrapping_add(1);
-            notes.decided_then = decided;
-        }
-        Deed::Look => notes.looked_at = other_announced,
-        Deed::Propose => notes.looked_at = 0,
-        _ => {}
-    }
-}
-
-/// What the other text says must be said here: at a replay of the worker's own command its answer, else nothing.
+/// What is to be answered to a move: at a replay of the worker's own command its answer, else nothing.
 fn wanted(alloc: Global, core: &Core, made: Move) -> Result<String, Fail> {
     let place = view_of(core, made.worker)?.replayed;
     match core.decided().get(place) {
@@ -200,29 +196,40 @@ fn wanted(alloc: Global, core: &Core, made: Move) -> Result<String, Fail> {
     }
 }
 
-/// Takes a move, if the core does, and looks at what it answered.
-fn take(
-    rt: &impl Abort,
-    alloc: Global,
-    watched: &mut Watched,
-    made: Move,
-) -> Result<bool, Fail> {
-    let text = event_text(alloc, watched.notes(made.worker), made)?;
-    let want = wanted(alloc, &watched.core, made)?;
-    let turn = view_of(&watched.core, made.worker)?.learned % 2;
-    let helped = watched.notes(if turn == 0 { 0 } else { 1 }).announced;
-    let decided = watched.core.decided().len() as u64;
-    let Some(said) = answered(alloc, &mut watched.core, text.as_str())? else {
-        return Ok(false);
-    };
-    assert_eq!(rt; said.as_slice(), want.as_bytes());
-    note(watched, made, helped, decided);
-    Ok(true)
+/// What is answered to an event, as a client reads it.
+fn answered(alloc: Global, core: &mut Core, event: Event) -> Result<Vec<u8>, Fail> {
+    let mut bytes = Vec::new(alloc);
+    if let Some(reply) = core.step(event)? {
+        write_reply(&reply, &mut bytes)?;
+    }
+    Ok(bytes)
+}
+
+/// The notes of a worker after its move.
+fn noted(way: &Way, core: &Core, made: Move) -> Result<Notes, Fail> {
+    let notes = way.notes(made.worker);
+    let turn = view_of(core, made.worker)?.learned % 2;
+    Ok(match made.deed {
+        Deed::Announce => Notes {
+            announced: notes.announced.wrapping_add(1),
+            decided_then: core.decided().len() as u64,
+            looked_at: 0,
+        },
+        Deed::Look => Notes {
+            looked_at: way.notes(if turn == 0 { 0 } else { 1 }).announced,
+            ..notes
+        },
+        Deed::Propose => Notes {
+            looked_at: 0,
+            ..notes
+        },
+        _ => notes,
+    })
 }
 
 /// No ticket stands twice or before an earlier one of its worker, and each was announced.
-fn assert_sound(rt: &impl Abort, watched: &Watched) {
-    let decided = watched.core.decided();
+fn assert_sound(rt: &impl Abort, way: &Way, core: &Core) {
+    let decided = core.decided();
     for (place, ticket) in decided.iter().enumerate() {
         let before = decided
             .iter()
@@ -230,26 +237,64 @@ fn assert_sound(rt: &impl Abort, watched: &Watched) {
             .filter(|earlier| earlier.worker == ticket.worker)
             .count();
         assert!(rt; before as u64 == ticket.number);
-        assert!(rt; ticket.number < watched.notes(ticket.worker.number()).announced);
+        assert!(rt; ticket.number < way.notes(ticket.worker.number()).announced);
     }
 }
 
-/// A worker's latest command stands among the places that it must stand at by now, and it hasn't proposed too often.
-fn assert_helped(rt: &impl Abort, watched: &Watched, worker: u8) -> Result<(), Fail> {
-    let notes = watched.notes(worker);
-    let decided = watched.core.decided();
+/// A worker's latest command stands among the places that it must stand at by now.
+fn assert_helped(rt: &impl Abort, way: &Way, core: &Core, worker: u8) {
+    let notes = way.notes(worker);
     let soon = notes.decided_then.wrapping_add(3);
-    if notes.announced > 0 && decided.len() as u64 >= soon {
-        let stands = decided.iter().take(soon as usize).any(|ticket| {
-            ticket.worker.number() == worker && ticket.number == notes.announced.wrapping_sub(1)
-        });
+    if notes.announced > 0 && core.decided().len() as u64 >= soon {
+        let latest = notes.announced.wrapping_sub(1);
+        let stands = core
+            .decided()
+            .iter()
+            .take(soon as usize)
+            .any(|ticket| ticket.worker.number() == worker && ticket.number == latest);
         assert!(rt; stands);
     }
-    let view = view_of(&watched.core, worker)?;
+}
+
+/// A worker hasn't proposed too often, and knows no more than there is.
+fn assert_bounds(rt: &impl Abort, core: &Core, worker: u8) -> Result<(), Fail> {
+    let view = view_of(core, worker)?;
     assert!(rt; view.proposals <= 3);
     assert!(rt; view.replayed <= view.learned);
-    assert!(rt; view.learned <= decided.len());
+    assert!(rt; view.learned <= core.decided().len());
     Ok(())
+}
+
+/// The key's digit and unique in a worker's table.
+fn held_by(alloc: Global, core: &Core, worker: u8) -> Result<Option<(Vec<u8>, u64)>, Fail> {
+    let (worker, tenant) = (WorkerId::new(worker), TenantId::new(0));
+    let (worker, tenant) = (worker.ok_or("no worker")?, tenant.ok_or("no tenant")?);
+    let table = core.table(worker, tenant).ok_or("no table")?;
+    let key = Key::new(alloc, b"a")?.ok_or("an unlawful key")?;
+    match table.get(&key) {
+        Some(item) => {
+            let data = Vec::from_slice(alloc, item.block.as_bytes())?;
+            Ok(Some((data, item.unique)))
+        }
+        None => Ok(None),
+    }
+}
+
+/// Two workers that have replayed as many places hold the same.
+fn assert_agree(rt: &impl Abort, alloc: Global, core: &Core) -> Result<(), Fail> {
+    if view_of(core, 0)?.replayed == view_of(core, 1)?.replayed {
+        assert!(rt; held_by(alloc, core, 0)? == held_by(alloc, core, 1)?);
+    }
+    Ok(())
+}
+
+fn assert_state(rt: &impl Abort, alloc: Global, way: &Way, core: &Core) -> Result<(), Fail> {
+    assert_sound(rt, way, core);
+    assert_helped(rt, way, core, 0);
+    assert_helped(rt, way, core, 1);
+    assert_bounds(rt, core, 0)?;
+    assert_bounds(rt, core, 1)?;
+    assert_agree(rt, alloc, core)
 }
 
 fn phase_code(phase: Phase) -> u8 {
@@ -262,9 +307,9 @@ fn phase_code(phase: Phase) -> u8 {
 }
 
 /// All that decides how a worker goes on.
-fn push_worker(key: &mut Vec<u8>, watched: &Watched, worker: u8) -> Result<(), Fail> {
-    let view = view_of(&watched.core, worker)?;
-    let notes = watched.notes(worker);
+fn push_worker(key: &mut Vec<u8>, way: &Way, core: &Core, worker: u8) -> Result<(), Fail> {
+    let view = view_of(core, worker)?;
+    let notes = way.notes(worker);
     key.push(phase_code(view.phase))?;
     key.push(view.learned as u8)?;
     key.push(view.replayed as u8)?;
@@ -277,61 +322,47 @@ fn push_worker(key: &mut Vec<u8>, watched: &Watched, worker: u8) -> Result<(), F
 }
 
 /// A state as bytes: two states are the same exactly where these are.
-fn key_of(alloc: Global, watched: &Watched) -> Result<Vec<u8>, Fail> {
+fn key_of(alloc: Global, way: &Way, core: &Core) -> Result<Vec<u8>, Fail> {
     let mut key = Vec::new(alloc);
-    push_worker(&mut key, watched, 0)?;
-    push_worker(&mut key, watched, 1)?;
-    for ticket in watched.core.decided() {
+    push_worker(&mut key, way, core, 0)?;
+    push_worker(&mut key, way, core, 1)?;
+    for ticket in core.decided() {
         key.push(ticket.worker.number())?;
         key.push(ticket.number as u8)?;
     }
     Ok(key)
 }
 
-/// The core after a way.
-fn after(rt: &impl Abort, alloc: Global, way: &[Move]) -> Result<Watched, Fail> {
-    let mut watched = Watched {
-        core: opened(alloc, 2, PLACES, &[AMPLE])?,
-        first: NONE,
-        second: NONE,
-    };
-    for made in way {
-        let _ = take(rt, alloc, &mut watched, *made)?;
-    }
-    Ok(watched)
-}
-
-/// The way with one more move, where that leads to a state that wasn't seen.
+/// The way with one more move, where the core takes it and it leads to a state that wasn't seen.
 fn longer(
     rt: &impl Abort,
     alloc: Global,
-    way: &[Move],
+    way: &Way,
     made: Move,
     seen: &mut BTreeSet<Vec<u8>>,
-) -> Result<Option<Vec<Move>>, Fail> {
-    let mut watched = after(rt, alloc, way)?;
-    if !take(rt, alloc, &mut watched, made)? {
+) -> Result<Option<Way>, Fail> {
+    let mut core = core_after(alloc, &way.moves)?;
+    let event = event_for(alloc, way.notes(made.worker).announced, made)?;
+    if core.check(&event).is_err() {
         return Ok(None);
     }
-    assert_sound(rt, &watched);
-    assert_helped(rt, &watched, 0)?;
-    assert_helped(rt, &watched, 1)?;
-    if !seen.insert(key_of(alloc, &watched)?)? {
-        return Ok(None);
-    }
-    let mut longer = Vec::from_slice(alloc, way)?;
-    longer.push(made)?;
-    Ok(Some(longer))
+    let longer = way.longer(alloc, made, noted(way, &core, made)?)?;
+    let want = wanted(alloc, &core, made)?;
+    let said = answered(alloc, &mut core, event)?;
+    assert_eq!(rt; said.as_slice(), want.as_bytes());
+    assert_state(rt, alloc, &longer, &core)?;
+    let is_new = seen.insert(key_of(alloc, &longer, &core)?)?;
+    Ok(if is_new { Some(longer) } else { None })
 }
 
 /// Tries each move at the end of a way.
 fn try_moves(
     rt: &impl Abort,
     alloc: Global,
-    way: &[Move],
-    ways: &mut Vec<Vec<Move>>,
+    way: &Way,
     seen: &mut BTreeSet<Vec<u8>>,
-) -> Result<(), Fail> {
+) -> Result<Vec<Way>, Fail> {
+    let mut ways = Vec::new(alloc);
     for deed in DEEDS {
         for worker in 0..2u8 {
             if let Some(way) = longer(rt, alloc, way, Move { worker, deed }, seen)? {
@@ -339,22 +370,38 @@ fn try_moves(
             }
         }
     }
-    Ok(())
+    Ok(ways)
+}
+
+/// All ways that are one move longer than these and lead to states that weren't seen.
+fn all_longer(
+    rt: &impl Abort,
+    alloc: Global,
+    ways: &[Way],
+    seen: &mut BTreeSet<Vec<u8>>,
+) -> Result<Vec<Way>, Fail> {
+    let mut all = Vec::new(alloc);
+    for way in ways {
+        for longer in try_moves(rt, alloc, way, seen)? {
+            all.push(longer)?;
+        }
+    }
+    Ok(all)
 }
 
 #[test]
 fn every_state_of_a_small_core_is_sound(rt: HostRuntime) -> Result<(), Fail> {
     let mut seen = BTreeSet::new(rt.alloc());
-    let mut ways: Vec<Vec<Move>> = Vec::new(rt.alloc());
-    ways.push(Vec::new(rt.alloc()))?;
-    for next in 0..MANY {
-        let Some(way) = ways.get(next) else {
-            break;
-        };
-        let way = Vec::from_slice(rt.alloc(), way)?;
-        try_moves(&rt, rt.alloc(), &way, &mut ways, &mut seen)?;
+    let mut ways: Vec<Way> = Vec::new(rt.alloc());
+    ways.push(Way {
+        moves: Vec::new(rt.alloc()),
+        first: NONE,
+        second: NONE,
+    })?;
+    for _ in 0..MOVES {
+        ways = all_longer(&rt, rt.alloc(), &ways, &mut seen)?;
     }
-    assert!(rt; ways.len() < MANY);
-    assert!(rt; ways.len() > 1_000);
+    assert!(rt; ways.is_empty());
+    assert!(rt; seen.len() > 40_000);
     Ok(())
 }
