@@ -159,7 +159,8 @@ impl Core {
         let id = WorkerId::new(number).unwrap();
         let ticket = self.decided[worker.replayed];
         let found = entry_under(&self.entries, ticket);
-        worker.replay(id, found)
+        let reply = worker.replay(id, found)?;
+        Ok(reply)
     }
 
     /// The worker stops for good.
