@@ -1,5 +1,5 @@
 -- What is true of the core in every state that events lead to: its parts keep to their laws before any event, and one event keeps them so.
-use Rattle.std.proofs.Common.{◌≡◌, ◌≢◌, ℕ, ◌+◌, ◌<◌, ◌≤◌, List, [], ◌∷◌, ◌++◌, length, map, replicate, Option, Some, None, slice_get, slice_set, ⊎_elim, refl, sym, ap, subst, ◌∙◌, arith, le_refl, length-append, length-set}
+use Rattle.std.proofs.Common.{◌≡◌, ℕ, ◌+◌, ◌<◌, ◌≤◌, List, [], ◌∷◌, length, replicate, Option, Some, None, slice_get, slice_set, ⊎_elim, refl, sym, ap, subst, ◌∙◌, arith, le_refl, length-set}
 use Rattle.std.proofs.lemmas.List.{length-map, length-replicate}
 use Rattle.std.proofs.lemmas.Option.{none-some, same_Some, slice_get_within}
 use Rattle.std.specs.Option.{option_map_or}
@@ -12,7 +12,7 @@ use Rattle.mc_model.specs.declared.shown.ShownState.{ShownState}
 use Rattle.mc_model.specs.declared.shown.WorkerState.{WorkerState}
 use Rattle.mc_model.specs.Helping.{BeginsWith}
 use Rattle.mc_model.specs.Lawful.{IsReached, IsWorker, ShownEvent, Step, announced_by, announces, looks, proposes, reads, stops, with_worker}
-use Rattle.mc_model.specs.Replay.{EachStands, EachStands-none, TakeEffect, empty_tables}
+use Rattle.mc_model.specs.Replay.{EachStands-none, TakeEffect, empty_tables}
 use Rattle.mc_model.specs.State.{TableState}
 use Rattle.mc_model.specs.Settings.{Configuration}
 use Rattle.mc_model.specs.Shown.{announce, new_log, new_worker}
@@ -119,13 +119,14 @@ GoesOn old new = CoreLaw new × Grows old new
 quiet-goes_on : (old : CoreState) (shown : ShownState) (event : ShownEvent) → CoreLaw old → Step (size_of old) old.shown event shown → Moves old.shown shown × IsSilent old.shown shown →
     GoesOn old (record old { shown = shown })
 quiet-goes_on old shown event law step quiet =
-    let keeps : KeepsEntries old (record old { shown = shown }) = λ ticket entry at. at in
-    (shown-keeps old law shown old.entries event step quiet.0 keeps refl (entries_stay old (record old { shown = shown }) law.entries refl refl quiet.1),
-    shown-grows old law shown old.entries quiet.0 keeps)
+    let keeps : KeepsEntries old (record old { shown = shown }) = λ ticket entry at. at in (
+      shown-keeps old law shown old.entries event step quiet.0 keeps refl (entries_stay old (record old { shown = shown }) law.entries refl refl quiet.1),
+      shown-grows old law shown old.entries quiet.0 keeps,
+    )
 
 -- an announcement
 module _ (old : CoreState) (number tenant : ℕ) (command : Command) (worker : WorkerState) (law : CoreLaw old) (known : tenant < length old.openings)
-  (at : IsWorker old.shown number worker) where
+    (at : IsWorker old.shown number worker) where
   abbrev entry : Entry
   entry = announced_entry old number tenant command
 
@@ -142,13 +143,14 @@ module _ (old : CoreState) (number tenant : ℕ) (command : Command) (worker : W
       let raised = announced_after old.shown old.shown.decided number worker (announce worker) at ∙ ap (λ (n : ℕ). n + 1) (sym (announced_is old.shown number worker at)) in
       let elsewhere = announced_elsewhere old.shown old.shown.decided number worker (announce worker) at in
       let keeps = announcement-keeps old shown list.0 entry list.1 in
-      let entries = announcement-entries old shown list.0 entry list.1 law.entries known refl raised elsewhere in
-      (shown-keeps old law shown (with_entry old.entries entry) (announces number) step moves keeps (length-set old.entries number _) entries,
-      shown-grows old law shown (with_entry old.entries entry) moves keeps)
+      let entries = announcement-entries old shown list.0 entry list.1 law.entries known refl raised elsewhere in (
+        shown-keeps old law shown (with_entry old.entries entry) (announces number) step moves keeps (length-set old.entries number _) entries,
+        shown-grows old law shown (with_entry old.entries entry) moves keeps,
+      )
 
 -- a replay
 module _ (old : CoreState) (number : ℕ) (worker : WorkerState) (replay : ReplayState) (tables : List TableState) (law : CoreLaw old)
-  (has : HasReplica old number worker replay) where
+    (has : HasReplica old number worker replay) where
   abbrev further : ReplayState
   further = record { replayed = replay.replayed + 1; tables = tables }
 
@@ -162,21 +164,22 @@ module _ (old : CoreState) (number : ℕ) (worker : WorkerState) (replay : Repla
   replay-goes_on : replay.replayed < length worker.learned → TakeEffect (entry_at old replay.replayed) replay.tables tables → GoesOn old replayed
   replay-goes_on more takes =
       let inside : replay.replayed < length old.shown.decided = omega (arith, more, learned_few (size_of old) old.shown number worker law.sound has.0) in
-      let mine : ReplayLaw replayed worker further = replay_more replayed worker replay tables (stays_replayed number worker replay has) more inside takes in
-      (record {
-        reached = law.reached;
-        sound = law.sound;
-        listed = law.listed;
-        kept = length-set old.replays number further ∙ law.kept;
-        entries = entries_stay old replayed law.entries refl refl (λ other. refl);
-        replays = λ other found known is. ⊎_elim
-            (λ (here : (other ≡ number) × (further ≡ known)).
-                let same : worker ≡ found = same_Some worker found (sym has.0 ∙ ap (slice_get old.shown.workers) (sym here.0) ∙ is.0) in
-                subst (λ (it : WorkerState × ReplayState). ReplayLaw replayed it.0 it.1) (λ i. (same i, here.1 i)) mine)
-            (λ apart. stays_replayed other found known (is.0, apart.1))
-            (at_set old.replays number other further known is.1);
-      },
-      record { openings = refl; decided = begins_self old.shown.decided; log = begins_self (log_of old) })
+      let mine : ReplayLaw replayed worker further = replay_more replayed worker replay tables (stays_replayed number worker replay has) more inside takes in (
+        record {
+          reached = law.reached;
+          sound = law.sound;
+          listed = law.listed;
+          kept = length-set old.replays number further ∙ law.kept;
+          entries = entries_stay old replayed law.entries refl refl (λ other. refl);
+          replays = λ other found known is. ⊎_elim
+              (λ (here : (other ≡ number) × (further ≡ known)).
+              let same : worker ≡ found = same_Some worker found (sym has.0 ∙ ap (slice_get old.shown.workers) (sym here.0) ∙ is.0) in
+              subst (λ (it : WorkerState × ReplayState). ReplayLaw replayed it.0 it.1) (λ i. (same i, here.1 i)) mine)
+              (λ apart. stays_replayed other found known (is.0, apart.1))
+              (at_set old.replays number other further known is.1);
+        },
+        record { openings = refl; decided = begins_self old.shown.decided; log = begins_self (log_of old) },
+      )
 
 -- one event
 goes_on : (old new : CoreState) (event : Event) (reply : Option Reply) → CoreLaw old → CoreStep old event new reply → GoesOn old new

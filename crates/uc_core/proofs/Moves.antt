@@ -1,8 +1,7 @@
 -- What a step of the shown log leaves as it was: no decided place changes, and no worker unlearns a place. Only an announcement raises
 -- what a worker has announced.
-use Rattle.std.proofs.Common.{◌≡◌, ◌≢◌, ℕ, ◌+◌, ◌<◌, ◌≤◌, List, [], ◌∷◌, ◌++◌, length, Option, Some, None, slice_get, slice_set, ⊎_elim, refl, sym, ap, subst, ◌∙◌, arith, append-nil, le_refl, length-append, length-set}
+use Rattle.std.proofs.Common.{◌≡◌, ◌≢◌, ℕ, ◌≤◌, List, [], ◌∷◌, ◌++◌, length, Option, Some, None, slice_get, ⊎_elim, refl, sym, ap, subst, ◌∙◌, arith, le_refl, length-append, length-set}
 use Rattle.std.proofs.lemmas.Bool.{cases_eq}
-use Rattle.std.proofs.lemmas.Option.{slice_get_within}
 use Rattle.std.specs.Option.{option_map_or}
 use Rattle.mc_model.specs.declared.id.Ticket.{Ticket}
 use Rattle.mc_model.specs.declared.shown.LogSize.{LogSize}
@@ -11,7 +10,7 @@ use Rattle.mc_model.specs.declared.shown.WorkerState.{WorkerState}
 use Rattle.mc_model.specs.Helping.{BeginsWith}
 use Rattle.mc_model.specs.Lawful.{IsWorker, Step, announced_by, decided_with, looks, next, proposes, reads, stops}
 use Rattle.mc_model.specs.Shown.{proposal, read}
-use Rattle.uc_core.proofs.Lists.{at_set, begins_self, set_elsewhere, set_here}
+use Rattle.uc_core.proofs.Lists.{at_set, begins_self, set_elsewhere}
 use Rattle.uc_core.proofs.StateLaws.{after, announced_after, announced_is}
 
 -- a worker has learned no less than before
@@ -46,8 +45,8 @@ module _ (old : ShownState) (decided : List Ticket) (number : ℕ) (was worker :
   pub is_silent : worker.announced ≡ was.announced → IsSilent old (after old decided number worker)
   is_silent same other = ⊎_elim
       (λ (here : other ≡ number).
-          ap (announced_by (after old decided number worker)) here ∙ announced_after old decided number was worker at ∙ same
-          ∙ sym (announced_is old number was at) ∙ ap (announced_by old) (sym here))
+      ap (announced_by (after old decided number worker)) here ∙ announced_after old decided number was worker at ∙ same
+      ∙ sym (announced_is old number was at) ∙ ap (announced_by old) (sym here))
       (λ apart. announced_elsewhere other apart)
       (cases_eq other number)
 

@@ -1,5 +1,5 @@
 -- Two runs: a reply to the command number j of a tenant is told by the tenant's commands up to that one and by its quotas alone.
-use Rattle.std.proofs.Common.{◌≡◌, ℕ, suc, ◌+◌, List, [], ◌∷◌, ◌++◌, length, take, drop, Option, Some, None, slice_get, refl, sym, ap, ap₂, ◌∙◌, arith, ◌==◌, true, eq-eqb, if◌then◌else◌, length-append}
+use Rattle.std.proofs.Common.{◌≡◌, ℕ, suc, ◌+◌, List, [], ◌∷◌, ◌++◌, length, take, drop, Option, Some, None, slice_get, sym, ap, ◌∙◌, eq-eqb, if◌then◌else◌, length-append}
 use Rattle.std.proofs.lemmas.List.{append_assoc, same_from_push, take_at}
 use Rattle.std.proofs.lemmas.List.Elements.{filter_map-append}
 use Rattle.std.proofs.lemmas.Option.{same_Some}
@@ -11,7 +11,7 @@ use Rattle.mc_model.specs.declared.settings.Limits.{Limits}
 use Rattle.mc_model.specs.History.{answer}
 use Rattle.mc_model.specs.Log.{own, own_command}
 use Rattle.uc_core.specs.Core.{CoreState, log_of}
-use Rattle.uc_core.specs.Headline.{Answered, IsAnswer, LogsAgree, RepliesAreAnswers}
+use Rattle.uc_core.specs.Headline.{Answered, LogsAgree, RepliesAreAnswers}
 use Rattle.uc_core.specs.Run.{Given}
 use Rattle.uc_core.proofs.Lookups.{parts_at}
 
@@ -23,10 +23,10 @@ own_upto log place tenant j entry at whose number =
     let rest = own tenant (drop (suc place) log) in
     let mine : own_command tenant (Some entry) ≡ Some entry.command = ap (λ b. if b then Some entry.command else None) (eq-eqb entry.tenant tenant whose) in
     let parts : own tenant log ≡ (before ++ entry.command ∷ []) ++ rest =
-        ap (own tenant) (parts_at log place (Some entry) at)
-        ∙ filter_map-append (own_command tenant) (take place log) (Some entry ∷ drop (suc place) log)
-        ∙ ap (λ found. before ++ cons_option found rest) mine
-        ∙ sym (append_assoc before (entry.command ∷ []) rest) in
+    ap (own tenant) (parts_at log place (Some entry) at)
+    ∙ filter_map-append (own_command tenant) (take place log) (Some entry ∷ drop (suc place) log)
+    ∙ ap (λ found. before ++ cons_option found rest) mine
+    ∙ sym (append_assoc before (entry.command ∷ []) rest) in
     ap (take (j + 1)) parts ∙ take_at (before ++ entry.command ∷ []) rest (j + 1) (length-append before (entry.command ∷ []) ∙ ap (λ n. n + 1) number)
 
 -- what was answered: the tenant's quotas, its commands so far and its command tell the reply
