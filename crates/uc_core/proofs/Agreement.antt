@@ -20,7 +20,8 @@ use Rattle.uc_core.proofs.Replays.{take-begins}
 use Rattle.uc_core.proofs.Tickets.{count_front, count_own}
 
 -- a ticket that stands earlier in a legal list would be counted before the later place
-not_before : (tickets : List Ticket) (ticket : Ticket) (one other : ℕ) → IsLegal tickets → slice_get tickets one ≡ Some ticket → slice_get tickets other ≡ Some ticket → one < other → ⊥
+not_before : (tickets : List Ticket) (ticket : Ticket) (one other : ℕ) → IsLegal tickets →
+    slice_get tickets one ≡ Some ticket → slice_get tickets other ≡ Some ticket → one < other → ⊥
 not_before tickets ticket one other legal at there below =
     let earlier = legal one ticket at in
     let later = legal other ticket there in
@@ -65,7 +66,8 @@ module _ (core : CoreState) (law : CoreLaw core) where
   pub replicas_agree : ReplicasAgree core
   replicas_agree = record {
     prefixes = λ one other v w r s has there fewer.
-        replica_is one v r has ∙ sym (take-take r.replayed s.replayed (map (seen core) core.shown.decided) fewer) ∙ ap (take r.replayed) (sym (replica_is other w s there));
+        replica_is one v r has ∙ sym (take-take r.replayed s.replayed (map (seen core) core.shown.decided) fewer)
+        ∙ ap (take r.replayed) (sym (replica_is other w s there));
     tables = λ one other v w r s has there same. same_by_places r.tables s.tables (λ tenant.
         (law.replays one v r has).stands tenant
         ∙ ap (λ n. option_map (λ opening. state_after opening (own tenant (take n (log_of core)))) (slice_get core.openings tenant)) same

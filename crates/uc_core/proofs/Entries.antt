@@ -36,7 +36,8 @@ EntryIn core ticket entry = (announced : List Entry) × (slice_get core.entries 
 
 parts_of : (core : CoreState) (ticket : Ticket) (entry : Entry) → entry_under core ticket ≡ Some entry → EntryIn core ticket entry
 parts_of core ticket entry at =
-    option_and_then_some (λ (announced : List Entry). slice_get announced ticket.number) (slice_get core.entries ticket.worker) entry at (λ announced is here. (announced, is, here))
+    option_and_then_some (λ (announced : List Entry). slice_get announced ticket.number) (slice_get core.entries ticket.worker) entry at
+    (λ announced is here. (announced, is, here))
 
 from_parts : (core : CoreState) (ticket : Ticket) (entry : Entry) (announced : List Entry) →
     slice_get core.entries ticket.worker ≡ Some announced → slice_get announced ticket.number ≡ Some entry → entry_under core ticket ≡ Some entry
@@ -46,13 +47,14 @@ from_parts core ticket entry announced is here = ap (option_and_then (λ (list :
 pub exists : (core : CoreState) (ticket : Ticket) → ticket.number < announced_by core.shown ticket.worker → ticket.worker < length core.shown.workers
 exists core ticket below = within (slice_get core.shown.workers ticket.worker) refl below
   where
-    within : (found : Option WorkerState) → slice_get core.shown.workers ticket.worker ≡ found → ticket.number < option_map_or (λ (worker : WorkerState). worker.announced) found 0 →
-        ticket.worker < length core.shown.workers
+    within : (found : Option WorkerState) → slice_get core.shown.workers ticket.worker ≡ found →
+        ticket.number < option_map_or (λ (worker : WorkerState). worker.announced) found 0 → ticket.worker < length core.shown.workers
     within None at below = absurd (omega (arith, below))
     within (Some worker) at below = slice_get_within core.shown.workers ticket.worker worker at
 
 -- what is announced has its entry
-pub has_entry : (core : CoreState) (ticket : Ticket) → length core.entries ≡ length core.shown.workers → AreEntries core → ticket.number < announced_by core.shown ticket.worker → HasEntry core ticket
+pub has_entry : (core : CoreState) (ticket : Ticket) → length core.entries ≡ length core.shown.workers → AreEntries core →
+    ticket.number < announced_by core.shown ticket.worker → HasEntry core ticket
 has_entry core ticket listed entries below =
     let list = there core.entries ticket.worker (omega (arith, listed, exists core ticket below)) in
     let law = entries ticket.worker list.0 list.1 in
@@ -126,7 +128,8 @@ module _ (old : CoreState) (shown : ShownState) (list : List Entry) (entry : Ent
       many = omega (arith, length-append list (entry ∷ []), law.many, raised);
       tickets = λ k found is. ⊎_elim
           (λ before. law.tickets k found before)
-          (λ (last : (k ≡ length list) × (entry ≡ found)). ap (λ (e : Entry). e.ticket) (sym last.1) ∙ ap (ticket_of entry.ticket.worker) (next ∙ sym law.many ∙ sym last.0))
+          (λ (last : (k ≡ length list) × (entry ≡ found)).
+          ap (λ (e : Entry). e.ticket) (sym last.1) ∙ ap (ticket_of entry.ticket.worker) (next ∙ sym law.many ∙ sym last.0))
           (at_pushed list entry found k is);
       tenants = λ k found is. ⊎_elim
           (λ before. law.tenants k found before)

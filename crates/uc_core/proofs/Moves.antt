@@ -23,9 +23,9 @@ pub record Moves (old new : ShownState) : Type 0 where
   pub decided : BeginsWith new.decided old.decided
   pub learned : (number : ℕ) (worker : WorkerState) → IsWorker new number worker → HasLearned old number worker
 
--- nobody has announced anything
-abbrev pub IsSilent : ShownState → ShownState → Type 0
-IsSilent old new = (number : ℕ) → announced_by new number ≡ announced_by old number
+-- and nobody has announced anything
+abbrev pub IsQuiet : ShownState → ShownState → Type 0
+IsQuiet old new = Moves old new × ((number : ℕ) → announced_by new number ≡ announced_by old number)
 
 -- one worker moves
 module _ (old : ShownState) (decided : List Ticket) (number : ℕ) (was worker : WorkerState) (at : IsWorker old number was) where
@@ -42,19 +42,24 @@ module _ (old : ShownState) (decided : List Ticket) (number : ℕ) (was worker :
   pub announced_elsewhere : (other : ℕ) → other ≢ number → announced_by (after old decided number worker) other ≡ announced_by old other
   announced_elsewhere other apart = ap (λ found. option_map_or (λ (it : WorkerState). it.announced) found 0) (set_elsewhere old.workers number other worker apart)
 
-  pub is_silent : worker.announced ≡ was.announced → IsSilent old (after old decided number worker)
-  is_silent same other = ⊎_elim
-      (λ (here : other ≡ number).
-      ap (announced_by (after old decided number worker)) here ∙ announced_after old decided number was worker at ∙ same
-      ∙ sym (announced_is old number was at) ∙ ap (announced_by old) (sym here))
-      (λ apart. announced_elsewhere other apart)
-      (cases_eq other number)
+  pub one_quietly : BeginsWith decided old.decided → length was.learned ≤ length worker.learned → worker.announced ≡ was.announced →
+      IsQuiet old (after old decided number worker)
+  one_quietly begins more same = (one_moves begins more, silent)
+    where
+      silent : (other : ℕ) → announced_by (after old decided number worker) other ≡ announced_by old other
+      silent other = ⊎_elim
+          (λ (here : other ≡ number).
+          ap (announced_by (after old decided number worker)) here ∙ announced_after old decided number was worker at ∙ same
+          ∙ sym (announced_is old number was at) ∙ ap (announced_by old) (sym here))
+          (λ apart. announced_elsewhere other apart)
+          (cases_eq other number)
 
 -- what a worker that reads or proposes has learned, and the places then
 learned_more : (learned : List Ticket) (ticket : Ticket) → length learned ≤ length (learned ++ ticket ∷ [])
 learned_more learned ticket = omega (arith, length-append learned (ticket ∷ []))
 
-reads_more : (number : ℕ) (found : Option Ticket) (worker : WorkerState) → (length worker.learned ≤ length (read number found worker).learned) × ((read number found worker).announced ≡ worker.announced)
+reads_more : (number : ℕ) (found : Option Ticket) (worker : WorkerState) →
+    (length worker.learned ≤ length (read number found worker).learned) × ((read number found worker).announced ≡ worker.announced)
 reads_more number None worker = (le_refl (length worker.learned), refl)
 reads_more number (Some ticket) worker = (learned_more worker.learned ticket, refl)
 
@@ -62,26 +67,22 @@ decides_more : (proposed : Ticket) (decided : List Ticket) (found : Option Ticke
 decides_more proposed decided None = (proposed ∷ [], refl)
 decides_more proposed decided (Some ticket) = begins_self decided
 
--- the steps of each kind
+-- the steps of each kind but the announcement
 module _ (size : LogSize) (old new : ShownState) (number : ℕ) where
-  abbrev Quiet : ShownState → Type 0
-  Quiet state = Moves old state × IsSilent old state
-
-  pub reads_quietly : Step size old (reads number) new → Moves old new × IsSilent old new
+  pub reads_quietly : Step size old (reads number) new → IsQuiet old new
   reads_quietly step =
-      let more = reads_more number (slice_get old.decided (length step.0.learned)) step.0 in
-      subst Quiet (sym step.4) (one_moves old old.decided number step.0 _ step.1 (begins_self old.decided) more.0, is_silent old old.decided number step.0 _ step.1 more.1)
+      let more = reads_more number (next old step.0) step.0 in
+      subst (IsQuiet old) (sym step.4) (one_quietly old old.decided number step.0 _ step.1 (begins_self old.decided) more.0 more.1)
 
-  pub looks_quietly : Step size old (looks number) new → Moves old new × IsSilent old new
-  looks_quietly step = subst Quiet (sym step.5)
-      (one_moves old old.decided number step.0 _ step.1 (begins_self old.decided) (le_refl (length step.0.learned)), is_silent old old.decided number step.0 _ step.1 refl)
+  pub looks_quietly : Step size old (looks number) new → IsQuiet old new
+  looks_quietly step =
+      subst (IsQuiet old) (sym step.5) (one_quietly old old.decided number step.0 _ step.1 (begins_self old.decided) (le_refl (length step.0.learned)) refl)
 
-  pub proposes_quietly : Step size old (proposes number) new → Moves old new × IsSilent old new
+  pub proposes_quietly : Step size old (proposes number) new → IsQuiet old new
   proposes_quietly step =
       let decided = decided_with (proposal number step.0) old.decided (next old step.0) in
-      subst Quiet (sym step.3)
-      (one_moves old decided number step.0 _ step.1 (decides_more _ old.decided _) (learned_more step.0.learned _), is_silent old decided number step.0 _ step.1 refl)
+      subst (IsQuiet old) (sym step.3) (one_quietly old decided number step.0 _ step.1 (decides_more _ old.decided _) (learned_more step.0.learned _) refl)
 
-  pub stops_quietly : Step size old (stops number) new → Moves old new × IsSilent old new
-  stops_quietly step = subst Quiet (sym step.3)
-      (one_moves old old.decided number step.0 _ step.1 (begins_self old.decided) (le_refl (length step.0.learned)), is_silent old old.decided number step.0 _ step.1 refl)
+  pub stops_quietly : Step size old (stops number) new → IsQuiet old new
+  stops_quietly step =
+      subst (IsQuiet old) (sym step.3) (one_quietly old old.decided number step.0 _ step.1 (begins_self old.decided) (le_refl (length step.0.learned)) refl)

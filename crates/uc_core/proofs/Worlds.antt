@@ -16,8 +16,8 @@ use Rattle.uc_core.specs.Run.{Given}
 use Rattle.uc_core.proofs.Lookups.{parts_at}
 
 -- the tenant's commands up to the one at a place
-own_upto : (log : List (Option Entry)) (place tenant j : ℕ) (entry : Entry) → slice_get log place ≡ Some (Some entry) → entry.tenant ≡ tenant → length (own tenant (take place log)) ≡ j →
-    take (j + 1) (own tenant log) ≡ own tenant (take place log) ++ entry.command ∷ []
+own_upto : (log : List (Option Entry)) (place tenant j : ℕ) (entry : Entry) → slice_get log place ≡ Some (Some entry) →
+    entry.tenant ≡ tenant → length (own tenant (take place log)) ≡ j → take (j + 1) (own tenant log) ≡ own tenant (take place log) ++ entry.command ∷ []
 own_upto log place tenant j entry at whose number =
     let before = own tenant (take place log) in
     let rest = own tenant (drop (suc place) log) in
@@ -38,7 +38,8 @@ record IsTold (core : CoreState) (tenant j : ℕ) (reply : Reply) : Type 0 where
   upto : take (j + 1) (own tenant (log_of core)) ≡ commands ++ command ∷ []
   replied : reply ≡ answer opening commands command
 
-told_by : (core : CoreState) (given : List Given) (tenant j : ℕ) (reply : Reply) → RepliesAreAnswers core given → Answered core given tenant j reply → IsTold core tenant j reply
+told_by : (core : CoreState) (given : List Given) (tenant j : ℕ) (reply : Reply) → RepliesAreAnswers core given →
+    Answered core given tenant j reply → IsTold core tenant j reply
 told_by core given tenant j reply answers answered =
     let is = answers answered.at answered.worker answered.place reply answered.told in
     let same : is.entry ≡ answered.entry = same_Some _ _ (same_Some _ _ (sym is.found ∙ answered.found)) in
