@@ -144,7 +144,7 @@ module _ (old : CoreState) (number tenant : ℕ) (command : Command) (worker : W
       let list = there old.entries number (omega (arith, law.listed, slice_get_within old.shown.workers number worker at)) in
       let moves = one_moves old.shown old.shown.decided number worker (announce worker) at (begins_self old.shown.decided) (le_refl (length worker.learned)) in
       let raised = announced_after old.shown old.shown.decided number worker (announce worker) at
-          ∙ ap (λ (n : ℕ). n + 1) (sym (announced_is old.shown number worker at)) in
+      ∙ ap (λ (n : ℕ). n + 1) (sym (announced_is old.shown number worker at)) in
       let elsewhere = announced_elsewhere old.shown old.shown.decided number worker (announce worker) at in
       let keeps = announcement-keeps old shown list.0 entry list.1 in
       let entries = announcement-entries old shown list.0 entry list.1 law.entries known refl raised elsewhere in (
