@@ -1,3 +1,17 @@
+pub mod Lists
+pub mod Tickets
+pub mod StateLaws
+pub mod Helped
+pub mod Turns
+pub mod Waiting
+mod Lookups
+mod Moves
+mod Entries
+mod Replays
+pub mod CoreLaws
+mod Runs
+mod Agreement
+mod Worlds
 pub mod Workers
 pub mod Opened
 mod Enabled

@@ -53,18 +53,18 @@ shown-later decided later (worker ∷ workers) each =
     (shown-later decided later workers (λ k. each (suc k)))
 
 -- one more event of a run
-snoc : (old : CoreState) (events : List Event) (core : CoreState) (given : List Given) (event : Event) (new : CoreState) (reply : Option Reply) →
+pub Runs-push : (old : CoreState) (events : List Event) (core : CoreState) (given : List Given) (event : Event) (new : CoreState) (reply : Option Reply) →
     Runs old events core given → CoreStep core event new reply → Runs old (events ++ event ∷ []) new (given ++ given_by core event reply)
-snoc old [] core given event new reply runs step =
+Runs-push old [] core given event new reply runs step =
     (new, reply, [], subst (λ (it : CoreState). CoreStep it event new reply) runs.0 step, (refl, refl),
       ap (λ (it : List Given). it ++ given_by core event reply) runs.1 ∙ ap (λ (it : CoreState). given_by it event reply) runs.0 ∙ sym (append-nil (given_by old event reply)))
-snoc old (first ∷ events) core given event new reply (next, answered, rest, step_first, runs, is) step =
-    (next, answered, rest ++ given_by core event reply, step_first, snoc next events core rest event new reply runs step,
+Runs-push old (first ∷ events) core given event new reply (next, answered, rest, step_first, runs, is) step =
+    (next, answered, rest ++ given_by core event reply, step_first, Runs-push next events core rest event new reply runs step,
       ap (λ (it : List Given). it ++ given_by core event reply) is ∙ append_assoc (given_by old first answered) rest (given_by core event reply))
 
 pub IsReachedCore-step : (old : CoreState) (event : Event) (new : CoreState) (reply : Option Reply) → IsReachedCore old → CoreStep old event new reply → IsReachedCore new
 IsReachedCore-step old event new reply (settings, events, given, run) step =
-    (settings, events ++ event ∷ [], given ++ given_by old event reply, snoc (new_core settings) events old given event new reply run step)
+    (settings, events ++ event ∷ [], given ++ given_by old event reply, Runs-push (new_core settings) events old given event new reply run step)
 
 -- the fields stay in order where one worker's do
 pub IsCore-step : (places room : ℕ) (openings : List Limits) (decided later_decided : List Ticket) (entries later_entries : List (Vec Entry)) (workers : List Worker)

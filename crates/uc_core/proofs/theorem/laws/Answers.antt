@@ -1,0 +1,19 @@
+-- Every run keeps the core's law (`Runs`), and the clauses follow from it.
+use Rattle.uc_core.proofs.Agreement.{log_is_sound, replicas_agree, tables_stand}
+use Rattle.uc_core.proofs.Runs.{answers_of, law_of}
+use Rattle.uc_core.proofs.theorem.laws.Goals as goal
+
+pub returns-clause-once : goal.returns-clause-once
+returns-clause-once c = λ settings events core given run. log_is_sound core (law_of settings events core given run)
+
+pub returns-clause-replicas : goal.returns-clause-replicas
+returns-clause-replicas c = λ settings events core given run. replicas_agree core (law_of settings events core given run)
+
+pub returns-clause-replies : goal.returns-clause-replies
+returns-clause-replies c = answers_of
+
+pub returns-clause-tables : goal.returns-clause-tables
+returns-clause-tables c = λ settings events core given run. tables_stand core (law_of settings events core given run)
+
+pub returns-clause-shown : goal.returns-clause-shown
+returns-clause-shown c = λ settings events core given run. (law_of settings events core given run).reached

@@ -1,0 +1,13 @@
+-- The laws of the shown states: `Waiting` shows the first two clauses, `Turns` the third.
+use Rattle.uc_core.proofs.Turns.{is_soon_decided}
+use Rattle.uc_core.proofs.Waiting.{is_helping, is_lawful}
+use Rattle.uc_core.proofs.theorem.shown_states.Goals as goal
+
+pub returns-clause-lawful : goal.returns-clause-lawful
+returns-clause-lawful c = is_lawful
+
+pub returns-clause-helping : goal.returns-clause-helping
+returns-clause-helping c = is_helping
+
+pub returns-clause-soon : goal.returns-clause-soon
+returns-clause-soon c = is_soon_decided
