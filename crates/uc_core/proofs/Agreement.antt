@@ -1,5 +1,5 @@
 -- What the core's law says of the log, of the workers' replicas and of their tables: the theorem's clauses on the state of the core.
-use Rattle.std.proofs.Common.{◌≡◌, ◌⊎◌, ℕ, zero, suc, ◌+◌, ◌<◌, ◌≤◌, List, [], ◌∷◌, ◌++◌, length, map, take, Option, Some, None, slice_get, inl, inr, ⊎_elim, refl, sym, ap, ap₂, subst, ◌∙◌, arith, take-take, ◌&&◌, if◌then◌else◌, eq-eqb}
+use Rattle.std.proofs.Common.{◌≡◌, ℕ, suc, ◌<◌, List, map, take, Option, Some, None, slice_get, ⊎_elim, refl, sym, ap, ap₂, subst, ◌∙◌, arith, take-take, ◌&&◌, if◌then◌else◌, eq-eqb}
 use Rattle.std.proofs.lemmas.Bool.{cases_order}
 use Rattle.std.proofs.lemmas.List.{take-map}
 use Rattle.std.proofs.lemmas.Simd.{map-map}
@@ -11,17 +11,17 @@ use Rattle.mc_model.specs.Legal.{IsLegal, count}
 use Rattle.mc_model.specs.History.{state_after}
 use Rattle.mc_model.specs.Log.{Sighting, own, entries, entry_for, entry_of}
 use Rattle.mc_model.specs.Replay.{EachStands}
-use Rattle.uc_core.specs.Core.{CoreState, ReplayState, entry_under, log_of, size_of}
+use Rattle.uc_core.specs.Core.{CoreState, ReplayState, entry_under, log_of}
 use Rattle.uc_core.specs.Headline.{HasReplica, LogIsSound, ReplicasAgree, StandsOnce, TablesStand, replica_of}
-use Rattle.uc_core.proofs.CoreLaws.{CoreLaw, HasEntry, learned_in_log, stands_with_entry}
+use Rattle.uc_core.proofs.CoreLaws.{CoreLaw, stands_with_entry}
 use Rattle.uc_core.proofs.Lists.{take_more}
-use Rattle.uc_core.proofs.Lookups.{at_longer, map-agree, same_by_places}
+use Rattle.uc_core.proofs.Lookups.{map-agree, same_by_places}
 use Rattle.uc_core.proofs.Replays.{take-begins}
-use Rattle.uc_core.proofs.StateLaws.{learned_few}
 use Rattle.uc_core.proofs.Tickets.{count_front, count_own}
 
 -- a ticket that stands earlier in a legal list would be counted before the later place
-not_before : (tickets : List Ticket) (ticket : Ticket) (one other : ℕ) → IsLegal tickets → slice_get tickets one ≡ Some ticket → slice_get tickets other ≡ Some ticket → one < other → ⊥
+not_before : (tickets : List Ticket) (ticket : Ticket) (one other : ℕ) → IsLegal tickets →
+    slice_get tickets one ≡ Some ticket → slice_get tickets other ≡ Some ticket → one < other → ⊥
 not_before tickets ticket one other legal at there below =
     let earlier = legal one ticket at in
     let later = legal other ticket there in
@@ -66,7 +66,8 @@ module _ (core : CoreState) (law : CoreLaw core) where
   pub replicas_agree : ReplicasAgree core
   replicas_agree = record {
     prefixes = λ one other v w r s has there fewer.
-        replica_is one v r has ∙ sym (take-take r.replayed s.replayed (map (seen core) core.shown.decided) fewer) ∙ ap (take r.replayed) (sym (replica_is other w s there));
+        replica_is one v r has ∙ sym (take-take r.replayed s.replayed (map (seen core) core.shown.decided) fewer)
+        ∙ ap (take r.replayed) (sym (replica_is other w s there));
     tables = λ one other v w r s has there same. same_by_places r.tables s.tables (λ tenant.
         (law.replays one v r has).stands tenant
         ∙ ap (λ n. option_map (λ opening. state_after opening (own tenant (take n (log_of core)))) (slice_get core.openings tenant)) same
@@ -83,6 +84,6 @@ module _ (core : CoreState) (law : CoreLaw core) where
   tables_stand number worker replay has =
       let its = law.replays number worker replay has in
       let same = ap entries (replica_is number worker replay has)
-          ∙ sym (take-map entry_of replay.replayed (map (seen core) core.shown.decided))
-          ∙ ap (take replay.replayed) (map-map entry_of (seen core) core.shown.decided ∙ map-agree _ (entry_under core) core.shown.decided counts) in
+      ∙ sym (take-map entry_of replay.replayed (map (seen core) core.shown.decided))
+      ∙ ap (take replay.replayed) (map-map entry_of (seen core) core.shown.decided ∙ map-agree _ (entry_under core) core.shown.decided counts) in
       (its.few, subst (λ (log : List (Option Entry)). EachStands core.openings log replay.tables) (sym same) its.stands)

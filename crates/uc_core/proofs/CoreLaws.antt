@@ -1,5 +1,5 @@
 -- What is true of the core in every state that events lead to: its parts keep to their laws before any event, and one event keeps them so.
-use Rattle.std.proofs.Common.{◌≡◌, ◌≢◌, ℕ, ◌+◌, ◌<◌, ◌≤◌, List, [], ◌∷◌, ◌++◌, length, map, replicate, Option, Some, None, slice_get, slice_set, ⊎_elim, refl, sym, ap, subst, ◌∙◌, arith, le_refl, length-append, length-set}
+use Rattle.std.proofs.Common.{◌≡◌, ℕ, ◌+◌, ◌<◌, ◌≤◌, List, [], ◌∷◌, length, replicate, Option, Some, None, slice_get, slice_set, ⊎_elim, refl, sym, ap, subst, ◌∙◌, arith, le_refl, length-set}
 use Rattle.std.proofs.lemmas.List.{length-map, length-replicate}
 use Rattle.std.proofs.lemmas.Option.{none-some, same_Some, slice_get_within}
 use Rattle.std.specs.Option.{option_map_or}
@@ -12,7 +12,7 @@ use Rattle.mc_model.specs.declared.shown.ShownState.{ShownState}
 use Rattle.mc_model.specs.declared.shown.WorkerState.{WorkerState}
 use Rattle.mc_model.specs.Helping.{BeginsWith}
 use Rattle.mc_model.specs.Lawful.{IsReached, IsWorker, ShownEvent, Step, announced_by, announces, looks, proposes, reads, stops, with_worker}
-use Rattle.mc_model.specs.Replay.{EachStands, EachStands-none, TakeEffect, empty_tables}
+use Rattle.mc_model.specs.Replay.{EachStands-none, TakeEffect, empty_tables}
 use Rattle.mc_model.specs.State.{TableState}
 use Rattle.mc_model.specs.Settings.{Configuration}
 use Rattle.mc_model.specs.Shown.{announce, new_log, new_worker}
@@ -25,7 +25,7 @@ pub use Rattle.uc_core.proofs.Entries.{AreEntries, EntriesLaw, HasEntry, KeepsEn
 use Rattle.uc_core.proofs.Entries.{announcement-entries, announcement-keeps, entries_stay, has_entry, log-begins}
 use Rattle.uc_core.proofs.Lists.{at_replicated, at_set, begins_self}
 use Rattle.uc_core.proofs.Lookups.{there}
-use Rattle.uc_core.proofs.Moves.{IsSilent, Moves, announced_elsewhere, looks_quietly, one_moves, proposes_quietly, reads_quietly, stops_quietly}
+use Rattle.uc_core.proofs.Moves.{IsQuiet, Moves, announced_elsewhere, looks_quietly, one_moves, proposes_quietly, reads_quietly, stops_quietly}
 pub use Rattle.uc_core.proofs.Replays.{AreReplays, ReplayLaw}
 use Rattle.uc_core.proofs.Replays.{replay_more, replay_stays}
 use Rattle.uc_core.proofs.StateLaws.{IsSound, announced_after, announced_is, learned_few}
@@ -61,7 +61,8 @@ module _ (core : CoreState) (law : CoreLaw core) where
 nothing_announced : (size : LogSize) (number : ℕ) → announced_by (new_log size) number ≡ 0
 nothing_announced size number = of_found (slice_get (replicate size.workers new_worker) number) refl
   where
-    of_found : (found : Option WorkerState) → slice_get (replicate size.workers new_worker) number ≡ found → option_map_or (λ (worker : WorkerState). worker.announced) found 0 ≡ 0
+    of_found : (found : Option WorkerState) → slice_get (replicate size.workers new_worker) number ≡ found →
+        option_map_or (λ (worker : WorkerState). worker.announced) found 0 ≡ 0
     of_found None at = refl
     of_found (Some worker) at = ap (λ (it : WorkerState). it.announced) (sym (at_replicated size.workers number new_worker worker at))
 
@@ -72,9 +73,10 @@ new_entries settings number announced none = subst (EntriesLaw (new_core setting
   tenants = λ k entry at. absurd (none-some entry at);
 }
 
-new_replay : (settings : Configuration) (worker : WorkerState) (replay : ReplayState) → replay ≡ record { replayed = 0; tables = empty_tables settings.tenants } →
-    ReplayLaw (new_core settings) worker replay
-new_replay settings worker replay new = subst (ReplayLaw (new_core settings) worker) (sym new) record { few = omega arith; stands = EachStands-none settings.tenants }
+new_replay : (settings : Configuration) (worker : WorkerState) (replay : ReplayState) →
+    replay ≡ record { replayed = 0; tables = empty_tables settings.tenants } → ReplayLaw (new_core settings) worker replay
+new_replay settings worker replay new =
+    subst (ReplayLaw (new_core settings) worker) (sym new) record { few = omega arith; stands = EachStands-none settings.tenants }
 
 pub opens : (settings : Configuration) → CoreLaw (new_core settings)
 opens settings =
@@ -97,8 +99,8 @@ module _ (old : CoreState) (law : CoreLaw old) (shown : ShownState) (lists : Lis
   shown-grows : Moves old.shown shown → KeepsEntries old moved → Grows old moved
   shown-grows moves keeps = record { openings = refl; decided = moves.decided; log = log-begins old moved (stands_with_entry old law) moves.decided keeps }
 
-  shown-keeps : (event : ShownEvent) → Step (size_of old) old.shown event shown → Moves old.shown shown → KeepsEntries old moved → length lists ≡ length old.entries → AreEntries moved →
-      CoreLaw moved
+  shown-keeps : (event : ShownEvent) → Step (size_of old) old.shown event shown → Moves old.shown shown → KeepsEntries old moved →
+      length lists ≡ length old.entries → AreEntries moved → CoreLaw moved
   shown-keeps event step moves keeps same entries =
       let size : size_of old ≡ size_of moved = ap (λ n. let size : LogSize = record { workers = n; places = old.places } in size) (sym moves.many) in record {
         reached = subst (λ n. IsReached n shown) size (event ∷ law.reached.0, (old.shown, law.reached.1, step));
@@ -108,7 +110,8 @@ module _ (old : CoreState) (law : CoreLaw old) (shown : ShownState) (lists : Lis
         entries = entries;
         replays = λ number worker replay has.
             let was = moves.learned number worker has.0 in
-            replay_stays old moved was.0 worker replay (law.replays number was.0 replay (was.1, has.1)) refl (shown-grows moves keeps).log (learned_in_log old law number was.0 was.1) was.2;
+            replay_stays old moved was.0 worker replay (law.replays number was.0 replay (was.1, has.1)) refl
+            (shown-grows moves keeps).log (learned_in_log old law number was.0 was.1) was.2;
       }
 
 -- what holds of the next state
@@ -116,16 +119,17 @@ abbrev GoesOn : CoreState → CoreState → Type 0
 GoesOn old new = CoreLaw new × Grows old new
 
 -- reading, looking, proposing and stopping announce nothing
-quiet-goes_on : (old : CoreState) (shown : ShownState) (event : ShownEvent) → CoreLaw old → Step (size_of old) old.shown event shown → Moves old.shown shown × IsSilent old.shown shown →
-    GoesOn old (record old { shown = shown })
+quiet-goes_on : (old : CoreState) (shown : ShownState) (event : ShownEvent) → CoreLaw old →
+    Step (size_of old) old.shown event shown → IsQuiet old.shown shown → GoesOn old (record old { shown = shown })
 quiet-goes_on old shown event law step quiet =
-    let keeps : KeepsEntries old (record old { shown = shown }) = λ ticket entry at. at in
-    (shown-keeps old law shown old.entries event step quiet.0 keeps refl (entries_stay old (record old { shown = shown }) law.entries refl refl quiet.1),
-    shown-grows old law shown old.entries quiet.0 keeps)
+    let keeps : KeepsEntries old (record old { shown = shown }) = λ ticket entry at. at in (
+      shown-keeps old law shown old.entries event step quiet.0 keeps refl (entries_stay old (record old { shown = shown }) law.entries refl refl quiet.1),
+      shown-grows old law shown old.entries quiet.0 keeps,
+    )
 
 -- an announcement
 module _ (old : CoreState) (number tenant : ℕ) (command : Command) (worker : WorkerState) (law : CoreLaw old) (known : tenant < length old.openings)
-  (at : IsWorker old.shown number worker) where
+    (at : IsWorker old.shown number worker) where
   abbrev entry : Entry
   entry = announced_entry old number tenant command
 
@@ -139,16 +143,18 @@ module _ (old : CoreState) (number tenant : ℕ) (command : Command) (worker : W
   announce-goes_on step =
       let list = there old.entries number (omega (arith, law.listed, slice_get_within old.shown.workers number worker at)) in
       let moves = one_moves old.shown old.shown.decided number worker (announce worker) at (begins_self old.shown.decided) (le_refl (length worker.learned)) in
-      let raised = announced_after old.shown old.shown.decided number worker (announce worker) at ∙ ap (λ (n : ℕ). n + 1) (sym (announced_is old.shown number worker at)) in
+      let raised = announced_after old.shown old.shown.decided number worker (announce worker) at
+      ∙ ap (λ (n : ℕ). n + 1) (sym (announced_is old.shown number worker at)) in
       let elsewhere = announced_elsewhere old.shown old.shown.decided number worker (announce worker) at in
       let keeps = announcement-keeps old shown list.0 entry list.1 in
-      let entries = announcement-entries old shown list.0 entry list.1 law.entries known refl raised elsewhere in
-      (shown-keeps old law shown (with_entry old.entries entry) (announces number) step moves keeps (length-set old.entries number _) entries,
-      shown-grows old law shown (with_entry old.entries entry) moves keeps)
+      let entries = announcement-entries old shown list.0 entry list.1 law.entries known refl raised elsewhere in (
+        shown-keeps old law shown (with_entry old.entries entry) (announces number) step moves keeps (length-set old.entries number _) entries,
+        shown-grows old law shown (with_entry old.entries entry) moves keeps,
+      )
 
 -- a replay
 module _ (old : CoreState) (number : ℕ) (worker : WorkerState) (replay : ReplayState) (tables : List TableState) (law : CoreLaw old)
-  (has : HasReplica old number worker replay) where
+    (has : HasReplica old number worker replay) where
   abbrev further : ReplayState
   further = record { replayed = replay.replayed + 1; tables = tables }
 
@@ -157,26 +163,28 @@ module _ (old : CoreState) (number : ℕ) (worker : WorkerState) (replay : Repla
 
   stays_replayed : (other : ℕ) (found : WorkerState) (known : ReplayState) → HasReplica old other found known → ReplayLaw replayed found known
   stays_replayed other found known is =
-      replay_stays old replayed found found known (law.replays other found known is) refl (begins_self (log_of old)) (learned_in_log old law other found is.0) (le_refl (length found.learned))
+      replay_stays old replayed found found known (law.replays other found known is) refl (begins_self (log_of old))
+      (learned_in_log old law other found is.0) (le_refl (length found.learned))
 
   replay-goes_on : replay.replayed < length worker.learned → TakeEffect (entry_at old replay.replayed) replay.tables tables → GoesOn old replayed
   replay-goes_on more takes =
       let inside : replay.replayed < length old.shown.decided = omega (arith, more, learned_few (size_of old) old.shown number worker law.sound has.0) in
-      let mine : ReplayLaw replayed worker further = replay_more replayed worker replay tables (stays_replayed number worker replay has) more inside takes in
-      (record {
-        reached = law.reached;
-        sound = law.sound;
-        listed = law.listed;
-        kept = length-set old.replays number further ∙ law.kept;
-        entries = entries_stay old replayed law.entries refl refl (λ other. refl);
-        replays = λ other found known is. ⊎_elim
-            (λ (here : (other ≡ number) × (further ≡ known)).
-                let same : worker ≡ found = same_Some worker found (sym has.0 ∙ ap (slice_get old.shown.workers) (sym here.0) ∙ is.0) in
-                subst (λ (it : WorkerState × ReplayState). ReplayLaw replayed it.0 it.1) (λ i. (same i, here.1 i)) mine)
-            (λ apart. stays_replayed other found known (is.0, apart.1))
-            (at_set old.replays number other further known is.1);
-      },
-      record { openings = refl; decided = begins_self old.shown.decided; log = begins_self (log_of old) })
+      let mine : ReplayLaw replayed worker further = replay_more replayed worker replay tables (stays_replayed number worker replay has) more inside takes in (
+        record {
+          reached = law.reached;
+          sound = law.sound;
+          listed = law.listed;
+          kept = length-set old.replays number further ∙ law.kept;
+          entries = entries_stay old replayed law.entries refl refl (λ other. refl);
+          replays = λ other found known is. ⊎_elim
+              (λ (here : (other ≡ number) × (further ≡ known)).
+              let same : worker ≡ found = same_Some worker found (sym has.0 ∙ ap (slice_get old.shown.workers) (sym here.0) ∙ is.0) in
+              subst (λ (it : WorkerState × ReplayState). ReplayLaw replayed it.0 it.1) (λ i. (same i, here.1 i)) mine)
+              (λ apart. stays_replayed other found known (is.0, apart.1))
+              (at_set old.replays number other further known is.1);
+        },
+        record { openings = refl; decided = begins_self old.shown.decided; log = begins_self (log_of old) },
+      )
 
 -- one event
 goes_on : (old new : CoreState) (event : Event) (reply : Option Reply) → CoreLaw old → CoreStep old event new reply → GoesOn old new

@@ -1,9 +1,10 @@
 -- What is known where an event meets no fault.
-use Rattle.std.proofs.Common.{◌≡◌, ◌≢◌, ◌⊎◌, inl, inr, ℕ, ◌<◌, ◌≤◌, List, length, map, Option, Some, None, Bool, true, false, ◌||◌, not, ltb, is_some, refl, sym, ap, ap₂, ◌∙◌, subst, arith, slice_get}
+use Rattle.std.proofs.Common.{◌≡◌, ◌≢◌, ◌⊎◌, inl, inr, ℕ, ◌<◌, ◌≤◌, List, length, map, take, Option, Some, None, Bool, true, false, ◌||◌, not, ltb, is_some, refl, sym, ap, ap₂, ◌∙◌, subst, arith, slice_get}
 use Rattle.std.specs.Option.{option_map}
 use Rattle.std.specs.Global.{Vec}
 use Rattle.std.proofs.lemmas.Bool.{false≢true}
 use Rattle.std.proofs.lemmas.Bool.Decides.{nat_tests}
+use Rattle.std.proofs.lemmas.List.{length-take}
 use Rattle.std.proofs.lemmas.Option.{none-some, slice_get-map, slice_get_within}
 use Rattle.mc_model.specs.declared.command.Command.{Command}
 use Rattle.mc_model.specs.declared.fault.Fault.{Fault}
@@ -123,3 +124,11 @@ replay-enabled core number worker replay enabled = (goes_on _ (met _ _ _ enabled
 
 pub stop-enabled : (core : CoreState) (number : ℕ) (worker : WorkerState) (replay : ReplayState) → refusal_by core (Stop number) worker replay ≡ None → worker.phase ≢ Stopped
 stop-enabled core number worker replay enabled = goes_on _ (met _ _ _ enabled)
+
+-- a worker that may replay has a decided place to replay
+pub replayable : (places : ℕ) (openings : List Limits) (decided : List Ticket) (entries : List (Vec Entry)) (workers : List Worker) (number : ℕ) (worker : Worker) →
+    slice_get workers number ≡ Some worker → refusal (core_of places openings decided entries workers) (Replay number) ≡ None → worker.replayed < length decided
+replayable places openings decided entries workers number worker at enabled =
+    let known = replay-enabled (core_of places openings decided entries workers) number (shown_worker decided worker) (replay_of worker)
+        (sym (refusal-at places openings decided entries workers (Replay number) worker at) ∙ enabled) in
+    omega (arith, known.1, length-take worker.learned decided)

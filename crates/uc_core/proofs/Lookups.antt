@@ -1,5 +1,5 @@
 -- What stands at a place of a list and of a longer one, and a list parted at a place.
-use Rattle.std.proofs.Common.{◌≡◌, ℕ, zero, suc, ◌+◌, ◌<◌, List, [], ◌∷◌, ◌++◌, length, map, take, drop, Option, Some, None, slice_get, refl, sym, ap, ap₂, arith, add-one}
+use Rattle.std.proofs.Common.{◌≡◌, ℕ, zero, suc, ◌+◌, ◌<◌, List, [], ◌∷◌, ◌++◌, length, map, take, drop, Some, slice_get, refl, sym, ap, ap₂, arith, add-one}
 use Rattle.std.proofs.lemmas.Option.{none-some, same_Some}
 use Rattle.uc_core.proofs.Lists.{take_more}
 

@@ -1,9 +1,7 @@
 -- A run keeps the core's law, the core grows along it, and each reply that it gives is the answer by the log.
-use Rattle.std.proofs.Common.{◌≡◌, ℕ, zero, suc, ◌<◌, ◌≤◌, ◌==◌, Bool, true, false, List, [], ◌∷◌, ◌++◌, length, map, take, Option, Some, None, if◌then◌else◌, slice_get, option_map, option_to_list, refl, sym, ap, subst, ◌∙◌, arith, append_assoc, eqb-true}
+use Rattle.std.proofs.Common.{◌≡◌, ℕ, zero, suc, ◌<◌, ◌≤◌, ◌==◌, Bool, true, false, List, [], ◌∷◌, ◌++◌, length, take, Option, Some, None, if◌then◌else◌, slice_get, option_map, refl, sym, ap, subst, ◌∙◌, arith, eqb-true}
 use Rattle.std.proofs.lemmas.Option.{none-some, same_Some, slice_get_within}
 use Rattle.std.specs.Option.{option_and_then, option_map_or}
-use Rattle.mc_model.specs.declared.command.Command.{Command}
-use Rattle.mc_model.specs.declared.id.Ticket.{Ticket}
 use Rattle.mc_model.specs.declared.reply.Reply.{Reply}
 use Rattle.mc_model.specs.declared.request.Entry.{Entry}
 use Rattle.mc_model.specs.declared.settings.Limits.{Limits}
@@ -11,7 +9,7 @@ use Rattle.mc_model.specs.declared.shown.WorkerState.{WorkerState}
 use Rattle.mc_model.specs.Helping.{BeginsWith}
 use Rattle.mc_model.specs.History.{answer}
 use Rattle.mc_model.specs.Log.{own}
-use Rattle.mc_model.specs.Replay.{EachStands, reply_from, reply_to, reply_to-table}
+use Rattle.mc_model.specs.Replay.{reply_from, reply_to, reply_to-table}
 use Rattle.mc_model.specs.Settings.{Configuration}
 use Rattle.mc_model.specs.State.{TableState, next_reply}
 use Rattle.uc_core.specs.Core.{CoreState, ReplayState, entry_under, log_of, new_core, size_of}
@@ -54,15 +52,19 @@ answer_stays old new worker place reply grown is =
       found = stands_on (log_of new) (log_of old) grown.log place (Some is.entry) is.found;
       mine = is.mine;
       limits = ap (λ (openings : List Limits). slice_get openings is.entry.tenant) grown.openings ∙ is.limits;
-      replied = is.replied ∙ ap (λ (log : List (Option Entry)). answer is.opening (own is.entry.tenant log) is.entry.command) (sym (take-begins (log_of new) (log_of old) place grown.log inside));
+      replied = is.replied
+          ∙ ap (λ (log : List (Option Entry)). answer is.opening (own is.entry.tenant log) is.entry.command)
+          (sym (take-begins (log_of new) (log_of old) place grown.log inside));
     }
 
 -- what a worker answers from its tables is the reply to its own entry
 abbrev Answers : ℕ → List TableState → Option Entry → Reply → Type 0
 Answers number tables found reply =
-    (entry : Entry) × (found ≡ Some entry) × (entry.ticket.worker ≡ number) × (option_map (λ (table : TableState). next_reply table entry.command) (slice_get tables entry.tenant) ≡ Some reply)
+    (entry : Entry) × (found ≡ Some entry) × (entry.ticket.worker ≡ number)
+    × (option_map (λ (table : TableState). next_reply table entry.command) (slice_get tables entry.tenant) ≡ Some reply)
 
-answers_own : (number : ℕ) (tables : List TableState) (found : Option Entry) (reply : Reply) → reply_from number tables found ≡ Some reply → Answers number tables found reply
+answers_own : (number : ℕ) (tables : List TableState) (found : Option Entry) (reply : Reply) → reply_from number tables found ≡ Some reply →
+    Answers number tables found reply
 answers_own number tables None reply is = absurd (none-some reply is)
 answers_own number tables (Some entry) reply is = by_test (entry.ticket.worker == number) refl is
   where
@@ -77,14 +79,16 @@ of_opening : (openings : List Limits) (log : List (Option Entry)) (entry : Entry
     (opening : Limits) × (slice_get openings entry.tenant ≡ Some opening) × (reply ≡ answer opening (own entry.tenant log) entry.command)
 of_opening openings log entry reply is = by_found (slice_get openings entry.tenant) refl is
   where
-    by_found : (found : Option Limits) → slice_get openings entry.tenant ≡ found → option_map (λ opening. answer opening (own entry.tenant log) entry.command) found ≡ Some reply →
+    by_found : (found : Option Limits) → slice_get openings entry.tenant ≡ found →
+        option_map (λ opening. answer opening (own entry.tenant log) entry.command) found ≡ Some reply →
         (opening : Limits) × (slice_get openings entry.tenant ≡ Some opening) × (reply ≡ answer opening (own entry.tenant log) entry.command)
     by_found None at told = absurd (none-some reply told)
     by_found (Some opening) at told = (opening, at, sym (same_Some _ reply told))
 
 -- the reply of one replay
-replay_answers : (core : CoreState) (number : ℕ) (worker : WorkerState) (replay : ReplayState) (reply : Reply) → CoreLaw core → HasReplica core number worker replay →
-    replay.replayed < length worker.learned → reply_from number replay.tables (entry_at core replay.replayed) ≡ Some reply → IsAnswer core number replay.replayed reply
+replay_answers : (core : CoreState) (number : ℕ) (worker : WorkerState) (replay : ReplayState) (reply : Reply) →
+    CoreLaw core → HasReplica core number worker replay → replay.replayed < length worker.learned →
+    reply_from number replay.tables (entry_at core replay.replayed) ≡ Some reply → IsAnswer core number replay.replayed reply
 replay_answers core number worker replay reply law has more told =
     let place = replay.replayed in
     let inside : place < length core.shown.decided = omega (arith, more, learned_few (size_of core) core.shown number worker law.sound has.0) in
@@ -94,7 +98,8 @@ replay_answers core number worker replay reply law has more told =
     let known = stands_with_entry core law place ticket.0 ticket.1 in
     let here : entry_at core place ≡ entry_under core ticket.0 = ap (option_and_then (entry_under core)) ticket.1 in
     let same : known.0 ≡ mine.0 = same_Some known.0 mine.0 (sym known.1 ∙ sym here ∙ mine.1) in
-    let reached = of_opening core.openings (take place (log_of core)) mine.0 reply (reply_to-table core.openings (take place (log_of core)) replay.tables mine.0 its.stands ∙ mine.3) in record {
+    let log = take place (log_of core) in
+    let reached = of_opening core.openings log mine.0 reply (reply_to-table core.openings log replay.tables mine.0 its.stands ∙ mine.3) in record {
       entry = mine.0;
       opening = reached.0;
       stands = ticket.1 ∙ ap Some (sym known.2 ∙ ap (λ (entry : Entry). entry.ticket) same);
@@ -105,17 +110,20 @@ replay_answers core number worker replay reply law has more told =
     }
 
 -- what one event gives
-given_one : (core : CoreState) (event : Event) (reply : Option Reply) → ((it : Reply) → reply ≡ Some it → IsAnswer core (actor event) (replayed_by core (actor event)) it) →
+given_one : (core : CoreState) (event : Event) (reply : Option Reply) →
+    ((it : Reply) → reply ≡ Some it → IsAnswer core (actor event) (replayed_by core (actor event)) it) →
     RepliesAreAnswers core (given_by core event reply)
 given_one core event None answers k worker place reply at = absurd (none-some (worker, place, reply) at)
 given_one core event (Some it) answers zero worker place reply at =
-    subst (λ (given : Given). IsAnswer core given.0 given.1 given.2) (same_Some (actor event, replayed_by core (actor event), it) (worker, place, reply) at) (answers it refl)
+    subst (λ (given : Given). IsAnswer core given.0 given.1 given.2)
+    (same_Some (actor event, replayed_by core (actor event), it) (worker, place, reply) at) (answers it refl)
 given_one core event (Some it) answers (suc k) worker place reply at = absurd (none-some (worker, place, reply) at)
 
 nothing_given : (core : CoreState) (event : Event) (reply : Option Reply) → reply ≡ None → RepliesAreAnswers core (given_by core event reply)
 nothing_given core event reply none = given_one core event reply (λ it is. absurd (none-some it (sym none ∙ is)))
 
-event_answers : (old new : CoreState) (event : Event) (reply : Option Reply) → CoreLaw old → CoreStep old event new reply → RepliesAreAnswers old (given_by old event reply)
+event_answers : (old new : CoreState) (event : Event) (reply : Option Reply) → CoreLaw old → CoreStep old event new reply →
+    RepliesAreAnswers old (given_by old event reply)
 event_answers old new (Announce number tenant command) reply law step = nothing_given old (Announce number tenant command) reply step.3
 event_answers old new (Read number) reply law step = nothing_given old (Read number) reply step.2
 event_answers old new (Look number) reply law step = nothing_given old (Look number) reply step.2
@@ -133,7 +141,8 @@ both_answer core (given ∷ first) later before after (suc k) worker place reply
     both_answer core first later (λ n. before (suc n)) after k worker place reply at
 
 pub run_answers : (old new : CoreState) (events : List Event) (given : List Given) → CoreLaw old → Runs old events new given → RepliesAreAnswers new given
-run_answers old new [] given law runs = λ k worker place reply at. absurd (none-some (worker, place, reply) (ap (λ (list : List Given). slice_get list k) (sym runs.1) ∙ at))
+run_answers old new [] given law runs = λ k worker place reply at.
+    absurd (none-some (worker, place, reply) (ap (λ (list : List Given). slice_get list k) (sym runs.1) ∙ at))
 run_answers old new (event ∷ events) given law runs =
     let next = keeps old runs.0 event runs.1 law runs.3 in
     let grown = Grows-through old runs.0 new (grows old runs.0 event runs.1 law runs.3) (of_run runs.0 new events runs.2 next runs.4).1 in
@@ -146,5 +155,6 @@ run_answers old new (event ∷ events) given law runs =
 pub law_of : (settings : Configuration) (events : List Event) (core : CoreState) (given : List Given) → IsRun settings events core given → CoreLaw core
 law_of settings events core given run = (of_run (new_core settings) core events given (opens settings) run).0
 
-pub answers_of : (settings : Configuration) (events : List Event) (core : CoreState) (given : List Given) → IsRun settings events core given → RepliesAreAnswers core given
+pub answers_of : (settings : Configuration) (events : List Event) (core : CoreState) (given : List Given) → IsRun settings events core given →
+    RepliesAreAnswers core given
 answers_of settings events core given run = run_answers (new_core settings) core events given (opens settings) run

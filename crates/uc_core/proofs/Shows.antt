@@ -53,18 +53,18 @@ shown-later decided later (worker ∷ workers) each =
     (shown-later decided later workers (λ k. each (suc k)))
 
 -- one more event of a run
-snoc : (old : CoreState) (events : List Event) (core : CoreState) (given : List Given) (event : Event) (new : CoreState) (reply : Option Reply) →
+pub Runs-push : (old : CoreState) (events : List Event) (core : CoreState) (given : List Given) (event : Event) (new : CoreState) (reply : Option Reply) →
     Runs old events core given → CoreStep core event new reply → Runs old (events ++ event ∷ []) new (given ++ given_by core event reply)
-snoc old [] core given event new reply runs step =
+Runs-push old [] core given event new reply runs step =
     (new, reply, [], subst (λ (it : CoreState). CoreStep it event new reply) runs.0 step, (refl, refl),
       ap (λ (it : List Given). it ++ given_by core event reply) runs.1 ∙ ap (λ (it : CoreState). given_by it event reply) runs.0 ∙ sym (append-nil (given_by old event reply)))
-snoc old (first ∷ events) core given event new reply (next, answered, rest, step_first, runs, is) step =
-    (next, answered, rest ++ given_by core event reply, step_first, snoc next events core rest event new reply runs step,
+Runs-push old (first ∷ events) core given event new reply (next, answered, rest, step_first, runs, is) step =
+    (next, answered, rest ++ given_by core event reply, step_first, Runs-push next events core rest event new reply runs step,
       ap (λ (it : List Given). it ++ given_by core event reply) is ∙ append_assoc (given_by old first answered) rest (given_by core event reply))
 
 pub IsReachedCore-step : (old : CoreState) (event : Event) (new : CoreState) (reply : Option Reply) → IsReachedCore old → CoreStep old event new reply → IsReachedCore new
 IsReachedCore-step old event new reply (settings, events, given, run) step =
-    (settings, events ++ event ∷ [], given ++ given_by old event reply, snoc (new_core settings) events old given event new reply run step)
+    (settings, events ++ event ∷ [], given ++ given_by old event reply, Runs-push (new_core settings) events old given event new reply run step)
 
 -- the fields stay in order where one worker's do
 pub IsCore-step : (places room : ℕ) (openings : List Limits) (decided later_decided : List Ticket) (entries later_entries : List (Vec Entry)) (workers : List Worker)
@@ -104,3 +104,44 @@ worker-at decided workers number worker at = slice_get-map (shown_worker decided
 
 pub replay-at : (workers : List Worker) (number : ℕ) (worker : Worker) → slice_get workers number ≡ Some worker → slice_get (map replay_of workers) number ≡ Some (replay_of worker)
 replay-at workers number worker at = slice_get-map replay_of workers number ∙ ap (option_map replay_of) at
+
+-- a list of entries that holds what it held
+pub entries-kept : (places : ℕ) (openings : List Limits) (decided : List Ticket) (entries : List (Vec Entry)) (workers : List Worker) (number : ℕ) (old new : Vec Entry) →
+    slice_get entries number ≡ Some old → new.items ≡ old.items →
+    core_of places openings decided (slice_set entries number new) workers ≡ core_of places openings decided entries workers
+entries-kept places openings decided entries workers number old new at same =
+    ap (λ (lists : List (List Entry)). record (core_of places openings decided entries workers) { entries = lists })
+    (map-kept (λ (announced : Vec Entry). announced.items) entries number old new at same)
+
+pub IsCore-kept : (places room : ℕ) (openings : List Limits) (decided : List Ticket) (entries : List (Vec Entry)) (workers : List Worker) (number : ℕ) (old new : Vec Entry) →
+    IsCore places room openings decided entries workers → slice_get entries number ≡ Some old → new.items ≡ old.items →
+    IsCore places room openings decided (slice_set entries number new) workers
+IsCore-kept places room openings decided entries workers number old new core at same = record {
+  tenants = core.tenants;
+  few = core.few;
+  lists = length-set entries number new ∙ core.lists;
+  reserved = core.reserved;
+  each = core.each;
+  reached = subst IsReachedCore (sym (entries-kept places openings decided entries workers number old new at same)) core.reached;
+}
+
+-- a worker that shows what it showed
+pub worker-kept : (places : ℕ) (openings : List Limits) (decided : List Ticket) (entries : List (Vec Entry)) (workers : List Worker) (number : ℕ) (old new : Worker) →
+    slice_get workers number ≡ Some old → shown_worker decided new ≡ shown_worker decided old → replay_of new ≡ replay_of old →
+    core_of places openings decided entries (slice_set workers number new) ≡ core_of places openings decided entries workers
+worker-kept places openings decided entries workers number old new at shows replays =
+    ap₂ (λ (them : List WorkerState) (kept : List ReplayState). record (core_of places openings decided entries workers) { shown = record { decided = decided; workers = them }; replays = kept })
+    (map-kept (shown_worker decided) workers number old new at shows) (map-kept replay_of workers number old new at replays)
+
+pub IsCore-worker-kept : (places room : ℕ) (openings : List Limits) (decided : List Ticket) (entries : List (Vec Entry)) (workers : List Worker) (number : ℕ) (old new : Worker) →
+    IsCore places room openings decided entries workers → slice_get workers number ≡ Some old →
+    shown_worker decided new ≡ shown_worker decided old → replay_of new ≡ replay_of old → (IsInOrder places (length decided) old → IsInOrder places (length decided) new) →
+    IsCore places room openings decided entries (slice_set workers number new)
+IsCore-worker-kept places room openings decided entries workers number old new core at shows replays order = record {
+  tenants = core.tenants;
+  few = omega (arith, core.few, length-set workers number new);
+  lists = core.lists ∙ sym (length-set workers number new);
+  reserved = core.reserved;
+  each = EachIs-set (IsInOrder places (length decided)) workers number new core.each (order (core.each number old at));
+  reached = subst IsReachedCore (sym (worker-kept places openings decided entries workers number old new at shows replays)) core.reached;
+}

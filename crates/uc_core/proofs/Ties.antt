@@ -138,3 +138,150 @@ was_looked places room openings decided entries workers number old new helped ot
     stays : IsCore places room openings decided entries (slice_set workers number new)
     stays = IsCore-step places room openings decided decided entries entries workers number new (Look number) None core (omega arith) refl
         (order (core.each number old at) (omega (arith, many, known.1))) step
+
+-- what a proposal leaves of the decided places: those that there were, and the proposal behind them where its place was empty
+decided-more : (proposed : Ticket) (decided : List Ticket) (found : Option Ticket) → (later : List Ticket) × (decided_with proposed decided found ≡ decided ++ later)
+decided-more proposed decided None = (proposed ∷ [], refl)
+decided-more proposed decided (Some ticket) = ([], sym (append-nil decided))
+
+pub proposed : (places room : ℕ) (openings : List Limits) (decided later : List Ticket) (entries : List (Vec Entry)) (workers : List Worker) (number : ℕ) (old new : Worker) →
+    IsCore places room openings decided entries workers → slice_get workers number ≡ Some old → refusal (core_of places openings decided entries workers) (Propose number) ≡ None →
+    later ≡ decided_with (proposal number (shown_worker decided old)) decided (slice_get decided old.learned) →
+    shown_worker later new ≡ propose number (slice_get decided old.learned) (shown_worker decided old) →
+    (IsInOrder places (length decided) old → IsInOrder places (length later) new) → replay_of new ≡ replay_of old →
+    Makes places room openings decided later entries entries workers (slice_set workers number new) (Propose number) None
+proposed places room openings decided later entries workers number old new core at enabled decides shows order replays = record { step = step; stays = stays }
+  where
+    known : old.phase ≡ Looked
+    known = propose-enabled (core_of places openings decided entries workers) number (shown_worker decided old) (replay_of old)
+        (sym (refusal-at places openings decided entries workers (Propose number) old at) ∙ enabled)
+
+    many : length (take old.learned decided) ≡ old.learned
+    many = learned-many places decided old (core.each number old at)
+
+    more : (rest : List Ticket) × (later ≡ decided ++ rest)
+    more =
+        let grown = decided-more (proposal number (shown_worker decided old)) decided (slice_get decided old.learned) in
+        (grown.0, decides ∙ grown.1)
+
+    grows : length decided ≤ length later
+    grows = omega (arith, ap (λ (them : List Ticket). length them) more.1, length-append decided more.0)
+
+    stay : map (shown_worker later) workers ≡ map (shown_worker decided) workers
+    stay = ap (λ (them : List Ticket). map (shown_worker them) workers) more.1 ∙ shown-later decided more.0 workers (λ k worker is. (core.each k worker is).learned)
+
+    set_shown : map (shown_worker later) (slice_set workers number new)
+        ≡ slice_set (map (shown_worker decided) workers) number (propose number (slice_get decided (length (take old.learned decided))) (shown_worker decided old))
+    set_shown =
+        workers-shown later workers number new _ shows
+        ∙ ap₂ (λ (them : List WorkerState) (k : ℕ). slice_set them number (propose number (slice_get decided k) (shown_worker decided old))) stay (sym many)
+
+    made : later ≡ decided_with (proposal number (shown_worker decided old)) decided (slice_get decided (length (take old.learned decided)))
+    made = decides ∙ ap (λ k. decided_with (proposal number (shown_worker decided old)) decided (slice_get decided k)) (sym many)
+
+    step : CoreStep (core_of places openings decided entries workers) (Propose number) (core_of places openings later entries (slice_set workers number new)) None
+    step = (
+      (shown_worker decided old, worker-at decided workers number old at, known,
+        ap₂ (λ (tickets : List Ticket) (them : List WorkerState). let state : ShownState = record { decided = tickets; workers = them } in state) made set_shown),
+      core-shown places openings decided later entries workers number old new at replays,
+      refl,
+    )
+
+    stays : IsCore places room openings later entries (slice_set workers number new)
+    stays = IsCore-step places room openings decided later entries entries workers number new (Propose number) None core grows refl (order (core.each number old at)) step
+
+-- the list of a worker's entries with one more
+entries-set : (entries : List (Vec Entry)) (number count tenant : ℕ) (command : Command) (old new : Vec Entry) → slice_get entries number ≡ Some old →
+    new.items ≡ old.items ++ (record { ticket = ticket_of number count; tenant = tenant; command = command }) ∷ [] →
+    map (λ (announced : Vec Entry). announced.items) (slice_set entries number new)
+    ≡ with_entry (map (λ (announced : Vec Entry). announced.items) entries) (record { ticket = ticket_of number count; tenant = tenant; command = command })
+entries-set entries number count tenant command old new at is =
+    let entry : Entry = record { ticket = ticket_of number count; tenant = tenant; command = command } in
+    let lists = map (λ (announced : Vec Entry). announced.items) entries in
+    map-set (λ (announced : Vec Entry). announced.items) entries number new
+    ∙ ap (slice_set lists number) (is ∙ sym (ap (λ (found : Option (List Entry)). option_map_or (λ (announced : List Entry). announced ++ entry ∷ []) found (entry ∷ []))
+      (slice_get-map (λ (announced : Vec Entry). announced.items) entries number ∙ ap (option_map (λ (announced : Vec Entry). announced.items)) at)))
+
+pub announced : (places room : ℕ) (openings : List Limits) (decided : List Ticket) (entries : List (Vec Entry)) (workers : List Worker) (number tenant : ℕ) (command : Command)
+    (old new : Worker) (list longer : Vec Entry) →
+    IsCore places room openings decided entries workers → slice_get workers number ≡ Some old → slice_get entries number ≡ Some list →
+    refusal (core_of places openings decided entries workers) (Announce number tenant command) ≡ None →
+    longer.items ≡ list.items ++ (record { ticket = ticket_of number old.announced; tenant = tenant; command = command }) ∷ [] →
+    shown_worker decided new ≡ announce (shown_worker decided old) →
+    (IsInOrder places (length decided) old → old.announced ≤ old.learned → IsInOrder places (length decided) new) → replay_of new ≡ replay_of old →
+    Makes places room openings decided decided entries (slice_set entries number longer) workers (slice_set workers number new) (Announce number tenant command) None
+announced places room openings decided entries workers number tenant command old new list longer core at at_list enabled grows shows order replays =
+    record { step = step; stays = stays }
+  where
+    known : (old.phase ≡ Idle) × (tenant < length openings) × (length (take old.learned decided) < places)
+    known = announce-enabled (core_of places openings decided entries workers) number tenant command (shown_worker decided old) (replay_of old)
+        (sym (refusal-at places openings decided entries workers (Announce number tenant command) old at) ∙ enabled)
+
+    made : map (λ (announced : Vec Entry). announced.items) (slice_set entries number longer)
+        ≡ with_entry (map (λ (announced : Vec Entry). announced.items) entries)
+          (record { ticket = ticket_of number (option_map_or (λ (worker : WorkerState). worker.announced) (slice_get (map (shown_worker decided) workers) number) 0); tenant = tenant; command = command })
+    made =
+        entries-set entries number old.announced tenant command list longer at_list grows
+        ∙ ap (λ k. with_entry (map (λ (announced : Vec Entry). announced.items) entries) (record { ticket = ticket_of number k; tenant = tenant; command = command }))
+          (sym (announced-by decided workers number old at))
+
+    step : CoreStep (core_of places openings decided entries workers) (Announce number tenant command)
+        (core_of places openings decided (slice_set entries number longer) (slice_set workers number new)) None
+    step = (
+      known.1,
+      (shown_worker decided old, worker-at decided workers number old at, known.0, known.2, shown-with decided workers number new _ shows),
+      ap₂ (λ (lists : List (List Entry)) (replays : List ReplayState).
+        record (core_of places openings decided entries (slice_set workers number new)) { entries = lists; replays = replays }) made (map-kept replay_of workers number old new at replays),
+      refl,
+    )
+
+    stays : IsCore places room openings decided (slice_set entries number longer) (slice_set workers number new)
+    stays = IsCore-step places room openings decided decided entries (slice_set entries number longer) workers number new (Announce number tenant command) None core
+        (omega arith) (length-set entries number longer) (order (core.each number old at) ((core.each number old at).idle known.0)) step
+
+-- the entry under a ticket, by the fields
+found-under : (found : Option (Vec Entry)) (number : ℕ) →
+    option_and_then (λ (announced : List Entry). slice_get announced number) (option_map (λ (announced : Vec Entry). announced.items) found)
+    ≡ option_and_then (λ (announced : Vec Entry). slice_get announced.items number) found
+found-under None number = refl
+found-under (Some announced) number = refl
+
+pub entry-found : (places : ℕ) (openings : List Limits) (decided : List Ticket) (entries : List (Vec Entry)) (workers : List Worker) (place : ℕ) (ticket : Ticket) →
+    slice_get decided place ≡ Some ticket →
+    entry_at (core_of places openings decided entries workers) place
+    ≡ option_and_then (λ (announced : Vec Entry). slice_get announced.items ticket.number) (slice_get entries ticket.worker)
+entry-found places openings decided entries workers place ticket at =
+    ap (option_and_then (entry_under (core_of places openings decided entries workers))) at
+    ∙ ap (option_and_then (λ (announced : List Entry). slice_get announced ticket.number)) (slice_get-map (λ (announced : Vec Entry). announced.items) entries ticket.worker)
+    ∙ found-under (slice_get entries ticket.worker) ticket.number
+
+pub replayed : (places room : ℕ) (openings : List Limits) (decided : List Ticket) (entries : List (Vec Entry)) (workers : List Worker) (number : ℕ) (old new : Worker)
+    (found : Option Entry) (reply : Option Reply) →
+    IsCore places room openings decided entries workers → slice_get workers number ≡ Some old → refusal (core_of places openings decided entries workers) (Replay number) ≡ None →
+    entry_at (core_of places openings decided entries workers) old.replayed ≡ found →
+    ((decided : List Ticket) → shown_worker decided new ≡ shown_worker decided old) → new.replayed ≡ old.replayed + 1 → TakeEffect found old.tables.items new.tables.items →
+    reply ≡ reply_from number old.tables.items found → (IsInOrder places (length decided) old → IsInOrder places (length decided) new) →
+    Makes places room openings decided decided entries entries workers (slice_set workers number new) (Replay number) reply
+replayed places room openings decided entries workers number old new found reply core at enabled finds shows counts takes replies order = record { step = step; stays = stays }
+  where
+    known : (old.phase ≢ Stopped) × (old.replayed < length (take old.learned decided))
+    known = replay-enabled (core_of places openings decided entries workers) number (shown_worker decided old) (replay_of old)
+        (sym (refusal-at places openings decided entries workers (Replay number) old at) ∙ enabled)
+
+    made : map replay_of (slice_set workers number new) ≡ slice_set (map replay_of workers) number (record { replayed = old.replayed + 1; tables = new.tables.items })
+    made = map-set replay_of workers number new
+        ∙ ap (λ (n : ℕ). slice_set (map replay_of workers) number (record { replayed = n; tables = new.tables.items })) counts
+
+    step : CoreStep (core_of places openings decided entries workers) (Replay number) (core_of places openings decided entries (slice_set workers number new)) reply
+    step = (
+      shown_worker decided old, worker-at decided workers number old at, known.0,
+      replay_of old, replay-at workers number old at, known.1,
+      new.tables.items, subst (λ it. TakeEffect it old.tables.items new.tables.items) (sym finds) takes,
+      ap₂ (λ (them : List WorkerState) (replays : List ReplayState).
+        record (core_of places openings decided entries workers) { shown = record { decided = decided; workers = them }; replays = replays })
+      (map-kept (shown_worker decided) workers number old new at (shows decided)) made,
+      replies ∙ ap (reply_from number old.tables.items) (sym finds),
+    )
+
+    stays : IsCore places room openings decided entries (slice_set workers number new)
+    stays = IsCore-step places room openings decided decided entries entries workers number new (Replay number) reply core (omega arith) refl (order (core.each number old at)) step

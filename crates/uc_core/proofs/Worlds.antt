@@ -1,5 +1,5 @@
 -- Two runs: a reply to the command number j of a tenant is told by the tenant's commands up to that one and by its quotas alone.
-use Rattle.std.proofs.Common.{◌≡◌, ℕ, suc, ◌+◌, List, [], ◌∷◌, ◌++◌, length, take, drop, Option, Some, None, slice_get, refl, sym, ap, ap₂, ◌∙◌, arith, ◌==◌, true, eq-eqb, if◌then◌else◌, length-append}
+use Rattle.std.proofs.Common.{◌≡◌, ℕ, suc, ◌+◌, List, [], ◌∷◌, ◌++◌, length, take, drop, Option, Some, None, slice_get, sym, ap, ◌∙◌, eq-eqb, if◌then◌else◌, length-append}
 use Rattle.std.proofs.lemmas.List.{append_assoc, same_from_push, take_at}
 use Rattle.std.proofs.lemmas.List.Elements.{filter_map-append}
 use Rattle.std.proofs.lemmas.Option.{same_Some}
@@ -11,22 +11,22 @@ use Rattle.mc_model.specs.declared.settings.Limits.{Limits}
 use Rattle.mc_model.specs.History.{answer}
 use Rattle.mc_model.specs.Log.{own, own_command}
 use Rattle.uc_core.specs.Core.{CoreState, log_of}
-use Rattle.uc_core.specs.Headline.{Answered, IsAnswer, LogsAgree, RepliesAreAnswers}
+use Rattle.uc_core.specs.Headline.{Answered, LogsAgree, RepliesAreAnswers}
 use Rattle.uc_core.specs.Run.{Given}
 use Rattle.uc_core.proofs.Lookups.{parts_at}
 
 -- the tenant's commands up to the one at a place
-own_upto : (log : List (Option Entry)) (place tenant j : ℕ) (entry : Entry) → slice_get log place ≡ Some (Some entry) → entry.tenant ≡ tenant → length (own tenant (take place log)) ≡ j →
-    take (j + 1) (own tenant log) ≡ own tenant (take place log) ++ entry.command ∷ []
+own_upto : (log : List (Option Entry)) (place tenant j : ℕ) (entry : Entry) → slice_get log place ≡ Some (Some entry) →
+    entry.tenant ≡ tenant → length (own tenant (take place log)) ≡ j → take (j + 1) (own tenant log) ≡ own tenant (take place log) ++ entry.command ∷ []
 own_upto log place tenant j entry at whose number =
     let before = own tenant (take place log) in
     let rest = own tenant (drop (suc place) log) in
     let mine : own_command tenant (Some entry) ≡ Some entry.command = ap (λ b. if b then Some entry.command else None) (eq-eqb entry.tenant tenant whose) in
     let parts : own tenant log ≡ (before ++ entry.command ∷ []) ++ rest =
-        ap (own tenant) (parts_at log place (Some entry) at)
-        ∙ filter_map-append (own_command tenant) (take place log) (Some entry ∷ drop (suc place) log)
-        ∙ ap (λ found. before ++ cons_option found rest) mine
-        ∙ sym (append_assoc before (entry.command ∷ []) rest) in
+    ap (own tenant) (parts_at log place (Some entry) at)
+    ∙ filter_map-append (own_command tenant) (take place log) (Some entry ∷ drop (suc place) log)
+    ∙ ap (λ found. before ++ cons_option found rest) mine
+    ∙ sym (append_assoc before (entry.command ∷ []) rest) in
     ap (take (j + 1)) parts ∙ take_at (before ++ entry.command ∷ []) rest (j + 1) (length-append before (entry.command ∷ []) ∙ ap (λ n. n + 1) number)
 
 -- what was answered: the tenant's quotas, its commands so far and its command tell the reply
@@ -38,7 +38,8 @@ record IsTold (core : CoreState) (tenant j : ℕ) (reply : Reply) : Type 0 where
   upto : take (j + 1) (own tenant (log_of core)) ≡ commands ++ command ∷ []
   replied : reply ≡ answer opening commands command
 
-told_by : (core : CoreState) (given : List Given) (tenant j : ℕ) (reply : Reply) → RepliesAreAnswers core given → Answered core given tenant j reply → IsTold core tenant j reply
+told_by : (core : CoreState) (given : List Given) (tenant j : ℕ) (reply : Reply) → RepliesAreAnswers core given →
+    Answered core given tenant j reply → IsTold core tenant j reply
 told_by core given tenant j reply answers answered =
     let is = answers answered.at answered.worker answered.place reply answered.told in
     let same : is.entry ≡ answered.entry = same_Some _ _ (same_Some _ _ (sym is.found ∙ answered.found)) in

@@ -1,11 +1,14 @@
 -- A run of the core: any finite list of events, of any workers in any order.
-use Rattle.std.specs.Prelude.{◌≡◌, ℕ, List, [], ◌∷◌, ◌++◌, Option, slice_get}
-use Rattle.std.specs.Option.{option_map, option_map_or, option_to_list}
+use Rattle.std.specs.Prelude.{◌≡◌, ℕ, List, [], ◌∷◌, ◌++◌, length, Option, Result, Ok, Err, slice_get}
+use Rattle.std.specs.Option.{option_map, option_map_or, option_to_list, unwrap_or}
+use Rattle.mc_model.specs.declared.fault.Fault.{Fault}
+use Rattle.mc_model.specs.declared.fault.Fault.TheVariants.{Memory}
 use Rattle.mc_model.specs.declared.reply.Reply.{Reply}
 use Rattle.mc_model.specs.Settings.{Configuration}
 use Rattle.uc_core.specs.Core.{CoreState, ReplayState, new_core}
-use Rattle.uc_core.specs.Step.{CoreStep, actor}
+use Rattle.uc_core.specs.Step.{CoreStep, actor, refusal}
 use Rattle.uc_core.specs.declared.event.Event.{Event}
+use Rattle.uc_core.specs.declared.event.RunFault.{RunFault}
 
 -- a reply that was given: the worker, the place of its command in the log, and the reply
 abbrev pub Given : Type 0
@@ -25,6 +28,15 @@ Runs old [] new given = (new ≡ old) × (given ≡ [])
 Runs old (event ∷ events) new given =
     (next : CoreState) × (reply : Option Reply) × (later : List Given)
     × CoreStep old event next reply × Runs next events new later × (given ≡ given_by old event reply ++ later)
+
+-- how many events of a run were done, where it ended so
+abbrev pub done : List Event → Result (Unit {0}) RunFault → ℕ
+done events (Ok done) = length events
+done events (Err fault) = fault.at
+
+-- the fault of a run's event: the one of its conditions, or want of memory where all are met
+abbrev pub IsFaultOf : CoreState → Event → Fault → Type 0
+IsFaultOf core event fault = fault ≡ unwrap_or (refusal core event) Memory
 
 -- a run from the core's opening
 abbrev pub IsRun : Configuration → List Event → CoreState → List Given → Type 0

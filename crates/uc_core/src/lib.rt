@@ -9,6 +9,7 @@ pub use theorem::{laws, shown_states, two_worlds};
 
 pub mod event;
 pub mod machine;
+pub mod running;
 pub mod steps;
 pub mod theorem;
 pub mod worker;

@@ -100,9 +100,10 @@ impl Core {
         ensures unchanged { OnErr result (self.new ≡ self.old) }
     {
         let index = usize::from(number);
+        let count = self.workers[index].announced;
         let ticket = Ticket {
             worker: WorkerId::new(number).unwrap(),
-            number: self.workers[index].announced,
+            number: count,
         };
         let tenant = TenantId::new(tenant).unwrap();
         self.entries[index].push(Entry {
@@ -119,8 +120,8 @@ impl Core {
         requires { refusal self.old (Read number) ≡ None }
         ensures { CoreStep self.old (Read number) self.new None }
     {
-        let id = WorkerId::new(number).unwrap();
         let worker = &mut self.workers[usize::from(number)];
+        let id = WorkerId::new(number).unwrap();
         worker.read(id, &self.decided);
     }
 
@@ -142,8 +143,8 @@ impl Core {
         requires { refusal self.old (Propose number) ≡ None }
         ensures { CoreStep self.old (Propose number) self.new None }
     {
-        let id = WorkerId::new(number).unwrap();
         let worker = &mut self.workers[usize::from(number)];
+        let id = WorkerId::new(number).unwrap();
         worker.propose(id, &mut self.decided);
     }
 
@@ -154,11 +155,12 @@ impl Core {
         ensures memory { IsOkUnless result Fault.Memory }
         ensures unchanged { OnErr result (self.new ≡ self.old) }
     {
-        let id = WorkerId::new(number).unwrap();
         let worker = &mut self.workers[usize::from(number)];
+        let id = WorkerId::new(number).unwrap();
         let ticket = self.decided[worker.replayed];
         let found = entry_under(&self.entries, ticket);
-        worker.replay(id, found)
+        let reply = worker.replay(id, found)?;
+        Ok(reply)
     }
 
     /// The worker stops for good.

@@ -120,7 +120,7 @@ impl Worker {
         ensures decided { decided.new.items ≡ decided_with (proposal number (shown_worker decided.old.items self.old)) decided.old.items (slice_get decided.old.items self.old.learned) }
         ensures shown { shown_worker decided.new.items self.new ≡ propose number (slice_get decided.old.items self.old.learned) (shown_worker decided.old.items self.old) }
         ensures room { vec_capacity decided.new ≡ vec_capacity decided.old }
-        ensures order { (places : ℕ) → IsInOrder places (vec_len decided.old) self.old → IsInOrder places (vec_len decided.new) self.new }
+        ensures order { (places : ℕ) → IsInOrder places (length decided.old.items) self.old → IsInOrder places (length decided.new.items) self.new }
         ensures replay { replay_of self.new ≡ replay_of self.old }
     {
         let ticket = decide(decided, self.learned, self.proposal(number));
