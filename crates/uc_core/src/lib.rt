@@ -5,11 +5,13 @@
 
 pub use event::{Event, RunFault};
 pub use machine::Core;
+pub use showing::WorkerView;
 pub use theorem::{laws, shown_states, two_worlds};
 
 pub mod event;
 pub mod machine;
 pub mod running;
+pub mod showing;
 pub mod steps;
 pub mod theorem;
 pub mod worker;
