@@ -17,3 +17,4 @@ pub mod Opened
 mod Enabled
 mod Shows
 mod Ties
+mod Followed
