@@ -3,3 +3,4 @@ pub mod Step
 pub mod Run
 pub mod Headline
 pub mod Fields
+pub mod Showing
