@@ -19,3 +19,4 @@ pub mod Opened
 mod Enabled
 mod Shows
 mod Ties
+mod Followed

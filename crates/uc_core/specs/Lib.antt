@@ -3,4 +3,4 @@ pub mod Step
 pub mod Run
 pub mod Headline
 pub mod Fields
-pub mod View
+pub mod Showing

@@ -31,7 +31,7 @@ Runs old (event ∷ events) new given =
 
 -- how many events of a run were done, where it ended so
 abbrev pub done : List Event → Result (Unit {0}) RunFault → ℕ
-done events (Ok done) = length events
+done events (Ok nothing) = length events
 done events (Err fault) = fault.at
 
 -- the fault of a run's event: the one of its conditions, or want of memory where all are met

@@ -4,14 +4,12 @@
 #![tactic(auto)]
 
 pub use event::{Event, RunFault};
-pub use machine::Core;
-pub use showing::WorkerView;
+pub use machine::{Core, Progress};
 pub use theorem::{laws, shown_states, two_worlds};
 
 pub mod event;
 pub mod machine;
-pub mod running;
-pub mod showing;
-pub mod steps;
+mod running;
+mod steps;
 pub mod theorem;
-pub mod worker;
+mod worker;

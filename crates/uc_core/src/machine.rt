@@ -1,12 +1,34 @@
 //! The core: its state, its opening, and what it shows.
-ghost use Rattle.std.specs.Prelude.{◌≡◌, ◌<◌, length, slice_get, Some, IfOk, IsOkUnless};
-ghost use Rattle.uc_core.specs.Core.{new_core};
+ghost use Rattle.std.specs.Global.{Vec};
+ghost use Rattle.std.specs.Option.{option_and_then, option_copied};
+ghost use Rattle.std.specs.Prelude.{◌≡◌, length, slice_get, IfOk, IsOkUnless};
+ghost use Rattle.mc_model.specs.declared.request.Entry.{Entry};
+ghost use Rattle.uc_core.specs.Core.{entry_under, new_core};
 ghost use Rattle.uc_core.specs.Fields.{AreEmpty, AreFresh};
 
 use crate::worker::Worker;
-use mc_model::{Entry, Fault, Limits, Settings, Ticket};
+use mc_items::Items;
+use mc_model::{Entry, Fault, Limits, Phase, Settings, TenantId, Ticket, WorkerId};
 use std::alloc::Global;
 use std::marker::Model;
+
+/// What is shown of a worker: what it is at, and how far it is.
+#[derive(Clone, Copy, Debug, PartialEq, Eq)]
+pub struct Progress {
+    pub phase: Phase,
+    /// How many commands it has announced.
+    pub announced: u64,
+    /// How many places it has learned.
+    pub learned: u64,
+    /// How many places it has replayed.
+    pub replayed: u64,
+    /// The first place that it found empty since it announced the command that waits.
+    pub mark: Option<u64>,
+    /// The ticket that it has looked up for its next place.
+    pub look: Option<Ticket>,
+    /// How many proposals it has made for the command that it announced last.
+    pub proposals: u64,
+}
 
 /// A log of all tenants' commands that several workers share, every worker's steps being taken one at a time.
 #[derive(Debug, Drop)]
@@ -36,6 +58,8 @@ impl Model for Core {
 }
 
 impl Core {
+    ghost use Rattle.uc_core.specs.Showing.{progress_by, table_by};
+
     /// The core before any event, of these settings. Room for all places is reserved here, once. Where memory runs out:
     /// `Memory`.
     pub fn new(alloc: Global, settings: &Settings) -> Result<Core, Fault>
@@ -55,6 +79,74 @@ impl Core {
             workers,
         })
     }
+
+    /// How many workers there are.
+    pub fn workers(&self) -> usize
+        ensures { result ≡ length self.now.shown.workers }
+    {
+        self.workers.len()
+    }
+
+    /// How many places the log has.
+    pub fn places(&self) -> u64
+        ensures { result ≡ self.now.places }
+    {
+        let Core { places, .. } = self;
+        *places
+    }
+
+    /// The quotas that each tenant's tables were opened with, by the tenants' numbers.
+    pub fn openings(&self) -> &[Limits]
+        ensures { result.now ≡ self.now.openings }
+    {
+        self.openings.as_slice()
+    }
+
+    /// The tickets of the decided places, in the order of the log.
+    pub fn decided(&self) -> &[Ticket]
+        ensures { result.now ≡ self.now.shown.decided }
+    {
+        self.decided.as_slice()
+    }
+
+    /// What was announced under a ticket, if it was announced.
+    pub fn entry(&self, ticket: Ticket) -> Option<&Entry>
+        ensures { option_copied result ≡ entry_under self.now ticket }
+    {
+        announced_under(&self.entries, ticket)
+    }
+
+    /// How far the worker is, if there is one of this number.
+    pub fn progress(&self, worker: WorkerId) -> Option<Progress>
+        ensures { result ≡ progress_by self.now worker }
+    {
+        let worker = self.workers.get(usize::from(worker.number()))?;
+        Some(Progress {
+            phase: worker.phase,
+            announced: worker.announced,
+            learned: worker.learned as u64,
+            replayed: worker.replayed as u64,
+            mark: worker.mark,
+            look: worker.look,
+            proposals: worker.proposals,
+        })
+    }
+
+    /// The tenant's table as the worker has replayed it, if there are such a worker and tenant.
+    pub fn table(&self, worker: WorkerId, tenant: TenantId) -> Option<&Items>
+        ensures { option_copied result ≡ table_by self.now worker tenant }
+    {
+        let worker = self.workers.get(usize::from(worker.number()))?;
+        worker.tables.get(usize::from(tenant.number()))
+    }
+}
+
+/// The entry that was announced under the ticket, among what each worker announced.
+pub(crate) fn announced_under(entries: &[Vec<Entry>], ticket: Ticket) -> Option<&Entry>
+    ensures { option_copied result ≡ option_and_then (λ (announced : Vec Entry). slice_get announced.items ticket.number) (slice_get entries.now ticket.worker) }
+{
+    let announced = entries.get(usize::from(ticket.worker.number()))?;
+    announced.get(ticket.number as usize)
 }
 
 /// So many workers before any event.

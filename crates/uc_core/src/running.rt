@@ -28,6 +28,7 @@ impl Core {
         ensures legal { IsLegal self.new.shown.decided }
         ensures replies { RepliesAreAnswers self.new (drop (length replies.old.items) replies.new.items) }
     {
+        let _ = &self.places;
         for (at, event) in events.iter().enumerate() {
             if let Err(fault) = self.run_one(event, replies) {
                 return Err(RunFault { at, fault });

@@ -10,7 +10,7 @@ ghost use Rattle.uc_core.specs.Step.{CoreStep, StepShows, is_idle, is_looked, is
 ghost use Rattle.uc_core.specs.declared.event.Event.TheVariants.{Announce, Look, Propose, Read, Replay, Stop};
 
 use crate::event::Event;
-use crate::machine::Core;
+use crate::machine::{Core, announced_under};
 use crate::worker::Worker;
 use mc_model::{Command, Entry, Fault, Phase, Reply, TenantId, Ticket, WorkerId};
 
@@ -158,7 +158,7 @@ impl Core {
         let worker = &mut self.workers[usize::from(number)];
         let id = WorkerId::new(number).unwrap();
         let ticket = self.decided[worker.replayed];
-        let found = entry_under(&self.entries, ticket);
+        let found = announced_under(&self.entries, ticket);
         let reply = worker.replay(id, found)?;
         Ok(reply)
     }
@@ -170,14 +170,6 @@ impl Core {
     {
         self.workers[usize::from(number)].stop();
     }
-}
-
-/// The entry that was announced under the ticket, among what each worker announced.
-fn entry_under(entries: &[Vec<Entry>], ticket: Ticket) -> Option<&Entry>
-    ensures { option_copied result ≡ option_and_then (λ (announced : Vec Entry). slice_get announced.items ticket.number) (slice_get entries.now ticket.worker) }
-{
-    let announced = entries.get(usize::from(ticket.worker.number()))?;
-    announced.get(ticket.number as usize)
 }
 
 /// A condition, with the fault of its failing.

@@ -16,7 +16,7 @@ use std::alloc::Global;
 
 /// What the core keeps of a worker, apart from what it announced.
 #[derive(Debug, Drop)]
-pub struct Worker {
+pub(crate) struct Worker {
     pub(crate) phase: Phase,
     /// How many commands it has announced.
     pub(crate) announced: u64,
