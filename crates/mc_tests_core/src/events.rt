@@ -7,7 +7,7 @@ use mc_read::Reader;
 use mc_write::write_reply;
 use std::alloc::Global;
 use std::test::Fail;
-use uc_core::{Core, Event, WorkerView};
+use uc_core::{Core, Event, Progress};
 
 /// Quotas that the worked runs don't reach.
 pub(crate) const AMPLE: Limits = Limits {
@@ -83,9 +83,9 @@ pub(crate) fn events_of(alloc: Global, text: &str) -> Result<Vec<Event>, Fail> {
 }
 
 /// What the core shows of a worker.
-pub(crate) fn view_of(core: &Core, worker: u8) -> Result<WorkerView, Fail> {
+pub(crate) fn progress_of(core: &Core, worker: u8) -> Result<Progress, Fail> {
     let worker = WorkerId::new(worker).ok_or("no worker")?;
-    Ok(core.worker(worker).ok_or("no such worker")?)
+    Ok(core.progress(worker).ok_or("no such worker")?)
 }
 
 fn phase_name(phase: Phase) -> &'static str {
@@ -112,8 +112,8 @@ pub(crate) fn shown_by(alloc: Global, core: &Core) -> Result<String, Fail> {
 
 fn push_worker(text: &mut String, core: &Core, number: u8) -> Result<(), Fail> {
     let worker = WorkerId::new(number).ok_or("no worker")?;
-    if let Some(view) = core.worker(worker) {
-        let WorkerView {
+    if let Some(view) = core.progress(worker) {
+        let Progress {
             phase,
             learned,
             replayed,
@@ -155,7 +155,7 @@ fn step(alloc: Global, core: &mut Core, text: &str, said: &mut Vec<u8>) -> Resul
     let mut words = text.split(' ');
     let _ = words.next();
     let worker = number_of(words.next())?;
-    let place = view_of(core, worker)?.replayed as u64;
+    let place = progress_of(core, worker)?.replayed;
     let event = event_of(alloc, text)?;
     if let Some(reply) = core.step(event)? {
         tell(alloc, said, worker, place, &reply)?;

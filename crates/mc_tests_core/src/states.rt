@@ -3,7 +3,7 @@
 //!
 //! Two workers share three places. Each move is tried at the end of each way, shorter ways first; a way that leads to a state that was
 //! seen goes no further. So event lists of any length are covered.
-use crate::events::{AMPLE, command_of, opened, view_of};
+use crate::events::{AMPLE, command_of, opened, progress_of};
 use mc_model::{Key, Phase, TenantId, Ticket, WorkerId};
 use mc_write::write_reply;
 use std::alloc::Global;
@@ -187,7 +187,7 @@ fn core_after(alloc: Global, moves: &[Move]) -> Result<Core, Fail> {
 
 /// What is to be answered to a move: at a replay of the worker's own command its answer, else nothing.
 fn wanted(alloc: Global, core: &Core, made: Move) -> Result<String, Fail> {
-    let place = view_of(core, made.worker)?.replayed;
+    let place = progress_of(core, made.worker)?.replayed as usize;
     match core.decided().get(place) {
         Some(ticket) if made.deed == Deed::Replay && ticket.worker.number() == made.worker => {
             answer_at(alloc, core.decided(), place)
@@ -208,7 +208,7 @@ fn answered(alloc: Global, core: &mut Core, event: Event) -> Result<Vec<u8>, Fai
 /// The notes of a worker after its move.
 fn noted(way: &Way, core: &Core, made: Move) -> Result<Notes, Fail> {
     let notes = way.notes(made.worker);
-    let turn = view_of(core, made.worker)?.learned % 2;
+    let turn = progress_of(core, made.worker)?.learned % 2;
     Ok(match made.deed {
         Deed::Announce => Notes {
             announced: notes.announced.wrapping_add(1),
@@ -247,21 +247,19 @@ fn assert_helped(rt: &impl Abort, way: &Way, core: &Core, worker: u8) {
     let soon = notes.decided_then.wrapping_add(3);
     if notes.announced > 0 && core.decided().len() as u64 >= soon {
         let latest = notes.announced.wrapping_sub(1);
-        let stands = core
-            .decided()
-            .iter()
-            .take(soon as usize)
-            .any(|ticket| ticket.worker.number() == worker && ticket.number == latest);
+        let stands = core.decided().iter().take(soon as usize).any(|ticket| ticket.worker.number()
+            == worker
+            && ticket.number == latest);
         assert!(rt; stands);
     }
 }
 
 /// A worker hasn't proposed too often, and knows no more than there is.
 fn assert_bounds(rt: &impl Abort, core: &Core, worker: u8) -> Result<(), Fail> {
-    let view = view_of(core, worker)?;
+    let view = progress_of(core, worker)?;
     assert!(rt; view.proposals <= 3);
     assert!(rt; view.replayed <= view.learned);
-    assert!(rt; view.learned <= core.decided().len());
+    assert!(rt; view.learned <= core.decided().len() as u64);
     Ok(())
 }
 
@@ -282,7 +280,7 @@ fn held_by(alloc: Global, core: &Core, worker: u8) -> Result<Option<(Vec<u8>, u6
 
 /// Two workers that have replayed as many places hold the same.
 fn assert_agree(rt: &impl Abort, alloc: Global, core: &Core) -> Result<(), Fail> {
-    if view_of(core, 0)?.replayed == view_of(core, 1)?.replayed {
+    if progress_of(core, 0)?.replayed == progress_of(core, 1)?.replayed {
         assert!(rt; held_by(alloc, core, 0)? == held_by(alloc, core, 1)?);
     }
     Ok(())
@@ -308,7 +306,7 @@ fn phase_code(phase: Phase) -> u8 {
 
 /// All that decides how a worker goes on.
 fn push_worker(key: &mut Vec<u8>, way: &Way, core: &Core, worker: u8) -> Result<(), Fail> {
-    let view = view_of(core, worker)?;
+    let view = progress_of(core, worker)?;
     let notes = way.notes(worker);
     key.push(phase_code(view.phase))?;
     key.push(view.learned as u8)?;

@@ -1,10 +1,10 @@
 -- Worked runs of the shared log, tried on the definitions themselves.
-use Rattle.std.proofs.Common.{◌≡◌, ◌≢◌, ◌<◌, ℕ, List, [], ◌∷◌, length, Option, Some, None, inr, refl, arith}
+use Rattle.std.proofs.Common.{◌≡◌, List, [], ◌∷◌, None, inr, refl, arith}
 use Rattle.mc_model.specs.declared.id.Ticket.{Ticket}
 use Rattle.mc_model.specs.declared.shown.LogSize.{LogSize}
 use Rattle.mc_model.specs.declared.shown.ShownState.{ShownState}
 use Rattle.mc_model.specs.declared.shown.WorkerState.{WorkerState}
-use Rattle.mc_model.specs.Lawful.{LeadOn, ShownEvent, Step, announces, decided_with, looks, proposes, reads, stops, with_worker}
+use Rattle.mc_model.specs.Lawful.{LeadOn, announces, looks, proposes, reads, stops}
 use Rattle.mc_model.specs.Legal.{ticket_of}
 use Rattle.mc_model.specs.Shown.{announce, look, new_log, new_worker, propose, proposal, read, stop}
 
@@ -48,18 +48,41 @@ log_with_both = ticket_of 0 0 ∷ ticket_of 1 0 ∷ []
 
 helped_after_stop :
     LeadOn size (new_log size)
-        (announces 0 ∷ stops 0 ∷ announces 1 ∷ reads 1 ∷ looks 1 ∷ proposes 1 ∷ looks 1 ∷ proposes 1 ∷ [])
-        (with log_with_both (stop waiting) done)
-helped_after_stop =
-    (with [] waiting new_worker, (new_worker, refl, refl, omega arith, refl),
-    (with [] (stop waiting) new_worker, (waiting, refl, (λ same. cc), refl),
-    (with [] (stop waiting) waiting, (new_worker, refl, refl, omega arith, refl),
-    (with [] (stop waiting) marked, (waiting, refl, inr refl, omega arith, refl),
-    (with [] (stop waiting) helping, (marked, refl, refl, omega arith, (λ same. cc), refl),
-    (with log_with_one (stop waiting) helped, (helping, refl, refl, refl),
-    (with log_with_one (stop waiting) looking, (helped, refl, refl, omega arith, (λ same. cc), refl),
-    (with log_with_both (stop waiting) done, (looking, refl, refl, refl),
-    refl))))))))
+    (announces 0 ∷ stops 0 ∷ announces 1 ∷ reads 1 ∷ looks 1 ∷ proposes 1 ∷ looks 1 ∷ proposes 1 ∷ [])
+    (with log_with_both (stop waiting) done)
+helped_after_stop = (
+  with [] waiting new_worker,
+  (new_worker, refl, refl, omega arith, refl),
+  (
+    with [] (stop waiting) new_worker,
+    (waiting, refl, (λ same. cc), refl),
+    (
+      with [] (stop waiting) waiting,
+      (new_worker, refl, refl, omega arith, refl),
+      (
+        with [] (stop waiting) marked,
+        (waiting, refl, inr refl, omega arith, refl),
+        (
+          with [] (stop waiting) helping,
+          (marked, refl, refl, omega arith, (λ same. cc), refl),
+          (
+            with log_with_one (stop waiting) helped,
+            (helping, refl, refl, refl),
+            (
+              with log_with_one (stop waiting) looking,
+              (helped, refl, refl, omega arith, (λ same. cc), refl),
+              (
+                with log_with_both (stop waiting) done,
+                (looking, refl, refl, refl),
+                refl,
+              ),
+            ),
+          ),
+        ),
+      ),
+    ),
+  ),
+)
 
 it_is_idle_with_two_proposals : (done.phase ≡ Rattle.mc_model.specs.declared.shown.Phase.TheVariants.Idle) × (done.proposals ≡ 2) × (done.learned ≡ log_with_both)
 it_is_idle_with_two_proposals = (refl, refl, refl)

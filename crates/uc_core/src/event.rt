@@ -1,5 +1,6 @@
 //! What can happen to the core, and how a run of it ends early.
 use mc_model::{Command, Fault};
+use thiserror::Error;
 
 /// One step of one worker. The first number is the worker's; a worker or tenant that doesn't exist makes an event that
 /// isn't enabled.
@@ -56,7 +57,8 @@ impl Event {
 }
 
 /// Why a run ended before its last event.
-#[derive(Clone, Copy, Debug, PartialEq, Eq)]
+#[derive(Clone, Copy, Debug, PartialEq, Eq, Error)]
+#[error("event {at}: {fault}")]
 pub struct RunFault {
     /// Which event met the fault, from 0.
     pub at: usize,
