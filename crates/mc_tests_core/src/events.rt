@@ -82,10 +82,39 @@ pub(crate) fn events_of(alloc: Global, text: &str) -> Result<Vec<Event>, Fail> {
     Ok(events)
 }
 
+/// What the core shows of a worker, but for its look.
+#[derive(Clone, Copy)]
+pub(crate) struct View {
+    pub(crate) phase: Phase,
+    pub(crate) learned: u64,
+    pub(crate) replayed: u64,
+    /// The place of its mark and one, or 0 without one.
+    pub(crate) mark: u64,
+    pub(crate) proposals: u64,
+}
+
 /// What the core shows of a worker.
-pub(crate) fn progress_of(core: &Core, worker: u8) -> Result<Progress, Fail> {
+pub(crate) fn view_of(core: &Core, worker: u8) -> Result<View, Fail> {
     let worker = WorkerId::new(worker).ok_or("no worker")?;
-    Ok(core.progress(worker).ok_or("no such worker")?)
+    match core.progress(worker) {
+        Some(
+            Progress {
+                phase,
+                learned,
+                replayed,
+                mark,
+                proposals,
+                ..
+            },
+        ) => Ok(View {
+            phase,
+            learned,
+            replayed,
+            mark: mark.map_or(0, |place| place.wrapping_add(1)),
+            proposals,
+        }),
+        None => Err(Fail::from("no such worker")),
+    }
 }
 
 fn phase_name(phase: Phase) -> &'static str {
@@ -155,7 +184,7 @@ fn step(alloc: Global, core: &mut Core, text: &str, said: &mut Vec<u8>) -> Resul
     let mut words = text.split(' ');
     let _ = words.next();
     let worker = number_of(words.next())?;
-    let place = progress_of(core, worker)?.replayed;
+    let place = view_of(core, worker)?.replayed;
     let event = event_of(alloc, text)?;
     if let Some(reply) = core.step(event)? {
         tell(alloc, said, worker, place, &reply)?;

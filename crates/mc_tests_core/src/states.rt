@@ -3,7 +3,7 @@
 //!
 //! Two workers share three places. Each move is tried at the end of each way, shorter ways first; a way that leads to a state that was
 //! seen goes no further. So event lists of any length are covered.
-use crate::events::{AMPLE, command_of, opened, progress_of};
+use crate::events::{AMPLE, command_of, opened, view_of};
 use mc_model::{Key, Phase, TenantId, Ticket, WorkerId};
 use mc_write::write_reply;
 use std::alloc::Global;
@@ -187,7 +187,7 @@ fn core_after(alloc: Global, moves: &[Move]) -> Result<Core, Fail> {
 
 /// What is to be answered to a move: at a replay of the worker's own command its answer, else nothing.
 fn wanted(alloc: Global, core: &Core, made: Move) -> Result<String, Fail> {
-    let place = progress_of(core, made.worker)?.replayed as usize;
+    let place = view_of(core, made.worker)?.replayed as usize;
     match core.decided().get(place) {
         Some(ticket) if made.deed == Deed::Replay && ticket.worker.number() == made.worker => {
             answer_at(alloc, core.decided(), place)
@@ -205,26 +205,25 @@ fn answered(alloc: Global, core: &mut Core, event: Event) -> Result<Vec<u8>, Fai
     Ok(bytes)
 }
 
-/// The notes of a worker after its move.
-fn noted(way: &Way, core: &Core, made: Move) -> Result<Notes, Fail> {
-    let notes = way.notes(made.worker);
-    let turn = progress_of(core, made.worker)?.learned % 2;
-    Ok(match made.deed {
-        Deed::Announce => Notes {
-            announced: notes.announced.wrapping_add(1),
-            decided_then: core.decided().len() as u64,
-            looked_at: 0,
-        },
-        Deed::Look => Notes {
-            looked_at: way.notes(if turn == 0 { 0 } else { 1 }).announced,
-            ..notes
-        },
-        Deed::Propose => Notes {
-            looked_at: 0,
-            ..notes
-        },
-        _ => notes,
-    })
+/// Whose turn it is at a worker's next place, as a remainder.
+fn turn_of(core: &Core, worker: u8) -> Result<u64, Fail> {
+    Ok(view_of(core, worker)?.learned % 2)
+}
+
+/// The notes of a worker after its move, at this turn and with so many places decided before it.
+fn noted(way: &Way, made: Move, turn: u64, decided: u64) -> Notes {
+    let helped = if turn == 0 { way.first } else { way.second };
+    let mut notes = way.notes(made.worker);
+    match made.deed {
+        Deed::Announce => {
+            notes.announced = notes.announced.wrapping_add(1);
+            notes.decided_then = decided;
+        }
+        Deed::Look => notes.looked_at = helped.announced,
+        Deed::Propose => notes.looked_at = 0,
+        Deed::Read | Deed::Replay | Deed::Stop => {}
+    }
+    notes
 }
 
 /// No ticket stands twice or before an earlier one of its worker, and each was announced.
@@ -256,7 +255,7 @@ fn assert_helped(rt: &impl Abort, way: &Way, core: &Core, worker: u8) {
 
 /// A worker hasn't proposed too often, and knows no more than there is.
 fn assert_bounds(rt: &impl Abort, core: &Core, worker: u8) -> Result<(), Fail> {
-    let view = progress_of(core, worker)?;
+    let view = view_of(core, worker)?;
     assert!(rt; view.proposals <= 3);
     assert!(rt; view.replayed <= view.learned);
     assert!(rt; view.learned <= core.decided().len() as u64);
@@ -280,7 +279,7 @@ fn held_by(alloc: Global, core: &Core, worker: u8) -> Result<Option<(Vec<u8>, u6
 
 /// Two workers that have replayed as many places hold the same.
 fn assert_agree(rt: &impl Abort, alloc: Global, core: &Core) -> Result<(), Fail> {
-    if progress_of(core, 0)?.replayed == progress_of(core, 1)?.replayed {
+    if view_of(core, 0)?.replayed == view_of(core, 1)?.replayed {
         assert!(rt; held_by(alloc, core, 0)? == held_by(alloc, core, 1)?);
     }
     Ok(())
@@ -295,7 +294,7 @@ fn assert_state(rt: &impl Abort, alloc: Global, way: &Way, core: &Core) -> Resul
     assert_agree(rt, alloc, core)
 }
 
-fn phase_code(phase: Phase) -> u8 {
+fn phase_code(phase: Phase) -> u64 {
     match phase {
         Phase::Idle => 0,
         Phase::Pending => 1,
@@ -304,29 +303,36 @@ fn phase_code(phase: Phase) -> u8 {
     }
 }
 
-/// All that decides how a worker goes on.
-fn push_worker(key: &mut Vec<u8>, way: &Way, core: &Core, worker: u8) -> Result<(), Fail> {
-    let view = progress_of(core, worker)?;
-    let notes = way.notes(worker);
+/// Where a worker is.
+fn push_worker(key: &mut Vec<u64>, core: &Core, worker: u8) -> Result<(), Fail> {
+    let view = view_of(core, worker)?;
     key.push(phase_code(view.phase))?;
-    key.push(view.learned as u8)?;
-    key.push(view.replayed as u8)?;
-    key.push(view.mark.map_or(0, |mark| (mark as u8).wrapping_add(1)))?;
-    key.push(view.proposals as u8)?;
-    key.push(notes.announced as u8)?;
-    key.push(notes.decided_then as u8)?;
-    key.push(notes.looked_at as u8)?;
+    key.push(view.learned)?;
+    key.push(view.replayed)?;
+    key.push(view.mark)?;
+    key.push(view.proposals)?;
     Ok(())
 }
 
-/// A state as bytes: two states are the same exactly where these are.
-fn key_of(alloc: Global, way: &Way, core: &Core) -> Result<Vec<u8>, Fail> {
+fn push_notes(key: &mut Vec<u64>, notes: Notes) -> Result<(), Fail> {
+    key.extend_from_slice(&[notes.announced, notes.decided_then, notes.looked_at])?;
+    Ok(())
+}
+
+fn push_ticket(key: &mut Vec<u64>, ticket: &Ticket) -> Result<(), Fail> {
+    key.extend_from_slice(&[u64::from(ticket.worker.number()), ticket.number])?;
+    Ok(())
+}
+
+/// A state as numbers: two states are the same exactly where these are.
+fn key_of(alloc: Global, way: &Way, core: &Core) -> Result<Vec<u64>, Fail> {
     let mut key = Vec::new(alloc);
-    push_worker(&mut key, way, core, 0)?;
-    push_worker(&mut key, way, core, 1)?;
+    push_worker(&mut key, core, 0)?;
+    push_worker(&mut key, core, 1)?;
+    push_notes(&mut key, way.first)?;
+    push_notes(&mut key, way.second)?;
     for ticket in core.decided() {
-        key.push(ticket.worker.number())?;
-        key.push(ticket.number as u8)?;
+        push_ticket(&mut key, ticket)?;
     }
     Ok(key)
 }
@@ -337,14 +343,16 @@ fn longer(
     alloc: Global,
     way: &Way,
     made: Move,
-    seen: &mut BTreeSet<Vec<u8>>,
+    seen: &mut BTreeSet<Vec<u64>>,
 ) -> Result<Option<Way>, Fail> {
     let mut core = core_after(alloc, &way.moves)?;
     let event = event_for(alloc, way.notes(made.worker).announced, made)?;
     if core.check(&event).is_err() {
         return Ok(None);
     }
-    let longer = way.longer(alloc, made, noted(way, &core, made)?)?;
+    let turn = turn_of(&core, made.worker)?;
+    let notes = noted(way, made, turn, core.decided().len() as u64);
+    let longer = way.longer(alloc, made, notes)?;
     let want = wanted(alloc, &core, made)?;
     let said = answered(alloc, &mut core, event)?;
     assert_eq!(rt; said.as_slice(), want.as_bytes());
@@ -358,7 +366,7 @@ fn try_moves(
     rt: &impl Abort,
     alloc: Global,
     way: &Way,
-    seen: &mut BTreeSet<Vec<u8>>,
+    seen: &mut BTreeSet<Vec<u64>>,
 ) -> Result<Vec<Way>, Fail> {
     let mut ways = Vec::new(alloc);
     for deed in DEEDS {
@@ -376,7 +384,7 @@ fn all_longer(
     rt: &impl Abort,
     alloc: Global,
     ways: &[Way],
-    seen: &mut BTreeSet<Vec<u8>>,
+    seen: &mut BTreeSet<Vec<u64>>,
 ) -> Result<Vec<Way>, Fail> {
     let mut all = Vec::new(alloc);
     for way in ways {
