@@ -1,5 +1,5 @@
 -- What is known where an event meets no fault.
-use Rattle.std.proofs.Common.{◌≡◌, ◌≢◌, ◌⊎◌, inl, inr, ℕ, ◌<◌, ◌≤◌, List, length, map, take, Option, Some, None, Bool, true, false, ◌||◌, not, ltb, is_some, refl, sym, ap, ap₂, ◌∙◌, subst, arith, slice_get}
+use Rattle.std.proofs.Common.{◌≡◌, ◌≢◌, ◌⊎◌, inl, inr, ℕ, ◌<◌, List, length, map, Option, Some, None, Bool, true, false, ◌||◌, not, ltb, is_some, refl, sym, ap, ap₂, ◌∙◌, arith, slice_get}
 use Rattle.std.specs.Option.{option_map}
 use Rattle.std.specs.Global.{Vec}
 use Rattle.std.proofs.lemmas.Bool.{false≢true}
@@ -130,5 +130,5 @@ pub replayable : (places : ℕ) (openings : List Limits) (decided : List Ticket)
     slice_get workers number ≡ Some worker → refusal (core_of places openings decided entries workers) (Replay number) ≡ None → worker.replayed < length decided
 replayable places openings decided entries workers number worker at enabled =
     let known = replay-enabled (core_of places openings decided entries workers) number (shown_worker decided worker) (replay_of worker)
-        (sym (refusal-at places openings decided entries workers (Replay number) worker at) ∙ enabled) in
+    (sym (refusal-at places openings decided entries workers (Replay number) worker at) ∙ enabled) in
     omega (arith, known.1, length-take worker.learned decided)

@@ -1,5 +1,5 @@
 -- What follows of the core and of the replies along a run from a core that some run has led to.
-use Rattle.std.proofs.Common.{◌≡◌, ℕ, ◌+◌, ◌<◌, List, [], ◌∷◌, ◌++◌, length, take, drop, Option, Some, slice_get, refl, sym, ap, ◌∙◌, subst}
+use Rattle.std.proofs.Common.{◌≡◌, ℕ, ◌+◌, List, ◌++◌, length, take, drop, Option, Some, slice_get, refl, sym, ap, ◌∙◌, subst}
 use Rattle.std.proofs.lemmas.List.{append_assoc, drop_at}
 use Rattle.mc_model.specs.Helping.{BeginsWith}
 use Rattle.mc_model.specs.Legal.{IsLegal}
@@ -21,11 +21,12 @@ Ran old events new before after = (given : List Given) × Runs old events new gi
 pub Ran-push : (old core new : CoreState) (events : List Event) (at : ℕ) (event : Event) (reply : Option Reply) (before between after : List Given) →
     slice_get events at ≡ Some event → Ran old (take at events) core before between → CoreStep core event new reply → after ≡ between ++ given_by core event reply →
     Ran old (take (at + 1) events) new before after
-Ran-push old core new events at event reply before between after is ran step gives =
-    (ran.0 ++ given_by core event reply,
-      subst (λ (them : List Event). Runs old them new (ran.0 ++ given_by core event reply)) (sym (take-next events at event is))
+Ran-push old core new events at event reply before between after is ran step gives = (
+  ran.0 ++ given_by core event reply,
+  subst (λ (them : List Event). Runs old them new (ran.0 ++ given_by core event reply)) (sym (take-next events at event is))
       (Runs-push old (take at events) core ran.0 event new reply ran.1 step),
-      gives ∙ ap (λ (list : List Given). list ++ given_by core event reply) ran.2 ∙ append_assoc before ran.0 (given_by core event reply))
+  gives ∙ ap (λ (list : List Given). list ++ given_by core event reply) ran.2 ∙ append_assoc before ran.0 (given_by core event reply),
+)
 
 module _ (old new : CoreState) (events : List Event) (before after : List Given) (reached : IsReachedCore old) (ran : Ran old events new before after) where
   law : CoreLaw old

@@ -1,9 +1,9 @@
 -- What the fields show once one worker of them changes.
-use Rattle.std.proofs.Common.{◌≡◌, ◌≢◌, ℕ, zero, suc, ◌+◌, ◌<◌, ◌≤◌, List, [], ◌∷◌, ◌++◌, length, map, take, Option, Some, None, refl, sym, ap, ap₂, ◌∙◌, subst, arith, slice_get, slice_set}
+use Rattle.std.proofs.Common.{◌≡◌, ℕ, zero, suc, ◌≤◌, List, [], ◌∷◌, ◌++◌, length, map, Option, Some, refl, sym, ap, ap₂, ◌∙◌, subst, arith, slice_get, slice_set}
 use Rattle.std.specs.Global.{Vec}
 use Rattle.std.specs.Option.{option_map}
 use Rattle.std.proofs.lemmas.List.{append-nil, append_assoc, length-set, map-set, take-append-le}
-use Rattle.std.proofs.lemmas.Option.{none-some, same_Some, slice_get-map}
+use Rattle.std.proofs.lemmas.Option.{same_Some, slice_get-map}
 use Rattle.mc_model.specs.declared.id.Ticket.{Ticket}
 use Rattle.mc_model.specs.declared.reply.Reply.{Reply}
 use Rattle.mc_model.specs.declared.request.Entry.{Entry}
@@ -55,12 +55,22 @@ shown-later decided later (worker ∷ workers) each =
 -- one more event of a run
 pub Runs-push : (old : CoreState) (events : List Event) (core : CoreState) (given : List Given) (event : Event) (new : CoreState) (reply : Option Reply) →
     Runs old events core given → CoreStep core event new reply → Runs old (events ++ event ∷ []) new (given ++ given_by core event reply)
-Runs-push old [] core given event new reply runs step =
-    (new, reply, [], subst (λ (it : CoreState). CoreStep it event new reply) runs.0 step, (refl, refl),
-      ap (λ (it : List Given). it ++ given_by core event reply) runs.1 ∙ ap (λ (it : CoreState). given_by it event reply) runs.0 ∙ sym (append-nil (given_by old event reply)))
-Runs-push old (first ∷ events) core given event new reply (next, answered, rest, step_first, runs, is) step =
-    (next, answered, rest ++ given_by core event reply, step_first, Runs-push next events core rest event new reply runs step,
-      ap (λ (it : List Given). it ++ given_by core event reply) is ∙ append_assoc (given_by old first answered) rest (given_by core event reply))
+Runs-push old [] core given event new reply runs step = (
+  new,
+  reply,
+  [],
+  subst (λ (it : CoreState). CoreStep it event new reply) runs.0 step,
+  (refl, refl),
+  ap (λ (it : List Given). it ++ given_by core event reply) runs.1 ∙ ap (λ (it : CoreState). given_by it event reply) runs.0 ∙ sym (append-nil (given_by old event reply)),
+)
+Runs-push old (first ∷ events) core given event new reply (next, answered, rest, step_first, runs, is) step = (
+  next,
+  answered,
+  rest ++ given_by core event reply,
+  step_first,
+  Runs-push next events core rest event new reply runs step,
+  ap (λ (it : List Given). it ++ given_by core event reply) is ∙ append_assoc (given_by old first answered) rest (given_by core event reply),
+)
 
 pub IsReachedCore-step : (old : CoreState) (event : Event) (new : CoreState) (reply : Option Reply) → IsReachedCore old → CoreStep old event new reply → IsReachedCore new
 IsReachedCore-step old event new reply (settings, events, given, run) step =

@@ -16,8 +16,7 @@ use Rattle.mc_model.specs.Lawful.{decided_with}
 use Rattle.mc_model.specs.Legal.{ticket_of}
 use Rattle.mc_model.specs.Replay.{TakeEffect, reply_from}
 use Rattle.mc_model.specs.Shown.{announce, look, proposal, propose, read, stop}
-use Rattle.mc_model.specs.State.{TableState}
-use Rattle.uc_core.specs.Core.{CoreState, ReplayState, entry_under}
+use Rattle.uc_core.specs.Core.{ReplayState, entry_under}
 use Rattle.uc_core.specs.Fields.{IsCore, IsInOrder, core_of, replay_of, shown_worker}
 use Rattle.uc_core.specs.Step.{CoreStep, entry_at, refusal, with_entry}
 use Rattle.uc_core.specs.declared.event.Event.{Event}
@@ -181,8 +180,12 @@ proposed places room openings decided later entries workers number old new core 
 
     step : CoreStep (core_of places openings decided entries workers) (Propose number) (core_of places openings later entries (slice_set workers number new)) None
     step = (
-      (shown_worker decided old, worker-at decided workers number old at, known,
-        ap₂ (λ (tickets : List Ticket) (them : List WorkerState). let state : ShownState = record { decided = tickets; workers = them } in state) made set_shown),
+      (
+        shown_worker decided old,
+        worker-at decided workers number old at,
+        known,
+        ap₂ (λ (tickets : List Ticket) (them : List WorkerState). let state : ShownState = record { decided = tickets; workers = them } in state) made set_shown,
+      ),
       core-shown places openings decided later entries workers number old new at replays,
       refl,
     )
@@ -200,7 +203,7 @@ entries-set entries number count tenant command old new at is =
     let lists = map (λ (announced : Vec Entry). announced.items) entries in
     map-set (λ (announced : Vec Entry). announced.items) entries number new
     ∙ ap (slice_set lists number) (is ∙ sym (ap (λ (found : Option (List Entry)). option_map_or (λ (announced : List Entry). announced ++ entry ∷ []) found (entry ∷ []))
-      (slice_get-map (λ (announced : Vec Entry). announced.items) entries number ∙ ap (option_map (λ (announced : Vec Entry). announced.items)) at)))
+    (slice_get-map (λ (announced : Vec Entry). announced.items) entries number ∙ ap (option_map (λ (announced : Vec Entry). announced.items)) at)))
 
 pub announced : (places room : ℕ) (openings : List Limits) (decided : List Ticket) (entries : List (Vec Entry)) (workers : List Worker) (number tenant : ℕ) (command : Command)
     (old new : Worker) (list longer : Vec Entry) →
@@ -219,11 +222,11 @@ announced places room openings decided entries workers number tenant command old
 
     made : map (λ (announced : Vec Entry). announced.items) (slice_set entries number longer)
         ≡ with_entry (map (λ (announced : Vec Entry). announced.items) entries)
-          (record { ticket = ticket_of number (option_map_or (λ (worker : WorkerState). worker.announced) (slice_get (map (shown_worker decided) workers) number) 0); tenant = tenant; command = command })
+        (record { ticket = ticket_of number (option_map_or (λ (worker : WorkerState). worker.announced) (slice_get (map (shown_worker decided) workers) number) 0); tenant = tenant; command = command })
     made =
         entries-set entries number old.announced tenant command list longer at_list grows
         ∙ ap (λ k. with_entry (map (λ (announced : Vec Entry). announced.items) entries) (record { ticket = ticket_of number k; tenant = tenant; command = command }))
-          (sym (announced-by decided workers number old at))
+        (sym (announced-by decided workers number old at))
 
     step : CoreStep (core_of places openings decided entries workers) (Announce number tenant command)
         (core_of places openings decided (slice_set entries number longer) (slice_set workers number new)) None
@@ -231,7 +234,7 @@ announced places room openings decided entries workers number tenant command old
       known.1,
       (shown_worker decided old, worker-at decided workers number old at, known.0, known.2, shown-with decided workers number new _ shows),
       ap₂ (λ (lists : List (List Entry)) (replays : List ReplayState).
-        record (core_of places openings decided entries (slice_set workers number new)) { entries = lists; replays = replays }) made (map-kept replay_of workers number old new at replays),
+          record (core_of places openings decided entries (slice_set workers number new)) { entries = lists; replays = replays }) made (map-kept replay_of workers number old new at replays),
       refl,
     )
 
@@ -274,12 +277,17 @@ replayed places room openings decided entries workers number old new found reply
 
     step : CoreStep (core_of places openings decided entries workers) (Replay number) (core_of places openings decided entries (slice_set workers number new)) reply
     step = (
-      shown_worker decided old, worker-at decided workers number old at, known.0,
-      replay_of old, replay-at workers number old at, known.1,
-      new.tables.items, subst (λ it. TakeEffect it old.tables.items new.tables.items) (sym finds) takes,
+      shown_worker decided old,
+      worker-at decided workers number old at,
+      known.0,
+      replay_of old,
+      replay-at workers number old at,
+      known.1,
+      new.tables.items,
+      subst (λ it. TakeEffect it old.tables.items new.tables.items) (sym finds) takes,
       ap₂ (λ (them : List WorkerState) (replays : List ReplayState).
-        record (core_of places openings decided entries workers) { shown = record { decided = decided; workers = them }; replays = replays })
-      (map-kept (shown_worker decided) workers number old new at (shows decided)) made,
+          record (core_of places openings decided entries workers) { shown = record { decided = decided; workers = them }; replays = replays })
+          (map-kept (shown_worker decided) workers number old new at (shows decided)) made,
       replies ∙ ap (reply_from number old.tables.items) (sym finds),
     )
 

@@ -1,15 +1,13 @@
 -- The theorem of this project, clause by clause, as statements about a core and the replies that were given on the way to it. The laws
 -- of the crate say that they are true of every run, whatever its events.
-use Rattle.std.specs.Prelude.{◌≡◌, ℕ, ◌+◌, ◌<◌, ◌≤◌, List, length, map, take, Option, Some, None, slice_get}
-use Rattle.std.specs.Option.{option_map}
-use Rattle.mc_model.specs.declared.command.Command.{Command}
+use Rattle.std.specs.Prelude.{◌≡◌, ℕ, ◌+◌, ◌<◌, ◌≤◌, List, length, map, take, Some, slice_get}
 use Rattle.mc_model.specs.declared.id.Ticket.{Ticket}
 use Rattle.mc_model.specs.declared.reply.Reply.{Reply}
 use Rattle.mc_model.specs.declared.request.Entry.{Entry}
 use Rattle.mc_model.specs.declared.settings.Limits.{Limits}
 use Rattle.mc_model.specs.declared.shown.WorkerState.{WorkerState}
 use Rattle.mc_model.specs.History.{answer}
-use Rattle.mc_model.specs.Lawful.{IsWorker, announced_by}
+use Rattle.mc_model.specs.Lawful.{IsWorker}
 use Rattle.mc_model.specs.Legal.{IsLegal}
 use Rattle.mc_model.specs.Log.{Sighting, entries, own}
 use Rattle.mc_model.specs.Replay.{EachStands}

@@ -1,11 +1,10 @@
 -- One event of the core: where it is enabled, which fault it meets where it isn't, and what it makes. The conditions of an event are
 -- tried in their order; faults are this project's profile.
-use Rattle.std.specs.Prelude.{◌≡◌, ◌≢◌, ℕ, ◌+◌, ◌<◌, ◌==◌, ◌||◌, Bool, true, false, not, if◌then◌else◌, List, [], ◌∷◌, ◌++◌, length, ltb, is_some, Option, Some, None, slice_get, slice_set}
-use Rattle.std.specs.Option.{option_and_then, option_map, option_map_or}
+use Rattle.std.specs.Prelude.{◌≡◌, ◌≢◌, ℕ, ◌+◌, ◌<◌, ◌||◌, Bool, true, false, not, List, [], ◌∷◌, ◌++◌, length, ltb, is_some, Option, Some, None, slice_get, slice_set}
+use Rattle.std.specs.Option.{option_and_then, option_map_or}
 use Rattle.mc_model.specs.declared.command.Command.{Command}
 use Rattle.mc_model.specs.declared.fault.Fault.{Fault}
 use Rattle.mc_model.specs.declared.fault.Fault.TheVariants.{BadEvent, LogFull}
-use Rattle.mc_model.specs.declared.id.Ticket.{Ticket}
 use Rattle.mc_model.specs.declared.reply.Reply.{Reply}
 use Rattle.mc_model.specs.declared.request.Entry.{Entry}
 use Rattle.mc_model.specs.declared.shown.Phase.{Phase}
@@ -15,7 +14,7 @@ use Rattle.mc_model.specs.Lawful.{IsWorker, Step, announced_by, announces, looks
 use Rattle.mc_model.specs.Legal.{ticket_of}
 use Rattle.mc_model.specs.Replay.{TakeEffect, reply_from}
 use Rattle.mc_model.specs.State.{TableState}
-use Rattle.uc_core.specs.Core.{CoreState, ReplayState, entry_under, log_of, size_of}
+use Rattle.uc_core.specs.Core.{CoreState, ReplayState, entry_under, size_of}
 use Rattle.uc_core.specs.declared.event.Event.{Event}
 use Rattle.uc_core.specs.declared.event.Event.TheVariants.{Announce, Look, Propose, Read, Replay, Stop}
 

@@ -56,7 +56,10 @@ impl Core {
                 needs(has_room, Fault::LogFull)
             }
             Event::Read(_) => {
-                needs(is_idle(worker.phase) || is_pending(worker.phase), Fault::BadEvent)?;
+                needs(
+                    is_idle(worker.phase) || is_pending(worker.phase),
+                    Fault::BadEvent,
+                )?;
                 needs(has_room, Fault::BadEvent)
             }
             Event::Look(_) => {

@@ -70,8 +70,8 @@ impl Worker {
         ensures phase { self.new.phase ≡ (if is_latest_of number self.old.announced ticket then Idle else phase) }
         ensures others { self.new ≡ record self.old { phase = self.new.phase; learned = self.old.learned + 1 } }
     {
-        let is_latest =
-            ticket.worker == number && self.announced.checked_sub(1) == Some(ticket.number);
+        let is_latest = ticket.worker == number
+            && self.announced.checked_sub(1) == Some(ticket.number);
         self.phase = if is_latest { Phase::Idle } else { phase };
         self.learned += 1;
     }

@@ -1,4 +1,4 @@
-use Rattle.std.proofs.Common.{arith, rules}
+use Rattle.std.proofs.Common.{arith}
 use Rattle.std.proofs.lemmas.List.{length_push}
 use Rattle.uc_core.proofs.Opened.{AreFresh-push}
 use Rattle.uc_core.proofs.machine.new_workers.Goals as goal

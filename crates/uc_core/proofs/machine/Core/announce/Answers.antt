@@ -1,4 +1,4 @@
-use Rattle.std.proofs.Common.{◌≡◌, ◌<◌, ◌∙◌, Some, None, length, slice_get, slice_set, sym, subst, arith, rules}
+use Rattle.std.proofs.Common.{◌≡◌, ◌∙◌, Some, None, slice_get, slice_set, sym, subst, arith, rules}
 use Rattle.std.specs.Vec.{vec_capacity}
 use Rattle.std.proofs.lemmas.Grind.{common_steps}
 use Rattle.std.proofs.lemmas.Option.{gets, same_Some}
@@ -23,8 +23,8 @@ returns-in_err-push-clause-unchanged c =
     let s = c.self.inside in
     let at : slice_get s.entries.items c.args.number ≡ Some c.index_mut.result.now = grind (arith, common_steps, gets) in
     let same : core_of s.places s.openings.items s.decided.items (slice_set s.entries.items c.from-index.result c.push.new.self) s.workers.items ≡ c.args.self.now =
-        rw c.from-index.ensures (entries-kept s.places s.openings.items s.decided.items s.entries.items s.workers.items c.args.number c.index_mut.result.now c.push.new.self at c.in_err-push.ensures.items
-        ∙ c.self.view_is) in
+    rw c.from-index.ensures (entries-kept s.places s.openings.items s.decided.items s.entries.items s.workers.items c.args.number c.index_mut.result.now c.push.new.self at c.in_err-push.ensures.items
+    ∙ c.self.view_is) in
     search (rules, same)
 
 pub index_mut-requires-2 : goal.index_mut-requires-2

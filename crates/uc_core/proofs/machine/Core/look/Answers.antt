@@ -1,4 +1,4 @@
-use Rattle.std.proofs.Common.{◌≡◌, ◌<◌, ◌%◌, ◌∙◌, Some, None, length, slice_get, sym, ap, ap₂, subst, arith, rules}
+use Rattle.std.proofs.Common.{◌≡◌, ◌%◌, ◌∙◌, Some, None, length, slice_get, sym, ap, ap₂, subst, arith, rules}
 use Rattle.std.specs.Vec.{vec_capacity}
 use Rattle.std.proofs.lemmas.Grind.{common_steps}
 use Rattle.std.proofs.lemmas.Option.{gets, same_Some}
@@ -19,7 +19,7 @@ invariant_of-self c =
     let many : c.len.result ≡ length s.workers.items = omega arith in
     let place : c.unwrap-helped.result ≡ c.index.result.now.learned % c.len.result = search rules in
     let turn : c.unwrap-helped.result ≡ old.learned % length s.workers.items =
-        place ∙ ap₂ (λ (worker : Worker) n. worker.learned % n) (same_Some _ _ (sym seen ∙ at)) many in
+    place ∙ ap₂ (λ (worker : Worker) n. worker.learned % n) (same_Some _ _ (sym seen ∙ at)) many in
     let there : slice_get s.workers.items (c.index.result.now.learned % c.len.result) ≡ Some c.index-2.result.now = grind (arith, common_steps, gets) in
     let at_turn = ap (slice_get s.workers.items) place ∙ there in
     let shows = rw c.deref.ensures.value at c.look.ensures.shown in
@@ -37,7 +37,7 @@ returns c =
     let many : c.len.result ≡ length s.workers.items = omega arith in
     let place : c.unwrap-helped.result ≡ c.index.result.now.learned % c.len.result = search rules in
     let turn : c.unwrap-helped.result ≡ old.learned % length s.workers.items =
-        place ∙ ap₂ (λ (worker : Worker) n. worker.learned % n) (same_Some _ _ (sym seen ∙ at)) many in
+    place ∙ ap₂ (λ (worker : Worker) n. worker.learned % n) (same_Some _ _ (sym seen ∙ at)) many in
     let there : slice_get s.workers.items (c.index.result.now.learned % c.len.result) ≡ Some c.index-2.result.now = grind (arith, common_steps, gets) in
     let at_turn = ap (slice_get s.workers.items) place ∙ there in
     let shows = rw c.deref.ensures.value at c.look.ensures.shown in

@@ -1,4 +1,4 @@
-use Rattle.std.proofs.Common.{◌≡◌, ◌<◌, Some, None, length, slice_get, sym, ap, ◌∙◌, subst, arith, rules}
+use Rattle.std.proofs.Common.{◌≡◌, Some, None, slice_get, sym, subst, arith, rules}
 use Rattle.std.specs.Vec.{vec_capacity}
 use Rattle.std.proofs.lemmas.Grind.{common_steps}
 use Rattle.std.proofs.lemmas.Option.{gets}
@@ -10,7 +10,7 @@ use Rattle.uc_core.proofs.Ties.{was_read}
 use Rattle.uc_core.proofs.machine.Core.read.Goals as goal
 
 pub index_mut-worker-requires : goal.index_mut-worker-requires
-index_mut-worker-requires c = 
+index_mut-worker-requires c =
     let s = c.self.inside in
     let enabled = subst (λ (core : CoreState). refusal core (Read c.args.number) ≡ None) (sym c.self.view_is) c.requires in
     let there = exists s.places s.openings.items s.decided.items s.entries.items s.workers.items (Read c.args.number) enabled in

@@ -1,13 +1,10 @@
-use Rattle.std.proofs.Common.{◌≡◌, ◌<◌, ◌∙◌, List, Some, None, length, slice_get, slice_set, sym, subst, arith, rules}
-use Rattle.std.specs.Global.{Vec}
-use Rattle.std.specs.Option.{option_and_then, option_copied}
+use Rattle.std.proofs.Common.{◌≡◌, ◌∙◌, Some, None, slice_get, slice_set, sym, subst, arith, rules}
 use Rattle.std.specs.Vec.{vec_capacity}
 use Rattle.std.proofs.lemmas.Grind.{common_steps}
 use Rattle.std.proofs.lemmas.Option.{gets}
-use Rattle.mc_model.specs.declared.request.Entry.{Entry}
 use Rattle.uc_core.specs.Core.{CoreState}
 use Rattle.uc_core.specs.Fields.{core_of}
-use Rattle.uc_core.specs.Step.{entry_at, refusal}
+use Rattle.uc_core.specs.Step.{refusal}
 use Rattle.uc_core.specs.declared.event.Event.TheVariants.{Replay}
 use Rattle.uc_core.proofs.Enabled.{replayable}
 use Rattle.uc_core.proofs.Shows.{IsCore-worker-kept, worker-kept}
@@ -40,8 +37,8 @@ returns-in_err-reply-clause-unchanged c =
     let s = c.self.inside in
     let at : slice_get s.workers.items c.args.number ≡ Some c.index_mut-worker.result.now = grind (arith, common_steps, gets) in
     let same : core_of s.places s.openings.items s.decided.items s.entries.items (slice_set s.workers.items c.from.result c.replay.new.self) ≡ c.args.self.now =
-        rw c.from.ensures (worker-kept s.places s.openings.items s.decided.items s.entries.items s.workers.items c.args.number
-        c.index_mut-worker.result.now c.replay.new.self at (c.replay.ensures.shown s.decided.items) c.in_err-reply.ensures.unchanged ∙ c.self.view_is) in
+    rw c.from.ensures (worker-kept s.places s.openings.items s.decided.items s.entries.items s.workers.items c.args.number
+    c.index_mut-worker.result.now c.replay.new.self at (c.replay.ensures.shown s.decided.items) c.in_err-reply.ensures.unchanged ∙ c.self.view_is) in
     search (rules, same)
 
 pub invariant_of-self-2 : goal.invariant_of-self-2

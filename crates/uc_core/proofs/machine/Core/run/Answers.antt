@@ -1,4 +1,4 @@
-use Rattle.std.proofs.Common.{◌≡◌, Some, take, slice_get, subst, arith, rules}
+use Rattle.std.proofs.Common.{◌≡◌, Some, take, slice_get, subst, arith}
 use Rattle.std.proofs.lemmas.Grind.{common_steps}
 use Rattle.std.proofs.lemmas.Option.{gets}
 use Rattle.uc_core.specs.Run.{IsReachedCore}

@@ -16,5 +16,5 @@ returns-clause-shown c =
     let old = c.args.decided.now.items in
     let found = slice_get old c.args.self.now.learned in
     let is : c.decide-ticket.result ≡ unwrap_or found (proposal c.args.number (shown_worker old c.args.self.now)) =
-        c.decide-ticket.ensures.found ∙ ap (λ (ticket : Ticket). unwrap_or found ticket) (c.proposal.ensures old) in
+    c.decide-ticket.ensures.found ∙ ap (λ (ticket : Ticket). unwrap_or found ticket) (c.proposal.ensures old) in
     rw (c.learn.ensures.others, c.learn.ensures.phase, c.decide-ticket.ensures.learned, is)

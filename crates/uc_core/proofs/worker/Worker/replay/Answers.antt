@@ -1,4 +1,3 @@
-use Rattle.std.proofs.Common.{rules}
 use Rattle.uc_core.proofs.Workers.{UniquesFew-taken}
 use Rattle.uc_core.proofs.worker.Worker.replay.Goals as goal
 
