@@ -12,6 +12,7 @@ pub mod CoreLaws
 mod Runs
 mod Agreement
 mod Worlds
+mod Each
 pub mod Workers
 pub mod Opened
 mod Enabled

@@ -32,7 +32,7 @@ pub(crate) struct Worker {
 }
 
 impl Worker {
-    ghost use Rattle.uc_core.specs.Fields.{IsFresh, IsInOrder, is_latest_of, shown_worker, replay_of};
+    ghost use Rattle.uc_core.specs.Kept.{IsFresh, IsInOrder, is_latest_of, shown_worker, replay_of};
 
     /// A worker before any event.
     pub(crate) fn new(alloc: Global, openings: &[Limits]) -> Result<Worker, Fault>
