@@ -1,7 +1,6 @@
 -- What is known where an event meets no fault.
 use Rattle.std.proofs.Common.{◌≡◌, ◌≢◌, ◌⊎◌, inl, inr, ℕ, ◌<◌, List, length, map, take, Option, Some, None, Bool, true, false, ◌||◌, not, ltb, is_some, refl, sym, ap, ap₂, ◌∙◌, arith, slice_get}
 use Rattle.std.specs.Option.{option_map}
-use Rattle.std.specs.Global.{Vec}
 use Rattle.std.proofs.lemmas.Bool.{false≢true}
 use Rattle.std.proofs.lemmas.Bool.Decides.{nat_tests}
 use Rattle.std.proofs.lemmas.List.{length-take}
@@ -10,12 +9,9 @@ use Rattle.mc_model.specs.declared.command.Command.{Command}
 use Rattle.mc_model.specs.declared.fault.Fault.{Fault}
 use Rattle.mc_model.specs.declared.fault.Fault.TheVariants.{BadEvent}
 use Rattle.mc_model.specs.declared.id.Ticket.{Ticket}
-use Rattle.mc_model.specs.declared.request.Entry.{Entry}
-use Rattle.mc_model.specs.declared.settings.Limits.{Limits}
 use Rattle.mc_model.specs.declared.shown.Phase.{Phase}
 use Rattle.mc_model.specs.declared.shown.Phase.TheVariants.{Idle, Pending, Looked, Stopped}
-use Rattle.mc_model.specs.declared.shown.WorkerState.{WorkerState}
-use Rattle.uc_core.specs.Core.{CoreState, ReplayState}
+use Rattle.uc_core.specs.Core.{CoreState}
 use Rattle.uc_core.specs.Fields.{core_of}
 use Rattle.uc_core.specs.Kept.{replay_of, shown_worker}
 use Rattle.uc_core.specs.Step.{actor, is_idle, is_looked, is_pending, is_stopped, needs, refusal, refusal_by, refusal_of}

@@ -1,5 +1,5 @@
 -- A core before any event.
-use Rattle.std.proofs.Common.{◌≡◌, ℕ, ◌≤◌, List, [], ◌∷◌, ◌++◌, length, replicate, Some, refl, sym, ap, ◌∙◌, arith, slice_get, vec_capacity}
+use Rattle.std.proofs.Common.{◌≡◌, ℕ, ◌≤◌, List, [], ◌∷◌, ◌++◌, length, replicate, refl, sym, ap, ◌∙◌, arith, vec_capacity}
 use Rattle.std.specs.Global.{Vec}
 use Rattle.std.proofs.lemmas.Option.{none-some}
 use Rattle.mc_model.specs.declared.request.Entry.{Entry}
@@ -46,7 +46,8 @@ module _ (settings : Configuration) (s : Inside) (new : IsNew settings s) where
       let workers = s.workers.items in
       let entries = s.entries.items in
       let before : ReplayState = record { replayed = 0; tables = empty_tables settings.tenants } in
-      let shown = map-alike (shown_worker []) new_worker workers (λ k worker is. (new.fresh k worker is).shown []) ∙ as_many workers settings.workers new_worker new.count in
+      let shown = map-alike (shown_worker []) new_worker workers (λ k worker is. (new.fresh k worker is).shown [])
+      ∙ as_many workers settings.workers new_worker new.count in
       let announced = map-alike (λ (announced : Vec Entry). announced.items) [] entries new.empty ∙ as_many entries settings.workers [] new.lists in
       let replays = map-alike replay_of before workers (λ k worker is. (new.fresh k worker is).replay) ∙ as_many workers settings.workers before new.count in
       rw (new.places, new.openings, new.decided, shown, announced, replays)

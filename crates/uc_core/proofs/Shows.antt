@@ -1,5 +1,5 @@
 -- What the fields show once one worker of them changes, and that they stay in order.
-use Rattle.std.proofs.Common.{◌≡◌, ℕ, suc, ◌≤◌, List, [], ◌∷◌, ◌++◌, length, map, take, Option, Some, refl, sym, ap, ap₂, ◌∙◌, subst, arith, slice_get, slice_set, vec_capacity}
+use Rattle.std.proofs.Common.{◌≡◌, ℕ, suc, ◌≤◌, List, [], ◌∷◌, ◌++◌, length, map, Option, Some, refl, sym, ap, ap₂, ◌∙◌, subst, arith, slice_get, slice_set, vec_capacity}
 use Rattle.std.specs.Global.{Vec}
 use Rattle.std.specs.Option.{option_map}
 use Rattle.std.specs.Vec.{with_item}
@@ -64,7 +64,8 @@ Runs-push old (first ∷ events) core given event new reply (next, answered, res
   ap (λ (it : List Given). it ++ given_by core event reply) is ∙ append_assoc (given_by old first answered) rest (given_by core event reply),
 )
 
-IsReachedCore-step : (old : CoreState) (event : Event) (new : CoreState) (reply : Option Reply) → IsReachedCore old → CoreStep old event new reply → IsReachedCore new
+IsReachedCore-step : (old : CoreState) (event : Event) (new : CoreState) (reply : Option Reply) →
+    IsReachedCore old → CoreStep old event new reply → IsReachedCore new
 IsReachedCore-step old event new reply (settings, events, given, run) step =
     (settings, events ++ event ∷ [], given ++ given_by old event reply, Runs-push (new_core settings) events old given event new reply run step)
 
@@ -101,7 +102,8 @@ replay-at workers number worker at = slice_get-map replay_of workers number ∙ 
 module _ (s : Inside) (number : ℕ) (old new : Vec Entry) (at : slice_get s.entries.items number ≡ Some old) (same : new.items ≡ old.items) where
   pub entries-kept : core_of (record s { entries = with_item s.entries number new }) ≡ core_of s
   entries-kept =
-      ap (λ (lists : List (List Entry)). record (core_of s) { entries = lists }) (map-kept (λ (announced : Vec Entry). announced.items) s.entries.items number old new at same)
+      ap (λ (lists : List (List Entry)). record (core_of s) { entries = lists })
+      (map-kept (λ (announced : Vec Entry). announced.items) s.entries.items number old new at same)
 
   pub IsCore-entries : IsCore s → IsCore (record s { entries = with_item s.entries number new })
   IsCore-entries core = record {

@@ -2,8 +2,7 @@
 use Rattle.std.proofs.Common.{◌≡◌, ◌≢◌, ◌⊎◌, inl, inr, ℕ, ◌+◌, ◌%◌, ◌<◌, ◌≤◌, List, [], ◌∷◌, ◌++◌, length, map, take, Option, Some, None, refl, sym, ap, ap₂, ◌∙◌, subst, arith, slice_get, slice_set, vec_capacity}
 use Rattle.std.specs.Global.{Vec}
 use Rattle.std.specs.Option.{option_and_then, option_map, option_map_or}
-use Rattle.std.specs.Vec.{with_item}
-use Rattle.std.proofs.lemmas.List.{append-nil, length-append, length-map, length-set, length-take-le, map-set}
+use Rattle.std.proofs.lemmas.List.{append-nil, length-append, length-map, length-take-le, map-set}
 use Rattle.std.proofs.lemmas.Option.{slice_get-map}
 use Rattle.mc_model.specs.declared.command.Command.{Command}
 use Rattle.mc_model.specs.declared.id.Ticket.{Ticket}
@@ -16,7 +15,7 @@ use Rattle.mc_model.specs.Lawful.{announced_by, decided_with, with_worker}
 use Rattle.mc_model.specs.Legal.{ticket_of}
 use Rattle.mc_model.specs.Replay.{TakeEffect, reply_from}
 use Rattle.mc_model.specs.Shown.{announce, look, proposal, propose, read, stop}
-use Rattle.uc_core.specs.Core.{CoreState, ReplayState, entry_under}
+use Rattle.uc_core.specs.Core.{ReplayState, entry_under}
 use Rattle.uc_core.specs.Fields.{IsCore, core_of}
 use Rattle.uc_core.specs.Kept.{IsInOrder, replay_of, shown_worker}
 use Rattle.uc_core.specs.Step.{CoreStep, announced_entry, entry_at, refusal, with_entry}
@@ -45,13 +44,14 @@ pub entries-set : (entries : List (Vec Entry)) (number : ℕ) (entry : Entry) (o
 entries-set entries number entry old new mine at is =
     let longer = λ (found : Option (List Entry)). option_map_or (λ (announced : List Entry). announced ++ entry ∷ []) found (entry ∷ []) in
     let found : slice_get (lists_of entries) number ≡ Some old.items =
-        slice_get-map (λ (announced : Vec Entry). announced.items) entries number ∙ ap (option_map (λ (announced : Vec Entry). announced.items)) at in
+    slice_get-map (λ (announced : Vec Entry). announced.items) entries number ∙ ap (option_map (λ (announced : Vec Entry). announced.items)) at in
     map-set (λ (announced : Vec Entry). announced.items) entries number new
     ∙ ap (slice_set (lists_of entries) number) (is ∙ sym (ap longer found))
     ∙ ap (λ n. slice_set (lists_of entries) n (longer (slice_get (lists_of entries) n))) (sym mine)
 
 -- what a proposal leaves of the decided places: those that there were, and the proposal behind them where its place was empty
-decided-more : (proposed : Ticket) (decided : List Ticket) (found : Option Ticket) → (more : List Ticket) × (decided_with proposed decided found ≡ decided ++ more)
+decided-more : (proposed : Ticket) (decided : List Ticket) (found : Option Ticket) →
+    (more : List Ticket) × (decided_with proposed decided found ≡ decided ++ more)
 decided-more proposed decided None = (proposed ∷ [], refl)
 decided-more proposed decided (Some ticket) = ([], sym (append-nil decided))
 
@@ -66,11 +66,13 @@ pub entry-found : (s : Inside) (place : ℕ) (ticket : Ticket) → slice_get s.d
     entry_at (core_of s) place ≡ option_and_then (λ (announced : Vec Entry). slice_get announced.items ticket.number) (slice_get s.entries.items ticket.worker)
 entry-found s place ticket at =
     ap (option_and_then (entry_under (core_of s))) at
-    ∙ ap (option_and_then (λ (announced : List Entry). slice_get announced ticket.number)) (slice_get-map (λ (announced : Vec Entry). announced.items) s.entries.items ticket.worker)
+    ∙ ap (option_and_then (λ (announced : List Entry). slice_get announced ticket.number))
+    (slice_get-map (λ (announced : Vec Entry). announced.items) s.entries.items ticket.worker)
     ∙ found-under (slice_get s.entries.items ticket.worker) ticket.number
 
 -- how many commands a worker has announced
-announced-by : (s : Inside) (number : ℕ) (worker : Worker) → slice_get s.workers.items number ≡ Some worker → announced_by (core_of s).shown number ≡ worker.announced
+announced-by : (s : Inside) (number : ℕ) (worker : Worker) → slice_get s.workers.items number ≡ Some worker →
+    announced_by (core_of s).shown number ≡ worker.announced
 announced-by s number worker at =
     ap (λ found. option_map_or (λ (worker : WorkerState). worker.announced) found 0) (worker-at s.decided.items s.workers.items number worker at)
 
@@ -178,8 +180,10 @@ module _ (s : Inside) (number : ℕ) (old new : Worker) (core : IsCore s) (at : 
           ∙ shown-later s.decided.items more.0 s.workers.items (λ k worker is. (core.each k worker is).learned)
 
       after : (core_of (changed s later s.entries number new)).shown
-          ≡ record { decided = decided_with (proposal number shown) s.decided.items (slice_get s.decided.items old.learned);
-            workers = slice_set (map (shown_worker s.decided.items) s.workers.items) number (propose number (slice_get s.decided.items old.learned) shown) }
+          ≡ record {
+            decided = decided_with (proposal number shown) s.decided.items (slice_get s.decided.items old.learned);
+            workers = slice_set (map (shown_worker s.decided.items) s.workers.items) number (propose number (slice_get s.decided.items old.learned) shown);
+          }
       after =
           ap₂ (λ (tickets : List Ticket) (them : List WorkerState). let state : ShownState = record { decided = tickets; workers = them } in state) decides
           (workers-shown later.items s.workers.items number new _ shows
@@ -187,12 +191,14 @@ module _ (s : Inside) (number : ℕ) (old new : Worker) (core : IsCore s) (at : 
 
       -- the next place is the one behind all that it shows as learned
       behind : (core_of (changed s later s.entries number new)).shown
-          ≡ record { decided = decided_with (proposal number shown) s.decided.items (slice_get s.decided.items (length shown.learned));
-            workers = slice_set (map (shown_worker s.decided.items) s.workers.items) number (propose number (slice_get s.decided.items (length shown.learned)) shown) }
+          ≡ record {
+            decided = decided_with (proposal number shown) s.decided.items (slice_get s.decided.items (length shown.learned));
+            workers = slice_set (map (shown_worker s.decided.items) s.workers.items) number (propose number (slice_get s.decided.items (length shown.learned)) shown);
+          }
       behind = after ∙ ap (λ (k : ℕ). let state : ShownState = record {
-          decided = decided_with (proposal number shown) s.decided.items (slice_get s.decided.items k);
-          workers = slice_set (map (shown_worker s.decided.items) s.workers.items) number (propose number (slice_get s.decided.items k) shown);
-        } in state) (sym many)
+        decided = decided_with (proposal number shown) s.decided.items (slice_get s.decided.items k);
+        workers = slice_set (map (shown_worker s.decided.items) s.workers.items) number (propose number (slice_get s.decided.items k) shown);
+      } in state) (sym many)
 
       step : CoreStep (core_of s) (Propose number) (core_of (changed s later s.entries number new)) None
       step = ((shown, is_worker, propose-enabled s number old at enabled, behind), rest-stays later replays, refl)
@@ -200,11 +206,12 @@ module _ (s : Inside) (number : ℕ) (old new : Worker) (core : IsCore s) (at : 
       stays : IsCore (changed s later s.entries number new)
       stays =
           let grows : length s.decided.items ≤ length later.items =
-              omega (arith, ap (λ (them : List Ticket). length them) more.1, length-append s.decided.items more.0) in
+          omega (arith, ap (λ (them : List Ticket). length them) more.1, length-append s.decided.items more.0) in
           IsCore-step s later s.entries number new (Propose number) None core grows room refl (order order_of) step
 
   pub announced : (tenant : ℕ) (command : Command) (entries : Vec (Vec Entry)) → refusal (core_of s) (Announce number tenant command) ≡ None →
-      lists_of entries.items ≡ with_entry (lists_of s.entries.items) (entry_of number old.announced tenant command) → length entries.items ≡ length s.entries.items →
+      lists_of entries.items ≡ with_entry (lists_of s.entries.items) (entry_of number old.announced tenant command) →
+      length entries.items ≡ length s.entries.items →
       shown_worker s.decided.items new ≡ announce shown →
       (IsInOrder s.places (length s.decided.items) old → old.announced ≤ old.learned → IsInOrder s.places (length s.decided.items) new) →
       replay_of new ≡ replay_of old → Makes s (Announce number tenant command) None (changed s s.decided entries number new)
@@ -221,8 +228,8 @@ module _ (s : Inside) (number : ℕ) (old new : Worker) (core : IsCore s) (at : 
         known.1,
         (shown, is_worker, known.0, known.2, shown-with (announce shown) shows),
         ap₂ (λ (lists : List (List Entry)) (kept : List ReplayState).
-          record (core_of (changed s s.decided s.entries number new)) { entries = lists; replays = kept })
-        made (map-kept replay_of s.workers.items number old new at replays),
+            record (core_of (changed s s.decided s.entries number new)) { entries = lists; replays = kept })
+            made (map-kept replay_of s.workers.items number old new at replays),
         refl,
       )
 
@@ -247,12 +254,17 @@ module _ (s : Inside) (number : ℕ) (old new : Worker) (core : IsCore s) (at : 
 
       step : CoreStep (core_of s) (Replay number) (core_of (changed s s.decided s.entries number new)) reply
       step = (
-        shown, is_worker, known.0,
-        replay_of old, replay-at s.workers.items number old at, known.1,
-        new.tables.items, subst (λ it. TakeEffect it old.tables.items new.tables.items) (sym finds) takes,
+        shown,
+        is_worker,
+        known.0,
+        replay_of old,
+        replay-at s.workers.items number old at,
+        known.1,
+        new.tables.items,
+        subst (λ it. TakeEffect it old.tables.items new.tables.items) (sym finds) takes,
         ap₂ (λ (them : List WorkerState) (replays : List ReplayState).
-          record (core_of s) { shown = record { decided = s.decided.items; workers = them }; replays = replays })
-        (map-kept (shown_worker s.decided.items) s.workers.items number old new at shows) made,
+            record (core_of s) { shown = record { decided = s.decided.items; workers = them }; replays = replays })
+            (map-kept (shown_worker s.decided.items) s.workers.items number old new at shows) made,
         replies ∙ ap (reply_from number old.tables.items) (sym finds),
       )
 

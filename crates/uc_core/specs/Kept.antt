@@ -1,8 +1,7 @@
 -- What the core keeps of a worker: what it shows, and what is true of it at all times.
-use Rattle.std.specs.Prelude.{◌≡◌, ◌==◌, ◌&&◌, Bool, ℕ, ◌+◌, ◌<◌, ◌≤◌, List, [], length, map, take, Some, slice_get}
+use Rattle.std.specs.Prelude.{◌≡◌, ◌==◌, ◌&&◌, Bool, ℕ, ◌+◌, ◌<◌, ◌≤◌, List, [], take, Some, slice_get}
 use Rattle.std.specs.Global.{Vec}
 use Rattle.mc_model.specs.declared.id.Ticket.{Ticket}
-use Rattle.mc_model.specs.declared.id.TheConstants.{TENANTS, WORKERS}
 use Rattle.mc_model.specs.declared.request.Entry.{Entry}
 use Rattle.mc_model.specs.declared.settings.Limits.{Limits}
 use Rattle.mc_model.specs.declared.shown.Phase.TheVariants.{Idle, Looked}
@@ -10,8 +9,7 @@ use Rattle.mc_model.specs.declared.shown.WorkerState.{WorkerState}
 use Rattle.mc_model.specs.Replay.{empty_tables}
 use Rattle.mc_model.specs.Shown.{new_worker}
 use Rattle.mc_model.specs.State.{TableState}
-use Rattle.uc_core.specs.Core.{CoreState, ReplayState}
-use Rattle.uc_core.specs.Run.{IsReachedCore}
+use Rattle.uc_core.specs.Core.{ReplayState}
 use Rattle.uc_core.specs.declared.worker.Worker.{Worker}
 
 -- what is shown of a worker, where these places are decided

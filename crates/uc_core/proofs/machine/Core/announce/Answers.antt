@@ -22,7 +22,7 @@ returns-in_err-push-clause-unchanged c =
     let s = c.self.inside in
     let at : slice_get s.entries.items c.args.number ≡ Some c.index_mut.result.now = grind (arith, common_steps, gets) in
     let same : core_of (record s { entries = with_item s.entries c.from-index.result c.push.new.self }) ≡ c.args.self.now =
-        rw c.from-index.ensures (entries-kept s c.args.number c.index_mut.result.now c.push.new.self at c.in_err-push.ensures.items ∙ c.self.view_is) in
+    rw c.from-index.ensures (entries-kept s c.args.number c.index_mut.result.now c.push.new.self at c.in_err-push.ensures.items ∙ c.self.view_is) in
     search (rules, same)
 
 pub index_mut-requires-2 : goal.index_mut-requires-2
@@ -57,7 +57,8 @@ made c =
     let entry = entry_of c.args.number old.announced c.args.tenant c.args.command in
     announced s c.args.number old c.announce.new.self c.self.invariant at c.args.tenant c.args.command (with_item s.entries c.args.number c.push.new.self) enabled
     (entries-set s.entries.items c.args.number entry c.index_mut.result.now c.push.new.self refl list grows)
-    (length-set s.entries.items c.args.number c.push.new.self) (c.announce.ensures.shown s.decided.items) (c.announce.ensures.order s.places _) c.announce.ensures.replay
+    (length-set s.entries.items c.args.number c.push.new.self)
+    (c.announce.ensures.shown s.decided.items) (c.announce.ensures.order s.places _) c.announce.ensures.replay
 
 pub invariant_of-self-2 : goal.invariant_of-self-2
 invariant_of-self-2 c = rw c.from-index.ensures (made c).stays

@@ -2,7 +2,6 @@ use Rattle.std.proofs.Common.{◌≡◌, ◌%◌, ◌∙◌, Some, None, length,
 use Rattle.std.proofs.lemmas.Grind.{common_steps}
 use Rattle.std.proofs.lemmas.Option.{gets, same_Some}
 use Rattle.uc_core.specs.Core.{CoreState}
-use Rattle.uc_core.specs.Fields.{core_of}
 use Rattle.uc_core.specs.Step.{refusal}
 use Rattle.uc_core.specs.declared.event.Event.TheVariants.{Look}
 use Rattle.uc_core.specs.declared.worker.Worker.{Worker}
@@ -22,7 +21,7 @@ made c =
     let many : c.len.result ≡ length s.workers.items = omega arith in
     let place : c.unwrap-helped.result ≡ c.index.result.now.learned % c.len.result = search rules in
     let turn : c.unwrap-helped.result ≡ old.learned % length s.workers.items =
-        place ∙ ap₂ (λ (worker : Worker) n. worker.learned % n) (same_Some _ _ (sym seen ∙ at)) many in
+    place ∙ ap₂ (λ (worker : Worker) n. worker.learned % n) (same_Some _ _ (sym seen ∙ at)) many in
     let there : slice_get s.workers.items (c.index.result.now.learned % c.len.result) ≡ Some c.index-2.result.now = grind (arith, common_steps, gets) in
     let shows = rw c.deref.ensures.value at c.look.ensures.shown in
     let order = rw c.deref.ensures.value at (c.look.ensures.order s.places) in

@@ -2,7 +2,6 @@ use Rattle.std.proofs.Common.{◌≡◌, Some, None, slice_get, sym, subst, arit
 use Rattle.std.proofs.lemmas.Grind.{common_steps}
 use Rattle.std.proofs.lemmas.Option.{gets}
 use Rattle.uc_core.specs.Core.{CoreState}
-use Rattle.uc_core.specs.Fields.{core_of}
 use Rattle.uc_core.specs.Step.{refusal}
 use Rattle.uc_core.specs.declared.event.Event.TheVariants.{Propose}
 use Rattle.uc_core.proofs.Shows.{changed}

@@ -37,8 +37,8 @@ returns-in_err-reply-clause-unchanged c =
     let s = c.self.inside in
     let at : slice_get s.workers.items c.args.number ≡ Some c.index_mut-worker.result.now = grind (arith, common_steps, gets) in
     let same : core_of (record s { workers = with_item s.workers c.from.result c.replay.new.self }) ≡ c.args.self.now =
-        rw c.from.ensures (worker-kept s c.args.number c.index_mut-worker.result.now c.replay.new.self at (c.replay.ensures.shown s.decided.items)
-        c.in_err-reply.ensures.unchanged ∙ c.self.view_is) in
+    rw c.from.ensures (worker-kept s c.args.number c.index_mut-worker.result.now c.replay.new.self at (c.replay.ensures.shown s.decided.items)
+    c.in_err-reply.ensures.unchanged ∙ c.self.view_is) in
     search (rules, same)
 
 made : (c : goal.In_ok-reply) →
