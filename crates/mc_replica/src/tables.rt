@@ -40,6 +40,7 @@ pub fn take_effect(
     requires { (tenant : ℕ) (state : TableState) → slice_get tables.old.items tenant ≡ Some state → state.last_unique < 2 ^ 64 - 1 }
     ensures reply { IfOk result (λ reply. (openings : List Limits) (log : List (Option Entry)) → EachStands openings log tables.old.items →
         reply ≡ answer_to worker openings log (option_copied found.entry)) }
+    // The same by these tables alone.
     ensures answer { IfOk result (λ reply. reply ≡ reply_from worker tables.old.items (option_copied found.entry)) }
     ensures tables { OnOk result (TakeEffect (option_copied found.entry) tables.old.items tables.new.items) }
     ensures takes_out { IfSome (option_copied found.entry) (λ entry. IsTakingOut entry.command) → IsOk result }

@@ -19,8 +19,8 @@ abbrev pub Ran : CoreState → List Event → CoreState → List Given → List 
 Ran old events new before after = (given : List Given) × Runs old events new given × (after ≡ before ++ given)
 
 pub Ran-push : (old core new : CoreState) (events : List Event) (at : ℕ) (event : Event) (reply : Option Reply) (before between after : List Given) →
-    slice_get events at ≡ Some event → Ran old (take at events) core before between → CoreStep core event new reply → after ≡ between ++ given_by core event reply →
-    Ran old (take (at + 1) events) new before after
+    slice_get events at ≡ Some event → Ran old (take at events) core before between → CoreStep core event new reply →
+    after ≡ between ++ given_by core event reply → Ran old (take (at + 1) events) new before after
 Ran-push old core new events at event reply before between after is ran step gives = (
   ran.0 ++ given_by core event reply,
   subst (λ (them : List Event). Runs old them new (ran.0 ++ given_by core event reply)) (sym (take-next events at event is))
@@ -39,4 +39,6 @@ module _ (old new : CoreState) (events : List Event) (before after : List Given)
   ran-legal = (of_run old new events ran.0 law ran.1).0.sound.legal
 
   pub ran-replies : RepliesAreAnswers new (drop (length before) after)
-  ran-replies = subst (RepliesAreAnswers new) (sym (ap (drop (length before)) ran.2 ∙ drop_at before ran.0 (length before) refl)) (run_answers old new events ran.0 law ran.1)
+  ran-replies =
+      let later = ap (drop (length before)) ran.2 ∙ drop_at before ran.0 (length before) refl in
+      subst (RepliesAreAnswers new) (sym later) (run_answers old new events ran.0 law ran.1)

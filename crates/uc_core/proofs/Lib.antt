@@ -14,6 +14,7 @@ mod Runs
 mod Agreement
 mod Worlds
 mod Soon
+mod Each
 pub mod Workers
 pub mod Opened
 mod Enabled

@@ -43,4 +43,5 @@ none_yet (Some limits) n state is = subst (λ (s : TableState). s.last_unique �
 
 pub UniquesFew-empty : (openings : List Limits) (tables : List TableState) (n : ℕ) → tables ≡ empty_tables openings → UniquesFew tables n
 UniquesFew-empty openings tables n are tenant state is =
-    none_yet (slice_get openings tenant) n state (sym (slice_get-map empty_table openings tenant) ∙ ap (λ (ts : List TableState). slice_get ts tenant) (sym are) ∙ is)
+    none_yet (slice_get openings tenant) n state
+    (sym (slice_get-map empty_table openings tenant) ∙ ap (λ (ts : List TableState). slice_get ts tenant) (sym are) ∙ is)

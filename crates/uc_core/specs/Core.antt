@@ -51,11 +51,14 @@ log_of core = map (entry_under core) core.shown.decided
 
 -- how it is stored as a model's value
 abbrev pub coded_replay : Coded ReplayState
-coded_replay = code_by (ℕ × List TableState) (coded× coded_ℕ (coded_list coded_state)) (λ r. (r.replayed, r.tables)) (λ p. record { replayed = p.0; tables = p.1 }) (λ _. refl)
+coded_replay =
+    code_by (ℕ × List TableState) (coded× coded_ℕ (coded_list coded_state))
+    (λ r. (r.replayed, r.tables)) (λ p. record { replayed = p.0; tables = p.1 }) (λ _. refl)
 
 abbrev pub coded_core : Coded CoreState
 coded_core =
     code_by (ℕ × (List Limits × (ShownState × (List (List Entry) × List ReplayState))))
-    (coded× coded_ℕ (coded× (coded_list coded_limits) (coded× shown_row.the_row.coded (coded× (coded_list (coded_list entry_row.the_row.coded)) (coded_list coded_replay)))))
+    (coded× coded_ℕ (coded× (coded_list coded_limits)
+    (coded× shown_row.the_row.coded (coded× (coded_list (coded_list entry_row.the_row.coded)) (coded_list coded_replay)))))
     (λ c. (c.places, (c.openings, (c.shown, (c.entries, c.replays)))))
     (λ p. record { places = p.0; openings = p.1.0; shown = p.1.1.0; entries = p.1.1.1.0; replays = p.1.1.1.1 }) (λ _. refl)

@@ -1,75 +1,29 @@
 -- What the fields of the core show of its state, and what is true of them at all times.
-use Rattle.std.specs.Prelude.{◌≡◌, ◌==◌, ◌&&◌, Bool, ℕ, ◌+◌, ◌<◌, ◌≤◌, List, [], length, map, take, Some, slice_get}
+use Rattle.std.specs.Prelude.{◌≡◌, ℕ, ◌≤◌, length, map, Some, slice_get, vec_capacity}
 use Rattle.std.specs.Global.{Vec}
-use Rattle.mc_model.specs.declared.id.Ticket.{Ticket}
 use Rattle.mc_model.specs.declared.id.TheConstants.{TENANTS, WORKERS}
 use Rattle.mc_model.specs.declared.request.Entry.{Entry}
-use Rattle.mc_model.specs.declared.settings.Limits.{Limits}
-use Rattle.mc_model.specs.declared.shown.Phase.TheVariants.{Idle, Looked}
-use Rattle.mc_model.specs.declared.shown.WorkerState.{WorkerState}
-use Rattle.mc_model.specs.Replay.{empty_tables}
-use Rattle.mc_model.specs.Shown.{new_worker}
-use Rattle.mc_model.specs.State.{TableState}
-use Rattle.uc_core.specs.Core.{CoreState, ReplayState}
+use Rattle.uc_core.specs.Core.{CoreState}
+use Rattle.uc_core.specs.Kept.{IsInOrder, replay_of, shown_worker}
 use Rattle.uc_core.specs.Run.{IsReachedCore}
+use Rattle.uc_core.specs.declared.machine.Core.TheInside.{Inside}
 use Rattle.uc_core.specs.declared.worker.Worker.{Worker}
 
--- what is shown of a worker, where these places are decided
-abbrev pub shown_worker : List Ticket → Worker → WorkerState
-shown_worker decided worker = record {
-  phase = worker.phase;
-  announced = worker.announced;
-  learned = take worker.learned decided;
-  mark = worker.mark;
-  look = worker.look;
-  proposals = worker.proposals;
-}
-
-abbrev pub replay_of : Worker → ReplayState
-replay_of worker = record { replayed = worker.replayed; tables = worker.tables.items }
-
 -- the state of a core with these fields
-abbrev pub core_of : ℕ → List Limits → List Ticket → List (Vec Entry) → List Worker → CoreState
-core_of places openings decided entries workers = record {
-  places = places;
-  openings = openings;
-  shown = record { decided = decided; workers = map (shown_worker decided) workers };
-  entries = map (λ (announced : Vec Entry). announced.items) entries;
-  replays = map replay_of workers;
+abbrev pub core_of : Inside → CoreState
+core_of s = record {
+  places = s.places;
+  openings = s.openings.items;
+  shown = record { decided = s.decided.items; workers = map (shown_worker s.decided.items) s.workers.items };
+  entries = map (λ (announced : Vec Entry). announced.items) s.entries.items;
+  replays = map replay_of s.workers.items;
 }
-
--- the ticket is the one that the worker of this number announced last, where it has announced so many
-abbrev pub is_latest_of : ℕ → ℕ → Ticket → Bool
-is_latest_of number announced ticket = ticket.worker == number && ticket.number + 1 == announced
-
--- Of a log with so many places, so many of them decided: what a worker has learned is decided, one that has looked has a place left, and
--- no number of a worker is above what it has learned by more than one.
-pub record IsInOrder (places decided : ℕ) (worker : Worker) : Type 0 where
-  pub learned : worker.learned ≤ decided
-  pub announced : worker.announced ≤ worker.learned + 1
-  pub idle : worker.phase ≡ Idle → worker.announced ≤ worker.learned
-  pub looked : worker.phase ≡ Looked → worker.learned < places
-  pub proposals : worker.proposals ≤ worker.learned
-  pub uniques : (tenant : ℕ) (state : TableState) → slice_get worker.tables.items tenant ≡ Some state → state.last_unique ≤ worker.replayed
-
--- a worker before any event, which is in order whatever the log
-pub record IsFresh (openings : List Limits) (worker : Worker) : Type 0 where
-  pub shown : (decided : List Ticket) → shown_worker decided worker ≡ new_worker
-  pub replay : replay_of worker ≡ record { replayed = 0; tables = empty_tables openings }
-  pub order : (places decided : ℕ) → IsInOrder places decided worker
-
-abbrev pub AreFresh : List Limits → List Worker → Type 0
-AreFresh openings workers = (number : ℕ) (worker : Worker) → slice_get workers number ≡ Some worker → IsFresh openings worker
-
--- nothing is announced
-abbrev pub AreEmpty : List (Vec Entry) → Type 0
-AreEmpty entries = (number : ℕ) (announced : Vec Entry) → slice_get entries number ≡ Some announced → announced.items ≡ []
 
 -- each worker is in order, there is room for all places, and some run leads to this state
-pub record IsCore (places room : ℕ) (openings : List Limits) (decided : List Ticket) (entries : List (Vec Entry)) (workers : List Worker) : Type 0 where
-  pub tenants : length openings ≤ TENANTS
-  pub few : length workers ≤ WORKERS
-  pub lists : length entries ≡ length workers
-  pub reserved : places ≤ room
-  pub each : (number : ℕ) (worker : Worker) → slice_get workers number ≡ Some worker → IsInOrder places (length decided) worker
-  pub reached : IsReachedCore (core_of places openings decided entries workers)
+pub record IsCore (s : Inside) : Type 0 where
+  pub tenants : length s.openings.items ≤ TENANTS
+  pub few : length s.workers.items ≤ WORKERS
+  pub lists : length s.entries.items ≡ length s.workers.items
+  pub reserved : s.places ≤ vec_capacity s.decided
+  pub each : (number : ℕ) (worker : Worker) → slice_get s.workers.items number ≡ Some worker → IsInOrder s.places (length s.decided.items) worker
+  pub reached : IsReachedCore (core_of s)

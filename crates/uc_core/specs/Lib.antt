@@ -2,5 +2,6 @@ pub mod Core
 pub mod Step
 pub mod Run
 pub mod Headline
+pub mod Kept
 pub mod Fields
 pub mod Showing

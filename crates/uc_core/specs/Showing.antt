@@ -19,7 +19,8 @@ progress_of worker replay = record {
 
 -- how far the worker of this number is, if there is one
 abbrev pub progress_by : CoreState → ℕ → Option Progress
-progress_by core number = option_and_then (λ (worker : WorkerState). option_map (progress_of worker) (slice_get core.replays number)) (slice_get core.shown.workers number)
+progress_by core number =
+    option_and_then (λ (worker : WorkerState). option_map (progress_of worker) (slice_get core.replays number)) (slice_get core.shown.workers number)
 
 -- a tenant's table as a worker has replayed it
 abbrev pub table_by : CoreState → ℕ → ℕ → Option TableState

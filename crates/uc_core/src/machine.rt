@@ -4,7 +4,7 @@ ghost use Rattle.std.specs.Option.{option_and_then, option_copied};
 ghost use Rattle.std.specs.Prelude.{◌≡◌, length, slice_get, IfOk, IsOkUnless};
 ghost use Rattle.mc_model.specs.declared.request.Entry.{Entry};
 ghost use Rattle.uc_core.specs.Core.{entry_under, new_core};
-ghost use Rattle.uc_core.specs.Fields.{AreEmpty, AreFresh};
+ghost use Rattle.uc_core.specs.Kept.{AreEmpty, AreFresh};
 
 use crate::worker::Worker;
 use mc_items::Items;
@@ -44,17 +44,17 @@ pub struct Core {
 }
 
 impl Model for Core {
-    ghost use Rattle.std.specs.Prelude.{vec_capacity};
     ghost use Rattle.uc_core.specs.Core.{CoreState, coded_core};
-    ghost use Rattle.uc_core.specs.Fields.{IsCore, core_of};
 
     ghost Value = { CoreState };
 
     ghost coded = { coded_core };
 
-    ghost view = { λ c. core_of c.places c.openings.items c.decided.items c.entries.items c.workers.items };
+    ghost use Rattle.uc_core.specs.Fields.{IsCore, core_of};
 
-    ghost invariant = { λ c. IsCore c.places (vec_capacity c.decided) c.openings.items c.decided.items c.entries.items c.workers.items };
+    ghost view = { core_of };
+
+    ghost invariant = { IsCore };
 }
 
 impl Core {

@@ -20,7 +20,8 @@ impl Core {
         events: &[Event],
         replies: &mut Vec<(WorkerId, u64, Reply)>,
     ) -> Result<(), RunFault>
-        ensures ran { (given : List Given) × Runs self.old (take (done events.now result) events.now) self.new given × (replies.new.items ≡ replies.old.items ++ given) }
+        ensures ran { (given : List Given) ×
+            Runs self.old (take (done events.now result) events.now) self.new given × (replies.new.items ≡ replies.old.items ++ given) }
         ensures fault { IfErr result (λ it. (event : Event) × (slice_get events.now it.at ≡ Some event) × IsFaultOf self.new event it.fault) }
 
         // What follows for every run.
@@ -28,6 +29,7 @@ impl Core {
         ensures legal { IsLegal self.new.shown.decided }
         ensures replies { RepliesAreAnswers self.new (drop (length replies.old.items) replies.new.items) }
     {
+        // The invariant says that some run has led here.
         let _ = &self.places;
         for (at, event) in events.iter().enumerate() {
             if let Err(fault) = self.run_one(event, replies) {
@@ -44,7 +46,8 @@ impl Core {
         event: &Event,
         replies: &mut Vec<(WorkerId, u64, Reply)>,
     ) -> Result<(), Fault>
-        ensures step { OnOk result ((reply : Option Reply) × CoreStep self.old event.now self.new reply × (replies.new.items ≡ replies.old.items ++ given_by self.old event.now reply)) }
+        ensures step { OnOk result ((reply : Option Reply) ×
+            CoreStep self.old event.now self.new reply × (replies.new.items ≡ replies.old.items ++ given_by self.old event.now reply)) }
         ensures fault { IfErr result (λ fault. IsFaultOf self.old event.now fault) }
         ensures unchanged { OnErr result (self.new ≡ self.old) }
         ensures unanswered { OnErr result (replies.new.items ≡ replies.old.items) }
@@ -70,11 +73,12 @@ impl Core {
         }
     }
 
-    /// The worker that takes an event that is enabled.
+    /// The worker that takes the event, where the event is enabled.
     fn id_of(&self, event: &Event) -> WorkerId
         requires { refusal self.now event.now ≡ None }
         ensures { result ≡ actor event.now }
     {
+        // The invariant says how many workers there may be.
         let _ = &self.workers;
         WorkerId::new(event.actor()).unwrap()
     }

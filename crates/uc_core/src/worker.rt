@@ -32,7 +32,7 @@ pub(crate) struct Worker {
 }
 
 impl Worker {
-    ghost use Rattle.uc_core.specs.Fields.{IsFresh, IsInOrder, is_latest_of, shown_worker, replay_of};
+    ghost use Rattle.uc_core.specs.Kept.{IsFresh, IsInOrder, is_latest_of, shown_worker, replay_of};
 
     /// A worker before any event.
     pub(crate) fn new(alloc: Global, openings: &[Limits]) -> Result<Worker, Fault>
@@ -117,8 +117,10 @@ impl Worker {
         requires learned { self.old.learned ≤ vec_len decided.old }
         requires room { self.old.learned ≡ vec_len decided.old → vec_len decided.old < vec_capacity decided.old }
         requires proposals { self.old.proposals ≤ self.old.learned }
-        ensures decided { decided.new.items ≡ decided_with (proposal number (shown_worker decided.old.items self.old)) decided.old.items (slice_get decided.old.items self.old.learned) }
-        ensures shown { shown_worker decided.new.items self.new ≡ propose number (slice_get decided.old.items self.old.learned) (shown_worker decided.old.items self.old) }
+        ensures decided { decided.new.items ≡
+            decided_with (proposal number (shown_worker decided.old.items self.old)) decided.old.items (slice_get decided.old.items self.old.learned) }
+        ensures shown { shown_worker decided.new.items self.new ≡
+            propose number (slice_get decided.old.items self.old.learned) (shown_worker decided.old.items self.old) }
         ensures room { vec_capacity decided.new ≡ vec_capacity decided.old }
         ensures order { (places : ℕ) → IsInOrder places (length decided.old.items) self.old → IsInOrder places (length decided.new.items) self.new }
         ensures replay { replay_of self.new ≡ replay_of self.old }

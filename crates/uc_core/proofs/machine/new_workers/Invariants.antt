@@ -1,5 +1,5 @@
 use Rattle.std.proofs.Common.{◌≡◌, length}
-use Rattle.uc_core.specs.Fields.{AreFresh}
+use Rattle.uc_core.specs.Kept.{AreFresh}
 use Rattle.uc_core.proofs.machine.new_workers.Given as goal
 
 abbrev pub invariant-loop : goal.invariant-loop

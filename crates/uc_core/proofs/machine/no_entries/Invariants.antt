@@ -1,5 +1,5 @@
 use Rattle.std.proofs.Common.{◌≡◌, length}
-use Rattle.uc_core.specs.Fields.{AreEmpty}
+use Rattle.uc_core.specs.Kept.{AreEmpty}
 use Rattle.uc_core.proofs.machine.no_entries.Given as goal
 
 abbrev pub invariant-loop : goal.invariant-loop

@@ -1,28 +1,36 @@
-use Rattle.std.proofs.Common.{◌≡◌, ◌≤◌, length, subst, rules}
-use Rattle.std.specs.Vec.{vec_capacity}
-use Rattle.uc_core.specs.Fields.{AreFresh}
-use Rattle.uc_core.proofs.Opened.{IsCore-new, new_core-is}
+use Rattle.std.proofs.Common.{◌≤◌, subst, rules, vec_capacity}
+use Rattle.uc_core.specs.Kept.{AreFresh}
+use Rattle.uc_core.specs.declared.machine.Core.TheInside.{Inside}
+use Rattle.uc_core.proofs.Opened.{IsCore-new, IsNew, new_core-is}
 use Rattle.uc_core.proofs.machine.Core.new.Goals as goal
 
+fields : goal.After-places-2 → Inside
+fields c = record {
+  places = c.places-2.result;
+  openings = c.in_ok-openings.openings;
+  decided = c.in_ok-decided.decided;
+  entries = c.in_ok-entries.entries;
+  workers = c.in_ok-workers.workers;
+}
+
+are_new : (c : goal.After-places-2) → IsNew c.args.settings.now (fields c)
+unfolding fields
+are_new c = record {
+  places = c.places-2.ensures.value;
+  openings = search rules;
+  decided = c.in_ok-decided.ensures.items;
+  empty = c.in_ok-entries.ensures.none;
+  lists = search rules;
+  fresh = subst (λ openings. AreFresh openings c.in_ok-workers.workers.items) c.tenants-2.ensures.value c.in_ok-workers.ensures.fresh;
+  count = search rules;
+}
+
 pub invariant_of-result : goal.invariant_of-result
+unfolding fields
 invariant_of-result c =
-    let settings = c.args.settings.now in
-    let entries = c.in_ok-entries.entries.items in
-    let workers = c.in_ok-workers.workers.items in
-    let room : settings.places ≤ vec_capacity c.in_ok-decided.decided = search rules in
-    let lists : length entries ≡ settings.workers = search rules in
-    let count : length workers ≡ settings.workers = search rules in
-    let fresh = subst (λ openings. AreFresh openings workers) c.tenants-2.ensures.value c.in_ok-workers.ensures.fresh in
-    rw (c.places-2.ensures.value, c.in_ok-openings.ensures.items, c.tenants.ensures.value, c.in_ok-decided.ensures.items)
-    (IsCore-new settings (vec_capacity c.in_ok-decided.decided) entries workers c.places.ensures.lawful room c.in_ok-entries.ensures.none lists fresh count)
+    let room : c.args.settings.now.places ≤ vec_capacity c.in_ok-decided.decided = search rules in
+    IsCore-new c.args.settings.now (fields c) (are_new c) c.places.ensures.lawful room
 
 pub returns-clause-state : goal.returns-clause-state
-returns-clause-state c =
-    let settings = c.args.settings.now in
-    let entries = c.in_ok-entries.entries.items in
-    let workers = c.in_ok-workers.workers.items in
-    let lists : length entries ≡ settings.workers = search rules in
-    let count : length workers ≡ settings.workers = search rules in
-    let fresh = subst (λ openings. AreFresh openings workers) c.tenants-2.ensures.value c.in_ok-workers.ensures.fresh in
-    rw (c.places-2.ensures.value, c.in_ok-openings.ensures.items, c.tenants.ensures.value, c.in_ok-decided.ensures.items)
-    (new_core-is settings entries workers c.in_ok-entries.ensures.none lists fresh count)
+unfolding fields
+returns-clause-state c = new_core-is c.args.settings.now (fields c) (are_new c)

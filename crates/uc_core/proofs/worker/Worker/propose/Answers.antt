@@ -3,7 +3,7 @@ use Rattle.std.specs.Option.{unwrap_or}
 use Rattle.mc_model.specs.declared.id.Ticket.{Ticket}
 use Rattle.mc_model.specs.Lawful.{decided_with}
 use Rattle.mc_model.specs.Shown.{proposal}
-use Rattle.uc_core.specs.Fields.{shown_worker}
+use Rattle.uc_core.specs.Kept.{shown_worker}
 use Rattle.uc_core.proofs.worker.Worker.propose.Goals as goal
 
 pub returns-clause-decided : goal.returns-clause-decided
