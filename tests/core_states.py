@@ -1,0 +1,62 @@
+#!/usr/bin/env python3
+"""Counts the states of a small core, apart from the core's code and definitions.
+
+A state is what each worker shows (phase, places learned and replayed, mark, proposals, commands announced), how many places
+were decided as it announced its latest command, how many commands the one at whom it has looked had announced, and the decided
+places. The test `every_state_of_a_small_core_is_sound` of mc_tests_core finds as many; here stands where its number comes from.
+"""
+
+import sys
+from collections import deque
+
+IDLE, PENDING, LOOKED, STOPPED = range(4)
+
+
+def moves(workers, log, places):
+    """Every state that one event leads to."""
+    count = len(workers)
+    for who, worker in enumerate(workers):
+        phase, learned, replayed, mark, looked_at, proposals, announced, decided_then = worker
+
+        def becomes(*fields, log=log):
+            return workers[:who] + (fields,) + workers[who + 1 :], log
+
+        turn = learned % count
+        known = sum(1 for by, _ in log[:learned] if by == turn)
+        if phase == IDLE and learned < places:
+            yield becomes(PENDING, learned, replayed, None, looked_at, 0, announced + 1, len(log))
+        if phase in (IDLE, PENDING) and learned < places:
+            if learned < len(log):
+                then = IDLE if log[learned] == (who, announced - 1) else phase
+                yield becomes(then, learned + 1, replayed, mark, looked_at, proposals, announced, decided_then)
+            else:
+                marked = learned if phase == PENDING and mark is None else mark
+                yield becomes(phase, learned, replayed, marked, looked_at, proposals, announced, decided_then)
+        if phase == PENDING and learned < places and mark is not None:
+            yield becomes(LOOKED, learned, replayed, mark, workers[turn][6], proposals, announced, decided_then)
+        if phase == LOOKED:
+            proposal = (turn, known) if known < looked_at else (who, announced - 1)
+            then = log if learned < len(log) else log + (proposal,)
+            after = IDLE if then[learned] == (who, announced - 1) else PENDING
+            yield becomes(after, learned + 1, replayed, mark, 0, proposals + 1, announced, decided_then, log=then)
+        if phase != STOPPED and replayed < learned:
+            yield becomes(phase, learned, replayed + 1, mark, looked_at, proposals, announced, decided_then)
+        if phase != STOPPED:
+            yield becomes(STOPPED, learned, replayed, mark, looked_at, proposals, announced, decided_then)
+
+
+def states(count, places):
+    """How many states a core of so many workers and places has."""
+    opening = ((IDLE, 0, 0, None, 0, 0, 0, 0),) * count, ()
+    seen, waiting = {opening}, deque([opening])
+    while waiting:
+        for state in moves(*waiting.popleft(), places):
+            if state not in seen:
+                seen.add(state)
+                waiting.append(state)
+    return len(seen)
+
+
+if __name__ == "__main__":
+    workers, places = (int(word) for word in sys.argv[1:]) if len(sys.argv) == 3 else (2, 3)
+    print(f"{workers} workers and {places} places: {states(workers, places)} states")
