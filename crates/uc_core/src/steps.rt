@@ -1,10 +1,6 @@
 //! One event of the core: where it is enabled, and what it makes.
-ghost use Rattle.std.specs.Option.{option_and_then, option_copied};
-ghost use Rattle.std.specs.Prelude.{◌≡◌, ◌<◌, ◌≤◌, Bool, true, false, List, length, Option, None, Some, slice_get, IfOk, IfErr, OnOk, OnErr, IsOk, IsOkUnless};
-ghost use Rattle.mc_model.specs.declared.command.Command.{Command};
+ghost use Rattle.std.specs.Prelude.{◌≡◌, ◌<◌, ◌≤◌, true, false, length, None, Some, IfOk, IfErr, OnOk, OnErr, IsOk, IsOkUnless};
 ghost use Rattle.mc_model.specs.declared.fault.Fault.{Fault};
-ghost use Rattle.mc_model.specs.declared.request.Entry.{Entry};
-ghost use Rattle.std.specs.Global.{Vec};
 ghost use Rattle.uc_core.specs.Kept.{replay_of, shown_worker};
 ghost use Rattle.uc_core.specs.Step.{CoreStep, StepShows, is_idle, is_looked, is_pending, is_quiet, is_stopped, refusal, refusal_by};
 ghost use Rattle.uc_core.specs.declared.event.Event.TheVariants.{Announce, Look, Propose, Read, Replay, Stop};

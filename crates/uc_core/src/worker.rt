@@ -7,7 +7,7 @@ ghost use Rattle.mc_model.specs.Lawful.{decided_with};
 ghost use Rattle.mc_model.specs.Legal.{count};
 ghost use Rattle.mc_model.specs.Replay.{TakeEffect, reply_from};
 ghost use Rattle.mc_model.specs.State.{TableState};
-ghost use Rattle.mc_model.specs.Shown.{announce, look, propose, proposal, read, stop};
+ghost use Rattle.mc_model.specs.Shown.{announce, look, proposal, propose, read, stop};
 
 use mc_items::Items;
 use mc_model::{Entry, Fault, Limits, Phase, Reply, Ticket, WorkerId};
