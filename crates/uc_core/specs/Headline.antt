@@ -12,11 +12,16 @@ use Rattle.mc_model.specs.Lawful.{IsWorker, announced_by}
 use Rattle.mc_model.specs.Legal.{IsLegal, StandsBefore, ticket_of}
 use Rattle.mc_model.specs.Log.{Sighting, entries, own}
 use Rattle.mc_model.specs.Replay.{EachStands}
+use Rattle.mc_model.specs.Settings.{Configuration}
 use Rattle.uc_core.specs.Core.{CoreState, ReplayState, entry_under, log_of}
-use Rattle.uc_core.specs.Run.{Given, Runs}
+use Rattle.uc_core.specs.Run.{Given, IsRun, Runs}
 use Rattle.uc_core.specs.Step.{CoreStep}
 use Rattle.uc_core.specs.declared.event.Event.{Event}
 use Rattle.uc_core.specs.declared.event.Event.TheVariants.{Announce}
+
+-- it is true of every run, whatever the settings and the events: of the core that it leads to, and of the replies that it gives
+abbrev pub OfEveryRun : (CoreState → List Given → Type 0) → Type 0
+OfEveryRun Holds = (settings : Configuration) (events : List Event) (core : CoreState) (given : List Given) → IsRun settings events core given → Holds core given
 
 -- "each announced command stands at most once in the log": no ticket stands at two places,
 abbrev pub StandsOnce : CoreState → Type 0
@@ -90,3 +95,8 @@ pub record Answered (core : CoreState) (given : List Given) (tenant j : ℕ) (re
 pub record LogsAgree (one other : CoreState) (tenant other_tenant j : ℕ) : Type 0 where
   pub limits : slice_get one.openings tenant ≡ slice_get other.openings other_tenant
   pub commands : take (j + 1) (own tenant (log_of one)) ≡ take (j + 1) (own other_tenant (log_of other))
+
+-- "runs whose logs agree for a tenant give equal replies": to each of the tenant's commands up to which they agree
+abbrev pub AnswerAlike : CoreState → List Given → CoreState → List Given → Type 0
+AnswerAlike one given other other_given = (tenant other_tenant j : ℕ) (reply other_reply : Reply) → LogsAgree one other tenant other_tenant j →
+    Answered one given tenant j reply → Answered other other_given other_tenant j other_reply → reply ≡ other_reply

@@ -4,6 +4,6 @@ use Rattle.uc_core.proofs.Worlds.{same_reply}
 use Rattle.uc_core.proofs.theorem.two_worlds.Goals as goal
 
 pub returns : goal.returns
-returns c = λ settings other_settings events other_events core other given other_given run other_run tenant other_tenant j agree reply other_reply answered other_answered.
+returns c = λ settings events core given run other_settings other_events other other_given other_run tenant other_tenant j reply other_reply agree answered other_answered.
     same_reply core other given other_given tenant other_tenant j reply other_reply
     (answers_of settings events core given run) (answers_of other_settings other_events other other_given other_run) agree answered other_answered
