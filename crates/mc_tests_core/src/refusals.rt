@@ -123,3 +123,23 @@ fn a_run_ends_at_its_first_fault(rt: HostRuntime) -> Result<(), Fail> {
     assert_eq!(rt; shown_by(rt.alloc(), &core)?.as_str(), shown);
     Ok(())
 }
+
+/// The only place goes to worker 0; worker 1's command waits, and its look meets the full log.
+#[test]
+fn a_run_meets_the_full_log(rt: HostRuntime) -> Result<(), Fail> {
+    let text = "announce 0 0 set a 0 0 1\r\nx\r\n/read 0/look 0/propose 0/replay 0\
+        /announce 1 0 get a\r\n/read 1/look 1";
+    let events = events_of(rt.alloc(), text)?;
+    let mut replies = Vec::new(rt.alloc());
+    let mut core = after(rt.alloc(), 1, "")?;
+    let fault = RunFault {
+        at: 7,
+        fault: Fault::LogFull,
+    };
+    assert!(rt; core.run(&events, &mut replies) == Err(fault));
+    assert!(rt; replies.len() == 1);
+    let shown = "log (0,0)\nworker 0 idle learned 1 replayed 1 proposals 1\n\
+        worker 1 pending learned 1 replayed 0 proposals 0\n";
+    assert_eq!(rt; shown_by(rt.alloc(), &core)?.as_str(), shown);
+    Ok(())
+}
