@@ -1,12 +1,12 @@
 -- A run of the core: any finite list of events, of any workers in any order.
-use Rattle.std.specs.Prelude.{◌≡◌, ℕ, List, [], ◌∷◌, ◌++◌, length, Option, Result, Ok, Err, slice_get}
+use Rattle.std.specs.Prelude.{◌≡◌, ℕ, List, [], ◌∷◌, ◌++◌, length, Option, Some, true, Result, Ok, Err, slice_get}
 use Rattle.std.specs.Option.{option_map, option_map_or, option_to_list, unwrap_or}
 use Rattle.mc_model.specs.declared.fault.Fault.{Fault}
 use Rattle.mc_model.specs.declared.fault.Fault.TheVariants.{Memory}
 use Rattle.mc_model.specs.declared.reply.Reply.{Reply}
 use Rattle.mc_model.specs.Settings.{Configuration}
 use Rattle.uc_core.specs.Core.{CoreState, ReplayState, new_core}
-use Rattle.uc_core.specs.Step.{CoreStep, actor, refusal}
+use Rattle.uc_core.specs.Step.{CoreStep, actor, is_quiet, refusal}
 use Rattle.uc_core.specs.declared.event.Event.{Event}
 use Rattle.uc_core.specs.declared.event.RunFault.{RunFault}
 
@@ -34,9 +34,10 @@ abbrev pub done : List Event → Result (Unit {0}) RunFault → ℕ
 done events (Ok nothing) = length events
 done events (Err fault) = fault.at
 
--- the fault of a run's event: the one of its conditions, or want of memory where all are met
+-- the fault of a run's event: that of its first condition that fails, or want of memory where all are met, which an announcement or a
+-- replay alone can meet
 abbrev pub IsFaultOf : CoreState → Event → Fault → Type 0
-IsFaultOf core event fault = fault ≡ unwrap_or (refusal core event) Memory
+IsFaultOf core event fault = (fault ≡ unwrap_or (refusal core event) Memory) × (is_quiet event ≡ true → refusal core event ≡ Some fault)
 
 -- a run from the core's opening
 abbrev pub IsRun : Configuration → List Event → CoreState → List Given → Type 0

@@ -21,8 +21,8 @@ pub enum Event {
 }
 
 impl Event {
-    ghost use Rattle.std.specs.Prelude.{◌≡◌, IfOk, IsOkUnless};
-    ghost use Rattle.uc_core.specs.Step.{actor};
+    ghost use Rattle.std.specs.Prelude.{◌≡◌, true, IfOk, IsOk, IsOkUnless};
+    ghost use Rattle.uc_core.specs.Step.{actor, is_quiet};
 
     /// The number of the worker that takes the event.
     pub fn actor(&self) -> u8
@@ -42,6 +42,9 @@ impl Event {
     pub fn try_clone(&self) -> Result<Event, Fault>
         ensures event { IfOk result (λ event. event ≡ self.now) }
         ensures memory { IsOkUnless result Fault.Memory }
+
+        // All but an announcement and a replay need no memory.
+        ensures quiet { is_quiet self.now ≡ true → IsOk result }
     {
         Ok(match self {
             Event::Announce(worker, tenant, command) => {

@@ -15,6 +15,7 @@ use mc_model::{Fault, Reply, WorkerId};
 impl Core {
     /// Takes the events in their order. Each reply goes to the end of `replies`, with its worker and the place of its
     /// command in the log. The run ends before the first event that meets a fault, which changes nothing.
+    /// It meets `Memory` at an announcement or a replay alone.
     pub fn run(
         &mut self,
         events: &[Event],
@@ -39,8 +40,8 @@ impl Core {
         Ok(())
     }
 
-    /// Takes one event of a run. Room for its reply is made before it, and its command is copied where all its conditions
-    /// are met.
+    /// Takes one event of a run. Where all its conditions are met, room for a reply is made before a replay, which alone
+    /// may give one, and an announcement's command is copied.
     fn run_one(
         &mut self,
         event: &Event,
@@ -53,7 +54,9 @@ impl Core {
         ensures unanswered { OnErr result (replies.new.items ≡ replies.old.items) }
     {
         self.check(event)?;
-        replies.reserve(1)?;
+        if matches!(event, Event::Replay(_)) {
+            replies.reserve(1)?;
+        }
         let place = self.replayed_by(event.actor());
         let worker = self.id_of(event);
         let reply = self.take(event.try_clone()?)?;
