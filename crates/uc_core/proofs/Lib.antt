@@ -11,6 +11,7 @@ mod Entries
 mod Replays
 pub mod CoreLaws
 mod Runs
+mod Answered
 mod Agreement
 mod Worlds
 mod Soon

@@ -71,6 +71,15 @@ pub record IsAnswer (core : CoreState) (worker place : ℕ) (reply : Reply) : Ty
 abbrev pub RepliesAreAnswers : CoreState → List Given → Type 0
 RepliesAreAnswers core given = (k worker place : ℕ) (reply : Reply) → slice_get given k ≡ Some (worker, place, reply) → IsAnswer core worker place reply
 
+-- some reply was given to the worker for the place
+abbrev pub HasReply : List Given → ℕ → ℕ → Type 0
+HasReply given worker place = (k : ℕ) × (reply : Reply) × (slice_get given k ≡ Some (worker, place, reply))
+
+-- each command of its own that a worker has replayed was answered
+abbrev pub OwnAreAnswered : CoreState → List Given → Type 0
+OwnAreAnswered core given = (number place : ℕ) (worker : WorkerState) (replay : ReplayState) (ticket : Ticket) → HasReplica core number worker replay →
+    place < replay.replayed → slice_get core.shown.decided place ≡ Some ticket → ticket.worker ≡ number → HasReply given number place
+
 -- a command that is announced while d places of a log of n workers are decided stands among the first d + n + 1 places, once so many
 -- are decided, whatever happens in between and whichever workers stop
 abbrev pub IsDecidedSoon : CoreState → Type 0
