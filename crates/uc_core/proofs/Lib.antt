@@ -14,6 +14,7 @@ mod Runs
 mod Answered
 mod Agreement
 mod Worlds
+mod OneWay
 mod Soon
 mod Each
 pub mod Workers
