@@ -11,8 +11,10 @@ mod Entries
 mod Replays
 pub mod CoreLaws
 mod Runs
+mod Answered
 mod Agreement
 mod Worlds
+mod OneWay
 mod Soon
 mod Each
 pub mod Workers

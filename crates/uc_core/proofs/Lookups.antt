@@ -23,6 +23,11 @@ module _ {X : Type 0} where
   at_longer (y ∷ xs) ys zero x at = at
   at_longer (y ∷ xs) ys (suc k) x at = at_longer xs ys k x at
 
+  -- what stands in a list stands somewhere in one that ends with it
+  pub at_further : (xs ys : List X) (k : ℕ) (x : X) → slice_get ys k ≡ Some x → (n : ℕ) × (slice_get (xs ++ ys) n ≡ Some x)
+  at_further [] ys k x at = (k, at)
+  at_further (y ∷ xs) ys k x at = let rest = at_further xs ys k x at in (suc rest.0, rest.1)
+
   -- a list parts at a place in what stands before it, its element and the rest
   pub parts_at : (xs : List X) (k : ℕ) (x : X) → slice_get xs k ≡ Some x → xs ≡ take k xs ++ x ∷ drop (suc k) xs
   parts_at [] k x at = absurd (none-some x at)

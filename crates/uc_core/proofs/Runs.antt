@@ -39,7 +39,7 @@ of_run old new (event ∷ events) given law runs =
     (later.0, Grows-through old runs.0 new (grows old runs.0 event runs.1 law runs.3) later.1)
 
 -- what stands in a list stands where the list goes on
-stands_on : {X : Type 0} (list front : List X) (begins : BeginsWith list front) (k : ℕ) (x : X) → slice_get front k ≡ Some x → slice_get list k ≡ Some x
+pub stands_on : {X : Type 0} (list front : List X) (begins : BeginsWith list front) (k : ℕ) (x : X) → slice_get front k ≡ Some x → slice_get list k ≡ Some x
 stands_on {X} list front begins k x at = ap (λ (it : List X). slice_get it k) begins.1 ∙ at_longer front begins.0 k x at
 
 -- an answer stays the answer while the core grows

@@ -1,6 +1,6 @@
 -- The theorem of this project, clause by clause, as statements about a core and the replies that were given on the way to it. The laws
 -- of the crate say that they are true of every run, whatever its events.
-use Rattle.std.specs.Prelude.{◌≡◌, ℕ, ◌+◌, ◌<◌, ◌≤◌, List, length, map, take, Some, None, slice_get}
+use Rattle.std.specs.Prelude.{◌≡◌, ℕ, ◌+◌, ◌<◌, ◌≤◌, List, length, map, take, Option, Some, None, slice_get}
 use Rattle.mc_model.specs.declared.command.Command.{Command}
 use Rattle.mc_model.specs.declared.id.Ticket.{Ticket}
 use Rattle.mc_model.specs.declared.reply.Reply.{Reply}
@@ -15,7 +15,7 @@ use Rattle.mc_model.specs.Replay.{EachStands}
 use Rattle.mc_model.specs.Settings.{Configuration}
 use Rattle.uc_core.specs.Core.{CoreState, ReplayState, entry_under, log_of}
 use Rattle.uc_core.specs.Run.{Given, IsRun, Runs}
-use Rattle.uc_core.specs.Step.{CoreStep}
+use Rattle.uc_core.specs.Step.{CoreStep, refusal}
 use Rattle.uc_core.specs.declared.event.Event.{Event}
 use Rattle.uc_core.specs.declared.event.Event.TheVariants.{Announce}
 
@@ -71,6 +71,15 @@ pub record IsAnswer (core : CoreState) (worker place : ℕ) (reply : Reply) : Ty
 abbrev pub RepliesAreAnswers : CoreState → List Given → Type 0
 RepliesAreAnswers core given = (k worker place : ℕ) (reply : Reply) → slice_get given k ≡ Some (worker, place, reply) → IsAnswer core worker place reply
 
+-- some reply was given to the worker for the place
+abbrev pub HasReply : List Given → ℕ → ℕ → Type 0
+HasReply given worker place = (k : ℕ) × (reply : Reply) × (slice_get given k ≡ Some (worker, place, reply))
+
+-- each command of its own that a worker has replayed was answered
+abbrev pub OwnAreAnswered : CoreState → List Given → Type 0
+OwnAreAnswered core given = (number place : ℕ) (worker : WorkerState) (replay : ReplayState) (ticket : Ticket) → HasReplica core number worker replay →
+    place < replay.replayed → slice_get core.shown.decided place ≡ Some ticket → ticket.worker ≡ number → HasReply given number place
+
 -- a command that is announced while d places of a log of n workers are decided stands among the first d + n + 1 places, once so many
 -- are decided, whatever happens in between and whichever workers stop
 abbrev pub IsDecidedSoon : CoreState → Type 0
@@ -100,3 +109,12 @@ pub record LogsAgree (one other : CoreState) (tenant other_tenant j : ℕ) : Typ
 abbrev pub AnswerAlike : CoreState → List Given → CoreState → List Given → Type 0
 AnswerAlike one given other other_given = (tenant other_tenant j : ℕ) (reply other_reply : Reply) → LogsAgree one other tenant other_tenant j →
     Answered one given tenant j reply → Answered other other_given other_tenant j other_reply → reply ≡ other_reply
+
+-- an event that leads on from the core meets no fault there
+abbrev pub StepsAreEnabled : CoreState → Type 0
+StepsAreEnabled core = (event : Event) (new : CoreState) (reply : Option Reply) → CoreStep core event new reply → refusal core event ≡ None
+
+-- an event leads from the core to one state alone, with one reply or with none
+abbrev pub StepsAreOne : CoreState → Type 0
+StepsAreOne core = (event : Event) (new other : CoreState) (reply other_reply : Option Reply) →
+    CoreStep core event new reply → CoreStep core event other other_reply → (new ≡ other) × (reply ≡ other_reply)

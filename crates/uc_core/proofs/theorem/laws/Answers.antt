@@ -1,5 +1,6 @@
 -- Every run keeps the core's law (`Runs`), and the clauses follow from it.
 use Rattle.uc_core.proofs.Agreement.{log_is_sound, replicas_agree, tables_stand}
+use Rattle.uc_core.proofs.Answered.{own_answered}
 use Rattle.uc_core.proofs.Runs.{answers_of, law_of}
 use Rattle.uc_core.proofs.Soon.{decided_soon}
 use Rattle.uc_core.proofs.theorem.laws.Goals as goal
@@ -12,6 +13,9 @@ returns-clause-replicas c = λ settings events core given run. replicas_agree co
 
 pub returns-clause-replies : goal.returns-clause-replies
 returns-clause-replies c = answers_of
+
+pub returns-clause-answered : goal.returns-clause-answered
+returns-clause-answered c = own_answered
 
 pub returns-clause-tables : goal.returns-clause-tables
 returns-clause-tables c = λ settings events core given run. tables_stand core (law_of settings events core given run)

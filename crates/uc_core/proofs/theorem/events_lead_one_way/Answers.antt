@@ -1,0 +1,10 @@
+-- A step's conditions are those that its event's faults are told by, and what it makes is told by the state before it (`OneWay`).
+use Rattle.uc_core.proofs.OneWay.{steps_are_enabled, steps_are_one}
+use Rattle.uc_core.proofs.Runs.{law_of}
+use Rattle.uc_core.proofs.theorem.events_lead_one_way.Goals as goal
+
+pub returns-clause-enabled : goal.returns-clause-enabled
+returns-clause-enabled c = λ settings events core given run. steps_are_enabled core (law_of settings events core given run)
+
+pub returns-clause-one : goal.returns-clause-one
+returns-clause-one c = λ settings events core given run. steps_are_one core
