@@ -8,7 +8,7 @@ ghost use Rattle.mc_model.specs.Helping.{HelpingLaw, IsSoonDecided, LogLaw};
 ghost use Rattle.mc_model.specs.Lawful.{IsReached};
 ghost use Rattle.mc_model.specs.declared.shown.LogSize as size;
 ghost use Rattle.mc_model.specs.declared.shown.ShownState as state;
-ghost use Rattle.uc_core.specs.Core.{size_of};
+ghost use Rattle.uc_core.specs.Core.{CoreState, size_of};
 ghost use Rattle.uc_core.specs.Headline.{AnswerAlike, IsDecidedSoon, LogIsSound, OfEveryRun, OwnAreAnswered, RepliesAreAnswers, ReplicasAgree, StepsAreEnabled, StepsAreOne, TablesStand};
 
 /// What is true of every run: of any settings, and any events of any workers in any order.
@@ -41,13 +41,14 @@ pub fn two_worlds()
     ensures { OfEveryRun (λ core given. OfEveryRun (λ other other_given. AnswerAlike core given other other_given)) }
 {}
 
-/// What is true of every event in any state that a run leads to: it leads on only where it meets no fault, and one way.
+/// What is true of every event: in any state that a run leads to it leads on only where it meets no fault, and from any state it
+/// leads one way.
 pub fn events_lead_one_way()
     // An event that leads on meets no fault.
     ensures enabled { OfEveryRun (λ core given. StepsAreEnabled core) }
 
     // An event leads to one state alone, with one reply or with none.
-    ensures one { OfEveryRun (λ core given. StepsAreOne core) }
+    ensures one { (core : CoreState) → StepsAreOne core }
 {}
 
 /// What is true of the shown log in every state that events lead to, and how soon a command is decided there.

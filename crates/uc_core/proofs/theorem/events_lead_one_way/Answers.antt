@@ -7,4 +7,4 @@ pub returns-clause-enabled : goal.returns-clause-enabled
 returns-clause-enabled c = λ settings events core given run. steps_are_enabled core (law_of settings events core given run)
 
 pub returns-clause-one : goal.returns-clause-one
-returns-clause-one c = λ settings events core given run. steps_are_one core
+returns-clause-one c = steps_are_one
