@@ -23,6 +23,10 @@ use Rattle.uc_core.proofs.Each.{EachIs, EachIs-set, map-kept}
 abbrev pub changed : Inside → Vec Ticket → Vec (Vec Entry) → ℕ → Worker → Inside
 changed s decided entries number worker = record s { decided = decided; entries = entries; workers = with_item s.workers number worker }
 
+-- a worker of these fields is in order where these places are decided
+abbrev pub InOrder : Inside → List Ticket → Worker → Type 0
+InOrder s decided worker = IsInOrder (length s.workers.items) s.places decided worker
+
 -- where the decided places become more, each worker stays in order and shows what it has shown
 later : (workers places : ℕ) (decided longer more : List Ticket) (worker : Worker) → longer ≡ decided ++ more →
     IsInOrder workers places decided worker → IsInOrder workers places longer worker
@@ -84,7 +88,7 @@ of_as_many places decided workers number new each =
 -- the fields stay in order where one worker's do
 pub IsCore-step : (s : Inside) (decided : Vec Ticket) (entries : Vec (Vec Entry)) (number : ℕ) (worker : Worker) (event : Event) (reply : Option Reply) →
     IsCore s → (more : List Ticket) → decided.items ≡ s.decided.items ++ more → vec_capacity decided ≡ vec_capacity s.decided →
-    length entries.items ≡ length s.entries.items → IsInOrder (length s.workers.items) s.places decided.items worker →
+    length entries.items ≡ length s.entries.items → InOrder s decided.items worker →
     CoreStep (core_of s) event (core_of (changed s decided entries number worker)) reply → IsCore (changed s decided entries number worker)
 IsCore-step s decided entries number worker event reply old more grows room lists order step = record {
   tenants = old.tenants;
@@ -92,7 +96,7 @@ IsCore-step s decided entries number worker event reply old more grows room list
   lists = omega (arith, old.lists, lists, length-set s.workers.items number worker);
   reserved = omega (arith, old.reserved, room);
   each = of_as_many s.places decided.items s.workers.items number worker
-      (EachIs-set (IsInOrder (length s.workers.items) s.places decided.items) s.workers.items number worker
+      (EachIs-set (InOrder s decided.items) s.workers.items number worker
       (λ k w at. later (length s.workers.items) s.places s.decided.items decided.items more w grows (old.each k w at)) order);
   reached = IsReachedCore-step (core_of s) event _ reply old.reached step;
 }
@@ -137,8 +141,7 @@ module _ (s : Inside) (number : ℕ) (old new : Worker) (at : slice_get s.worker
       record (core_of s) { shown = record { decided = s.decided.items; workers = workers }; replays = kept })
       (map-kept (shown_worker s.decided.items) s.workers.items number old new at shows) (map-kept replay_of s.workers.items number old new at replays)
 
-  pub IsCore-worker : IsCore s →
-      (IsInOrder (length s.workers.items) s.places s.decided.items old → IsInOrder (length s.workers.items) s.places s.decided.items new) →
+  pub IsCore-worker : IsCore s → (InOrder s s.decided.items old → InOrder s s.decided.items new) →
       IsCore (record s { workers = with_item s.workers number new })
   IsCore-worker core order = record {
     tenants = core.tenants;
@@ -146,6 +149,6 @@ module _ (s : Inside) (number : ℕ) (old new : Worker) (at : slice_get s.worker
     lists = core.lists ∙ sym (length-set s.workers.items number new);
     reserved = core.reserved;
     each = of_as_many s.places s.decided.items s.workers.items number new
-        (EachIs-set (IsInOrder (length s.workers.items) s.places s.decided.items) s.workers.items number new core.each (order (core.each number old at)));
+        (EachIs-set (InOrder s s.decided.items) s.workers.items number new core.each (order (core.each number old at)));
     reached = subst IsReachedCore (sym worker-kept) core.reached;
   }

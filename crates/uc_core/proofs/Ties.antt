@@ -17,7 +17,7 @@ use Rattle.mc_model.specs.Replay.{TakeEffect, reply_from}
 use Rattle.mc_model.specs.Shown.{announce, look, proposal, propose, read, stop}
 use Rattle.uc_core.specs.Core.{ReplayState, entry_under}
 use Rattle.uc_core.specs.Fields.{IsCore, core_of}
-use Rattle.uc_core.specs.Kept.{IsInOrder, replay_of, shown_worker}
+use Rattle.uc_core.specs.Kept.{replay_of, shown_worker}
 use Rattle.uc_core.specs.Step.{CoreStep, announced_entry, entry_at, refusal, with_entry}
 use Rattle.uc_core.specs.declared.event.Event.{Event}
 use Rattle.uc_core.specs.declared.event.Event.TheVariants.{Announce, Look, Propose, Read, Replay, Stop}
@@ -25,7 +25,7 @@ use Rattle.uc_core.specs.declared.machine.Core.TheInside.{Inside}
 use Rattle.uc_core.specs.declared.worker.Worker.{Worker}
 use Rattle.uc_core.proofs.Each.{map-kept}
 use Rattle.uc_core.proofs.Enabled.{announce-enabled, look-enabled, propose-enabled, read-enabled, replay-enabled, stop-enabled}
-use Rattle.uc_core.proofs.Shows.{IsCore-step, changed, replay-at, shown-later, worker-at, workers-shown}
+use Rattle.uc_core.proofs.Shows.{InOrder, IsCore-step, changed, replay-at, shown-later, worker-at, workers-shown}
 
 -- an event leads from the state of these fields to that of those, which are in order too
 pub record Makes (s : Inside) (event : Event) (reply : Option Reply) (new : Inside) : Type 0 where
@@ -84,7 +84,7 @@ module _ (s : Inside) (number : ℕ) (old new : Worker) (core : IsCore s) (at : 
   stay : s.decided.items ≡ s.decided.items ++ []
   stay = sym (append-nil s.decided.items)
 
-  order_of : IsInOrder (length s.workers.items) s.places s.decided.items old
+  order_of : InOrder s s.decided.items old
   order_of = core.each number old at
 
   many : length (take old.learned s.decided.items) ≡ old.learned
@@ -108,7 +108,7 @@ module _ (s : Inside) (number : ℕ) (old new : Worker) (core : IsCore s) (at : 
       (map-kept replay_of s.workers.items number old new at replays)
 
   pub stopped : refusal (core_of s) (Stop number) ≡ None → shown_worker s.decided.items new ≡ stop shown →
-      (IsInOrder (length s.workers.items) s.places s.decided.items old → IsInOrder (length s.workers.items) s.places s.decided.items new) →
+      (InOrder s s.decided.items old → InOrder s s.decided.items new) →
       replay_of new ≡ replay_of old → Makes s (Stop number) None (changed s s.decided s.entries number new)
   stopped enabled shows order replays = record { step = step; stays = stays }
     where
@@ -119,7 +119,7 @@ module _ (s : Inside) (number : ℕ) (old new : Worker) (core : IsCore s) (at : 
       stays = IsCore-step s s.decided s.entries number new (Stop number) None core [] stay refl refl (order order_of) step
 
   pub was_read : refusal (core_of s) (Read number) ≡ None → shown_worker s.decided.items new ≡ read number (slice_get s.decided.items old.learned) shown →
-      (IsInOrder (length s.workers.items) s.places s.decided.items old → old.phase ≢ Looked → IsInOrder (length s.workers.items) s.places s.decided.items new) →
+      (InOrder s s.decided.items old → old.phase ≢ Looked → InOrder s s.decided.items new) →
       replay_of new ≡ replay_of old → Makes s (Read number) None (changed s s.decided s.entries number new)
   was_read enabled shows order replays = record { step = step; stays = stays }
     where
@@ -143,7 +143,7 @@ module _ (s : Inside) (number : ℕ) (old new : Worker) (core : IsCore s) (at : 
   pub was_looked : (helped : ℕ) (other : Worker) → refusal (core_of s) (Look number) ≡ None →
       helped ≡ old.learned % length s.workers.items → slice_get s.workers.items helped ≡ Some other →
       shown_worker s.decided.items new ≡ look helped other.announced shown →
-      (IsInOrder (length s.workers.items) s.places s.decided.items old → old.learned < s.places → IsInOrder (length s.workers.items) s.places s.decided.items new) →
+      (InOrder s s.decided.items old → old.learned < s.places → InOrder s s.decided.items new) →
       replay_of new ≡ replay_of old → Makes s (Look number) None (changed s s.decided s.entries number new)
   was_looked helped other enabled turn there shows order replays = record { step = step; stays = stays }
     where
@@ -168,7 +168,7 @@ module _ (s : Inside) (number : ℕ) (old new : Worker) (core : IsCore s) (at : 
   pub proposed : (later : Vec Ticket) → refusal (core_of s) (Propose number) ≡ None → vec_capacity later ≡ vec_capacity s.decided →
       later.items ≡ decided_with (proposal number shown) s.decided.items (slice_get s.decided.items old.learned) →
       shown_worker later.items new ≡ propose number (slice_get s.decided.items old.learned) shown →
-      (IsInOrder (length s.workers.items) s.places s.decided.items old → IsInOrder (length s.workers.items) s.places later.items new) → replay_of new ≡ replay_of old →
+      (InOrder s s.decided.items old → InOrder s later.items new) → replay_of new ≡ replay_of old →
       Makes s (Propose number) None (changed s later s.entries number new)
   proposed later enabled room decides shows order replays = record { step = step; stays = stays }
     where
@@ -213,7 +213,7 @@ module _ (s : Inside) (number : ℕ) (old new : Worker) (core : IsCore s) (at : 
       lists_of entries.items ≡ with_entry (lists_of s.entries.items) (entry_of number old.announced tenant command) →
       length entries.items ≡ length s.entries.items →
       shown_worker s.decided.items new ≡ announce shown →
-      (IsInOrder (length s.workers.items) s.places s.decided.items old → old.announced ≤ old.learned → IsInOrder (length s.workers.items) s.places s.decided.items new) →
+      (InOrder s s.decided.items old → old.announced ≤ old.learned → InOrder s s.decided.items new) →
       replay_of new ≡ replay_of old → Makes s (Announce number tenant command) None (changed s s.decided entries number new)
   announced tenant command entries enabled grows lists shows order replays = record { step = step; stays = stays }
     where
@@ -240,7 +240,7 @@ module _ (s : Inside) (number : ℕ) (old new : Worker) (core : IsCore s) (at : 
   pub replayed : (found : Option Entry) (reply : Option Reply) → refusal (core_of s) (Replay number) ≡ None → entry_at (core_of s) old.replayed ≡ found →
       shown_worker s.decided.items new ≡ shown → new.replayed ≡ old.replayed + 1 → TakeEffect found old.tables.items new.tables.items →
       reply ≡ reply_from number old.tables.items found →
-      (IsInOrder (length s.workers.items) s.places s.decided.items old → IsInOrder (length s.workers.items) s.places s.decided.items new) →
+      (InOrder s s.decided.items old → InOrder s s.decided.items new) →
       Makes s (Replay number) reply (changed s s.decided s.entries number new)
   replayed found reply enabled finds shows counts takes replies order = record { step = step; stays = stays }
     where

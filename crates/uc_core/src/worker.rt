@@ -57,7 +57,8 @@ impl Worker {
     pub(crate) fn announce(&mut self)
         requires { self.old.announced < 2 ^ 64 - 1 }
         ensures shown { (decided : List Ticket) → shown_worker decided self.new ≡ announce (shown_worker decided self.old) }
-        ensures order { (workers places : ℕ) (decided : List Ticket) → IsInOrder workers places decided self.old → self.old.announced ≤ self.old.learned → IsInOrder workers places decided self.new }
+        ensures order { (workers places : ℕ) (decided : List Ticket) → IsInOrder workers places decided self.old →
+            self.old.announced ≤ self.old.learned → IsInOrder workers places decided self.new }
         ensures replay { replay_of self.new ≡ replay_of self.old }
     {
         self.phase = Phase::Pending;
@@ -90,7 +91,8 @@ impl Worker {
         requires learned { self.old.learned ≤ length decided.now }
         requires counts { AreCounts (take self.old.learned decided.now) self.old.counts.items }
         ensures shown { shown_worker decided.now self.new ≡ read number (slice_get decided.now self.old.learned) (shown_worker decided.now self.old) }
-        ensures order { (workers places : ℕ) → IsInOrder workers places decided.now self.old → self.old.phase ≢ Looked → IsInOrder workers places decided.now self.new }
+        ensures order { (workers places : ℕ) → IsInOrder workers places decided.now self.old → self.old.phase ≢ Looked →
+            IsInOrder workers places decided.now self.new }
         ensures replay { replay_of self.new ≡ replay_of self.old }
     {
         let Some(ticket) = decided.get(self.learned) else {
@@ -103,11 +105,12 @@ impl Worker {
     }
 
     /// It looks at the worker to help, who has announced so many commands: it finds the first of them that it hasn't learned.
-    pub(crate) fn look(&mut self, helped: WorkerId, announced: u64, decided: &[Ticket])
-        requires helped { helped < vec_len self.old.counts }
-        requires counts { AreCounts (take self.old.learned decided.now) self.old.counts.items }
-        ensures shown { shown_worker decided.now self.new ≡ look helped announced (shown_worker decided.now self.old) }
-        ensures order { (workers places : ℕ) → IsInOrder workers places decided.now self.old → self.old.learned < places → IsInOrder workers places decided.now self.new }
+    pub(crate) fn look(&mut self, helped: WorkerId, announced: u64)
+        requires { helped < vec_len self.old.counts }
+        ensures shown { (decided : List Ticket) → AreCounts (take self.old.learned decided) self.old.counts.items →
+            shown_worker decided self.new ≡ look helped announced (shown_worker decided self.old) }
+        ensures order { (workers places : ℕ) (decided : List Ticket) → IsInOrder workers places decided self.old →
+            self.old.learned < places → IsInOrder workers places decided self.new }
         ensures replay { replay_of self.new ≡ replay_of self.old }
     {
         let learned = self.counts[usize::from(helped.number())];

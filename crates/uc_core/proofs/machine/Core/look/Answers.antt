@@ -9,20 +9,14 @@ use Rattle.uc_core.proofs.Shows.{changed}
 use Rattle.uc_core.proofs.Ties.{Makes, was_looked}
 use Rattle.uc_core.proofs.machine.Core.look.Goals as goal
 
-pub look-requires-clause-helped : goal.look-requires-clause-helped
-look-requires-clause-helped c =
+pub look-requires : goal.look-requires
+look-requires c =
     let s = c.self.inside in
     let at : slice_get s.workers.items c.args.number ≡ Some c.index_mut-worker.result.now = grind (arith, common_steps, gets) in
     let place : c.unwrap-helped.result ≡ c.index.result.now.learned % c.len.result = search rules in
     let there : slice_get s.workers.items (c.index.result.now.learned % c.len.result) ≡ Some c.index-2.result.now = grind (arith, common_steps, gets) in
     let within = slice_get_within s.workers.items (c.index.result.now.learned % c.len.result) c.index-2.result.now there in
     omega (arith, place, within, (c.self.invariant.each c.args.number c.index_mut-worker.result.now at).counted)
-
-pub look-requires-clause-counts : goal.look-requires-clause-counts
-look-requires-clause-counts c =
-    let s = c.self.inside in
-    let at : slice_get s.workers.items c.args.number ≡ Some c.index_mut-worker.result.now = grind (arith, common_steps, gets) in
-    rw c.deref.ensures.value (c.self.invariant.each c.args.number _ at).counts
 
 made : (c : goal.After-self-1) →
     let s = c.self.inside in
@@ -38,10 +32,10 @@ made c =
     let turn : c.unwrap-helped.result ≡ old.learned % length s.workers.items =
     place ∙ ap₂ (λ (worker : Worker) n. worker.learned % n) (same_Some _ _ (sym seen ∙ at)) many in
     let there : slice_get s.workers.items (c.index.result.now.learned % c.len.result) ≡ Some c.index-2.result.now = grind (arith, common_steps, gets) in
-    let shows = rw c.deref.ensures.value at c.look.ensures.shown in
-    let order = rw c.deref.ensures.value at (c.look.ensures.order (length s.workers.items) s.places) in
+    let counts = (c.self.invariant.each c.args.number old at).counts in
     was_looked s c.args.number old c.look.new.self c.self.invariant at c.unwrap-helped.result c.index-2.result.now enabled turn
-    (ap (slice_get s.workers.items) place ∙ there) shows order c.look.ensures.replay
+    (ap (slice_get s.workers.items) place ∙ there) (c.look.ensures.shown s.decided.items counts)
+    (c.look.ensures.order _ s.places _) c.look.ensures.replay
 
 pub invariant_of-self : goal.invariant_of-self
 invariant_of-self c = rw c.from-index.ensures (made c).stays

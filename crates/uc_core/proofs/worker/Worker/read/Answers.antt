@@ -6,7 +6,8 @@ use Rattle.uc_core.proofs.worker.Worker.read.Goals as goal
 
 pub learn-requires-clause-counts : goal.learn-requires-clause-counts
 learn-requires-clause-counts c = λ many at.
-    let few = AreCounts-few (take c.args.self.now.learned c.args.decided.now) c.args.self.now.counts.items c.in-Some.ticket.now.worker many c.requires.counts at in
+    let learned = take c.args.self.now.learned c.args.decided.now in
+    let few = AreCounts-few learned c.args.self.now.counts.items c.in-Some.ticket.now.worker many c.requires.counts at in
     omega (arith, few, length-take-le c.args.self.now.learned c.args.decided.now c.requires.learned)
 
 pub returns-clause-shown : goal.returns-clause-shown
