@@ -1,5 +1,5 @@
 -- A core before any event.
-use Rattle.std.proofs.Common.{◌≡◌, ℕ, ◌≤◌, List, [], ◌∷◌, ◌++◌, length, replicate, refl, sym, ap, ◌∙◌, arith, vec_capacity}
+use Rattle.std.proofs.Common.{◌≡◌, ℕ, ◌≤◌, List, [], ◌∷◌, ◌++◌, length, replicate, refl, sym, ap, ◌∙◌, subst, arith, vec_capacity}
 use Rattle.std.specs.Global.{Vec}
 use Rattle.std.proofs.lemmas.Option.{none-some}
 use Rattle.mc_model.specs.declared.request.Entry.{Entry}
@@ -9,7 +9,7 @@ use Rattle.mc_model.specs.Settings.{Configuration, IsLawful}
 use Rattle.mc_model.specs.Shown.{new_worker}
 use Rattle.uc_core.specs.Core.{ReplayState, new_core}
 use Rattle.uc_core.specs.Fields.{IsCore, core_of}
-use Rattle.uc_core.specs.Kept.{AreEmpty, AreFresh, IsFresh, replay_of, shown_worker}
+use Rattle.uc_core.specs.Kept.{AreEmpty, AreFresh, IsFresh, IsInOrder, replay_of, shown_worker}
 use Rattle.uc_core.specs.declared.machine.Core.TheInside.{Inside}
 use Rattle.uc_core.specs.declared.worker.Worker.{Worker}
 use Rattle.uc_core.proofs.Each.{EachIs-push, map-alike}
@@ -20,12 +20,12 @@ AreEmpty-none number announced is = absurd (none-some announced is)
 pub AreEmpty-push : (entries : List (Vec Entry)) (announced : Vec Entry) → AreEmpty entries → announced.items ≡ [] → AreEmpty (entries ++ announced ∷ [])
 AreEmpty-push = EachIs-push (λ (announced : Vec Entry). announced.items ≡ [])
 
-pub AreFresh-none : (openings : List Limits) → AreFresh openings []
-AreFresh-none openings number worker is = absurd (none-some worker is)
+pub AreFresh-none : (many : ℕ) (openings : List Limits) → AreFresh many openings []
+AreFresh-none many openings number worker is = absurd (none-some worker is)
 
-pub AreFresh-push : (openings : List Limits) (workers : List Worker) (worker : Worker) → AreFresh openings workers → IsFresh openings worker →
-    AreFresh openings (workers ++ worker ∷ [])
-AreFresh-push openings = EachIs-push (IsFresh openings)
+pub AreFresh-push : (many : ℕ) (openings : List Limits) (workers : List Worker) (worker : Worker) → AreFresh many openings workers →
+    IsFresh many openings worker → AreFresh many openings (workers ++ worker ∷ [])
+AreFresh-push many openings = EachIs-push (IsFresh many openings)
 
 -- fields of these settings, before any event
 pub record IsNew (settings : Configuration) (s : Inside) : Type 0 where
@@ -34,7 +34,7 @@ pub record IsNew (settings : Configuration) (s : Inside) : Type 0 where
   pub decided : s.decided.items ≡ []
   pub empty : AreEmpty s.entries.items
   pub lists : length s.entries.items ≡ settings.workers
-  pub fresh : AreFresh settings.tenants s.workers.items
+  pub fresh : AreFresh settings.workers settings.tenants s.workers.items
   pub count : length s.workers.items ≡ settings.workers
 
 as_many : {X Y : Type 0} (xs : List X) (n : ℕ) (y : Y) → length xs ≡ n → replicate (length xs) y ≡ replicate n y
@@ -58,6 +58,7 @@ module _ (settings : Configuration) (s : Inside) (new : IsNew settings s) where
     few = omega (arith, new.count, lawful.workers.1);
     lists = new.lists ∙ sym new.count;
     reserved = omega (arith, new.places, room);
-    each = λ number worker is. (new.fresh number worker is).order s.places (length s.decided.items);
+    each = λ number worker is.
+        subst (λ many. IsInOrder many s.places s.decided.items worker) (sym new.count) ((new.fresh number worker is).order s.places s.decided.items);
     reached = (settings, [], [], (new_core-is, refl));
   }

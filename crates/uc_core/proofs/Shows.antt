@@ -1,5 +1,5 @@
 -- What the fields show once one worker of them changes, and that they stay in order.
-use Rattle.std.proofs.Common.{◌≡◌, ℕ, suc, ◌≤◌, List, [], ◌∷◌, ◌++◌, length, map, Option, Some, refl, sym, ap, ap₂, ◌∙◌, subst, arith, slice_get, slice_set, vec_capacity}
+use Rattle.std.proofs.Common.{◌≡◌, ℕ, suc, ◌≤◌, List, [], ◌∷◌, ◌++◌, length, length-append, map, take, Option, Some, refl, sym, ap, ap₂, ◌∙◌, subst, arith, slice_get, slice_set, vec_capacity}
 use Rattle.std.specs.Global.{Vec}
 use Rattle.std.specs.Option.{option_map}
 use Rattle.std.specs.Vec.{with_item}
@@ -11,7 +11,7 @@ use Rattle.mc_model.specs.declared.request.Entry.{Entry}
 use Rattle.mc_model.specs.declared.shown.WorkerState.{WorkerState}
 use Rattle.uc_core.specs.Core.{CoreState, ReplayState, new_core}
 use Rattle.uc_core.specs.Fields.{IsCore, core_of}
-use Rattle.uc_core.specs.Kept.{IsInOrder, replay_of, shown_worker}
+use Rattle.uc_core.specs.Kept.{AreCounts, IsInOrder, replay_of, shown_worker}
 use Rattle.uc_core.specs.Run.{Given, IsReachedCore, Runs, given_by}
 use Rattle.uc_core.specs.Step.{CoreStep}
 use Rattle.uc_core.specs.declared.event.Event.{Event}
@@ -23,14 +23,23 @@ use Rattle.uc_core.proofs.Each.{EachIs, EachIs-set, map-kept}
 abbrev pub changed : Inside → Vec Ticket → Vec (Vec Entry) → ℕ → Worker → Inside
 changed s decided entries number worker = record s { decided = decided; entries = entries; workers = with_item s.workers number worker }
 
+-- a worker of these fields is in order where these places are decided
+abbrev pub InOrder : Inside → List Ticket → Worker → Type 0
+InOrder s decided worker = IsInOrder (length s.workers.items) s.places decided worker
+
 -- where the decided places become more, each worker stays in order and shows what it has shown
-later : (places few many : ℕ) (worker : Worker) → few ≤ many → IsInOrder places few worker → IsInOrder places many worker
-later places few many worker more order = record {
-  learned = omega (arith, more, order.learned);
+later : (workers places : ℕ) (decided longer more : List Ticket) (worker : Worker) → longer ≡ decided ++ more →
+    IsInOrder workers places decided worker → IsInOrder workers places longer worker
+later workers places decided longer more worker grows order = record {
+  learned = omega (arith, ap (λ (them : List Ticket). length them) grows, length-append decided more, order.learned);
   announced = order.announced;
   idle = order.idle;
   looked = order.looked;
   proposals = order.proposals;
+  counted = order.counted;
+  counts =
+      let same = ap (take worker.learned) grows ∙ take-append-le worker.learned decided more order.learned in
+      subst (λ (learned : List Ticket). AreCounts learned worker.counts.items) (sym same) order.counts;
   uniques = order.uniques;
 }
 
@@ -69,18 +78,26 @@ IsReachedCore-step : (old : CoreState) (event : Event) (new : CoreState) (reply 
 IsReachedCore-step old event new reply (settings, events, given, run) step =
     (settings, events ++ event ∷ [], given ++ given_by old event reply, Runs-push (new_core settings) events old given event new reply run step)
 
+-- a worker that changes leaves as many workers
+of_as_many : (places : ℕ) (decided : List Ticket) (workers : List Worker) (number : ℕ) (new : Worker) →
+    EachIs (IsInOrder (length workers) places decided) (slice_set workers number new) →
+    EachIs (IsInOrder (length (slice_set workers number new)) places decided) (slice_set workers number new)
+of_as_many places decided workers number new each =
+    subst (λ (many : ℕ). EachIs (IsInOrder many places decided) (slice_set workers number new)) (sym (length-set workers number new)) each
+
 -- the fields stay in order where one worker's do
 pub IsCore-step : (s : Inside) (decided : Vec Ticket) (entries : Vec (Vec Entry)) (number : ℕ) (worker : Worker) (event : Event) (reply : Option Reply) →
-    IsCore s → length s.decided.items ≤ length decided.items → vec_capacity decided ≡ vec_capacity s.decided →
-    length entries.items ≡ length s.entries.items → IsInOrder s.places (length decided.items) worker →
+    IsCore s → (more : List Ticket) → decided.items ≡ s.decided.items ++ more → vec_capacity decided ≡ vec_capacity s.decided →
+    length entries.items ≡ length s.entries.items → InOrder s decided.items worker →
     CoreStep (core_of s) event (core_of (changed s decided entries number worker)) reply → IsCore (changed s decided entries number worker)
-IsCore-step s decided entries number worker event reply old more room lists order step = record {
+IsCore-step s decided entries number worker event reply old more grows room lists order step = record {
   tenants = old.tenants;
   few = omega (arith, old.few, length-set s.workers.items number worker);
   lists = omega (arith, old.lists, lists, length-set s.workers.items number worker);
   reserved = omega (arith, old.reserved, room);
-  each = EachIs-set (IsInOrder s.places (length decided.items)) s.workers.items number worker
-      (λ k w at. later s.places (length s.decided.items) (length decided.items) w more (old.each k w at)) order;
+  each = of_as_many s.places decided.items s.workers.items number worker
+      (EachIs-set (InOrder s decided.items) s.workers.items number worker
+      (λ k w at. later (length s.workers.items) s.places s.decided.items decided.items more w grows (old.each k w at)) order);
   reached = IsReachedCore-step (core_of s) event _ reply old.reached step;
 }
 
@@ -124,13 +141,14 @@ module _ (s : Inside) (number : ℕ) (old new : Worker) (at : slice_get s.worker
       record (core_of s) { shown = record { decided = s.decided.items; workers = workers }; replays = kept })
       (map-kept (shown_worker s.decided.items) s.workers.items number old new at shows) (map-kept replay_of s.workers.items number old new at replays)
 
-  pub IsCore-worker : IsCore s → (IsInOrder s.places (length s.decided.items) old → IsInOrder s.places (length s.decided.items) new) →
+  pub IsCore-worker : IsCore s → (InOrder s s.decided.items old → InOrder s s.decided.items new) →
       IsCore (record s { workers = with_item s.workers number new })
   IsCore-worker core order = record {
     tenants = core.tenants;
     few = omega (arith, core.few, length-set s.workers.items number new);
     lists = core.lists ∙ sym (length-set s.workers.items number new);
     reserved = core.reserved;
-    each = EachIs-set (IsInOrder s.places (length s.decided.items)) s.workers.items number new core.each (order (core.each number old at));
+    each = of_as_many s.places s.decided.items s.workers.items number new
+        (EachIs-set (InOrder s s.decided.items) s.workers.items number new core.each (order (core.each number old at)));
     reached = subst IsReachedCore (sym worker-kept) core.reached;
   }

@@ -2,7 +2,7 @@
 use Rattle.std.proofs.Common.{◌≡◌, ◌≢◌, ◌⊎◌, inl, inr, ℕ, ◌+◌, ◌%◌, ◌<◌, ◌≤◌, List, [], ◌∷◌, ◌++◌, length, map, take, Option, Some, None, refl, sym, ap, ap₂, ◌∙◌, subst, arith, slice_get, slice_set, vec_capacity}
 use Rattle.std.specs.Global.{Vec}
 use Rattle.std.specs.Option.{option_and_then, option_map, option_map_or}
-use Rattle.std.proofs.lemmas.List.{append-nil, length-append, length-map, length-take-le, map-set}
+use Rattle.std.proofs.lemmas.List.{append-nil, length-map, length-take-le, map-set}
 use Rattle.std.proofs.lemmas.Option.{slice_get-map}
 use Rattle.mc_model.specs.declared.command.Command.{Command}
 use Rattle.mc_model.specs.declared.id.Ticket.{Ticket}
@@ -17,7 +17,7 @@ use Rattle.mc_model.specs.Replay.{TakeEffect, reply_from}
 use Rattle.mc_model.specs.Shown.{announce, look, proposal, propose, read, stop}
 use Rattle.uc_core.specs.Core.{ReplayState, entry_under}
 use Rattle.uc_core.specs.Fields.{IsCore, core_of}
-use Rattle.uc_core.specs.Kept.{IsInOrder, replay_of, shown_worker}
+use Rattle.uc_core.specs.Kept.{replay_of, shown_worker}
 use Rattle.uc_core.specs.Step.{CoreStep, announced_entry, entry_at, refusal, with_entry}
 use Rattle.uc_core.specs.declared.event.Event.{Event}
 use Rattle.uc_core.specs.declared.event.Event.TheVariants.{Announce, Look, Propose, Read, Replay, Stop}
@@ -25,7 +25,7 @@ use Rattle.uc_core.specs.declared.machine.Core.TheInside.{Inside}
 use Rattle.uc_core.specs.declared.worker.Worker.{Worker}
 use Rattle.uc_core.proofs.Each.{map-kept}
 use Rattle.uc_core.proofs.Enabled.{announce-enabled, look-enabled, propose-enabled, read-enabled, replay-enabled, stop-enabled}
-use Rattle.uc_core.proofs.Shows.{IsCore-step, changed, replay-at, shown-later, worker-at, workers-shown}
+use Rattle.uc_core.proofs.Shows.{InOrder, IsCore-step, changed, replay-at, shown-later, worker-at, workers-shown}
 
 -- an event leads from the state of these fields to that of those, which are in order too
 pub record Makes (s : Inside) (event : Event) (reply : Option Reply) (new : Inside) : Type 0 where
@@ -81,7 +81,10 @@ module _ (s : Inside) (number : ℕ) (old new : Worker) (core : IsCore s) (at : 
   abbrev shown : WorkerState
   shown = shown_worker s.decided.items old
 
-  order_of : IsInOrder s.places (length s.decided.items) old
+  stay : s.decided.items ≡ s.decided.items ++ []
+  stay = sym (append-nil s.decided.items)
+
+  order_of : InOrder s s.decided.items old
   order_of = core.each number old at
 
   many : length (take old.learned s.decided.items) ≡ old.learned
@@ -105,18 +108,18 @@ module _ (s : Inside) (number : ℕ) (old new : Worker) (core : IsCore s) (at : 
       (map-kept replay_of s.workers.items number old new at replays)
 
   pub stopped : refusal (core_of s) (Stop number) ≡ None → shown_worker s.decided.items new ≡ stop shown →
-      (IsInOrder s.places (length s.decided.items) old → IsInOrder s.places (length s.decided.items) new) → replay_of new ≡ replay_of old →
-      Makes s (Stop number) None (changed s s.decided s.entries number new)
+      (InOrder s s.decided.items old → InOrder s s.decided.items new) →
+      replay_of new ≡ replay_of old → Makes s (Stop number) None (changed s s.decided s.entries number new)
   stopped enabled shows order replays = record { step = step; stays = stays }
     where
       step : CoreStep (core_of s) (Stop number) (core_of (changed s s.decided s.entries number new)) None
       step = ((shown, is_worker, stop-enabled s number old at enabled, shown-with (stop shown) shows), rest-stays s.decided replays, refl)
 
       stays : IsCore (changed s s.decided s.entries number new)
-      stays = IsCore-step s s.decided s.entries number new (Stop number) None core (omega arith) refl refl (order order_of) step
+      stays = IsCore-step s s.decided s.entries number new (Stop number) None core [] stay refl refl (order order_of) step
 
   pub was_read : refusal (core_of s) (Read number) ≡ None → shown_worker s.decided.items new ≡ read number (slice_get s.decided.items old.learned) shown →
-      (IsInOrder s.places (length s.decided.items) old → old.phase ≢ Looked → IsInOrder s.places (length s.decided.items) new) →
+      (InOrder s s.decided.items old → old.phase ≢ Looked → InOrder s s.decided.items new) →
       replay_of new ≡ replay_of old → Makes s (Read number) None (changed s s.decided s.entries number new)
   was_read enabled shows order replays = record { step = step; stays = stays }
     where
@@ -135,12 +138,12 @@ module _ (s : Inside) (number : ℕ) (old new : Worker) (core : IsCore s) (at : 
       )
 
       stays : IsCore (changed s s.decided s.entries number new)
-      stays = IsCore-step s s.decided s.entries number new (Read number) None core (omega arith) refl refl (order order_of (not_looked known.0)) step
+      stays = IsCore-step s s.decided s.entries number new (Read number) None core [] stay refl refl (order order_of (not_looked known.0)) step
 
   pub was_looked : (helped : ℕ) (other : Worker) → refusal (core_of s) (Look number) ≡ None →
       helped ≡ old.learned % length s.workers.items → slice_get s.workers.items helped ≡ Some other →
       shown_worker s.decided.items new ≡ look helped other.announced shown →
-      (IsInOrder s.places (length s.decided.items) old → old.learned < s.places → IsInOrder s.places (length s.decided.items) new) →
+      (InOrder s s.decided.items old → old.learned < s.places → InOrder s s.decided.items new) →
       replay_of new ≡ replay_of old → Makes s (Look number) None (changed s s.decided s.entries number new)
   was_looked helped other enabled turn there shows order replays = record { step = step; stays = stays }
     where
@@ -160,12 +163,12 @@ module _ (s : Inside) (number : ℕ) (old new : Worker) (core : IsCore s) (at : 
       stays : IsCore (changed s s.decided s.entries number new)
       stays =
           let room : old.learned < s.places = omega (arith, many, known.1) in
-          IsCore-step s s.decided s.entries number new (Look number) None core (omega arith) refl refl (order order_of room) step
+          IsCore-step s s.decided s.entries number new (Look number) None core [] stay refl refl (order order_of room) step
 
   pub proposed : (later : Vec Ticket) → refusal (core_of s) (Propose number) ≡ None → vec_capacity later ≡ vec_capacity s.decided →
       later.items ≡ decided_with (proposal number shown) s.decided.items (slice_get s.decided.items old.learned) →
       shown_worker later.items new ≡ propose number (slice_get s.decided.items old.learned) shown →
-      (IsInOrder s.places (length s.decided.items) old → IsInOrder s.places (length later.items) new) → replay_of new ≡ replay_of old →
+      (InOrder s s.decided.items old → InOrder s later.items new) → replay_of new ≡ replay_of old →
       Makes s (Propose number) None (changed s later s.entries number new)
   proposed later enabled room decides shows order replays = record { step = step; stays = stays }
     where
@@ -174,8 +177,8 @@ module _ (s : Inside) (number : ℕ) (old new : Worker) (core : IsCore s) (at : 
           let grown = decided-more (proposal number shown) s.decided.items (slice_get s.decided.items old.learned) in
           (grown.0, decides ∙ grown.1)
 
-      stay : map (shown_worker later.items) s.workers.items ≡ map (shown_worker s.decided.items) s.workers.items
-      stay =
+      others-show : map (shown_worker later.items) s.workers.items ≡ map (shown_worker s.decided.items) s.workers.items
+      others-show =
           ap (λ (them : List Ticket). map (shown_worker them) s.workers.items) more.1
           ∙ shown-later s.decided.items more.0 s.workers.items (λ k worker is. (core.each k worker is).learned)
 
@@ -187,7 +190,7 @@ module _ (s : Inside) (number : ℕ) (old new : Worker) (core : IsCore s) (at : 
       after =
           ap₂ (λ (tickets : List Ticket) (them : List WorkerState). let state : ShownState = record { decided = tickets; workers = them } in state) decides
           (workers-shown later.items s.workers.items number new _ shows
-          ∙ ap (λ (them : List WorkerState). slice_set them number (propose number (slice_get s.decided.items old.learned) shown)) stay)
+          ∙ ap (λ (them : List WorkerState). slice_set them number (propose number (slice_get s.decided.items old.learned) shown)) others-show)
 
       -- the next place is the one behind all that it shows as learned
       behind : (core_of (changed s later s.entries number new)).shown
@@ -204,16 +207,13 @@ module _ (s : Inside) (number : ℕ) (old new : Worker) (core : IsCore s) (at : 
       step = ((shown, is_worker, propose-enabled s number old at enabled, behind), rest-stays later replays, refl)
 
       stays : IsCore (changed s later s.entries number new)
-      stays =
-          let grows : length s.decided.items ≤ length later.items =
-          omega (arith, ap (λ (them : List Ticket). length them) more.1, length-append s.decided.items more.0) in
-          IsCore-step s later s.entries number new (Propose number) None core grows room refl (order order_of) step
+      stays = IsCore-step s later s.entries number new (Propose number) None core more.0 more.1 room refl (order order_of) step
 
   pub announced : (tenant : ℕ) (command : Command) (entries : Vec (Vec Entry)) → refusal (core_of s) (Announce number tenant command) ≡ None →
       lists_of entries.items ≡ with_entry (lists_of s.entries.items) (entry_of number old.announced tenant command) →
       length entries.items ≡ length s.entries.items →
       shown_worker s.decided.items new ≡ announce shown →
-      (IsInOrder s.places (length s.decided.items) old → old.announced ≤ old.learned → IsInOrder s.places (length s.decided.items) new) →
+      (InOrder s s.decided.items old → old.announced ≤ old.learned → InOrder s s.decided.items new) →
       replay_of new ≡ replay_of old → Makes s (Announce number tenant command) None (changed s s.decided entries number new)
   announced tenant command entries enabled grows lists shows order replays = record { step = step; stays = stays }
     where
@@ -234,13 +234,13 @@ module _ (s : Inside) (number : ℕ) (old new : Worker) (core : IsCore s) (at : 
       )
 
       stays : IsCore (changed s s.decided entries number new)
-      stays = IsCore-step s s.decided entries number new (Announce number tenant command) None core (omega arith) refl lists
+      stays = IsCore-step s s.decided entries number new (Announce number tenant command) None core [] stay refl lists
           (order order_of (order_of.idle known.0)) step
 
   pub replayed : (found : Option Entry) (reply : Option Reply) → refusal (core_of s) (Replay number) ≡ None → entry_at (core_of s) old.replayed ≡ found →
       shown_worker s.decided.items new ≡ shown → new.replayed ≡ old.replayed + 1 → TakeEffect found old.tables.items new.tables.items →
       reply ≡ reply_from number old.tables.items found →
-      (IsInOrder s.places (length s.decided.items) old → IsInOrder s.places (length s.decided.items) new) →
+      (InOrder s s.decided.items old → InOrder s s.decided.items new) →
       Makes s (Replay number) reply (changed s s.decided s.entries number new)
   replayed found reply enabled finds shows counts takes replies order = record { step = step; stays = stays }
     where
@@ -269,4 +269,4 @@ module _ (s : Inside) (number : ℕ) (old new : Worker) (core : IsCore s) (at : 
       )
 
       stays : IsCore (changed s s.decided s.entries number new)
-      stays = IsCore-step s s.decided s.entries number new (Replay number) reply core (omega arith) refl refl (order order_of) step
+      stays = IsCore-step s s.decided s.entries number new (Replay number) reply core [] stay refl refl (order order_of) step

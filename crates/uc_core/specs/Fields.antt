@@ -25,5 +25,6 @@ pub record IsCore (s : Inside) : Type 0 where
   pub few : length s.workers.items ≤ WORKERS
   pub lists : length s.entries.items ≡ length s.workers.items
   pub reserved : s.places ≤ vec_capacity s.decided
-  pub each : (number : ℕ) (worker : Worker) → slice_get s.workers.items number ≡ Some worker → IsInOrder s.places (length s.decided.items) worker
+  pub each : (number : ℕ) (worker : Worker) → slice_get s.workers.items number ≡ Some worker →
+      IsInOrder (length s.workers.items) s.places s.decided.items worker
   pub reached : IsReachedCore (core_of s)

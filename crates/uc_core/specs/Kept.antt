@@ -1,11 +1,12 @@
 -- What the core keeps of a worker: what it shows, and what is true of it at all times.
-use Rattle.std.specs.Prelude.{◌≡◌, ◌==◌, ◌&&◌, Bool, ℕ, ◌+◌, ◌<◌, ◌≤◌, List, [], take, Some, slice_get}
+use Rattle.std.specs.Prelude.{◌≡◌, ◌==◌, ◌&&◌, Bool, ℕ, ◌+◌, ◌<◌, ◌≤◌, List, [], length, take, Some, slice_get}
 use Rattle.std.specs.Global.{Vec}
 use Rattle.mc_model.specs.declared.id.Ticket.{Ticket}
 use Rattle.mc_model.specs.declared.request.Entry.{Entry}
 use Rattle.mc_model.specs.declared.settings.Limits.{Limits}
 use Rattle.mc_model.specs.declared.shown.Phase.TheVariants.{Idle, Looked}
 use Rattle.mc_model.specs.declared.shown.WorkerState.{WorkerState}
+use Rattle.mc_model.specs.Legal.{count}
 use Rattle.mc_model.specs.Replay.{empty_tables}
 use Rattle.mc_model.specs.Shown.{new_worker}
 use Rattle.mc_model.specs.State.{TableState}
@@ -30,24 +31,30 @@ replay_of worker = record { replayed = worker.replayed; tables = worker.tables.i
 abbrev pub is_latest_of : ℕ → ℕ → Ticket → Bool
 is_latest_of number announced ticket = ticket.worker == number && ticket.number + 1 == announced
 
--- Of a log with so many places, so many of them decided: what a worker has learned is decided, one that has looked has a place left, and
--- no number of a worker is above what it has learned by more than one.
-pub record IsInOrder (places decided : ℕ) (worker : Worker) : Type 0 where
-  pub learned : worker.learned ≤ decided
+-- these are how many tickets of each worker stand in the list, by the workers' numbers
+abbrev pub AreCounts : List Ticket → List ℕ → Type 0
+AreCounts tickets counts = (number many : ℕ) → slice_get counts number ≡ Some many → many ≡ count number tickets
+
+-- Of a log with so many workers and places, and these places decided: what a worker has learned is decided, and it counts the tickets of
+-- each worker there. One that has looked has a place left, and no number of a worker is above what it has learned by more than one.
+pub record IsInOrder (workers places : ℕ) (decided : List Ticket) (worker : Worker) : Type 0 where
+  pub learned : worker.learned ≤ length decided
   pub announced : worker.announced ≤ worker.learned + 1
   pub idle : worker.phase ≡ Idle → worker.announced ≤ worker.learned
   pub looked : worker.phase ≡ Looked → worker.learned < places
   pub proposals : worker.proposals ≤ worker.learned
+  pub counted : length worker.counts.items ≡ workers
+  pub counts : AreCounts (take worker.learned decided) worker.counts.items
   pub uniques : (tenant : ℕ) (state : TableState) → slice_get worker.tables.items tenant ≡ Some state → state.last_unique ≤ worker.replayed
 
 -- a worker before any event, which is in order whatever the log
-pub record IsFresh (openings : List Limits) (worker : Worker) : Type 0 where
+pub record IsFresh (workers : ℕ) (openings : List Limits) (worker : Worker) : Type 0 where
   pub shown : (decided : List Ticket) → shown_worker decided worker ≡ new_worker
   pub replay : replay_of worker ≡ record { replayed = 0; tables = empty_tables openings }
-  pub order : (places decided : ℕ) → IsInOrder places decided worker
+  pub order : (places : ℕ) (decided : List Ticket) → IsInOrder workers places decided worker
 
-abbrev pub AreFresh : List Limits → List Worker → Type 0
-AreFresh openings workers = (number : ℕ) (worker : Worker) → slice_get workers number ≡ Some worker → IsFresh openings worker
+abbrev pub AreFresh : ℕ → List Limits → List Worker → Type 0
+AreFresh many openings workers = (number : ℕ) (worker : Worker) → slice_get workers number ≡ Some worker → IsFresh many openings worker
 
 -- nothing is announced
 abbrev pub AreEmpty : List (Vec Entry) → Type 0

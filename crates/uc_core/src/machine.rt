@@ -151,13 +151,13 @@ pub(crate) fn announced_under(entries: &[Vec<Entry>], ticket: Ticket) -> Option<
 
 /// So many workers before any event.
 fn new_workers(alloc: Global, count: usize, openings: &[Limits]) -> Result<Vec<Worker>, Fault>
-    ensures fresh { IfOk result (λ workers. AreFresh openings.now workers.items) }
+    ensures fresh { IfOk result (λ workers. AreFresh count openings.now workers.items) }
     ensures count { IfOk result (λ workers. length workers.items ≡ count) }
     ensures memory { IsOkUnless result Fault.Memory }
 {
     let mut workers = Vec::with_capacity(alloc, count)?;
     for _ in 0..count {
-        workers.push(Worker::new(alloc, openings)?)?;
+        workers.push(Worker::new(alloc, count, openings)?)?;
     }
     Ok(workers)
 }

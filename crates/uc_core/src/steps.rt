@@ -134,7 +134,7 @@ impl Core {
         let helped = WorkerId::new(turn as u8).unwrap();
         let announced = self.workers[turn].announced;
         let worker = &mut self.workers[index];
-        worker.look(helped, announced, &self.decided);
+        worker.look(helped, announced);
     }
 
     /// The worker proposes at its next place.

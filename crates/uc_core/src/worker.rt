@@ -4,7 +4,6 @@ ghost use Rattle.std.specs.Prelude.{◌≡◌, ◌≢◌, ◌+◌, ◌-◌, ◌^
 ghost use Rattle.mc_model.specs.declared.id.Ticket.{Ticket};
 ghost use Rattle.mc_model.specs.declared.shown.Phase.TheVariants.{Idle, Looked};
 ghost use Rattle.mc_model.specs.Lawful.{decided_with};
-ghost use Rattle.mc_model.specs.Legal.{count};
 ghost use Rattle.mc_model.specs.Replay.{TakeEffect, reply_from};
 ghost use Rattle.mc_model.specs.State.{TableState};
 ghost use Rattle.mc_model.specs.Shown.{announce, look, proposal, propose, read, stop};
@@ -27,16 +26,18 @@ pub(crate) struct Worker {
     pub(crate) mark: Option<u64>,
     pub(crate) look: Option<Ticket>,
     pub(crate) proposals: u64,
+    /// How many tickets of each worker it has learned, by the workers' numbers.
+    counts: Vec<u64>,
     /// One table a tenant, by the tenants' numbers.
     pub(crate) tables: Vec<Items>,
 }
 
 impl Worker {
-    ghost use Rattle.uc_core.specs.Kept.{IsFresh, IsInOrder, is_latest_of, shown_worker, replay_of};
+    ghost use Rattle.uc_core.specs.Kept.{AreCounts, IsFresh, IsInOrder, is_latest_of, shown_worker, replay_of};
 
-    /// A worker before any event.
-    pub(crate) fn new(alloc: Global, openings: &[Limits]) -> Result<Worker, Fault>
-        ensures fresh { IfOk result (λ worker. IsFresh openings.now worker) }
+    /// A worker before any event, of a log with so many workers.
+    pub(crate) fn new(alloc: Global, workers: usize, openings: &[Limits]) -> Result<Worker, Fault>
+        ensures fresh { IfOk result (λ worker. IsFresh workers openings.now worker) }
         ensures memory { IsOkUnless result Fault.Memory }
     {
         Ok(Worker {
@@ -47,6 +48,7 @@ impl Worker {
             mark: None,
             look: None,
             proposals: 0,
+            counts: vec![in alloc; 0; workers]?,
             tables: tables_of(alloc, openings)?,
         })
     }
@@ -55,7 +57,8 @@ impl Worker {
     pub(crate) fn announce(&mut self)
         requires { self.old.announced < 2 ^ 64 - 1 }
         ensures shown { (decided : List Ticket) → shown_worker decided self.new ≡ announce (shown_worker decided self.old) }
-        ensures order { (places decided : ℕ) → IsInOrder places decided self.old → self.old.announced ≤ self.old.learned → IsInOrder places decided self.new }
+        ensures order { (workers places : ℕ) (decided : List Ticket) → IsInOrder workers places decided self.old →
+            self.old.announced ≤ self.old.learned → IsInOrder workers places decided self.new }
         ensures replay { replay_of self.new ≡ replay_of self.old }
     {
         self.phase = Phase::Pending;
@@ -66,22 +69,30 @@ impl Worker {
 
     /// It learns the ticket of its next place, and is at `phase` where that isn't the ticket of its latest command.
     fn learn(&mut self, number: WorkerId, phase: Phase, ticket: Ticket)
-        requires { self.old.learned < 2 ^ 64 - 1 }
+        requires few { self.old.learned < 2 ^ 64 - 1 }
+        requires counts { (many : ℕ) → slice_get self.old.counts.items ticket.worker ≡ Some many → many ≤ self.old.learned }
         ensures phase { self.new.phase ≡ (if is_latest_of number self.old.announced ticket then Idle else phase) }
-        ensures others { self.new ≡ record self.old { phase = self.new.phase; learned = self.old.learned + 1 } }
+        ensures others { self.new ≡ record self.old { phase = self.new.phase; learned = self.old.learned + 1; counts = self.new.counts } }
+        ensures counts { (tickets : List Ticket) → AreCounts tickets self.old.counts.items → AreCounts (tickets ++ ticket ∷ []) self.new.counts.items }
+        ensures workers { vec_len self.new.counts ≡ vec_len self.old.counts }
     {
         let is_latest = ticket.worker == number
             && self.announced.checked_sub(1) == Some(ticket.number);
         self.phase = if is_latest { Phase::Idle } else { phase };
         self.learned += 1;
+        if let Some(count) = self.counts.get_mut(usize::from(ticket.worker.number())) {
+            *count += 1;
+        }
     }
 
     /// It reads its next place: it learns what stands there, or an empty place can become its mark.
     pub(crate) fn read(&mut self, number: WorkerId, decided: &[Ticket])
         requires few { length decided.now < 2 ^ 64 - 1 }
         requires learned { self.old.learned ≤ length decided.now }
+        requires counts { AreCounts (take self.old.learned decided.now) self.old.counts.items }
         ensures shown { shown_worker decided.now self.new ≡ read number (slice_get decided.now self.old.learned) (shown_worker decided.now self.old) }
-        ensures order { (places : ℕ) → IsInOrder places (length decided.now) self.old → self.old.phase ≢ Looked → IsInOrder places (length decided.now) self.new }
+        ensures order { (workers places : ℕ) → IsInOrder workers places decided.now self.old → self.old.phase ≢ Looked →
+            IsInOrder workers places decided.now self.new }
         ensures replay { replay_of self.new ≡ replay_of self.old }
     {
         let Some(ticket) = decided.get(self.learned) else {
@@ -94,13 +105,15 @@ impl Worker {
     }
 
     /// It looks at the worker to help, who has announced so many commands: it finds the first of them that it hasn't learned.
-    pub(crate) fn look(&mut self, helped: WorkerId, announced: u64, decided: &[Ticket])
-        requires { self.old.learned ≤ length decided.now }
-        ensures shown { shown_worker decided.now self.new ≡ look helped announced (shown_worker decided.now self.old) }
-        ensures order { (places : ℕ) → IsInOrder places (length decided.now) self.old → self.old.learned < places → IsInOrder places (length decided.now) self.new }
+    pub(crate) fn look(&mut self, helped: WorkerId, announced: u64)
+        requires { helped < vec_len self.old.counts }
+        ensures shown { (decided : List Ticket) → AreCounts (take self.old.learned decided) self.old.counts.items →
+            shown_worker decided self.new ≡ look helped announced (shown_worker decided self.old) }
+        ensures order { (workers places : ℕ) (decided : List Ticket) → IsInOrder workers places decided self.old →
+            self.old.learned < places → IsInOrder workers places decided self.new }
         ensures replay { replay_of self.new ≡ replay_of self.old }
     {
-        let learned = count_of(helped, &decided[..self.learned]);
+        let learned = self.counts[usize::from(helped.number())];
         self.phase = Phase::Looked;
         self.look = if learned < announced {
             Some(Ticket {
@@ -116,13 +129,14 @@ impl Worker {
     pub(crate) fn propose(&mut self, number: WorkerId, decided: &mut Vec<Ticket>)
         requires learned { self.old.learned ≤ vec_len decided.old }
         requires room { self.old.learned ≡ vec_len decided.old → vec_len decided.old < vec_capacity decided.old }
+        requires counts { AreCounts (take self.old.learned decided.old.items) self.old.counts.items }
         requires proposals { self.old.proposals ≤ self.old.learned }
         ensures decided { decided.new.items ≡
             decided_with (proposal number (shown_worker decided.old.items self.old)) decided.old.items (slice_get decided.old.items self.old.learned) }
         ensures shown { shown_worker decided.new.items self.new ≡
             propose number (slice_get decided.old.items self.old.learned) (shown_worker decided.old.items self.old) }
         ensures room { vec_capacity decided.new ≡ vec_capacity decided.old }
-        ensures order { (places : ℕ) → IsInOrder places (length decided.old.items) self.old → IsInOrder places (length decided.new.items) self.new }
+        ensures order { (workers places : ℕ) → IsInOrder workers places decided.old.items self.old → IsInOrder workers places decided.new.items self.new }
         ensures replay { replay_of self.new ≡ replay_of self.old }
     {
         let ticket = decide(decided, self.learned, self.proposal(number));
@@ -157,7 +171,7 @@ impl Worker {
         ensures replayed { OnOk result (self.new.replayed ≡ self.old.replayed + 1) }
         ensures tables { OnOk result (TakeEffect (option_copied found.entry) self.old.tables.items self.new.tables.items) }
         ensures shown { (decided : List Ticket) → shown_worker decided self.new ≡ shown_worker decided self.old }
-        ensures order { (places decided : ℕ) → IsInOrder places decided self.old → IsInOrder places decided self.new }
+        ensures order { (workers places : ℕ) (decided : List Ticket) → IsInOrder workers places decided self.old → IsInOrder workers places decided self.new }
         ensures memory { IsOkUnless result Fault.Memory }
         ensures unchanged { OnErr result (replay_of self.new ≡ replay_of self.old) }
     {
@@ -169,7 +183,7 @@ impl Worker {
     /// It stops for good.
     pub(crate) fn stop(&mut self)
         ensures shown { (decided : List Ticket) → shown_worker decided self.new ≡ stop (shown_worker decided self.old) }
-        ensures order { (places decided : ℕ) → IsInOrder places decided self.old → IsInOrder places decided self.new }
+        ensures order { (workers places : ℕ) (decided : List Ticket) → IsInOrder workers places decided self.old → IsInOrder workers places decided self.new }
         ensures replay { replay_of self.new ≡ replay_of self.old }
     {
         self.phase = Phase::Stopped;
@@ -193,14 +207,4 @@ fn decide(decided: &mut Vec<Ticket>, place: usize, proposal: Ticket) -> Ticket
     let ticket = proposal;
     decided.push_reserved(proposal);
     ticket
-}
-
-/// How many of the tickets are the worker's.
-fn count_of(worker: WorkerId, tickets: &[Ticket]) -> u64
-    ensures { result ≡ count worker tickets.now }
-{
-    tickets
-        .iter()
-        .filter(|ticket| ticket.worker == worker)
-        .count() as u64
 }

@@ -6,5 +6,5 @@ use Rattle.uc_core.proofs.machine.new_workers.Goals as goal
 pub loop-preserved : goal.loop-preserved
 loop-preserved c = rw c.in_ok-push.ensures.items (record {
   count = omega (arith, length_push c.loop.workers.items c.in_ok-new.field-0);
-  fresh = AreFresh-push c.args.openings.now c.loop.workers.items c.in_ok-new.field-0 c.loop.invariant.fresh c.in_ok-new.ensures.fresh;
+  fresh = AreFresh-push c.args.count c.args.openings.now c.loop.workers.items c.in_ok-new.field-0 c.loop.invariant.fresh c.in_ok-new.ensures.fresh;
 })

@@ -58,7 +58,7 @@ made c =
     announced s c.args.number old c.announce.new.self c.self.invariant at c.args.tenant c.args.command (with_item s.entries c.args.number c.push.new.self) enabled
     (entries-set s.entries.items c.args.number entry c.index_mut.result.now c.push.new.self refl list grows)
     (length-set s.entries.items c.args.number c.push.new.self)
-    (c.announce.ensures.shown s.decided.items) (c.announce.ensures.order s.places _) c.announce.ensures.replay
+    (c.announce.ensures.shown s.decided.items) (c.announce.ensures.order _ s.places _) c.announce.ensures.replay
 
 pub invariant_of-self-2 : goal.invariant_of-self-2
 invariant_of-self-2 c = rw c.from-index.ensures (made c).stays

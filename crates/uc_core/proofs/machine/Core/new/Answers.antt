@@ -1,5 +1,4 @@
-use Rattle.std.proofs.Common.{◌≤◌, subst, rules, vec_capacity}
-use Rattle.uc_core.specs.Kept.{AreFresh}
+use Rattle.std.proofs.Common.{◌≡◌, ◌≤◌, rules, vec_capacity}
 use Rattle.uc_core.specs.declared.machine.Core.TheInside.{Inside}
 use Rattle.uc_core.proofs.Opened.{IsCore-new, IsNew, new_core-is}
 use Rattle.uc_core.proofs.machine.Core.new.Goals as goal
@@ -15,13 +14,13 @@ fields c = record {
 
 are_new : (c : goal.After-places-2) → IsNew c.args.settings.now (fields c)
 unfolding fields
-are_new c = record {
+are_new c = let many : c.workers-count.result ≡ c.args.settings.now.workers = search rules in record {
   places = c.places-2.ensures.value;
   openings = search rules;
   decided = c.in_ok-decided.ensures.items;
   empty = c.in_ok-entries.ensures.none;
   lists = search rules;
-  fresh = subst (λ openings. AreFresh openings c.in_ok-workers.workers.items) c.tenants-2.ensures.value c.in_ok-workers.ensures.fresh;
+  fresh = rw (c.tenants-2.ensures.value, many) at c.in_ok-workers.ensures.fresh;
   count = search rules;
 }
 

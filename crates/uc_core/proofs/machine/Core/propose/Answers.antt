@@ -19,7 +19,7 @@ made c =
     let decides = rw named at c.propose.ensures.decided in
     let shows = rw named at c.propose.ensures.shown in
     proposed s c.args.number c.index_mut-worker.result.now c.propose.new.self c.self.invariant at c.propose.new.decided enabled c.propose.ensures.room
-    decides shows (c.propose.ensures.order s.places) c.propose.ensures.replay
+    decides shows (c.propose.ensures.order _ s.places) c.propose.ensures.replay
 
 pub invariant_of-self : goal.invariant_of-self
 invariant_of-self c = rw c.from.ensures (made c).stays

@@ -1,4 +1,4 @@
-use Rattle.std.proofs.Common.{◌≡◌, Some, None, slice_get, sym, subst, arith, rules}
+use Rattle.std.proofs.Common.{◌≡◌, Some, None, length, slice_get, sym, subst, arith, rules}
 use Rattle.std.proofs.lemmas.Grind.{common_steps}
 use Rattle.std.proofs.lemmas.Option.{gets}
 use Rattle.uc_core.specs.Core.{CoreState}
@@ -30,6 +30,12 @@ read-requires-clause-learned c =
     let at : slice_get s.workers.items c.args.number ≡ Some c.index_mut-worker.result.now = grind (arith, common_steps, gets) in
     rw c.deref.ensures.value (c.self.invariant.each c.args.number _ at).learned
 
+pub read-requires-clause-counts : goal.read-requires-clause-counts
+read-requires-clause-counts c =
+    let s = c.self.inside in
+    let at : slice_get s.workers.items c.args.number ≡ Some c.index_mut-worker.result.now = grind (arith, common_steps, gets) in
+    rw c.deref.ensures.value (c.self.invariant.each c.args.number _ at).counts
+
 made : (c : goal.After-self-1) →
     let s = c.self.inside in
     Makes s (Read c.args.number) None (changed s s.decided s.entries c.args.number c.read.new.self)
@@ -39,7 +45,7 @@ made c =
     let at : slice_get s.workers.items c.args.number ≡ Some c.index_mut-worker.result.now = grind (arith, common_steps, gets) in
     let named : c.unwrap-id.result ≡ c.args.number = search rules in
     let shows = rw (c.deref.ensures.value, named) at c.read.ensures.shown in
-    let order = rw c.deref.ensures.value at (c.read.ensures.order s.places) in
+    let order = rw c.deref.ensures.value at (c.read.ensures.order (length s.workers.items) s.places) in
     was_read s c.args.number c.index_mut-worker.result.now c.read.new.self c.self.invariant at enabled shows order c.read.ensures.replay
 
 pub invariant_of-self : goal.invariant_of-self

@@ -30,7 +30,7 @@ invariant_of-self c =
     let s = c.self.inside in
     let at : slice_get s.workers.items c.args.number ≡ Some c.index_mut-worker.result.now = grind (arith, common_steps, gets) in
     rw c.from.ensures (IsCore-worker s c.args.number c.index_mut-worker.result.now c.replay.new.self at (c.replay.ensures.shown s.decided.items)
-    c.in_err-reply.ensures.unchanged c.self.invariant (c.replay.ensures.order s.places _))
+    c.in_err-reply.ensures.unchanged c.self.invariant (c.replay.ensures.order _ s.places _))
 
 pub returns-in_err-reply-clause-unchanged : goal.returns-in_err-reply-clause-unchanged
 returns-in_err-reply-clause-unchanged c =
@@ -55,7 +55,7 @@ made c =
     let named : c.unwrap-id.result ≡ c.args.number = search rules in
     let replies = rw named at c.in_ok-reply.ensures.reply in
     replayed s c.args.number old c.replay.new.self c.self.invariant at _ _ enabled finds (c.replay.ensures.shown s.decided.items)
-    c.in_ok-reply.ensures.replayed c.in_ok-reply.ensures.tables replies (c.replay.ensures.order s.places _)
+    c.in_ok-reply.ensures.replayed c.in_ok-reply.ensures.tables replies (c.replay.ensures.order _ s.places _)
 
 pub invariant_of-self-2 : goal.invariant_of-self-2
 invariant_of-self-2 c = rw c.from.ensures (made c).stays

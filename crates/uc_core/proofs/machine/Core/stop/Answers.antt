@@ -16,7 +16,7 @@ made c =
     let enabled = subst (λ (core : CoreState). refusal core (Stop c.args.number) ≡ None) (sym c.self.view_is) c.requires in
     let at : slice_get s.workers.items c.args.number ≡ Some c.index_mut.result.now = grind (arith, common_steps, gets) in
     stopped s c.args.number c.index_mut.result.now c.stop.new.self c.self.invariant at enabled
-    (c.stop.ensures.shown s.decided.items) (c.stop.ensures.order s.places _) c.stop.ensures.replay
+    (c.stop.ensures.shown s.decided.items) (c.stop.ensures.order _ s.places _) c.stop.ensures.replay
 
 pub invariant_of-self : goal.invariant_of-self
 invariant_of-self c = rw c.from.ensures (made c).stays

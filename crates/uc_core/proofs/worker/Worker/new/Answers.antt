@@ -1,5 +1,5 @@
 use Rattle.std.proofs.Common.{rules}
-use Rattle.uc_core.proofs.Workers.{UniquesFew-empty}
+use Rattle.uc_core.proofs.Workers.{AreCounts-none, UniquesFew-empty}
 use Rattle.uc_core.proofs.worker.Worker.new.Goals as goal
 
 pub returns-clause-fresh : goal.returns-clause-fresh
@@ -12,6 +12,8 @@ returns-clause-fresh c = record {
     idle = search rules;
     looked = search rules;
     proposals = search rules;
+    counted = search rules;
+    counts = AreCounts-none c.args.workers decided _ (search rules);
     uniques = UniquesFew-empty c.args.openings.now _ 0 c.in_ok-tables_of.ensures.tables;
   };
 }
