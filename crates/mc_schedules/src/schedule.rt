@@ -50,7 +50,7 @@ pub enum Reading {
 
 /// What the lines read as, each without its line feed.
 fn read_lines(alloc: Global, lines: &[&[u8]]) -> Result<Reading, Fault>
-    ensures reading { IfOk result (λ reading. read_as reading ≡ read_lines (map (λ line. line.now) lines.now)) }
+    ensures reading { IfOk result (λ read. read_as read ≡ read_lines (map (λ line. line.now) lines.now)) }
     ensures memory { IsOkUnless result Fault.Memory }
 {
     let mut draft = Draft::new(alloc);
@@ -67,7 +67,7 @@ fn read_lines(alloc: Global, lines: &[&[u8]]) -> Result<Reading, Fault>
 
 /// What the bytes read as: an event list, or the number of the first bad line.
 pub fn read_schedule(alloc: Global, bytes: &[u8]) -> Result<Reading, Fault>
-    ensures reading { IfOk result (λ reading. read_as reading ≡ reading bytes.now) }
+    ensures reading { IfOk result (λ read. read_as read ≡ reading bytes.now) }
     ensures memory { IsOkUnless result Fault.Memory }
 {
     if bytes.len() > INPUT_BYTES {
