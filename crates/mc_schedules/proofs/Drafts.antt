@@ -1,5 +1,5 @@
 -- What one more line adds to what the lines so far say.
-use Rattle.std.proofs.Common.{◌≡◌, ℕ, true, not, nat_lt, List, [], ◌∷◌, ◌++◌, length, Option, Some, None, refl, sym, ◌∙◌, ap, append-nil, true≢false, arith}
+use Rattle.std.proofs.Common.{◌≡◌, ℕ, true, not, List, [], ◌∷◌, ◌++◌, length, Option, Some, None, refl, sym, ◌∙◌, ap, append-nil, true≢false, arith}
 use Rattle.std.proofs.lemmas.Bool.{lt-ltb}
 use Rattle.std.proofs.lemmas.List.Elements.{filter_map-append}
 use Rattle.std.specs.List.{cons_option, filter_map}
@@ -8,7 +8,7 @@ use Rattle.mc_schedules.specs.declared.draft.Draft.{Draft}
 use Rattle.mc_schedules.specs.declared.line.Said.TheVariants.{Core, Nothing, Tenant, ToDo}
 use Rattle.mc_schedules.specs.declared.schedule.Action.{Action}
 use Rattle.mc_schedules.specs.Draft.{IsDraftOf, option_list}
-use Rattle.mc_schedules.specs.Place.{Statement, cores, is_in_place, is_there, items, tenants}
+use Rattle.mc_schedules.specs.Place.{Statement, cores, is_in_place, is_there}
 
 -- an element that gives nothing adds nothing
 passed : {X : Type 0} (h : Statement → Option X) (before : List Statement) (one : Statement) → h one ≡ None → filter_map h (before ++ one ∷ []) ≡ filter_map h before

@@ -1,13 +1,12 @@
 -- The lines one after another: the next is in its place, or it is the first that isn't.
-use Rattle.std.proofs.Common.{◌≡◌, ℕ, ◌+◌, ◌<◌, ◌≤◌, true, false, List, [], ◌∷◌, ◌++◌, Bor, length, get_or, map, take, drop, Option, Some, None, refl, sym, ◌∙◌, ap, arith}
+use Rattle.std.proofs.Common.{◌≡◌, ℕ, ◌+◌, ◌<◌, ◌≤◌, true, false, List, [], ◌∷◌, ◌++◌, Bor, length, get_or, map, take, drop, Option, None, sym, ◌∙◌, ap, arith}
 use Rattle.std.proofs.lemmas.Bool.{cond-false, cond-true}
 use Rattle.std.proofs.lemmas.List.{drop_all, drop_more, get_or-map, length-map, take_all, take_more}
 use Rattle.std.proofs.lemmas.List.FromFn.{get_or-enumerate_from, length-enumerate_from}
 use Rattle.std.specs.List.{enumerate_from}
-use Rattle.mc_schedules.specs.declared.line.Said.{Said}
 use Rattle.mc_schedules.specs.Line.{said}
 use Rattle.mc_schedules.specs.Place.{Statement, cores, first_misplaced, is_in_place, items, statement, statements, tenants}
-use Rattle.mc_schedules.specs.Schedule.{BadLine, Read, listed, read_lines, read_unless}
+use Rattle.mc_schedules.specs.Schedule.{BadLine, listed, read_lines, read_unless}
 
 abbrev pub nothing : Bor (List ℕ)
 nothing = record { ref_ptr = (0, 0); now = [] }

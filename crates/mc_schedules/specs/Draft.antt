@@ -1,5 +1,5 @@
 -- What the code keeps of the lines so far.
-use Rattle.std.specs.Prelude.{◌≡◌, ℕ, List, [], ◌∷◌, Option, Some, None}
+use Rattle.std.specs.Prelude.{◌≡◌, List, [], ◌∷◌, Option, Some, None}
 use Rattle.mc_schedules.specs.declared.draft.Draft.{Draft}
 use Rattle.mc_schedules.specs.Place.{Statement, cores, items, tenants}
 

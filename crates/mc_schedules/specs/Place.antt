@@ -1,5 +1,5 @@
 -- Which lines may follow which: first the core line, then 1 to 64 tenant lines, then what is to be done.
-use Rattle.std.specs.Prelude.{ℕ, ◌+◌, Bool, true, false, ◌&&◌, not, nat_lt, if◌then◌else◌, List, [], ◌∷◌, ◌++◌, length, map, Option, Some, None, filter_map}
+use Rattle.std.specs.Prelude.{ℕ, Bool, true, false, ◌&&◌, not, nat_lt, if◌then◌else◌, List, [], ◌∷◌, ◌++◌, length, map, Option, Some, None, filter_map}
 use Rattle.std.specs.List.{enumerate_from}
 use Rattle.mc_model.specs.declared.settings.Limits.{Limits}
 use Rattle.mc_schedules.specs.declared.line.Said.{Said}

@@ -1,5 +1,5 @@
 -- What an event list reads as: settings and what is to be done, or the number of its first bad line.
-use Rattle.std.specs.Prelude.{◌≡◌, ℕ, nat_lt, if◌then◌else◌, List, [], ◌∷◌, length, Option, Some, None}
+use Rattle.std.specs.Prelude.{ℕ, nat_lt, if◌then◌else◌, List, [], ◌∷◌, length, Option, Some, None}
 use Rattle.mc_model.specs.declared.settings.Limits.{Limits}
 use Rattle.mc_schedules.specs.declared.schedule.Item.{Item}
 use Rattle.mc_schedules.specs.declared.schedule.Reading.{Reading}

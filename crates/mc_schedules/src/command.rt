@@ -106,7 +106,11 @@ fn read_keys(alloc: Global, words: &[&[u8]]) -> Result<Option<Vec<Key>>, Fault>
 }
 
 /// The retrieval of one or more keys.
-fn read_retrieval(alloc: Global, uniques: bool, arguments: &[&[u8]]) -> Result<Option<Command>, Fault>
+fn read_retrieval(
+    alloc: Global,
+    uniques: bool,
+    arguments: &[&[u8]],
+) -> Result<Option<Command>, Fault>
     ensures command { IfOk result (λ command. command ≡ retrieval_of uniques (map (λ word. word.now) arguments.now)) }
     ensures memory { IsOkUnless result Fault.Memory }
 {

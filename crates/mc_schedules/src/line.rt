@@ -93,8 +93,9 @@ fn say(alloc: Global, found: &[&[u8]]) -> Result<Option<Said>, Fault>
     } else if is_word(name, b"tenant") {
         Ok(read_pair(arguments).map(|(items, bytes)| Said::Tenant(Limits { items, bytes })))
     } else if is_word(name, b"announce") {
-        Ok(read_order(alloc, arguments)?
-            .map(|(worker, tenant, command)| event(Event::Announce(worker, tenant, command))))
+        Ok(read_order(alloc, arguments)?.map(|(worker, tenant, command)| event(Event::Announce(
+            worker, tenant, command,
+        ))))
     } else if is_word(name, b"submit") {
         Ok(read_order(alloc, arguments)?.map(|(worker, tenant, command)| {
             Said::ToDo(Action::Submit(worker, tenant, command))

@@ -1,5 +1,5 @@
 //! Event lists: settings, and what is to be done in them, line by line.
-ghost use Rattle.std.specs.Prelude.{◌≡◌, ◌^◌, ◌<◌, length, map, IfOk, IsOkUnless};
+ghost use Rattle.std.specs.Prelude.{◌≡◌, map, IfOk, IsOkUnless};
 ghost use Rattle.mc_schedules.specs.Schedule.{read_as, read_lines, reading};
 
 use crate::draft::Draft;

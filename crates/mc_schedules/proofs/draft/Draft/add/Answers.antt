@@ -1,5 +1,4 @@
-use Rattle.std.proofs.Common.{◌≡◌, true, List, [], ◌∷◌, ◌++◌, Some, refl, sym, ◌∙◌, ap, subst}
-use Rattle.mc_schedules.specs.declared.line.Said.TheVariants.{Core}
+use Rattle.std.proofs.Common.{[], ◌∷◌, ◌++◌, Some, refl, sym, ◌∙◌, ap, subst}
 use Rattle.mc_schedules.specs.Draft.{IsDraftOf}
 use Rattle.mc_schedules.specs.Place.{is_in_place}
 use Rattle.mc_schedules.proofs.Drafts.{core_added, item_added, nothing_added, tenant_added}
