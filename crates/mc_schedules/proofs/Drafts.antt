@@ -7,11 +7,13 @@ use Rattle.mc_model.specs.declared.settings.Limits.{Limits}
 use Rattle.mc_schedules.specs.declared.draft.Draft.{Draft}
 use Rattle.mc_schedules.specs.declared.line.Said.TheVariants.{Core, Nothing, Tenant, ToDo}
 use Rattle.mc_schedules.specs.declared.schedule.Action.{Action}
+use Rattle.mc_schedules.specs.declared.schedule.Item.{Item}
 use Rattle.mc_schedules.specs.Draft.{IsDraftOf, option_list}
 use Rattle.mc_schedules.specs.Place.{Statement, cores, is_in_place, is_there}
 
 -- an element that gives nothing adds nothing
-passed : {X : Type 0} (h : Statement → Option X) (before : List Statement) (one : Statement) → h one ≡ None → filter_map h (before ++ one ∷ []) ≡ filter_map h before
+passed : {X : Type 0} (h : Statement → Option X) (before : List Statement) (one : Statement) → h one ≡ None
+    → filter_map h (before ++ one ∷ []) ≡ filter_map h before
 passed h before one none =
     filter_map-append h before (one ∷ []) ∙ (ap (λ given. filter_map h before ++ cons_option given []) none ∙ append-nil (filter_map h before))
 
@@ -42,8 +44,8 @@ module _ (draft : Draft) (before : List Statement) (line : ℕ) (is : IsDraftOf 
         items = is.items ∙ sym (passed _ before one refl);
       }
 
-  pub tenant_added : (limits : Limits) (after : Draft) → after.core ≡ draft.core → after.tenants.items ≡ draft.tenants.items ++ limits ∷ [] → after.items.items ≡ draft.items.items
-      → IsDraftOf after (before ++ (line, Some (Tenant limits)) ∷ [])
+  pub tenant_added : (limits : Limits) (after : Draft) → after.core ≡ draft.core → after.tenants.items ≡ draft.tenants.items ++ limits ∷ []
+      → after.items.items ≡ draft.items.items → IsDraftOf after (before ++ (line, Some (Tenant limits)) ∷ [])
   tenant_added limits after core_stays more items_stay =
       let one : Statement = (line, Some (Tenant limits)) in
       record {
@@ -56,8 +58,9 @@ module _ (draft : Draft) (before : List Statement) (line : ℕ) (is : IsDraftOf 
       → after.items.items ≡ draft.items.items ++ (record { line = line; action = action }) ∷ [] → IsDraftOf after (before ++ (line, Some (ToDo action)) ∷ [])
   item_added action after core_stays tenants_stay more =
       let one : Statement = (line, Some (ToDo action)) in
+      let item : Item = record { line = line; action = action } in
       record {
         core = ap option_list core_stays ∙ (is.core ∙ sym (passed _ before one refl));
         tenants = tenants_stay ∙ (is.tenants ∙ sym (passed _ before one refl));
-        items = more ∙ (ap (λ list. list ++ (record { line = line; action = action }) ∷ []) is.items ∙ sym (joined _ before one (record { line = line; action = action }) refl));
+        items = more ∙ (ap (λ list. list ++ item ∷ []) is.items ∙ sym (joined _ before one item refl));
       }

@@ -1,6 +1,6 @@
 //! What the lines so far say, and whether another line may follow them.
-ghost use Rattle.std.specs.Prelude.{◌≡◌, List, [], ◌∷◌, ◌++◌, true, Some, OnOk, IsOkUnless};
-ghost use Rattle.mc_schedules.specs.Draft.{IsDraftOf};
+ghost use Rattle.std.specs.Prelude.{◌≡◌, List, [], Some, OnOk, IsOkUnless};
+ghost use Rattle.mc_schedules.specs.Draft.{IsDraftOf, IsNext};
 ghost use Rattle.mc_schedules.specs.Place.{Statement, cores, is_in_place, items, tenants};
 ghost use Rattle.mc_schedules.specs.Schedule.{listed, read_as};
 
@@ -49,7 +49,7 @@ impl Draft {
 
     /// Adds what the next line says, which is in its place.
     pub fn add(&mut self, line: u64, said: Said) -> Result<(), Fault>
-        ensures draft { OnOk result ((before : List Statement) → IsDraftOf self.old before → is_in_place before (Some said) ≡ true → IsDraftOf self.new (before ++ (line, Some said) ∷ [])) }
+        ensures draft { OnOk result (IsNext self.old (line, Some said) self.new) }
         ensures memory { IsOkUnless result Fault.Memory }
     {
         match said {

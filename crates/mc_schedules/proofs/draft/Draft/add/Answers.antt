@@ -6,11 +6,13 @@ use Rattle.mc_schedules.proofs.draft.Draft.add.Goals as goal
 
 pub returns-in-Nothing-clause-draft : goal.returns-in-Nothing-clause-draft
 returns-in-Nothing-clause-draft c before is fits =
-    subst (λ said. IsDraftOf c.args.self.now (before ++ (c.args.line, Some said) ∷ [])) (sym c.in-Nothing.is) (nothing_added c.args.self.now before c.args.line is)
+    subst (λ said. IsDraftOf c.args.self.now (before ++ (c.args.line, Some said) ∷ [])) (sym c.in-Nothing.is)
+    (nothing_added c.args.self.now before c.args.line is)
 
 pub returns-in-Core-clause-draft : goal.returns-in-Core-clause-draft
 returns-in-Core-clause-draft c before is fits =
-    subst (λ said. IsDraftOf (record c.args.self.now { core = Some (c.in-Core.workers, c.in-Core.places) }) (before ++ (c.args.line, Some said) ∷ [])) (sym c.in-Core.is)
+    let after = record c.args.self.now { core = Some (c.in-Core.workers, c.in-Core.places) } in
+    subst (λ said. IsDraftOf after (before ++ (c.args.line, Some said) ∷ [])) (sym c.in-Core.is)
     (core_added c.args.self.now before c.args.line is c.in-Core.workers c.in-Core.places (sym (ap (λ said. is_in_place before (Some said)) c.in-Core.is) ∙ fits))
 
 pub returns-in_ok-push-in-Tenant-clause-draft : goal.returns-in_ok-push-in-Tenant-clause-draft
