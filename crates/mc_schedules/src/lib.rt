@@ -8,6 +8,7 @@ pub use schedule::{Action, Item, Reading, Schedule, read_schedule};
 
 mod command;
 mod draft;
+pub mod laws;
 mod line;
 pub mod schedule;
 mod words;
