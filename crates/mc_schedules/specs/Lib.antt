@@ -1,0 +1,5 @@
+pub mod Command
+pub mod Line
+pub mod Place
+pub mod Schedule
+pub mod Draft

@@ -1,0 +1,83 @@
+//! What the lines so far say, and whether another line may follow them.
+ghost use Rattle.std.specs.Prelude.{◌≡◌, List, [], Some, OnOk, IsOkUnless};
+ghost use Rattle.mc_schedules.specs.Draft.{IsDraftOf, IsNext};
+ghost use Rattle.mc_schedules.specs.Place.{Statement, cores, is_in_place, items, tenants};
+ghost use Rattle.mc_schedules.specs.Schedule.{listed, read_as};
+
+use crate::line::Said;
+use crate::schedule::{Item, Reading, Schedule};
+use mc_model::id::TENANTS;
+use mc_model::{Fault, Limits};
+use std::alloc::Global;
+
+/// What the lines so far say.
+#[derive(Debug, Drop)]
+pub struct Draft {
+    /// How many workers and places there are, where the core line has come.
+    core: Option<(u64, u64)>,
+    tenants: Vec<Limits>,
+    items: Vec<Item>,
+}
+
+impl Draft {
+    /// Before the first line. Needs no memory.
+    pub fn new(alloc: Global) -> Draft
+        ensures { IsDraftOf result [] }
+    {
+        Draft {
+            core: None,
+            tenants: Vec::new(alloc),
+            items: Vec::new(alloc),
+        }
+    }
+
+    /// Whether a line that says this may follow.
+    pub fn has_place_for(&self, said: &Said) -> bool
+        ensures { (before : List Statement) → IsDraftOf self.now before → result ≡ is_in_place before (Some said.now) }
+    {
+        match said {
+            Said::Nothing => true,
+            Said::Core(_, _) => self.core.is_none(),
+            Said::Tenant(_) => {
+                self.core.is_some()
+                    && self.items.is_empty()
+                    && self.tenants.len() < usize::from(TENANTS)
+            }
+            Said::ToDo(_) => !self.tenants.is_empty(),
+        }
+    }
+
+    /// Adds what the next line says, which is in its place.
+    pub fn add(&mut self, line: u64, said: Said) -> Result<(), Fault>
+        ensures draft { OnOk result (IsNext self.old (line, Some said) self.new) }
+        ensures memory { IsOkUnless result Fault.Memory }
+    {
+        match said {
+            Said::Nothing => {}
+            Said::Core(workers, places) => self.core = Some((workers, places)),
+            Said::Tenant(limits) => self.tenants.push(limits)?,
+            Said::ToDo(action) => self.items.push(Item { line, action })?,
+        }
+        Ok(())
+    }
+
+    /// What all lines read as.
+    pub fn finish(self) -> Reading
+        ensures { (before : List Statement) → IsDraftOf self before → read_as result ≡ listed (cores before) (tenants before) (items before) }
+    {
+        let Self {
+            core,
+            tenants,
+            items,
+        } = self;
+        match core {
+            Some((workers, places)) if !tenants.is_empty() => Reading::Schedule(Schedule {
+                workers,
+                places,
+                tenants,
+                items,
+            }),
+            _ => Reading::Bad(0),
+        }
+    }
+}

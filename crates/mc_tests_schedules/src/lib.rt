@@ -1,0 +1,10 @@
+//! Tests of event lists over what their crate makes public: worked lists, what each line says, and bad lines by their numbers. They
+//! stand above all libraries, since a crate with tests is proved twice.
+#![tactic(auto)]
+
+#[cfg(test)]
+mod bad_lines;
+#[cfg(test)]
+mod lists;
+#[cfg(test)]
+mod rows;

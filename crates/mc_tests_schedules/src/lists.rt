@@ -1,0 +1,79 @@
+//! What the tests share: event lists as they are read.
+use mc_model::{Command, Fault, Limits, Request};
+use mc_read::Reader;
+use mc_schedules::{Action, Reading, Schedule, read_schedule};
+use std::alloc::Global;
+use std::process::Abort;
+use std::test::Fail;
+
+/// The list of this text.
+pub(crate) fn list_of(alloc: Global, text: &str) -> Result<Schedule, Fail> {
+    match read_schedule(alloc, text.as_bytes())? {
+        Reading::Schedule(schedule) => Ok(schedule),
+        Reading::Bad(_) => Err(Fail::from("a bad line")),
+    }
+}
+
+/// The text reads as a list of these settings, and of items at these lines.
+pub(crate) fn assert_list(
+    rt: &impl Abort,
+    alloc: Global,
+    text: &str,
+    size: (u64, u64),
+    tenants: &[Limits],
+    lines: &[u64],
+) -> Result<(), Fail> {
+    let list = list_of(alloc, text)?;
+    assert_eq!(rt; (list.workers, list.places), size);
+    assert_eq!(rt; list.tenants.as_slice(), tenants);
+    let mut found: Vec<u64> = Vec::new(alloc);
+    for item in &list.items {
+        found.push(item.line)?;
+    }
+    assert_eq!(rt; found.as_slice(), lines);
+    Ok(())
+}
+
+/// The line asks for this.
+pub(crate) fn assert_asks(
+    rt: &impl Abort,
+    alloc: Global,
+    line: &str,
+    action: &Action,
+) -> Result<(), Fail> {
+    let text = format!(in alloc; "core 1 1\ntenant 1 1\n{line}")?;
+    let list = list_of(alloc, text.as_str())?;
+    assert_eq!(rt; list.items.len(), 1, "{line}");
+    for item in &list.items {
+        assert!(rt; item.action == *action, "{line}");
+    }
+    Ok(())
+}
+
+fn request_of(alloc: Global, text: &str) -> Result<Option<Request>, Fault> {
+    let mut reader = Reader::new(alloc);
+    reader.feed(text.as_bytes())?;
+    reader.next()
+}
+
+/// The command that a client of memcached writes so.
+pub(crate) fn command_of(alloc: Global, text: &str) -> Result<Command, Fail> {
+    match request_of(alloc, text)? {
+        Some(Request::Logged { command, .. }) => Ok(command),
+        _ => Err(Fail::from("no command")),
+    }
+}
+
+/// The bytes are bad at this line.
+pub(crate) fn assert_bad(
+    rt: &impl Abort,
+    alloc: Global,
+    bytes: &[u8],
+    line: u64,
+) -> Result<(), Fail> {
+    match read_schedule(alloc, bytes)? {
+        Reading::Bad(found) => assert_eq!(rt; found, line),
+        Reading::Schedule(_) => return Err(Fail::from("no line is bad")),
+    }
+    Ok(())
+}
