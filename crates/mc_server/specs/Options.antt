@@ -2,7 +2,7 @@
 -- its run ends; this project's profile.
 use Rattle.std.specs.Prelude.{◌≡◌, ◌⊎◌, ℕ, true, List, [], Err, codes}
 use Rattle.clap.specs.Faults.{fault_of}
-use Rattle.clap.specs.Simple.{App, new_app, on_top, with_rule}
+use Rattle.clap.specs.Simple.{App, with_rule}
 use Rattle.clap.specs.Walk.{Text}
 use Rattle.mc_model.specs.Settings.{AreLawfulLimits, IsBetween}
 use Rattle.mc_model.specs.declared.fault.Fault.{Fault}
@@ -11,17 +11,13 @@ use Rattle.mc_model.specs.declared.settings.Limits.{Limits}
 use Rattle.mc_model.specs.declared.settings.TheConstants.{MAX_PLACES}
 use Rattle.mc_server.specs.Faults.{fault_line}
 use Rattle.mc_server.specs.Serving.{CountsFailures, Serves, Stops}
-use Rattle.mc_server.specs.Words.{FailsToShow, Shows, TellsMistake, number_asked, number_rule}
+use Rattle.mc_server.specs.Words.{FailsToShow, Shows, TellsMistake, bare_app, number_asked, number_rule}
 use Rattle.mc_stream.specs.Pushing.{PushesOrFails}
 use Rattle.mc_stream.specs.Stream.{Outflow, Streams}
 
--- the command without its options: `--help` and `--version`; its first word is no program's name
-abbrev pub bare_app : App
-bare_app = on_top (λ shape. record shape { has_version = true; no_binary_name = true }) (new_app (codes "mc_stdin"))
-
 -- the command: `--places`, `--items` and `--bytes`
 abbrev pub stdin_app : App
-stdin_app = with_rule (with_rule (with_rule bare_app (number_rule (codes "places"))) (number_rule (codes "items"))) (number_rule (codes "bytes"))
+stdin_app = with_rule (with_rule (with_rule (bare_app (codes "mc_stdin")) (number_rule (codes "places"))) (number_rule (codes "items"))) (number_rule (codes "bytes"))
 
 -- how many places words ask for, and which quotas
 abbrev pub places_asked : List Text → ℕ

@@ -1,12 +1,15 @@
 -- What a program makes of the words of its command line that ask for no service: help and the version, mistakes, and words
 -- that can't be read. Generic over the program's name and its command, by clap's own definitions; this project's profile.
-use Rattle.std.specs.Prelude.{◌≡◌, ◌≢◌, ◌⊎◌, ◌-◌, ◌^◌, ℕ, List, Option, Some, codes, option_and_then, unwrap_or}
+use Rattle.std.specs.Option.{option_map_or}
+use Rattle.std.specs.Prelude.{◌≡◌, ◌≢◌, ◌⊎◌, ◌-◌, ◌^◌, ℕ, Bool, true, false, List, Option, Some, codes, option_and_then, unwrap_or}
+use Rattle.std.specs.Str.{bytes_eq}
 use Rattle.std.specs.Str.Parse.{without_leading_plus}
 use Rattle.clap.specs.Faults.{fault_of}
 use Rattle.clap.specs.Kinds.{IsAmong}
-use Rattle.clap.specs.Simple.{App, matches_of, new_rule}
+use Rattle.clap.specs.Simple.{App, matches_of, new_app, new_rule, on_top}
 use Rattle.clap.specs.Matches.{one_text}
 use Rattle.clap.specs.Walk.{Rule, Text, one_of}
+use Rattle.clap.specs.declared.builder.action.ArgAction.TheVariants.{SetTrue}
 use Rattle.clap.specs.declared.builder.value_parser.ValueParser.TheVariants.{Unsigned}
 use Rattle.clap.specs.declared.error.kind.ErrorKind.{ErrorKind}
 use Rattle.clap.specs.declared.error.kind.ErrorKind.TheVariants.{DisplayHelp, DisplayVersion, OutOfMemory}
@@ -18,6 +21,10 @@ use Rattle.mc_server.specs.Faults.{fault_line, program_line}
 use Rattle.mc_stream.specs.Pushing.{FailsOnce, Pushes, PushesFront, PushesOrFails}
 use Rattle.mc_stream.specs.Stream.{Outflow, Streams}
 
+-- a command without its options: `--help` and `--version`; its first word is no program's name
+abbrev pub bare_app : Text → App
+bare_app name = on_top (λ shape. record shape { has_version = true; no_binary_name = true }) (new_app name)
+
 -- an option `--name N`, a number of 64 bits
 abbrev pub number_rule : Text → Rule
 number_rule name = record (new_rule name) {
@@ -25,6 +32,10 @@ number_rule name = record (new_rule name) {
   value_names = 1;
   parser = Some (Unsigned 0 (2 ^ 64 - 1));
 }
+
+-- an option `--name` without a value
+abbrev pub flag_rule : Text → Rule
+flag_rule name = record (new_rule name) { long = Some name; action = Some SetTrue }
 
 -- the number of 64 bits that a text spells; a plus may stand first
 abbrev pub u64_of : Text → Option ℕ
@@ -37,6 +48,10 @@ number_given found name = option_and_then u64_of (one_text found name)
 -- the number that words ask for by an option of a command, and a default where they don't have it
 abbrev pub number_asked : App → Text → ℕ → List Text → ℕ
 number_asked app name default words = unwrap_or (option_and_then u64_of (one_of name (matches_of app words))) default
+
+-- words have an option of a command that takes no value
+abbrev pub flag_asked : App → Text → List Text → Bool
+flag_asked app name words = option_map_or (λ (text : Text). bytes_eq text (codes "true")) (one_of name (matches_of app words)) false
 
 -- clap answers the words by an error of this kind
 abbrev pub IsAnswered : App → List Text → ErrorKind → Type 0

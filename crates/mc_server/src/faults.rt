@@ -1,27 +1,13 @@
 //! What a program says of the fault that ended it.
 ghost use Rattle.std.specs.Prelude.{◌≡◌};
-ghost use Rattle.mc_server.specs.Faults.{fault_line, fault_text, program_line};
+ghost use Rattle.mc_server.specs.Faults.{fault_line, program_line};
 ghost use Rattle.mc_stream.specs.Pushing.{PushesOrFails};
 
 use crate::waiting::push_all;
 use mc_model::Fault;
 use mc_stream::Output;
+use mc_write::fault_text;
 use std::sync::Wait;
-
-/// The name of a fault.
-pub fn fault_text(fault: Fault) -> &'static [u8]
-    ensures { result.now ≡ fault_text fault }
-{
-    match fault {
-        Fault::Memory => b"out of memory",
-        Fault::LogFull => b"log full",
-        Fault::Taken => b"cell taken",
-        Fault::Input => b"input failed",
-        Fault::Output => b"output failed",
-        Fault::BadEvent => b"event not enabled",
-        Fault::BadSettings => b"bad settings",
-    }
-}
 
 /// Pushes a line that names the program. Takes no memory, which may be what ran out.
 pub(crate) fn tell_line<R: Wait, E: Output>(

@@ -1,11 +1,11 @@
 //! The functions behind the programs.
 #![tactic(auto)]
 
-pub use faults::fault_text;
 pub use mc_stream::{
     Input, InputStep, MemoryInput, MemoryOutput, Output, OutputStep, Pull, Push, ReadInput,
     WriteOutput,
 };
+pub use mc_write::fault_text;
 pub use serving::pump;
 pub use stdin::run_stdin;
 pub use words::{refuse_words, words_after_name};

@@ -1,9 +1,10 @@
-//! Reply text: what a client reads for each reply, appended to a queue of bytes.
+//! Text: what a client reads for each reply, appended to a queue of bytes, and the names of faults.
 #![tactic(auto)]
 
 ghost use Rattle.std.specs.Io.{StartsWith};
 ghost use Rattle.std.specs.Prelude.{◌≡◌, ℕ, ◌+◌, ◌≤◌, ◌++◌, codes, decimal, flat_map, length, vec_capacity, vec_len, OnErr, OnOk, IsOk, IsOkUnless};
 ghost use Rattle.mc_model.specs.declared.reply.Reply.TheVariants.{Refused};
+ghost use Rattle.mc_write.specs.Faults.{fault_text};
 ghost use Rattle.mc_write.specs.Text.{text, unique_text, value_line, value_text};
 
 use itoa::Buffer;
@@ -134,4 +135,19 @@ fn append_digits(number: u64, out: &mut Vec<u8>) -> Result<(), AllocError>
 {
     let mut digits = Buffer::new();
     out.extend_from_slice(digits.format(number).as_bytes())
+}
+
+/// The name of a fault, by which a program tells it.
+pub fn fault_text(fault: Fault) -> &'static [u8]
+    ensures { result.now ≡ fault_text fault }
+{
+    match fault {
+        Fault::Memory => b"out of memory",
+        Fault::LogFull => b"log full",
+        Fault::Taken => b"cell taken",
+        Fault::Input => b"input failed",
+        Fault::Output => b"output failed",
+        Fault::BadEvent => b"event not enabled",
+        Fault::BadSettings => b"bad settings",
+    }
 }
