@@ -8,7 +8,7 @@ use crate::running::Outcome;
 use mc_model::{Fault, Phase, Reply, Ticket, WorkerId};
 use mc_write::{fault_text, write_reply};
 use std::alloc::{AllocError, Global};
-use uc_core::Core;
+use uc_core::{Core, Progress};
 
 impl Outcome {
     ghost use Rattle.mc_schedules.specs.Report.{report};
@@ -60,10 +60,18 @@ fn append_reply(
     let number = worker.number();
     let name = format!(in alloc; "reply {number} {place} ")?;
     out.extend_from_slice(name.as_bytes())?;
-    for byte in text {
+    append_all_escaped(text, out)?;
+    out.extend_from_slice(b"\n")
+}
+
+/// Bytes as they are printed.
+fn append_all_escaped(bytes: &[u8], out: &mut Vec<u8>) -> Result<(), AllocError>
+    ensures text { OnOk result (out.new.items ≡ out.old.items ++ flat_map escaped bytes.now) }
+{
+    for byte in bytes {
         append_escaped(*byte, out)?;
     }
-    out.extend_from_slice(b"\n")
+    Ok(())
 }
 
 /// A byte as it is printed.
@@ -117,10 +125,18 @@ fn append_log(alloc: Global, decided: &[Ticket], out: &mut Vec<u8>) -> Result<()
     ensures text { OnOk result (out.new.items ≡ out.old.items ++ log_text decided.now) }
 {
     out.extend_from_slice(b"log")?;
-    for ticket in decided {
+    append_tickets(alloc, decided, out)?;
+    out.extend_from_slice(b"\n")
+}
+
+/// Tickets, each behind a space.
+fn append_tickets(alloc: Global, tickets: &[Ticket], out: &mut Vec<u8>) -> Result<(), AllocError>
+    ensures text { OnOk result (out.new.items ≡ out.old.items ++ flat_map ticket_text tickets.now) }
+{
+    for ticket in tickets {
         append_ticket(alloc, *ticket, out)?;
     }
-    out.extend_from_slice(b"\n")
+    Ok(())
 }
 
 /// A ticket behind a space.
@@ -134,13 +150,13 @@ fn append_ticket(alloc: Global, ticket: Ticket, out: &mut Vec<u8>) -> Result<(),
 }
 
 /// A line for each worker, by its number.
+#[tactic(auto, using(crate::proofs::Workers::one_more, crate::proofs::Workers::no_more))]
 fn append_workers(alloc: Global, core: &Core, out: &mut Vec<u8>) -> Result<(), AllocError>
     ensures text { OnOk result (out.new.items ≡ out.old.items ++ workers_text core.now) }
 {
     for number in 0..core.workers() as u8 {
-        if let Some(worker) = WorkerId::new(number) {
-            append_worker(alloc, core, worker, out)?;
-        }
+        let worker = WorkerId::new(number).unwrap();
+        append_worker(alloc, core, worker, out)?;
     }
     Ok(())
 }
@@ -154,16 +170,30 @@ fn append_worker(
 ) -> Result<(), AllocError>
     ensures text { OnOk result (out.new.items ≡ out.old.items ++ option_map_or (worker_line worker) (progress_by core.now worker) []) }
 {
-    let number = worker.number();
-    if let Some(progress) = core.progress(worker) {
-        let phase = phase_text(progress.phase);
-        let learned = progress.learned;
-        let replayed = progress.replayed;
-        let proposals = progress.proposals;
-        let line = format!(in alloc; "worker {number} {phase} learned {learned} replayed {replayed} proposals {proposals}\n")?;
-        out.extend_from_slice(line.as_bytes())?;
+    match core.progress(worker) {
+        Some(progress) => append_progress(alloc, worker.number(), &progress, out),
+        None => Ok(()),
     }
-    Ok(())
+}
+
+/// How far the worker of this number is.
+fn append_progress(
+    alloc: Global,
+    number: u8,
+    progress: &Progress,
+    out: &mut Vec<u8>,
+) -> Result<(), AllocError>
+    ensures text { OnOk result (out.new.items ≡ out.old.items ++ worker_line number progress.now) }
+{
+    let phase = phase_text(progress.phase);
+    let learned = progress.learned;
+    let replayed = progress.replayed;
+    let proposals = progress.proposals;
+    let line = format!(
+        in alloc;
+        "worker {number} {phase} learned {learned} replayed {replayed} proposals {proposals}\n"
+    )?;
+    out.extend_from_slice(line.as_bytes())
 }
 
 /// What a worker is at, in a word.
