@@ -7,4 +7,6 @@ mod bad_lines;
 #[cfg(test)]
 mod lists;
 #[cfg(test)]
+mod reports;
+#[cfg(test)]
 mod rows;
