@@ -12,6 +12,7 @@ pub use words::{refuse_words, words_after_name};
 
 mod faults;
 mod options;
+mod schedule_words;
 mod serving;
 mod session;
 mod stdin;
