@@ -7,6 +7,7 @@
 //! printed of a run.
 #![tactic(auto)]
 
+pub use picture::draw;
 pub use running::{Outcome, run_items};
 pub use schedule::{Action, Item, Reading, Schedule, read_schedule};
 pub use watching::{Unwatched, Watch};
@@ -15,6 +16,7 @@ mod command;
 mod draft;
 pub mod laws;
 mod line;
+pub mod picture;
 mod report;
 pub mod running;
 pub mod schedule;
