@@ -1,4 +1,6 @@
+pub mod Answered
 pub mod Owings
+pub mod Reported
 pub mod Underway
 mod Rows
 pub mod Sessions

@@ -53,6 +53,10 @@ number_asked app name default words = unwrap_or (option_and_then u64_of (one_of 
 abbrev pub flag_asked : App → Text → List Text → Bool
 flag_asked app name words = option_map_or (λ (text : Text). bytes_eq text (codes "true")) (one_of name (matches_of app words)) false
 
+-- an option that takes no value was given, in what was matched
+abbrev pub flag_given : Found → Text → Bool
+flag_given found name = option_map_or (λ (text : Text). bytes_eq text (codes "true")) (one_text found name) false
+
 -- clap answers the words by an error of this kind
 abbrev pub IsAnswered : App → List Text → ErrorKind → Type 0
 IsAnswered app words kind = IsAmong kind (fault_of app words)

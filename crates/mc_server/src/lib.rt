@@ -6,12 +6,15 @@ pub use mc_stream::{
     WriteOutput,
 };
 pub use mc_write::fault_text;
+pub use schedule::run_schedule;
 pub use serving::pump;
 pub use stdin::run_stdin;
 pub use words::{refuse_words, words_after_name};
 
 mod faults;
 mod options;
+mod schedule;
+mod schedule_words;
 mod serving;
 mod session;
 mod stdin;

@@ -22,7 +22,7 @@ use std::alloc::Global;
 use std::sync::Wait;
 
 /// How many bytes a pull asks for.
-const PULL_BYTES: usize = 16_384;
+pub(crate) const PULL_BYTES: usize = 16_384;
 
 /// Pushes all that is queued.
 fn flush<R: Wait, O: Output>(rt: &R, queue: &mut Vec<u8>, output: &mut O) -> Result<(), Fault>

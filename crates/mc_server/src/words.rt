@@ -5,13 +5,13 @@ ghost use Rattle.std.specs.declared.io.ErrorKind.TheVariants.{OutOfMemory as Std
 ghost use Rattle.std.specs.Prelude.{◌≡◌, ◌≢◌, ◌⊎◌, ℕ, Err, IfErr, List, false};
 ghost use Rattle.mc_model.specs.declared.fault.Fault.{Fault};
 ghost use Rattle.mc_server.specs.Faults.{fault_line};
-ghost use Rattle.mc_server.specs.Words.{FailsToAnswer, IsShown, number_given, number_rule, unreadable_line};
+ghost use Rattle.mc_server.specs.Words.{FailsToAnswer, IsShown, flag_given, flag_rule, number_given, number_rule, unreadable_line};
 ghost use Rattle.mc_stream.specs.Pushing.{IsUnfailed, Pushes, PushesOrFails};
 
 use crate::faults::{fail, tell_line};
 use crate::waiting::push_all;
 use clap::error::ErrorKind;
-use clap::{Arg, ArgMatches, Error, value_parser};
+use clap::{Arg, ArgAction, ArgMatches, Error, value_parser};
 use mc_model::Fault;
 use mc_stream::Output;
 use std::alloc::Global;
@@ -36,6 +36,25 @@ pub(crate) fn number(matches: &ArgMatches, name: &str) -> Option<u64>
     ensures { result ≡ number_given (found_of matches.now) name.now }
 {
     matches.get_one::<u64>(name)
+}
+
+/// An option `--name` without a value.
+pub(crate) fn flag_option<'a>(alloc: Global, name: &'a str, help: &'a str) -> Arg<'a>
+    ensures rule { rule_of result ≡ flag_rule name.now }
+    ensures local { result.global ≡ false }
+{
+    Arg::new(alloc, name)
+        .long(name)
+        .help(help)
+        .action(ArgAction::SetTrue)
+}
+
+/// Whether an option without a value was given.
+pub(crate) fn flag(matches: &ArgMatches, name: &str) -> bool
+    ensures { result ≡ flag_given (found_of matches.now) name.now }
+{
+    // As `get_flag`, which says of no other text than `true` and `false` what it gives.
+    matches.get_one::<bool>(name).unwrap_or(false)
 }
 
 /// Answers words that ask for no service, by clap's text: help and the version on `output` and with status 0, a mistake on
