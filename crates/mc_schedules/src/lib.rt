@@ -15,6 +15,7 @@ mod command;
 mod draft;
 pub mod laws;
 mod line;
+mod needed;
 mod report;
 pub mod running;
 pub mod schedule;

@@ -8,6 +8,7 @@ pub trait Watch {
 }
 
 /// Looks away.
+#[derive(Debug, Drop)]
 pub struct Unwatched;
 
 impl Watch for Unwatched {
