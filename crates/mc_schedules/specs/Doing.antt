@@ -1,6 +1,6 @@
 -- What is to be done, done: an event, what a submit stands for, a whole list; from which state each leads to which, which replies it
 -- gives, and how it ends. This project's profile.
-use Rattle.std.specs.Prelude.{◌≡◌, ◌⊎◌, ℕ, zero, suc, List, [], ◌∷◌, ◌++◌, Option, Some, None}
+use Rattle.std.specs.Prelude.{◌≡◌, ◌⊎◌, ℕ, zero, suc, List, [], ◌∷◌, ◌++◌, Option, Some, None, Result, Ok, Err}
 use Rattle.mc_model.specs.declared.fault.Fault.{Fault}
 use Rattle.mc_model.specs.declared.reply.Reply.{Reply}
 use Rattle.uc_core.specs.Core.{CoreState}
@@ -53,3 +53,12 @@ Acts line (action.Submit number tenant command) old new given end =
 abbrev pub DoesAll : List Item → Doing
 DoesAll [] old new given end = Rests old new given end
 DoesAll (item ∷ items) old new given end = Then (Acts item.line item.action) (DoesAll items) old new given end
+
+-- how what a line asks for ended
+abbrev pub ended : ℕ → Result (Unit {0}) Fault → Ending
+ended line (Ok nothing) = None
+ended line (Err fault) = Some (line, fault)
+
+-- Something of a line is done from one state to another, and its replies come after those before; it ends as a call tells.
+abbrev pub Did : Doing → ℕ → CoreState → CoreState → List Given → List Given → Result (Unit {0}) Fault → Type 0
+Did doing line old new before after told = (given : List Given) × doing old new given (ended line told) × (after ≡ before ++ given)

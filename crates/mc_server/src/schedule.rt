@@ -79,7 +79,6 @@ fn report_of(
 {
     let mut unwatched = Unwatched;
     let run = run_items(alloc, settings, items, &mut unwatched);
-    let Unwatched = unwatched;
     let outcome = run?;
     let end = outcome.fault;
     Ok((outcome.report(alloc, quiet)?, end))

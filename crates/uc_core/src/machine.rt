@@ -6,6 +6,7 @@ ghost use Rattle.mc_model.specs.declared.id.TheConstants.{WORKERS};
 ghost use Rattle.mc_model.specs.declared.request.Entry.{Entry};
 ghost use Rattle.uc_core.specs.Core.{entry_under, new_core};
 ghost use Rattle.uc_core.specs.Kept.{AreEmpty, AreFresh};
+ghost use Rattle.uc_core.specs.Run.{IsReachedCore};
 
 use crate::worker::Worker;
 use mc_items::Items;
@@ -91,7 +92,10 @@ impl Core {
 
     /// How many places the log has.
     pub fn places(&self) -> u64
-        ensures { result ≡ self.now.places }
+        ensures places { result ≡ self.now.places }
+
+        // Some run has led to each core.
+        ensures reached { IsReachedCore self.now }
     {
         let Core { places, .. } = self;
         *places
