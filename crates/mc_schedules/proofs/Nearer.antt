@@ -1,5 +1,5 @@
 -- Each event that a worker needs lessens how many it can need.
-use Rattle.std.proofs.Common.{◌≡◌, ◌≢◌, ℕ, ◌+◌, ◌-◌, ◌*◌, ◌<◌, ◌≤◌, Bool, true, false, not, ◌&&◌, List, [], ◌∷◌, ◌++◌, length, length-append, ltb, Option, Some, None, is_some, if◌then◌else◌, slice_get, slice_set, unwrap_or, refl, sym, ap, ap₂, subst, ◌∙◌, arith}
+use Rattle.std.proofs.Common.{◌≡◌, ◌≢◌, ℕ, ◌+◌, ◌-◌, ◌*◌, ◌<◌, ◌≤◌, Bool, true, false, not, ◌&&◌, [], ◌∷◌, length, length-append, ltb, Option, Some, None, is_some, if◌then◌else◌, slice_get, unwrap_or, refl, sym, ap, ap₂, subst, ◌∙◌, arith}
 use Rattle.std.proofs.lemmas.Bool.{false≢true}
 use Rattle.std.proofs.lemmas.Bool.Decides.{nat_tests}
 use Rattle.std.proofs.lemmas.Option.{none-some, same_Some, slice_get_within}
@@ -14,7 +14,7 @@ use Rattle.mc_model.specs.Lawful.{IsWorker, announced_by, next, turn}
 use Rattle.mc_model.specs.Shown.{is_latest, learn, look, marked, proposal, propose, read}
 use Rattle.uc_core.specs.Core.{CoreState, ReplayState, size_of}
 use Rattle.uc_core.specs.Run.{IsReachedCore}
-use Rattle.uc_core.specs.Showing.{progress_by, progress_of}
+use Rattle.uc_core.specs.Showing.{progress_of}
 use Rattle.uc_core.specs.Step.{CoreStep}
 use Rattle.uc_core.specs.declared.event.Event.{Event}
 use Rattle.uc_core.specs.declared.event.Event.TheVariants.{Look, Propose, Read, Replay}
