@@ -1,13 +1,13 @@
 -- What is done so far, seen from its end: whatever the rest does from here, the whole does from the start, with the replies so far
 -- before the rest's.
-use Rattle.std.proofs.Common.{◌≡◌, ◌⊎◌, inl, inr, ℕ, zero, suc, List, [], ◌∷◌, ◌++◌, Option, Some, None, Result, Ok, Err, refl, sym, ap, subst, ◌∙◌}
+use Rattle.std.proofs.Common.{◌≡◌, inl, inr, ℕ, suc, List, [], ◌∷◌, ◌++◌, Some, None, Result, Ok, Err, refl, sym, ap, subst, ◌∙◌}
 use Rattle.std.proofs.lemmas.List.{append-nil, append_assoc}
 use Rattle.mc_model.specs.declared.fault.Fault.{Fault}
 use Rattle.uc_core.specs.Core.{CoreState}
 use Rattle.uc_core.specs.Run.{Given}
 use Rattle.uc_core.specs.declared.event.Event.{Event}
 use Rattle.mc_schedules.specs.declared.schedule.Item.{Item}
-use Rattle.mc_schedules.specs.Doing.{Acts, Did, Doing, DoesAll, Ending, Finishes, Takes, Then, ended}
+use Rattle.mc_schedules.specs.Doing.{Acts, Did, DoesAll, Ending, Finishes, Takes}
 use Rattle.mc_schedules.specs.Needed.{needed}
 
 -- Of a worker's events: so many are taken that however it finishes from here, it finishes from the start.

@@ -2,6 +2,7 @@
 -- gives, and how it ends. This project's profile.
 use Rattle.std.specs.Prelude.{◌≡◌, ◌⊎◌, ℕ, zero, suc, List, [], ◌∷◌, ◌++◌, Option, Some, None, Result, Ok, Err}
 use Rattle.mc_model.specs.declared.fault.Fault.{Fault}
+use Rattle.mc_model.specs.declared.fault.Fault.TheVariants.{Memory}
 use Rattle.mc_model.specs.declared.reply.Reply.{Reply}
 use Rattle.uc_core.specs.Core.{CoreState}
 use Rattle.uc_core.specs.Run.{Given, IsFaultOf, given_by}
@@ -16,6 +17,10 @@ use Rattle.mc_schedules.specs.Needed.{needed}
 -- how something ended: none where all of it was done, or the number of the line of which an event met a fault, and the fault
 abbrev pub Ending : Type 0
 Ending = Option (ℕ × Fault)
+
+-- it ended for want of memory
+abbrev pub RanOut : Ending → Type 0
+RanOut end = (line : ℕ) × (end ≡ Some (line, Memory))
 
 -- from which state something leads to which, with which replies, and how it ends
 abbrev pub Doing : Type 1

@@ -12,14 +12,14 @@ loop-line-init g c =
 pub returns-in-Err : goal.returns-in-Err
 returns-in-Err g c =
     let so_far = subst (λ (rest : List Item). Doings c.args.items.items rest c.args.core.now c.loop-line.core c.args.replies.now.items c.loop-line.replies.items)
-        c.in-Some.ensures.steps.0 c.loop-line.invariant in
+    c.in-Some.ensures.steps.0 c.loop-line.invariant in
     done-fault c.args.items.items c.in-Some.field-0 c.next.new.self.rest.items c.args.core.now c.loop-line.core c.args.replies.now.items c.loop-line.replies.items
     so_far c.act.new.core c.act.new.replies.items c.in-Err.fault c.in-Err.ensures
 
 pub loop-line-preserved : goal.loop-line-preserved
 loop-line-preserved g c =
     let so_far = subst (λ (rest : List Item). Doings c.args.items.items rest c.args.core.now c.loop-line.core c.args.replies.now.items c.loop-line.replies.items)
-        c.in-Some.ensures.steps.0 c.loop-line.invariant in
+    c.in-Some.ensures.steps.0 c.loop-line.invariant in
     doings-next c.args.items.items c.in-Some.field-0 c.next.new.self.rest.items c.args.core.now c.loop-line.core c.args.replies.now.items c.loop-line.replies.items
     so_far c.act.new.core c.act.new.replies.items c.in_default.ensures
 
