@@ -1,11 +1,9 @@
 -- What mc_schedule does for the words of its command line and the bytes that come; this project's profile.
 use Rattle.std.specs.Io.KnownBytes.{Consumes, IsAtEnd}
-use Rattle.std.specs.Option.{option_map_or}
 use Rattle.std.specs.Prelude.{◌≡◌, ◌⊎◌, ℕ, ◌+◌, ◌<◌, Bool, true, false, List, [], ◌++◌, length, Some, None, codes, decimal}
-use Rattle.std.specs.Str.{bytes_eq}
 use Rattle.clap.specs.Faults.{fault_of}
-use Rattle.clap.specs.Simple.{App, matches_of, with_rule}
-use Rattle.clap.specs.Walk.{Text, one_of}
+use Rattle.clap.specs.Simple.{App, with_rule}
+use Rattle.clap.specs.Walk.{Text}
 use Rattle.mc_model.specs.Settings.{Configuration, IsLawful}
 use Rattle.mc_model.specs.declared.fault.Fault.{Fault}
 use Rattle.mc_model.specs.declared.fault.Fault.TheVariants.{Memory, LogFull, Taken, Input, Output, BadEvent, BadSettings}

@@ -1,8 +1,5 @@
-use Rattle.std.proofs.Common.{◌≡◌, inr, refl, sym, subst}
-use Rattle.mc_model.specs.declared.fault.Fault.{Fault}
+use Rattle.std.proofs.Common.{◌≡◌, inr}
 use Rattle.mc_model.specs.declared.fault.Fault.TheVariants.{Output}
-use Rattle.mc_server.specs.declared.schedule.Answer.{Answer}
-use Rattle.mc_server.specs.Reporting.{Gives}
 use Rattle.mc_server.proofs.schedule.give.Goals as goal
 
 -- the output failed

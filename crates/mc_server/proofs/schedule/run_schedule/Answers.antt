@@ -1,6 +1,5 @@
-use Rattle.std.proofs.Common.{◌≡◌, ◌≢◌, ◌⊎◌, inl, inr, map, refl, string_bytes, subst, List, String, Global}
-use Rattle.clap.specs.Kinds.{HasKind}
-use Rattle.clap.specs.Words.{fault_of, kind_of}
+use Rattle.std.proofs.Common.{◌≡◌, ◌⊎◌, inr, map, refl, string_bytes, subst, List, String, Global}
+use Rattle.clap.specs.Words.{kind_of}
 use Rattle.clap.specs.declared.error.kind.ErrorKind.TheVariants.{OutOfMemory}
 use Rattle.mc_server.specs.Lists.{schedule_app}
 use Rattle.mc_server.specs.Words.{IsAnswered}
