@@ -10,21 +10,21 @@ use std::alloc::{AllocError, Global};
 /// The forms of the lines of an event list, as help shows them.
 const FORMS: &str = "\
 An event list stands on standard input, line by line, its words with spaces between them:
-  core WORKERS PLACES   first: how many workers there are, and how many commands the log has places for
+  core WORKERS PLACES   first: how many workers there are, and how many places for commands the log has
   tenant ITEMS BYTES    then 1 to 64 such lines: how many items and bytes each tenant's table may hold
 and then any number of these, where W is a worker and T a tenant, each numbered from 0:
-  submit W T COMMAND    W announces a command of T, takes its turns until it is decided, and replays all it has learned
+  submit W T COMMAND    W announces a command of T, helps by turns until it is decided, and replays
   announce W T COMMAND  W announces a command of T, and no more
-  read W                W learns the next decided place
-  look W                W looks for what the next place is to hold
-  propose W             W proposes what it found
-  replay W              W does the next command that it has learned, and answers it where it is its own
+  read W                W learns what stands at its next place, if anything does
+  look W                W looks for a command that waits, of the worker whose turn its next place is
+  propose W             W proposes what it found, or else its own command, and learns what is decided
+  replay W              W applies the next command that it has learned, and answers its own
   stop W                W does nothing more
-COMMAND is set, add, replace, append or prepend KEY FLAGS DATA, cas KEY FLAGS UNIQUE DATA, get or gets KEY..,
-delete KEY, incr or decr KEY NUMBER, or flush_all. DATA is one word, and a point stands for no data.
-A line that begins with # is a comment.
+COMMAND is set, add, replace, append or prepend KEY FLAGS DATA, cas KEY FLAGS UNIQUE DATA,
+get or gets KEY.., delete KEY, incr or decr KEY NUMBER, or flush_all. DATA is one word, and a
+point stands for no data. A line that begins with # is a comment.
 
-Example: worker 1 completes the command of worker 0, which has stopped.
+Example, in which worker 1 brings the command of worker 0, which has stopped, into the log:
   core 2 8
   tenant 4 100
   announce 0 0 set a 0 x

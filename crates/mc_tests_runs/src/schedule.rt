@@ -62,9 +62,11 @@ const STOPPED: &str = "core 2 8\ntenant 4 100\nannounce 0 0 set a 0 x\nstop 0\ns
 
 #[test]
 fn two_tenants_have_their_own_items_and_uniques(rt: HostRuntime) -> Result<(), Fail> {
-    let list = "core 1 8\ntenant 4 100\ntenant 4 100\nsubmit 0 0 set a 0 x\nsubmit 0 0 set a 0 x\nsubmit 0 0 set a 0 x\n\
+    let list =
+        "core 1 8\ntenant 4 100\ntenant 4 100\nsubmit 0 0 set a 0 x\nsubmit 0 0 set a 0 x\nsubmit 0 0 set a 0 x\n\
         submit 0 1 set a 0 q\nsubmit 0 1 gets a\n";
-    let report = "reply 0 0 STORED\\r\\n\nreply 0 1 STORED\\r\\n\nreply 0 2 STORED\\r\\n\nreply 0 3 STORED\\r\\n\n\
+    let report =
+        "reply 0 0 STORED\\r\\n\nreply 0 1 STORED\\r\\n\nreply 0 2 STORED\\r\\n\nreply 0 3 STORED\\r\\n\n\
         reply 0 4 VALUE a 0 1 1\\r\\nq\\r\\nEND\\r\\n\nlog (0,0) (0,1) (0,2) (0,3) (0,4)\n\
         worker 0 idle learned 5 replayed 5 proposals 1\n";
     check_reported(&rt, "", list, 0, report)?;
@@ -81,10 +83,12 @@ fn a_stopped_worker_is_helped(rt: HostRuntime) -> Result<(), Fail> {
 
 #[test]
 fn helping_changes_the_proposal(rt: HostRuntime) -> Result<(), Fail> {
-    let list = "core 2 8\ntenant 4 100\nannounce 1 0 set a 0 x\nread 1\nlook 1\nannounce 0 0 set b 0 y\nread 0\npropose 1\n\
+    let list =
+        "core 2 8\ntenant 4 100\nannounce 1 0 set a 0 x\nread 1\nlook 1\nannounce 0 0 set b 0 y\nread 0\npropose 1\n\
         submit 1 0 set a 0 z\nsubmit 1 0 get b\nlook 0\npropose 0\nlook 0\npropose 0\nlook 0\npropose 0\n\
         replay 0\nreplay 0\nreplay 0\n";
-    let report = "reply 1 0 STORED\\r\\n\nreply 1 1 STORED\\r\\n\nreply 1 3 VALUE b 0 1\\r\\ny\\r\\nEND\\r\\n\n\
+    let report =
+        "reply 1 0 STORED\\r\\n\nreply 1 1 STORED\\r\\n\nreply 1 3 VALUE b 0 1\\r\\ny\\r\\nEND\\r\\n\n\
         reply 0 2 STORED\\r\\n\nlog (1,0) (1,1) (0,0) (1,2)\n\
         worker 0 idle learned 3 replayed 3 proposals 3\nworker 1 idle learned 4 replayed 4 proposals 2\n";
     check_reported(&rt, "", list, 0, report)?;
@@ -93,7 +97,8 @@ fn helping_changes_the_proposal(rt: HostRuntime) -> Result<(), Fail> {
 
 #[test]
 fn three_workers_serve_two_tenants(rt: HostRuntime) -> Result<(), Fail> {
-    let list = "core 3 9\ntenant 2 50\ntenant 1 9\nsubmit 2 1 set a 0 q\nsubmit 1 0 set a 0 x\nsubmit 0 1 set b 0 q\n\
+    let list =
+        "core 3 9\ntenant 2 50\ntenant 1 9\nsubmit 2 1 set a 0 q\nsubmit 1 0 set a 0 x\nsubmit 0 1 set b 0 q\n\
         submit 2 0 gets a\n";
     let report = "reply 2 0 STORED\\r\\n\nreply 1 1 STORED\\r\\n\n\
         reply 0 2 SERVER_ERROR out of memory storing object\\r\\n\n\
@@ -104,7 +109,8 @@ fn three_workers_serve_two_tenants(rt: HostRuntime) -> Result<(), Fail> {
 
     // The log agrees with that one for tenant 0, and so do its replies.
     let list = "core 1 4\ntenant 2 50\nsubmit 0 0 set a 0 x\nsubmit 0 0 gets a\n";
-    let report = "reply 0 0 STORED\\r\\n\nreply 0 1 VALUE a 0 1 1\\r\\nx\\r\\nEND\\r\\n\nlog (0,0) (0,1)\n\
+    let report =
+        "reply 0 0 STORED\\r\\n\nreply 0 1 VALUE a 0 1 1\\r\\nx\\r\\nEND\\r\\n\nlog (0,0) (0,1)\n\
         worker 0 idle learned 2 replayed 2 proposals 1\n";
     check_reported(&rt, "", list, 0, report)?;
     Ok(())
@@ -142,7 +148,8 @@ fn faults_of_events_end_the_run(rt: HostRuntime) -> Result<(), Fail> {
 
 #[test]
 fn words_leave_replies_out_and_add_a_picture(rt: HostRuntime) -> Result<(), Fail> {
-    let picture = "   line  worker 0    worker 1    log\n      3  announce    |\n      4  stop        |\n      5              announce\n\
+    let picture =
+        "   line  worker 0    worker 1    log\n      3  announce    |\n      4  stop        |\n      5              announce\n\
         \x20     5              read empty\n      5              look -> 0\n      5              propose     0 (0,0)\n\
         \x20     5              look -> 1\n      5              propose *   1 (1,0)\n      5              replay\n\
         \x20     5              replay\n\n";
@@ -164,16 +171,31 @@ fn words_leave_replies_out_and_add_a_picture(rt: HostRuntime) -> Result<(), Fail
 #[test]
 fn bad_lines_come_before_bad_settings(rt: HostRuntime) -> Result<(), Fail> {
     for (list, text) in [
-        ("core 1 4\ntenant 4 100\njump 0\n", "mc_schedule: line 3: bad line\n"),
-        ("core 0 4\ntenant 4 100\njump 0\n", "mc_schedule: line 3: bad line\n"),
-        ("core 1 4\r\ntenant 4 100\n", "mc_schedule: line 1: bad line\n"),
+        (
+            "core 1 4\ntenant 4 100\njump 0\n",
+            "mc_schedule: line 3: bad line\n",
+        ),
+        (
+            "core 0 4\ntenant 4 100\njump 0\n",
+            "mc_schedule: line 3: bad line\n",
+        ),
+        (
+            "core 1 4\r\ntenant 4 100\n",
+            "mc_schedule: line 1: bad line\n",
+        ),
         ("core 1 4\nread 0\n", "mc_schedule: line 2: bad line\n"),
         ("", "mc_schedule: line 0: bad line\n"),
         ("core 99 4\n", "mc_schedule: line 0: bad line\n"),
         ("core 0 4\ntenant 4 100\n", "mc_schedule: bad settings\n"),
         ("core 17 4\ntenant 4 100\n", "mc_schedule: bad settings\n"),
-        ("core 1 1048577\ntenant 4 100\n", "mc_schedule: bad settings\n"),
-        ("core 1 4\ntenant 4 100\ntenant 0 100\nread 9\n", "mc_schedule: bad settings\n"),
+        (
+            "core 1 1048577\ntenant 4 100\n",
+            "mc_schedule: bad settings\n",
+        ),
+        (
+            "core 1 4\ntenant 4 100\ntenant 0 100\nread 9\n",
+            "mc_schedule: bad settings\n",
+        ),
     ] {
         check_refused(&rt, "", list, text)?;
         check_refused(&rt, "--picture", list, text)?;
@@ -236,7 +258,39 @@ fn check_shown(
     check_steps(rt, given, STOPPED, NO_STEPS, wanted)
 }
 
-const HELP: &str = "x";
+const HELP: &str = "\
+Runs an event list, and prints its replies, the log and the workers
+
+Usage: mc_schedule [OPTIONS]
+
+Options:
+      --quiet    Leaves out the replies
+      --picture  Draws the run before its report
+  -h, --help     Print help
+  -V, --version  Print version
+
+An event list stands on standard input, line by line, its words with spaces between them:
+  core WORKERS PLACES   first: how many workers there are, and how many places for commands the log has
+  tenant ITEMS BYTES    then 1 to 64 such lines: how many items and bytes each tenant's table may hold
+and then any number of these, where W is a worker and T a tenant, each numbered from 0:
+  submit W T COMMAND    W announces a command of T, helps by turns until it is decided, and replays
+  announce W T COMMAND  W announces a command of T, and no more
+  read W                W learns what stands at its next place, if anything does
+  look W                W looks for a command that waits, of the worker whose turn its next place is
+  propose W             W proposes what it found, or else its own command, and learns what is decided
+  replay W              W applies the next command that it has learned, and answers its own
+  stop W                W does nothing more
+COMMAND is set, add, replace, append or prepend KEY FLAGS DATA, cas KEY FLAGS UNIQUE DATA,
+get or gets KEY.., delete KEY, incr or decr KEY NUMBER, or flush_all. DATA is one word, and a
+point stands for no data. A line that begins with # is a comment.
+
+Example, in which worker 1 brings the command of worker 0, which has stopped, into the log:
+  core 2 8
+  tenant 4 100
+  announce 0 0 set a 0 x
+  stop 0
+  submit 1 0 get a
+";
 
 #[test]
 fn help_and_the_version_are_shown(rt: HostRuntime) -> Result<(), Fail> {
