@@ -26,12 +26,14 @@ not_out : ¬ RanOut None
 not_out out = none-some (out.0, Memory) out.1
 
 -- an event that leads on meets no fault but want of memory
-only_memory : (old new : CoreState) (event : Event) (line : ℕ) (given other_given : List Given) (other : CoreState) (met : ℕ × Fault) → IsReachedCore old →
+only_memory : (old new : CoreState) (event : Event) (line : ℕ) (given other_given : List Given) (other : CoreState) (met : ℕ × Fault) →
+    IsReachedCore old →
     Takes line event old new given None → Takes line event old other other_given (Some met) → RanOut (Some met)
 only_memory old new event line given other_given other met reached does meets =
     let none = steps_are_enabled old (law_of reached.0 reached.1 old reached.2 reached.3) event new does.0 does.1 in
     (met.0, ap (λ (fault : Fault). Some (met.0, fault)) (meets.1.0 ∙ ap (λ it. unwrap_or it Memory) none))
 
+-- an event is taken in one way, or it meets one fault
 pub taking_alike : (line : ℕ) (event : Event) → AreAlike (Takes line event) (Takes line event)
 taking_alike line event old new other given other_given None None reached does also stays other_stays =
     let same = steps_are_one old event new other does.0 also.0 does.1 also.1 in
@@ -46,6 +48,7 @@ taking_alike line event old new other given other_given (Some met) (Some other_m
   ap₂ (λ (number : ℕ) (fault : Fault). Some (number, fault)) (does.0 ∙ sym also.0) (does.1.0 ∙ sym also.1.0),
 )
 
+-- one thing and then another, each of which is alike
 pub then_alike : (one two next_one next_two : Doing) → AreRuns one → AreAlike one two → AreAlike next_one next_two →
     AreAlike (Then one next_one) (Then two next_two)
 then_alike one two next_one next_two runs first second old new other given other_given end other_end reached (inl does) (inl also) stays other_stays =
@@ -63,6 +66,7 @@ then_alike one two next_one next_two runs first second old new other given other
     let after = second does.0 new other does.2 also.2 end other_end between does.4 last stays other_stays in
     (after.0, does.5 ∙ ap₂ (λ (earlier later : List Given). earlier ++ later) before.1 after.1 ∙ sym also.5, after.2)
 
+-- a worker needs one event at most, so that it finishes in one way
 pub finishing_alike : (events others line number : ℕ) → AreAlike (Finishes events line number) (Finishes others line number)
 finishing_alike zero zero line number old new other given other_given end other_end reached does also stays other_stays =
     (does.1.0 ∙ sym also.1.0, does.1.1 ∙ sym also.1.1, does.1.2 ∙ sym also.1.2)
@@ -77,6 +81,7 @@ finishing_alike (suc events) (suc others) line number old new other given other_
     alike old new other given other_given end other_end reached does.2
     (subst (λ (event : Event). Then (Takes line event) (Finishes others line number) old other other_given other_end) same also.2) stays other_stays
 
+-- what a line asks for is done in one way
 pub acting_alike : (line : ℕ) (asked : Action) → AreAlike (Acts line asked) (Acts line asked)
 acting_alike line (action.Event event) old new other given other_given end other_end reached does also stays other_stays =
     taking_alike line event old new other given other_given end other_end reached does also stays other_stays

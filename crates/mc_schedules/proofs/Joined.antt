@@ -38,11 +38,13 @@ reached-on old new given (settings, events, earlier, run) more =
 abbrev pub AreRuns : Doing → Type 0
 AreRuns doing = (old new : CoreState) (given : List Given) (end : Ending) → doing old new given end → SomeRun old new given
 
+-- an event that is taken is a run of one event, and a fault is a run of none
 pub taking_runs : (line : ℕ) (event : Event) → AreRuns (Takes line event)
 taking_runs line event old new given None does =
     (event ∷ [], (new, does.0, [], does.1, (refl, refl), does.2 ∙ sym (append-nil (given_by old event does.0))))
 taking_runs line event old new given (Some met) does = ([], (does.2, does.3))
 
+-- one thing and then another
 pub then_runs : (one other : Doing) → AreRuns one → AreRuns other → AreRuns (Then one other)
 then_runs one other one_runs other_runs old new given end (inl does) = one_runs old new given end does.2
 then_runs one other one_runs other_runs old new given end (inr does) =
@@ -53,17 +55,20 @@ then_runs one other one_runs other_runs old new given end (inr does) =
           (Runs-join old does.0 new first.0 second.0 does.1 does.2 first.1 second.1),
     )
 
+-- what a worker needs, one event after another
 pub finishing_runs : (events line number : ℕ) → AreRuns (Finishes events line number)
 finishing_runs zero line number old new given end does = ([], (does.1.0, does.1.1))
 finishing_runs (suc events) line number old new given end does =
     then_runs (Takes line does.0) (Finishes events line number) (taking_runs line does.0) (finishing_runs events line number) old new given end does.2
 
+-- what a line asks for
 pub acting_runs : (line : ℕ) (asked : Action) → AreRuns (Acts line asked)
 acting_runs line (action.Event event) old new given end does = taking_runs line event old new given end does
 acting_runs line (action.Submit number tenant command) old new given end does =
     then_runs (Takes line (Announce number tenant command)) (Finishes does.0 line number)
     (taking_runs line (Announce number tenant command)) (finishing_runs does.0 line number) old new given end does.1
 
+-- what all lines ask for
 pub all_run : (items : List Item) → AreRuns (DoesAll items)
 all_run [] old new given end does = ([], (does.0, does.1))
 all_run (item ∷ items) old new given end does =

@@ -24,6 +24,7 @@ use Rattle.uc_core.proofs.Runs.{law_of}
 use Rattle.uc_core.proofs.Waiting.{is_lawful}
 use Rattle.mc_schedules.specs.Needed.{most_needed, most_needed_at, needed, needed_at, reads_on}
 
+-- what the log shows in a core that some run has led to keeps to its law
 law : (core : CoreState) → IsReachedCore core → LogLaw (size_of core) core.shown
 law core reached = is_lawful (size_of core) core.shown (law_of reached.0 reached.1 core reached.2 reached.3).reached
 
@@ -35,6 +36,7 @@ record Needing (core : CoreState) (number : ℕ) (event : Event) : Type 0 where
   replays : slice_get core.replays number ≡ Some replay
   event_is : needed_at core.places number (progress_of worker replay) worker.phase ≡ Some event
 
+-- an event is needed of a worker that exists
 needing_by : (core : CoreState) (number : ℕ) (event : Event) (worker : Option WorkerState) (replay : Option ReplayState) →
     slice_get core.shown.workers number ≡ worker → slice_get core.replays number ≡ replay →
     option_and_then (λ (it : Progress). needed_at core.places number it it.phase)
@@ -64,7 +66,11 @@ most_at places worker phase is = ap (most_needed_at places worker) is
 abbrev marks : Option ℕ → ℕ
 marks mark = if is_some mark then 1 else 2
 
--- one that has learned one more place than before
+one_mark : (mark : Option ℕ) → mark ≢ None → marks mark ≡ 1
+one_mark None apart = absurd (apart refl)
+one_mark (Some place) apart = refl
+
+-- what one that has learned one more place than before can need
 after_learning : (places replayed learned : ℕ) (phase : Phase) (found : Bool) (worker : Progress) → phase ≡ Pending →
     worker.replayed ≡ replayed → worker.learned ≡ learned + 1 → learned < places →
     most_needed_at places worker (if found then Idle else phase) + 2 ≤ (places - replayed) + 2 * (places - learned) + marks worker.mark
@@ -74,9 +80,11 @@ after_learning places replayed learned phase false worker is same more room =
 
 module _ (core new : CoreState) (number : ℕ) (worker : WorkerState) (replay : ReplayState)
     (shown : IsWorker core.shown number worker) (replays : slice_get core.replays number ≡ Some replay) where
+  -- one event lessens how many it can need
   abbrev Lessens : Type 0
   Lessens = most_needed new number < most_needed core number
 
+  -- how many it can need before the event
   before : (phase : Phase) → worker.phase ≡ phase → most_needed core number ≡ most_needed_at core.places (progress_of worker replay) phase
   before phase is = most_is core number worker replay shown replays ∙ most_at core.places (progress_of worker replay) phase is
 
@@ -90,6 +98,7 @@ module _ (core new : CoreState) (number : ℕ) (worker : WorkerState) (replay : 
   inside : number < length core.shown.workers
   inside = slice_get_within core.shown.workers number worker shown
 
+  -- a read of a pending worker without a mark learns a place or finds the mark
   read_lessens : (reply : Option Reply) → CoreStep core (Read number) new reply → worker.phase ≡ Pending → worker.mark ≡ None →
       length worker.learned < core.places → Lessens
   read_lessens reply step pending unmarked room =
@@ -116,6 +125,7 @@ module _ (core new : CoreState) (number : ℕ) (worker : WorkerState) (replay : 
           (progress_of (learn number worker.phase ticket worker) replay) pending refl (length-append worker.learned (ticket ∷ [])) room in
           omega (arith, two, less)
 
+  -- a look is the last event before a proposal, and learns nothing
   look_lessens : (reply : Option Reply) → CoreStep core (Look number) new reply → worker.phase ≡ Pending → Lessens
   look_lessens reply step pending =
       let same = same_Some step.0.0 worker (sym step.0.1 ∙ shown) in
@@ -126,11 +136,8 @@ module _ (core new : CoreState) (number : ℕ) (worker : WorkerState) (replay : 
       let last = after (looked worker) step.1 now in
       let first = before Pending pending in
       let one = one_mark worker.mark (λ none. step.0.4 (ap (λ (it : WorkerState). it.mark) same ∙ none)) in omega (arith, last, first, one)
-    where
-      one_mark : (mark : Option ℕ) → mark ≢ None → marks mark ≡ 1
-      one_mark None apart = absurd (apart refl)
-      one_mark (Some place) apart = refl
 
+  -- a proposal learns a place
   propose_lessens : (reply : Option Reply) → CoreStep core (Propose number) new reply → worker.phase ≡ Looked → worker.mark ≢ None →
       length worker.learned < core.places → Lessens
   propose_lessens reply step looked has_mark room =
@@ -146,11 +153,8 @@ module _ (core new : CoreState) (number : ℕ) (worker : WorkerState) (replay : 
       let less = after_learning core.places replay.replayed (length worker.learned) Pending (is_latest number worker ticket)
       (progress_of (propose number (next core.shown worker) worker) replay) refl refl (length-append worker.learned (ticket ∷ [])) room in
       omega (arith, last, first, one, less)
-    where
-      one_mark : (mark : Option ℕ) → mark ≢ None → marks mark ≡ 1
-      one_mark None apart = absurd (apart refl)
-      one_mark (Some place) apart = refl
 
+  -- a replay replays a place
   replay_lessens : (reply : Option Reply) → CoreStep core (Replay number) new reply → worker.phase ≡ Idle → replay.replayed < core.places → Lessens
   replay_lessens reply step idle room =
       let same = same_Some step.3 replay (sym step.4 ∙ replays) in
@@ -177,12 +181,15 @@ nearer core new number event reply reached needs step = by_phase its.worker.phas
     its : Needing core number event
     its = needing core number event needs
 
+    -- the law of what is shown
     kept : LogLaw (size_of core) core.shown
     kept = law core reached
 
+    -- it has learned no more than all places
     few : length its.worker.learned ≤ core.places
     few = let begins = begins_longer core.shown.decided its.worker.learned (kept.each number its.worker its.shown).begins in omega (arith, begins, kept.few)
 
+    -- the step is of the event that the definition names
     taken : (other : Event) → Some other ≡ Some event → CoreStep core other new reply
     taken other same = subst (λ it. CoreStep core it new reply) (sym (same_Some other event same)) step
 

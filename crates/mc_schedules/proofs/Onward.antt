@@ -20,6 +20,7 @@ Finishing line number start now before after = (given : List Given) × (after �
 abbrev pub Finished : ℕ → ℕ → CoreState → CoreState → List Given → List Given → Result (Unit {0}) Fault → Type 0
 Finished line number start new before after told = (events : ℕ) × Did (Finishes events line number) line start new before after told
 
+-- before the first event
 pub finishing-none : (line number : ℕ) (core : CoreState) (before : List Given) → Finishing line number core core before before
 finishing-none line number core before = ([], sym (append-nil before), λ events new later end rest. (events, rest))
 
@@ -58,6 +59,7 @@ Doings all rest start now before after = (given : List Given) × (after ≡ befo
 abbrev pub Done : List Item → CoreState → CoreState → List Given → List Given → Ending → Type 0
 Done all start new before after end = (given : List Given) × DoesAll all start new given end × (after ≡ before ++ given)
 
+-- before the first line
 pub doings-none : (all : List Item) (core : CoreState) (before : List Given) → Doings all all core core before before
 doings-none all core before = ([], sym (append-nil before), λ new later end rest. rest)
 
