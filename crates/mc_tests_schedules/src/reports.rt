@@ -47,8 +47,7 @@ fn assert_report(
 fn helped_after_stop(alloc: Global) -> Result<Outcome, Fail> {
     let set = command_of(alloc, "set a 0 0 1\r\nx\r\n")?;
     let get = command_of(alloc, "get a\r\n")?;
-    let events = vec![
-        in alloc;
+    let events = vec![in alloc;
         Event::Announce(0, 0, set),
         Event::Stop(0),
         Event::Announce(1, 0, get),
@@ -65,8 +64,7 @@ fn helped_after_stop(alloc: Global) -> Result<Outcome, Fail> {
 
 /// The events by which a worker alone has its command decided.
 fn decided(alloc: Global, command: Command) -> Result<Vec<Event>, Fail> {
-    let events = vec![
-        in alloc;
+    let events = vec![in alloc;
         Event::Announce(0, 0, command),
         Event::Read(0),
         Event::Look(0),
