@@ -1,5 +1,5 @@
 -- The workers' lines one after another.
-use Rattle.std.proofs.Common.{◌≡◌, ℕ, ◌+◌, ◌<◌, ◌≤◌, List, [], ◌∷◌, ◌++◌, length, take, None, ◌∙◌, ap, arith, flat_map, get_or, sym}
+use Rattle.std.proofs.Common.{◌≡◌, ℕ, ◌+◌, ◌<◌, ◌≤◌, List, [], ◌++◌, length, take, None, ◌∙◌, ap, arith, flat_map, get_or, sym}
 use Rattle.std.proofs.lemmas.List.{flat_map_more, take_all, take_more}
 use Rattle.std.proofs.lemmas.List.FromFn.{get_or-enumerate_from, length-enumerate_from}
 use Rattle.std.specs.List.{enumerate_from}
@@ -23,9 +23,11 @@ nobody : WorkerState
 nobody = record { phase = Idle; announced = 0; learned = []; mark = None; look = None; proposals = 0 }
 
 module _ (core : CoreState) (number : ℕ) where
+  -- numbered, there are as many
   numbered_length : length (enumerate_from 0 core.shown.workers) ≡ length core.shown.workers
   numbered_length = length-enumerate_from 0 core.shown.workers
 
+  -- the numbers are those of the places
   number_at : number < length core.shown.workers → (get_or (enumerate_from 0 core.shown.workers) number (0, nobody)).0 ≡ number
   number_at below =
       let at = ap (λ (one : ℕ × WorkerState). one.0) (get_or-enumerate_from 0 core.shown.workers number (0, nobody) below) in

@@ -57,8 +57,7 @@ fn append_reply(
 ) -> Result<(), AllocError>
     ensures text { OnOk result (out.new.items ≡ out.old.items ++ (codes "reply " ++ decimal worker ++ codes " " ++ decimal place ++ codes " " ++ flat_map escaped text.now ++ codes "\n")) }
 {
-    let number = worker.number();
-    let name = format!(in alloc; "reply {number} {place} ")?;
+    let name = format!(in alloc; "reply {} {place} ", worker.number())?;
     out.extend_from_slice(name.as_bytes())?;
     append_all_escaped(text, out)?;
     out.extend_from_slice(b"\n")
@@ -143,9 +142,7 @@ fn append_tickets(alloc: Global, tickets: &[Ticket], out: &mut Vec<u8>) -> Resul
 fn append_ticket(alloc: Global, ticket: Ticket, out: &mut Vec<u8>) -> Result<(), AllocError>
     ensures text { OnOk result (out.new.items ≡ out.old.items ++ ticket_text ticket) }
 {
-    let worker = ticket.worker.number();
-    let number = ticket.number;
-    let text = format!(in alloc; " ({worker},{number})")?;
+    let text = format!(in alloc; " ({},{})", ticket.worker.number(), ticket.number)?;
     out.extend_from_slice(text.as_bytes())
 }
 
@@ -185,13 +182,12 @@ fn append_progress(
 ) -> Result<(), AllocError>
     ensures text { OnOk result (out.new.items ≡ out.old.items ++ worker_line number progress.now) }
 {
-    let phase = phase_text(progress.phase);
-    let learned = progress.learned;
-    let replayed = progress.replayed;
-    let proposals = progress.proposals;
-    let line = format!(
-        in alloc;
-        "worker {number} {phase} learned {learned} replayed {replayed} proposals {proposals}\n"
+    let line = format!(in alloc;
+        "worker {number} {} learned {} replayed {} proposals {}\n",
+        phase_text(progress.phase),
+        progress.learned,
+        progress.replayed,
+        progress.proposals,
     )?;
     out.extend_from_slice(line.as_bytes())
 }
