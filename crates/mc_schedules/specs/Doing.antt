@@ -1,7 +1,8 @@
 -- What is to be done, done: an event, what a submit stands for, a whole list; from which state each leads to which, which replies it
 -- gives, and how it ends. This project's profile.
-use Rattle.std.specs.Prelude.{◌≡◌, ◌⊎◌, ℕ, zero, suc, List, [], ◌∷◌, ◌++◌, Option, Some, None}
+use Rattle.std.specs.Prelude.{◌≡◌, ◌⊎◌, ℕ, zero, suc, List, [], ◌∷◌, ◌++◌, Option, Some, None, Result, Ok, Err}
 use Rattle.mc_model.specs.declared.fault.Fault.{Fault}
+use Rattle.mc_model.specs.declared.fault.Fault.TheVariants.{Memory}
 use Rattle.mc_model.specs.declared.reply.Reply.{Reply}
 use Rattle.uc_core.specs.Core.{CoreState}
 use Rattle.uc_core.specs.Run.{Given, IsFaultOf, given_by}
@@ -16,6 +17,10 @@ use Rattle.mc_schedules.specs.Needed.{needed}
 -- how something ended: none where all of it was done, or the number of the line of which an event met a fault, and the fault
 abbrev pub Ending : Type 0
 Ending = Option (ℕ × Fault)
+
+-- it ended for want of memory
+abbrev pub RanOut : Ending → Type 0
+RanOut end = (line : ℕ) × (end ≡ Some (line, Memory))
 
 -- from which state something leads to which, with which replies, and how it ends
 abbrev pub Doing : Type 1
@@ -53,3 +58,12 @@ Acts line (action.Submit number tenant command) old new given end =
 abbrev pub DoesAll : List Item → Doing
 DoesAll [] old new given end = Rests old new given end
 DoesAll (item ∷ items) old new given end = Then (Acts item.line item.action) (DoesAll items) old new given end
+
+-- how what a line asks for ended
+abbrev pub ended : ℕ → Result (Unit {0}) Fault → Ending
+ended line (Ok nothing) = None
+ended line (Err fault) = Some (line, fault)
+
+-- Something of a line is done from one state to another, and its replies come after those before; it ends as a call tells.
+abbrev pub Did : Doing → ℕ → CoreState → CoreState → List Given → List Given → Result (Unit {0}) Fault → Type 0
+Did doing line old new before after told = (given : List Given) × doing old new given (ended line told) × (after ≡ before ++ given)

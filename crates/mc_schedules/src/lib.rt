@@ -16,6 +16,7 @@ mod command;
 mod draft;
 pub mod laws;
 mod line;
+mod needed;
 pub mod picture;
 mod report;
 pub mod running;

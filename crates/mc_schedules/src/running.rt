@@ -1,13 +1,15 @@
 //! The run of an event list.
-ghost use Rattle.std.specs.Prelude.{◌≡◌, IfOk, IsOkUnless};
-ghost use Rattle.mc_schedules.specs.Doing.{DoesAll};
+ghost use Rattle.std.specs.Prelude.{◌≡◌, ℕ, ◌++◌, List, IfOk, IsOkUnless};
+ghost use Rattle.mc_schedules.specs.Doing.{Acts, Did, DoesAll, Finishes, Takes};
 ghost use Rattle.uc_core.specs.Core.{new_core};
+ghost use Rattle.uc_core.specs.Run.{Given};
 
-use crate::schedule::Item;
+use crate::needed::needed;
+use crate::schedule::{Action, Item};
 use crate::watching::Watch;
 use mc_model::{Fault, Reply, Settings, WorkerId};
 use std::alloc::Global;
-use uc_core::Core;
+use uc_core::{Core, Event};
 
 /// What a run of an event list left and gave.
 #[derive(Debug, Drop)]
@@ -18,6 +20,77 @@ pub struct Outcome {
     pub replies: Vec<(WorkerId, u64, Reply)>,
     /// What ended the run before its last event, if anything did: the number of the event's line, and the fault that it met.
     pub fault: Option<(u64, Fault)>,
+}
+
+/// Takes an event of a line, and shows it to the watcher.
+fn take<W: Watch>(
+    core: &mut Core,
+    line: u64,
+    event: Event,
+    replies: &mut Vec<(WorkerId, u64, Reply)>,
+    watch: &mut W,
+) -> Result<(), Fault>
+    ensures { Did (Takes line event) line core.old core.new replies.old.items replies.new.items result }
+{
+    let events = [event];
+    if let Err(met) = core.run(&events, replies) {
+        return Err(met.fault);
+    }
+    watch.see(line, &events[0], core);
+    Ok(())
+}
+
+/// Takes what a worker needs, event by event, until it needs nothing more.
+fn finish<W: Watch>(
+    core: &mut Core,
+    line: u64,
+    worker: u8,
+    replies: &mut Vec<(WorkerId, u64, Reply)>,
+    watch: &mut W,
+) -> Result<(), Fault>
+    ensures { (events : ℕ) × Did (Finishes events line worker) line core.old core.new replies.old.items replies.new.items result }
+{
+    while let Some(event) = needed(core, worker) {
+        take(core, line, event, replies, watch)?;
+    }
+    Ok(())
+}
+
+/// Does what a line asks for.
+fn act<W: Watch>(
+    core: &mut Core,
+    line: u64,
+    action: Action,
+    replies: &mut Vec<(WorkerId, u64, Reply)>,
+    watch: &mut W,
+) -> Result<(), Fault>
+    ensures { Did (Acts line action) line core.old core.new replies.old.items replies.new.items result }
+{
+    match action {
+        Action::Event(event) => take(core, line, event, replies, watch),
+        Action::Submit(worker, tenant, command) => {
+            let announcement = Event::Announce(worker, tenant, command);
+            take(core, line, announcement, replies, watch)?;
+            finish(core, line, worker, replies, watch)
+        }
+    }
+}
+
+/// Does what the lines ask for, in their order, and gives what ended that before its last event, if anything did.
+fn do_all<W: Watch>(
+    core: &mut Core,
+    items: Vec<Item>,
+    replies: &mut Vec<(WorkerId, u64, Reply)>,
+    watch: &mut W,
+) -> Option<(u64, Fault)>
+    ensures { (given : List Given) × DoesAll items.items core.old core.new given result × (replies.new.items ≡ replies.old.items ++ given) }
+{
+    for Item { line, action } in items {
+        if let Err(fault) = act(core, line, action, replies, watch) {
+            return Some((line, fault));
+        }
+    }
+    None
 }
 
 /// Does what the items of an event list ask for, one after another, in a core of these settings. The first event that meets a
@@ -31,5 +104,12 @@ pub fn run_items<W: Watch>(
     ensures outcome { IfOk result (λ it. DoesAll items.items (new_core settings.now) it.core it.replies.items it.fault) }
     ensures memory { IsOkUnless result Fault.Memory }
 {
-    Err(Fault::Memory)
+    let mut core = Core::new(alloc, settings)?;
+    let mut replies = Vec::new(alloc);
+    let fault = do_all(&mut core, items, &mut replies, watch);
+    Ok(Outcome {
+        core,
+        replies,
+        fault,
+    })
 }

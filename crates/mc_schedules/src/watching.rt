@@ -8,6 +8,7 @@ pub trait Watch {
 }
 
 /// Looks away.
+#[derive(Clone, Copy, Debug, PartialEq, Eq)]
 pub struct Unwatched;
 
 impl Watch for Unwatched {

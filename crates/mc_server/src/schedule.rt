@@ -77,10 +77,7 @@ fn report_of(
     ensures runs { IfOk result (λ told. Runs settings.now items.items quiet told.1 told.0.items) }
     ensures memory { IsOkUnless result Fault.Memory }
 {
-    let mut unwatched = Unwatched;
-    let run = run_items(alloc, settings, items, &mut unwatched);
-    let Unwatched = unwatched;
-    let outcome = run?;
+    let outcome = run_items(alloc, settings, items, &mut Unwatched)?;
     let end = outcome.fault;
     Ok((outcome.report(alloc, quiet)?, end))
 }

@@ -9,24 +9,22 @@ use std::alloc::{AllocError, Global};
 
 /// The forms of the lines of an event list, as help shows them.
 const FORMS: &str = "\
-The event list stands on standard input, line by line, its words with spaces between them:
-  core WORKERS PLACES   first: how many workers there are (1 to 16), and places of the log (1 to 1048576)
-  tenant ITEMS BYTES    then 1 to 64 such lines: how many items (1 to 1048576) and bytes (1 to 1073741824)
-                        each tenant may hold
-and then any number of lines as these, of worker W and tenant T, which are numbered from 0:
-  submit W T COMMAND    W announces the command, helps by turns until it is decided, and replays all it knows
-or of single events:
-  announce W T COMMAND  W announces the command
-  read W                W learns what stands at its next place
-  look W                W looks whom to help at its next place
-  propose W             W proposes at its next place, and learns what stands there then
-  replay W              W replays the next place that it has learned
-  stop W                W stops for good
-COMMAND is set, add, replace, append or prepend KEY FLAGS DATA, cas KEY FLAGS UNIQUE DATA, get or gets KEY..,
-delete KEY, incr or decr KEY NUMBER, or flush_all. DATA is one word, and a point stands for no data.
-A line that begins with # is a comment.
+An event list stands on standard input, line by line, its words with spaces between them:
+  core WORKERS PLACES   first: how many workers there are, and how many places for commands the log has
+  tenant ITEMS BYTES    then 1 to 64 such lines: how many items and bytes each tenant's table may hold
+and then any number of these, where W is a worker and T a tenant, each numbered from 0:
+  submit W T COMMAND    W announces a command of T, helps by turns until it is decided, and replays
+  announce W T COMMAND  W announces a command of T, and no more
+  read W                W learns what stands at its next place, if anything does
+  look W                W looks for a command that waits, of the worker whose turn its next place is
+  propose W             W proposes what it found, or else its own command, and learns what is decided
+  replay W              W applies the next command that it has learned, and answers its own
+  stop W                W does nothing more
+COMMAND is set, add, replace, append or prepend KEY FLAGS DATA, cas KEY FLAGS UNIQUE DATA,
+get or gets KEY.., delete KEY, incr or decr KEY NUMBER, or flush_all. DATA is one word, and a
+point stands for no data. A line that begins with # is a comment.
 
-Example: worker 1 helps worker 0, which has stopped.
+Example, in which worker 1 brings the command of worker 0, which has stopped, into the log:
   core 2 8
   tenant 4 100
   announce 0 0 set a 0 x

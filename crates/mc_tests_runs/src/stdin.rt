@@ -1,108 +1,15 @@
 //! Runs of mc_stdin: its words, what a client sends, and what comes out.
+use crate::programs::{NO_STEPS, Program, Steps, Wanted, check_run};
 use crate::runs::{
-    columns, demand, for_each_key, input_of, joined, output_of, single_pulls, single_pushes,
-    thousand_keys, thousand_values,
+    columns, demand, for_each_key, joined, single_pulls, single_pushes, thousand_keys,
+    thousand_values,
 };
 use mc_model::Fault;
-use mc_server::{InputStep, MemoryInput, MemoryOutput, OutputStep, fault_text, run_stdin};
+use mc_server::{InputStep, OutputStep, fault_text};
 use std::alloc::{AllocError, Global};
 use std::process::Abort;
 use std::sync::Wait;
 use std::test::Fail;
-
-/// The steps of a run's streams.
-#[derive(Clone, Copy)]
-struct Steps<'a> {
-    pulls: &'a [InputStep],
-    pushes: &'a [OutputStep],
-    tells: &'a [OutputStep],
-}
-
-const NO_STEPS: Steps<'static> = Steps {
-    pulls: &[],
-    pushes: &[],
-    tells: &[],
-};
-
-/// A run's streams.
-#[derive(Drop)]
-struct Streams {
-    input: MemoryInput,
-    output: MemoryOutput,
-    errors: MemoryOutput,
-}
-
-/// What a run has to leave.
-#[derive(Clone, Copy)]
-struct Wanted<'a> {
-    status: u8,
-    output: &'a [u8],
-    errors: &'a [u8],
-}
-
-fn push_word(words: &mut Vec<String>, word: &str) -> Result<(), AllocError> {
-    words.push(String::from_str(*words.allocator(), word)?)?;
-    Ok(())
-}
-
-/// The words of a command line, of which these are given with a space between them.
-fn words_of(alloc: Global, given: &str) -> Result<Vec<String>, AllocError> {
-    let mut words = Vec::new(alloc);
-    for word in given.split_terminator(' ') {
-        push_word(&mut words, word)?;
-    }
-    Ok(words)
-}
-
-fn streams_of(alloc: Global, sent: &[u8], steps: Steps) -> Result<Streams, AllocError> {
-    Ok(Streams {
-        input: input_of(alloc, sent, steps.pulls)?,
-        output: output_of(alloc, steps.pushes)?,
-        errors: output_of(alloc, steps.tells)?,
-    })
-}
-
-fn run<R: Wait>(rt: &R, alloc: Global, words: Vec<String>, streams: &mut Streams) -> u8 {
-    run_stdin(
-        rt,
-        alloc,
-        words,
-        &mut streams.input,
-        &mut streams.output,
-        &mut streams.errors,
-    )
-}
-
-/// Whether the run left what it has to.
-fn has_left(wanted: Wanted, status: u8, streams: &Streams) -> bool {
-    status == wanted.status
-        && streams.output.as_bytes() == wanted.output
-        && streams.errors.as_bytes() == wanted.errors
-}
-
-/// A run by these words.
-fn run_given<R: Wait + AllocGlobal>(
-    rt: &R,
-    given: &str,
-    streams: &mut Streams,
-) -> Result<u8, AllocError> {
-    let words = words_of(rt.alloc(), given)?;
-    Ok(run(rt, rt.alloc(), words, streams))
-}
-
-/// A run by these words and steps leaves what it has to.
-fn check_run(
-    rt: &(impl AllocGlobal + Wait + Abort),
-    given: &str,
-    sent: &[u8],
-    steps: Steps,
-    wanted: Wanted,
-) -> Result<(), AllocError> {
-    let mut streams = streams_of(rt.alloc(), sent, steps)?;
-    let status = run_given(rt, given, &mut streams)?;
-    demand(rt, has_left(wanted, status, &streams), given, sent.len());
-    Ok(())
-}
 
 /// As `check_run`, of a run that ends well.
 fn check_serves(
@@ -123,7 +30,7 @@ fn check_serves(
         output: replies,
         errors: &[],
     };
-    check_run(rt, given, sent, steps, wanted)
+    check_run(rt, Program::Stdin, given, sent, steps, wanted)
 }
 
 /// Runs a stream whole, by these pulls, by these pushes, and by both.
@@ -162,7 +69,7 @@ fn ends_well(rt: HostRuntime) -> Result<(), Fail> {
         output: b"STORED\r\nVALUE a 5 3\r\nabc\r\nEND\r\n",
         errors: b"",
     };
-    check_run(&rt, "", FIRST_RUN, NO_STEPS, wanted)?;
+    check_run(&rt, Program::Stdin, "", FIRST_RUN, NO_STEPS, wanted)?;
     Ok(())
 }
 
@@ -178,7 +85,7 @@ fn tells_a_failed_input(rt: HostRuntime) -> Result<(), Fail> {
         output: b"STORED\r\n",
         errors: b"mc_stdin: input failed\n",
     };
-    check_run(&rt, "", FIRST_RUN, steps, wanted)?;
+    check_run(&rt, Program::Stdin, "", FIRST_RUN, steps, wanted)?;
     Ok(())
 }
 
@@ -194,7 +101,7 @@ fn tells_a_failed_output(rt: HostRuntime) -> Result<(), Fail> {
         output: b"STOR",
         errors: b"mc_stdin: output failed\n",
     };
-    check_run(&rt, "", FIRST_RUN, steps, wanted)?;
+    check_run(&rt, Program::Stdin, "", FIRST_RUN, steps, wanted)?;
     Ok(())
 }
 
@@ -210,7 +117,7 @@ fn passes_over_failed_errors(rt: HostRuntime) -> Result<(), Fail> {
         output: b"",
         errors: b"mc_",
     };
-    check_run(&rt, "", FIRST_RUN, steps, wanted)?;
+    check_run(&rt, Program::Stdin, "", FIRST_RUN, steps, wanted)?;
     Ok(())
 }
 
@@ -446,7 +353,7 @@ fn check_refused(
         output: &[],
         errors: text.as_bytes(),
     };
-    check_run(rt, given, FOUR_REQUESTS, NO_STEPS, wanted)
+    check_run(rt, Program::Stdin, given, FOUR_REQUESTS, NO_STEPS, wanted)
 }
 
 #[test]
@@ -496,7 +403,7 @@ fn tells_a_failed_output_at_help(rt: HostRuntime) -> Result<(), Fail> {
         output: b"A memcache",
         errors: b"mc_stdin: output failed\n",
     };
-    check_run(&rt, "--help", FOUR_REQUESTS, steps, wanted)?;
+    check_run(&rt, Program::Stdin, "--help", FOUR_REQUESTS, steps, wanted)?;
     Ok(())
 }
 

@@ -10,16 +10,16 @@ mod Moves
 mod Entries
 mod Replays
 pub mod CoreLaws
-mod Runs
+pub mod Runs
 mod Answered
 mod Agreement
 mod Worlds
-mod OneWay
+pub mod OneWay
 mod Soon
 mod Each
 pub mod Workers
 pub mod Opened
 mod Enabled
-mod Shows
+pub mod Shows
 mod Ties
 mod Followed

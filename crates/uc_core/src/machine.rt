@@ -1,10 +1,12 @@
 //! The core: its state, its opening, and what it shows.
 ghost use Rattle.std.specs.Global.{Vec};
 ghost use Rattle.std.specs.Option.{option_and_then, option_copied};
-ghost use Rattle.std.specs.Prelude.{◌≡◌, length, slice_get, IfOk, IsOkUnless};
+ghost use Rattle.std.specs.Prelude.{◌≡◌, ◌≤◌, length, slice_get, IfOk, IsOkUnless};
+ghost use Rattle.mc_model.specs.declared.id.TheConstants.{WORKERS};
 ghost use Rattle.mc_model.specs.declared.request.Entry.{Entry};
 ghost use Rattle.uc_core.specs.Core.{entry_under, new_core};
 ghost use Rattle.uc_core.specs.Kept.{AreEmpty, AreFresh};
+ghost use Rattle.uc_core.specs.Run.{IsReachedCore};
 
 use crate::worker::Worker;
 use mc_items::Items;
@@ -82,14 +84,18 @@ impl Core {
 
     /// How many workers there are.
     pub fn workers(&self) -> usize
-        ensures { result ≡ length self.now.shown.workers }
+        ensures count { result ≡ length self.now.shown.workers }
+        ensures few { result ≤ WORKERS }
     {
         self.workers.len()
     }
 
     /// How many places the log has.
     pub fn places(&self) -> u64
-        ensures { result ≡ self.now.places }
+        ensures places { result ≡ self.now.places }
+
+        // Some run has led to each core.
+        ensures reached { IsReachedCore self.now }
     {
         let Core { places, .. } = self;
         *places

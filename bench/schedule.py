@@ -1,0 +1,72 @@
+#!/usr/bin/env python3
+"""Measures how the time of mc_schedule grows with its event list.
+
+Builds mc_schedule and runs lists of an eighth of the most bytes, a quarter, a half and all of them, of some kinds. Printed are the events
+(those of a submit counted one by one), the median and the range of some runs in milliseconds, and the nanoseconds of an event. A run in
+which an event met a fault ends the script.
+"""
+
+import os
+import statistics
+import subprocess
+import sys
+import time
+
+PROGRAM = "crates/mc_schedule/out/mc_schedule"
+BYTES = 1_048_576
+RUNS = 7
+
+# Of each kind: how many workers there are, and the line of a number.
+KINDS = {
+    "submits of one worker": (1, lambda number: "submit 0 0 get a"),
+    "submits of 16 workers in turn": (16, lambda number: f"submit {number % 16} 0 get a"),
+    "the same, each of a new key": (16, lambda number: f"submit {number % 16} 0 set k{number} 0 x"),
+    "single events": (1, lambda number: ("announce 0 0 get a", "read 0", "look 0", "propose 0", "replay 0")[number % 5]),
+    "reads of an empty place": (1, lambda number: "read 0"),
+}
+
+
+def event_list(workers, line_of, most):
+    """A list of this kind with as many lines as fit."""
+    lines = [f"core {workers} {BYTES}", f"tenant {BYTES} {1024 * BYTES}"]
+    size = sum(len(line) + 1 for line in lines)
+    while True:
+        line = line_of(len(lines) - 2)
+        size += len(line) + 1
+        if size > most:
+            return ("\n".join(lines) + "\n").encode()
+        lines.append(line)
+
+
+def run(listed, *words):
+    ended = subprocess.run([PROGRAM, *words], input=listed, stdout=subprocess.PIPE, check=True)
+    return ended.stdout
+
+
+def events_of(listed):
+    """How many lines the picture has, but for the one above them."""
+    return run(listed, "--picture", "--quiet").partition(b"\n\n")[0].count(b"\n")
+
+
+def milliseconds(listed):
+    begun = time.perf_counter()
+    run(listed)
+    passed = time.perf_counter() - begun
+    return 1000 * passed
+
+
+def main():
+    os.chdir(os.path.join(os.path.dirname(os.path.abspath(__file__)), ".."))
+    subprocess.run(["tools/prove.sh", "mc_schedule"], check=True, stdout=sys.stderr)
+    print(f"{'kind':<32} {'bytes':>8} {'events':>8} {'ms':>7} {'range':>15} {'ns an event':>12}")
+    for kind, (workers, line_of) in KINDS.items():
+        for part in (8, 4, 2, 1):
+            listed = event_list(workers, line_of, BYTES // part)
+            events = events_of(listed)
+            times = sorted(milliseconds(listed) for _ in range(RUNS))
+            median = statistics.median(times)
+            between = f"{times[0]:.1f} to {times[-1]:.1f}"
+            print(f"{kind:<32} {len(listed):>8} {events:>8} {median:>7.1f} {between:>15} {1e6 * median / events:>12.0f}")
+
+
+main()

@@ -1,0 +1,19 @@
+//! A shared log that goes by a list of events, from standard input to standard output.
+#![tactic(auto)]
+
+use mc_server::{ReadInput, WriteOutput, refuse_words, run_schedule, words_after_name};
+use std::process::ExitCode;
+
+fn main(rt: HostRuntime) -> ExitCode {
+    let mut errors = WriteOutput::new(rt.stderr());
+    let words = match words_after_name(rt.alloc(), std::env::args(&rt)) {
+        Ok(words) => words,
+        Err(error) => {
+            return ExitCode::from(refuse_words(&rt, b"mc_schedule", &error, &mut errors));
+        }
+    };
+    let mut input = ReadInput::new(rt.stdin());
+    let mut output = WriteOutput::new(rt.stdout());
+    let status = run_schedule(&rt, rt.alloc(), words, &mut input, &mut output, &mut errors);
+    ExitCode::from(status)
+}

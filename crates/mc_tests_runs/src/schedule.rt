@@ -1,0 +1,322 @@
+//! Runs of mc_schedule: its words, an event list, and what comes out.
+use crate::programs::{NO_STEPS, Program, Steps, Wanted, check_run};
+use crate::runs::{joined, single_pulls, single_pushes};
+use mc_server::{InputStep, OutputStep};
+use std::alloc::AllocError;
+use std::process::Abort;
+use std::sync::Wait;
+use std::test::Fail;
+
+/// A run by these words and steps leaves what it has to.
+fn check_steps(
+    rt: &(impl AllocGlobal + Wait + Abort),
+    given: &str,
+    list: &str,
+    steps: Steps,
+    wanted: Wanted,
+) -> Result<(), AllocError> {
+    check_run(rt, Program::Schedule, given, list.as_bytes(), steps, wanted)
+}
+
+/// A list is reported so, whole, and by a byte a pull and a byte a push.
+fn check_reported(
+    rt: &(impl AllocGlobal + Wait + Abort),
+    given: &str,
+    list: &str,
+    status: u8,
+    report: &str,
+) -> Result<(), AllocError> {
+    let wanted = Wanted {
+        status,
+        output: report.as_bytes(),
+        errors: b"",
+    };
+    let pulls = single_pulls(rt.alloc(), list.len())?;
+    let pushes = single_pushes(rt.alloc(), report.len())?;
+    let steps = Steps {
+        pulls: &pulls,
+        pushes: &pushes,
+        tells: &[],
+    };
+    check_steps(rt, given, list, NO_STEPS, wanted)?;
+    check_steps(rt, given, list, steps, wanted)
+}
+
+/// A list is refused by this line, before anything is done.
+fn check_refused(
+    rt: &(impl AllocGlobal + Wait + Abort),
+    given: &str,
+    list: &str,
+    text: &str,
+) -> Result<(), AllocError> {
+    let wanted = Wanted {
+        status: 2,
+        output: b"",
+        errors: text.as_bytes(),
+    };
+    check_steps(rt, given, list, NO_STEPS, wanted)
+}
+
+/// A worker that stops after its announcement.
+const STOPPED: &str = "core 2 8\ntenant 4 100\nannounce 0 0 set a 0 x\nstop 0\nsubmit 1 0 get a\n";
+
+#[test]
+fn two_tenants_have_their_own_items_and_uniques(rt: HostRuntime) -> Result<(), Fail> {
+    let list =
+        "core 1 8\ntenant 4 100\ntenant 4 100\nsubmit 0 0 set a 0 x\nsubmit 0 0 set a 0 x\nsubmit 0 0 set a 0 x\n\
+        submit 0 1 set a 0 q\nsubmit 0 1 gets a\n";
+    let report =
+        "reply 0 0 STORED\\r\\n\nreply 0 1 STORED\\r\\n\nreply 0 2 STORED\\r\\n\nreply 0 3 STORED\\r\\n\n\
+        reply 0 4 VALUE a 0 1 1\\r\\nq\\r\\nEND\\r\\n\nlog (0,0) (0,1) (0,2) (0,3) (0,4)\n\
+        worker 0 idle learned 5 replayed 5 proposals 1\n";
+    check_reported(&rt, "", list, 0, report)?;
+    Ok(())
+}
+
+#[test]
+fn a_stopped_worker_is_helped(rt: HostRuntime) -> Result<(), Fail> {
+    let report = "reply 1 1 VALUE a 0 1\\r\\nx\\r\\nEND\\r\\n\nlog (0,0) (1,0)\n\
+        worker 0 stopped learned 0 replayed 0 proposals 0\nworker 1 idle learned 2 replayed 2 proposals 2\n";
+    check_reported(&rt, "", STOPPED, 0, report)?;
+    Ok(())
+}
+
+#[test]
+fn helping_changes_the_proposal(rt: HostRuntime) -> Result<(), Fail> {
+    let list =
+        "core 2 8\ntenant 4 100\nannounce 1 0 set a 0 x\nread 1\nlook 1\nannounce 0 0 set b 0 y\nread 0\npropose 1\n\
+        submit 1 0 set a 0 z\nsubmit 1 0 get b\nlook 0\npropose 0\nlook 0\npropose 0\nlook 0\npropose 0\n\
+        replay 0\nreplay 0\nreplay 0\n";
+    let report =
+        "reply 1 0 STORED\\r\\n\nreply 1 1 STORED\\r\\n\nreply 1 3 VALUE b 0 1\\r\\ny\\r\\nEND\\r\\n\n\
+        reply 0 2 STORED\\r\\n\nlog (1,0) (1,1) (0,0) (1,2)\n\
+        worker 0 idle learned 3 replayed 3 proposals 3\nworker 1 idle learned 4 replayed 4 proposals 2\n";
+    check_reported(&rt, "", list, 0, report)?;
+    Ok(())
+}
+
+#[test]
+fn three_workers_serve_two_tenants(rt: HostRuntime) -> Result<(), Fail> {
+    let list =
+        "core 3 9\ntenant 2 50\ntenant 1 9\nsubmit 2 1 set a 0 q\nsubmit 1 0 set a 0 x\nsubmit 0 1 set b 0 q\n\
+        submit 2 0 gets a\n";
+    let report = "reply 2 0 STORED\\r\\n\nreply 1 1 STORED\\r\\n\n\
+        reply 0 2 SERVER_ERROR out of memory storing object\\r\\n\n\
+        reply 2 3 VALUE a 0 1 1\\r\\nx\\r\\nEND\\r\\n\nlog (2,0) (1,0) (0,0) (2,1)\n\
+        worker 0 idle learned 3 replayed 3 proposals 1\nworker 1 idle learned 2 replayed 2 proposals 1\n\
+        worker 2 idle learned 4 replayed 4 proposals 1\n";
+    check_reported(&rt, "", list, 0, report)?;
+
+    // The log agrees with that one for tenant 0, and so do its replies.
+    let list = "core 1 4\ntenant 2 50\nsubmit 0 0 set a 0 x\nsubmit 0 0 gets a\n";
+    let report =
+        "reply 0 0 STORED\\r\\n\nreply 0 1 VALUE a 0 1 1\\r\\nx\\r\\nEND\\r\\n\nlog (0,0) (0,1)\n\
+        worker 0 idle learned 2 replayed 2 proposals 1\n";
+    check_reported(&rt, "", list, 0, report)?;
+    Ok(())
+}
+
+#[test]
+fn faults_of_events_end_the_run(rt: HostRuntime) -> Result<(), Fail> {
+    for (list, report) in [
+        // A full log, and what stands there so far.
+        (
+            "core 2 1\ntenant 4 100\nsubmit 0 0 set a 0 x\nsubmit 1 0 get a\n",
+            "reply 0 0 STORED\\r\\n\nfault 4 log full\nlog (0,0)\n\
+            worker 0 idle learned 1 replayed 1 proposals 1\nworker 1 pending learned 1 replayed 0 proposals 0\n",
+        ),
+        // Nothing was learned.
+        (
+            "core 1 4\ntenant 4 100\nreplay 0\n",
+            "fault 3 event not enabled\nlog\nworker 0 idle learned 0 replayed 0 proposals 0\n",
+        ),
+        // No later event runs; a worker that doesn't exist; the last line lacks its line feed.
+        (
+            "core 1 4\ntenant 4 100\n\n# no such worker\nread 1\nsubmit 0 0 get a",
+            "fault 5 event not enabled\nlog\nworker 0 idle learned 0 replayed 0 proposals 0\n",
+        ),
+        // A worker that has looked.
+        (
+            "core 1 4\ntenant 4 100\nannounce 0 0 get a\nread 0\nlook 0\nread 0\n",
+            "fault 6 event not enabled\nlog\nworker 0 looked learned 0 replayed 0 proposals 0\n",
+        ),
+    ] {
+        check_reported(&rt, "", list, 1, report)?;
+    }
+    Ok(())
+}
+
+#[test]
+fn words_leave_replies_out_and_add_a_picture(rt: HostRuntime) -> Result<(), Fail> {
+    let picture =
+        "   line  worker 0    worker 1    log\n      3  announce    |\n      4  stop        |\n      5              announce\n\
+        \x20     5              read empty\n      5              look -> 0\n      5              propose     0 (0,0)\n\
+        \x20     5              look -> 1\n      5              propose *   1 (1,0)\n      5              replay\n\
+        \x20     5              replay\n\n";
+    let reply = "reply 1 1 VALUE a 0 1\\r\\nx\\r\\nEND\\r\\n\n";
+    let others = "log (0,0) (1,0)\n\
+        worker 0 stopped learned 0 replayed 0 proposals 0\nworker 1 idle learned 2 replayed 2 proposals 2\n";
+    for (given, pieces) in [
+        ("--quiet", ["", "", others]),
+        ("--picture", [picture, reply, others]),
+        ("--quiet --picture", [picture, "", others]),
+        ("--picture --quiet", [picture, "", others]),
+    ] {
+        let report = pieces.concat(rt.alloc())?;
+        check_reported(&rt, given, STOPPED, 0, report.as_str())?;
+    }
+    Ok(())
+}
+
+#[test]
+fn bad_lines_come_before_bad_settings(rt: HostRuntime) -> Result<(), Fail> {
+    for (list, text) in [
+        (
+            "core 1 4\ntenant 4 100\njump 0\n",
+            "mc_schedule: line 3: bad line\n",
+        ),
+        (
+            "core 0 4\ntenant 4 100\njump 0\n",
+            "mc_schedule: line 3: bad line\n",
+        ),
+        (
+            "core 1 4\r\ntenant 4 100\n",
+            "mc_schedule: line 1: bad line\n",
+        ),
+        ("core 1 4\nread 0\n", "mc_schedule: line 2: bad line\n"),
+        ("", "mc_schedule: line 0: bad line\n"),
+        ("core 99 4\n", "mc_schedule: line 0: bad line\n"),
+        ("core 0 4\ntenant 4 100\n", "mc_schedule: bad settings\n"),
+        ("core 17 4\ntenant 4 100\n", "mc_schedule: bad settings\n"),
+        (
+            "core 1 1048577\ntenant 4 100\n",
+            "mc_schedule: bad settings\n",
+        ),
+        (
+            "core 1 4\ntenant 4 100\ntenant 0 100\nread 9\n",
+            "mc_schedule: bad settings\n",
+        ),
+    ] {
+        check_refused(&rt, "", list, text)?;
+        check_refused(&rt, "--picture", list, text)?;
+    }
+    Ok(())
+}
+
+#[test]
+fn a_list_has_at_most_1_048_576_bytes(rt: HostRuntime) -> Result<(), Fail> {
+    let list = "core 1 4\ntenant 4 100\n";
+    let comment = "#".repeat(rt.alloc(), 1_048_576 - list.len())?;
+    let longest = [list, comment.as_str()].concat(rt.alloc())?;
+    let report = "log\nworker 0 idle learned 0 replayed 0 proposals 0\n";
+    check_reported(&rt, "", longest.as_str(), 0, report)?;
+    let longer = [list, comment.as_str(), "#"].concat(rt.alloc())?;
+    check_refused(&rt, "", longer.as_str(), "mc_schedule: line 0: bad line\n")?;
+    Ok(())
+}
+
+#[test]
+fn failed_streams_are_told(rt: HostRuntime) -> Result<(), Fail> {
+    for (pulls, pushes, wanted) in [
+        (
+            [InputStep::Give(30), InputStep::Fail],
+            [OutputStep::Full, OutputStep::Full],
+            ("", "mc_schedule: input failed\n"),
+        ),
+        (
+            [InputStep::Give(30), InputStep::Empty],
+            [OutputStep::Take(9), OutputStep::Fail],
+            ("reply 1 1", "mc_schedule: output failed\n"),
+        ),
+    ] {
+        let steps = Steps {
+            pulls: &pulls,
+            pushes: &pushes,
+            tells: &[OutputStep::Take(1), OutputStep::Full],
+        };
+        let wanted = Wanted {
+            status: 1,
+            output: wanted.0.as_bytes(),
+            errors: wanted.1.as_bytes(),
+        };
+        check_steps(&rt, "", STOPPED, steps, wanted)?;
+    }
+    Ok(())
+}
+
+/// These words are answered on standard output.
+fn check_shown(
+    rt: &(impl AllocGlobal + Wait + Abort),
+    given: &str,
+    text: &str,
+) -> Result<(), AllocError> {
+    let wanted = Wanted {
+        status: 0,
+        output: text.as_bytes(),
+        errors: b"",
+    };
+    check_steps(rt, given, STOPPED, NO_STEPS, wanted)
+}
+
+const HELP: &str = "\
+Runs an event list, and prints its replies, the log and the workers
+
+Usage: mc_schedule [OPTIONS]
+
+Options:
+      --quiet    Leaves out the replies
+      --picture  Draws the run before its report
+  -h, --help     Print help
+  -V, --version  Print version
+
+An event list stands on standard input, line by line, its words with spaces between them:
+  core WORKERS PLACES   first: how many workers there are, and how many places for commands the log has
+  tenant ITEMS BYTES    then 1 to 64 such lines: how many items and bytes each tenant's table may hold
+and then any number of these, where W is a worker and T a tenant, each numbered from 0:
+  submit W T COMMAND    W announces a command of T, helps by turns until it is decided, and replays
+  announce W T COMMAND  W announces a command of T, and no more
+  read W                W learns what stands at its next place, if anything does
+  look W                W looks for a command that waits, of the worker whose turn its next place is
+  propose W             W proposes what it found, or else its own command, and learns what is decided
+  replay W              W applies the next command that it has learned, and answers its own
+  stop W                W does nothing more
+COMMAND is set, add, replace, append or prepend KEY FLAGS DATA, cas KEY FLAGS UNIQUE DATA,
+get or gets KEY.., delete KEY, incr or decr KEY NUMBER, or flush_all. DATA is one word, and a
+point stands for no data. A line that begins with # is a comment.
+
+Example, in which worker 1 brings the command of worker 0, which has stopped, into the log:
+  core 2 8
+  tenant 4 100
+  announce 0 0 set a 0 x
+  stop 0
+  submit 1 0 get a
+";
+
+#[test]
+fn help_and_the_version_are_shown(rt: HostRuntime) -> Result<(), Fail> {
+    for (given, text) in [
+        ("--help", HELP),
+        ("-h", HELP),
+        ("--version", "mc_schedule 1.0.0\n"),
+    ] {
+        check_shown(&rt, given, text)?;
+    }
+    Ok(())
+}
+
+#[test]
+fn words_of_no_form_are_refused(rt: HostRuntime) -> Result<(), Fail> {
+    for (given, text) in [
+        (
+            "--quiet --quiet",
+            "error: the argument '--quiet' cannot be used multiple times\n\nUsage: mc_schedule [OPTIONS]\n\nFor more information, try '--help'.\n",
+        ),
+        (
+            "list",
+            "error: unexpected argument 'list' found\n\nUsage: mc_schedule [OPTIONS]\n\nFor more information, try '--help'.\n",
+        ),
+    ] {
+        check_refused(&rt, given, STOPPED, text)?;
+    }
+    Ok(())
+}

@@ -1,0 +1,3 @@
+pub mod Sighting
+pub mod Cells
+pub mod Known

@@ -1,0 +1,8 @@
+//! Cells for the contents of commands: one for each ticket, set once, and never changed then.
+#![tactic(auto)]
+
+pub use cells::Cells;
+pub use seen::Seen;
+
+pub mod cells;
+pub mod seen;

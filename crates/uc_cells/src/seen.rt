@@ -1,0 +1,67 @@
+//! What was seen of a cell.
+ghost use Rattle.std.specs.Option.{option_copied};
+ghost use Rattle.std.specs.Prelude.{◌≡◌};
+
+use mc_model::{Entry, Ticket};
+use once_cell::race::{Note, OnceBox};
+use std::marker::Model;
+
+/// What is known of a row of cells.
+pub(crate) type Row = Vec<OnceBox<Option<Entry>>>;
+
+/// The value of a ticket's cell, which no other call will ever find different. It outlives the thread that made it.
+#[derive(Drop)]
+pub struct Seen<'a> {
+    pub(crate) ticket: Ticket,
+    pub(crate) value: &'a Option<Entry>,
+    pub(crate) row: Note<Row>,
+    pub(crate) cell: Note<Option<Entry>>,
+}
+
+impl<'a> Model for Seen<'a> {
+    ghost use Rattle.uc_cells.specs.Sighting.{Sighting, coded_sighting, counted};
+    ghost use Rattle.uc_cells.specs.Known.{IsKnown};
+
+    ghost Value = { Sighting };
+
+    ghost coded = { coded_sighting };
+
+    ghost view = { λ seen. record { ticket = seen.ticket; entry = counted seen.ticket seen.value.now; row = seen.row.cell } };
+
+    ghost invariant = { λ seen. IsKnown seen.ticket seen.row.known seen.cell.cell seen.cell.known seen.value.now };
+}
+
+impl<'a> Seen<'a> {
+    /// The ticket whose cell it is.
+    pub fn ticket(&self) -> Ticket
+        ensures { result ≡ self.now.ticket }
+    {
+        self.ticket
+    }
+
+    /// The entry that the cell holds, if it holds one of its own ticket.
+    pub fn entry(&self) -> Option<&'a Entry>
+        ensures { option_copied result ≡ self.now.entry }
+    {
+        let entry = self.value.as_ref()?;
+        if entry.ticket == self.ticket {
+            Some(entry)
+        } else {
+            None
+        }
+    }
+
+    /// Two sightings of one cell are equal, whichever threads made them. Needs no memory.
+    pub fn agree(&mut self, other: &mut Seen<'_>)
+        requires row { self.old.row ≡ other.old.row }
+        requires ticket { self.old.ticket ≡ other.old.ticket }
+        ensures equal { self.old ≡ other.old }
+        ensures one { self.new ≡ self.old }
+        ensures two { other.new ≡ other.old }
+    {
+        let row = other.row.again();
+        self.row.compare(row);
+        let cell = other.cell.again();
+        self.cell.compare(cell);
+    }
+}
