@@ -1,4 +1,5 @@
 pub mod Answered
+mod ListRows
 pub mod Owings
 pub mod Reported
 pub mod Underway
