@@ -6,7 +6,7 @@ help:
 	@echo 'make schedule proves, builds and runs mc_schedule on an example, with a picture'
 	@echo 'make test     the gate: every proof from nothing, the telling edits, the tests, the programs on their worked rows'
 	@echo 'make edits    tries all edits that must be refused; make edits CRATES="mc_items mc_read" those of some crates'
-	@echo 'make memory   runs mc_stdin with less and less memory, and with each allocation refused in turn, and looks at what it answers'
+	@echo 'make memory   runs the programs with each allocation refused in turn, mc_stdin with less and less memory too, and looks at what they answer'
 	@echo 'make bench    measures the built programs; the figures of docs/BENCHMARKS.md come from it'
 
 run: kit
@@ -29,6 +29,7 @@ edits: kit
 memory: kit
 	@tests/memory.sh
 	@python3 tests/allocations.py
+	@python3 tests/schedule_allocations.py
 
 bench: kit
 	@bench/stdin.sh
