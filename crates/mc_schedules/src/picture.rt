@@ -41,13 +41,15 @@ struct Picture {
 /// A chart of a run as text: a line for each event, with the number of the line that asks for it, a column for each worker, and beside
 /// a proposal that decides a place, the place and its ticket. A worker's column says what it does, of a look whose command it found,
 /// and `|` while another works; it ends where the worker stops. A star stands where the worker learned that its own command is in the
-/// log. Up to 6 workers fit into 100 columns.
+/// log. Up to 6 workers fit into 100 columns. `Memory` where memory runs out, for an event too.
 pub fn draw(alloc: Global, settings: &Settings, items: Vec<Item>) -> Result<Vec<u8>, Fault>
     ensures { IsOkUnless result Fault.Memory }
 {
     let mut picture = Picture::new(alloc, settings.workers())?;
-    run_items(alloc, settings, items, &mut picture)?;
-    if picture.is_starved {
+    let outcome = run_items(alloc, settings, items, &mut picture)?;
+    // Another run may get farther, so that this would be no picture of it.
+    let ran_out = matches!(outcome.fault, Some((_, Fault::Memory)));
+    if ran_out || picture.is_starved {
         return Err(Fault::Memory);
     }
     picture.text.push(b'\n')?;
