@@ -7,4 +7,3 @@ pub use seen::Seen;
 pub mod laws;
 pub mod replica;
 pub mod seen;
-pub mod tables;

@@ -7,8 +7,8 @@ ghost use Rattle.mc_model.specs.Log.{entries, entry_of, own};
 ghost use Rattle.mc_model.specs.Replay.{EachStands, IsNobodys, IsRefused, TakeEffect, answer_to, empty_tables};
 
 use crate::seen::Seen;
-use crate::tables::{tables_of, take_effect};
 use mc_items::Items;
+use mc_items::tables::{tables_of, take_effect};
 use mc_model::{Fault, Limits, Reply, TenantId, WorkerId};
 use std::alloc::Global;
 use std::marker::Model;
