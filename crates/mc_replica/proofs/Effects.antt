@@ -7,7 +7,7 @@ use Rattle.std.proofs.lemmas.Option.{none-some, same_Some, slice_get_past}
 use Rattle.std.specs.Option.{option_map}
 use Rattle.mc_model.specs.State.{TableState, next_state}
 use Rattle.mc_model.specs.declared.request.Entry.{Entry}
-use Rattle.mc_model.specs.Log.{Sighting, entries, entry_of}
+use Rattle.uc_cells.specs.Sighting.{Sighting, entries}
 use Rattle.mc_model.specs.declared.settings.Limits.{Limits}
 use Rattle.mc_model.specs.Replay.{EachStands, EachStands-length, EachStands-push, IsNobodys, TakeEffect, with_command}
 
@@ -40,10 +40,10 @@ TakeEffect-nobody openings log (Some entry) old new stands takes unknown =
     same_by_places new old (λ tenant. takes tenant ∙ sym (TakeEffect-unknown old entry past tenant))
 
 -- tables that take the effect of a sighting's entry stand for one more place
-entries-push : (history : List Sighting) (seen : Sighting) → entries (history ++ seen ∷ []) ≡ entries history ++ entry_of seen ∷ []
-entries-push history seen = map-append entry_of history (seen ∷ [])
+entries-push : (history : List Sighting) (seen : Sighting) → entries (history ++ seen ∷ []) ≡ entries history ++ seen.entry ∷ []
+entries-push history seen = map-append (λ (one : Sighting). one.entry) history (seen ∷ [])
 
-pub EachStands-seen : (openings : List Limits) (history : List Sighting) (seen : Sighting) (found : Option Entry) (old new : List TableState) → found ≡ entry_of seen →
+pub EachStands-seen : (openings : List Limits) (history : List Sighting) (seen : Sighting) (found : Option Entry) (old new : List TableState) → found ≡ seen.entry →
     EachStands openings (entries history) old → TakeEffect found old new → EachStands openings (entries (history ++ seen ∷ [])) new
 EachStands-seen openings history seen found old new is stands takes =
     subst (λ log. EachStands openings log new) (ap (λ entry. entries history ++ entry ∷ []) is ∙ sym (entries-push history seen))
