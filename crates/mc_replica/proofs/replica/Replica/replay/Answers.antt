@@ -37,3 +37,7 @@ returns-clause-tenants c =
 pub returns-clause-untouched : goal.returns-clause-untouched
 returns-clause-untouched c =
     rw (← c.self.view_is, ← c.entry.ensures) (TakeEffect-nobody c.self.inside.openings.items (entries c.self.inside.history.items) _ c.self.inside.tables.items c.take_effect.new.tables.items c.self.invariant.stands c.in_ok-reply.ensures.tables)
+
+pub returns-clause-reply : goal.returns-clause-reply
+returns-clause-reply c =
+    rw (← c.self.view_is, ← c.entry.ensures) (c.in_ok-reply.ensures.reply c.self.inside.openings.items (entries c.self.inside.history.items) c.self.invariant.stands)
