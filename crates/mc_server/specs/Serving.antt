@@ -79,7 +79,7 @@ StopsAt limits places Memory before after is_starved = is_starved
 StopsAt limits places Input before after is_starved = ServesOn limits places before after
 StopsAt limits places Output before after is_starved = ServesInPart limits places before after
 StopsAt limits places LogFull before after is_starved = ⊥
-StopsAt limits places Taken before after is_starved = ⊥
+StopsAt limits places Taken before after is_starved = ServesInPart limits places before after
 StopsAt limits places BadEvent before after is_starved = ⊥
 StopsAt limits places BadSettings before after is_starved = ⊥
 
@@ -105,6 +105,6 @@ CountsFailures (Err Output) before after = IsUnfailedInput before.input after.in
 CountsFailures (Err Memory) before after =
     IsUnfailedInput before.input after.input × (failures before.output.events ≤ failures after.output.events) × (failures after.output.events ≤ failures before.output.events + 1)
 CountsFailures (Err LogFull) before after = ⊥
-CountsFailures (Err Taken) before after = ⊥
+CountsFailures (Err Taken) before after = NeitherFails before after
 CountsFailures (Err BadEvent) before after = ⊥
 CountsFailures (Err BadSettings) before after = ⊥
