@@ -115,7 +115,7 @@ impl<'a> Session<'a> {
     }
 
     /// Does what a request asks for, and queues the reply. At a fault no reply is queued; at `Memory` the command may have been applied,
-    /// and at `Taken`, where the command's cell holds another value, it wasn't.
+    /// and at `Taken`, where the command's cell holds another value, it wasn't. A fault ends a session: the next cell may be full already.
     pub fn respond(&mut self, request: Request) -> Result<(), Fault>
         requires room { length self.old.queue.items ≤ QUEUE_BYTES }
         ensures stands { OnOk result ((limits : Limits) (places : ℕ) (applied : List Command) → Stands limits places applied self.old →
