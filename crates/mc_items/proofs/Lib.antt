@@ -1,3 +1,4 @@
 pub mod Maps
 pub mod Quotas
 pub mod Stands
+mod Effects

@@ -1,4 +1,5 @@
-//! One tenant's table as an ordered map with a running total, which answers as the definitions of `mc_model` say.
+//! A tenant's table, as an ordered map with a running total, and the tables of all tenants. They answer as the definitions of
+//! `mc_model` say.
 #![tactic(auto)]
 
 pub use items::Items;
@@ -7,3 +8,4 @@ pub use mc_model::Item;
 mod blocks;
 mod held;
 pub mod items;
+pub mod tables;

@@ -1,42 +1,15 @@
--- What one entry does to a list of tables.
-use Rattle.std.proofs.Common.{◌≡◌, ◌≢◌, ℕ, zero, suc, ◌<◌, ◌≤◌, List, [], ◌∷◌, ◌++◌, length, get_or, Option, Some, None, true, false, refl, sym, ap, ap₂, subst, ◌∙◌, arith, slice_get, slice_set, ◌==◌, if◌then◌else◌}
+-- What an entry that is nobody's does to a list of tables, and what they stand for after a sighting.
+use Rattle.std.proofs.Common.{◌≡◌, ℕ, suc, ◌≤◌, List, [], ◌∷◌, ◌++◌, length, Option, Some, None, true, false, refl, sym, ap, ap₂, subst, ◌∙◌, arith, slice_get, ◌==◌, if◌then◌else◌}
 use Rattle.std.proofs.lemmas.Bool.Decides.{nat_tests}
 use Rattle.std.proofs.lemmas.Iterator.Adapters.{option_map_id}
 use Rattle.std.proofs.lemmas.List.{map-append}
-use Rattle.std.proofs.lemmas.Option.{none-some, same_Some, slice_get_past, slice_get_read}
+use Rattle.std.proofs.lemmas.Option.{none-some, same_Some, slice_get_past}
 use Rattle.std.specs.Option.{option_map}
 use Rattle.mc_model.specs.State.{TableState, next_state}
 use Rattle.mc_model.specs.declared.request.Entry.{Entry}
-use Rattle.mc_model.specs.Log.{Sighting, entries, entry_of}
+use Rattle.uc_cells.specs.Sighting.{Sighting, entries}
 use Rattle.mc_model.specs.declared.settings.Limits.{Limits}
 use Rattle.mc_model.specs.Replay.{EachStands, EachStands-length, EachStands-push, IsNobodys, TakeEffect, with_command}
-
-get_set_same : {X : Type 0} (xs : List X) (i : ℕ) (x : X) → i < length xs → slice_get (slice_set xs i x) i ≡ Some x
-get_set_same [] i x lt = absurd (omega (arith, lt))
-get_set_same (y ∷ xs) zero x lt = refl
-get_set_same (y ∷ xs) (suc i) x lt = get_set_same xs i x (omega (arith, lt))
-
-get_set_other : {X : Type 0} (xs : List X) (i k : ℕ) (x : X) → i ≢ k → slice_get (slice_set xs i x) k ≡ slice_get xs k
-get_set_other [] i k x differ = refl
-get_set_other (y ∷ xs) zero zero x differ = absurd (differ refl)
-get_set_other (y ∷ xs) zero (suc k) x differ = refl
-get_set_other (y ∷ xs) (suc i) zero x differ = refl
-get_set_other (y ∷ xs) (suc i) (suc k) x differ = get_set_other xs i k x (λ same. differ (ap suc same))
-
--- the entry's own table changes, and no other
-pub TakeEffect-set : (tables : List TableState) (place : ℕ) (state next : TableState) (entry : Entry) →
-    place ≡ entry.tenant → place < length tables → state ≡ get_or tables place state → next ≡ next_state state entry.command →
-    TakeEffect (Some entry) tables (slice_set tables place next)
-TakeEffect-set tables place state next entry own inside at is tenant = elim (entry.tenant == tenant) as
-    (λ b. (entry.tenant == tenant) ≡ b → slice_get (slice_set tables place next) tenant ≡ option_map (λ state. with_command state (if b then Some entry.command else None)) (slice_get tables tenant)) [
-      | true ↦ λ same.
-          let here : place ≡ tenant = grind (arith, nat_tests) in
-          ap (slice_get (slice_set tables place next)) (sym here) ∙ get_set_same tables place next inside ∙ ap Some is
-          ∙ sym (ap (option_map (λ state. next_state state entry.command)) (ap (slice_get tables) (sym here) ∙ slice_get_read tables (length tables) place state refl inside at))
-      | false ↦ λ apart.
-          let elsewhere : place ≢ tenant = grind (arith, nat_tests) in
-          get_set_other tables place tenant next elsewhere ∙ sym (option_map_id (slice_get tables tenant))
-    ] refl
 
 -- without an entry, and with an entry of a tenant without a table, all stay
 TakeEffect-none : (tables : List TableState) → TakeEffect None tables tables
@@ -51,6 +24,7 @@ TakeEffect-unknown tables entry unknown tenant = elim (entry.tenant == tenant) a
       | false ↦ λ apart. sym (option_map_id (slice_get tables tenant))
     ] refl
 
+-- lists that are the same at each place are equal
 same_by_places : {X : Type 0} (xs ys : List X) → ((k : ℕ) → slice_get xs k ≡ slice_get ys k) → xs ≡ ys
 same_by_places [] [] same = refl
 same_by_places [] (y ∷ ys) same = absurd (none-some y (same 0))
@@ -66,10 +40,10 @@ TakeEffect-nobody openings log (Some entry) old new stands takes unknown =
     same_by_places new old (λ tenant. takes tenant ∙ sym (TakeEffect-unknown old entry past tenant))
 
 -- tables that take the effect of a sighting's entry stand for one more place
-entries-push : (history : List Sighting) (seen : Sighting) → entries (history ++ seen ∷ []) ≡ entries history ++ entry_of seen ∷ []
-entries-push history seen = map-append entry_of history (seen ∷ [])
+entries-push : (history : List Sighting) (seen : Sighting) → entries (history ++ seen ∷ []) ≡ entries history ++ seen.entry ∷ []
+entries-push history seen = map-append (λ (one : Sighting). one.entry) history (seen ∷ [])
 
-pub EachStands-seen : (openings : List Limits) (history : List Sighting) (seen : Sighting) (found : Option Entry) (old new : List TableState) → found ≡ entry_of seen →
+pub EachStands-seen : (openings : List Limits) (history : List Sighting) (seen : Sighting) (found : Option Entry) (old new : List TableState) → found ≡ seen.entry →
     EachStands openings (entries history) old → TakeEffect found old new → EachStands openings (entries (history ++ seen ∷ [])) new
 EachStands-seen openings history seen found old new is stands takes =
     subst (λ log. EachStands openings log new) (ap (λ entry. entries history ++ entry ∷ []) is ∙ sym (entries-push history seen))

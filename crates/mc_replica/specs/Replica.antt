@@ -1,10 +1,15 @@
 -- What a replica is to contracts: this project's profile.
-use Rattle.std.specs.Prelude.{ℕ, ◌≤◌, List, length, refl}
+use Rattle.std.specs.Prelude.{ℕ, ◌≤◌, List, length, Option, refl}
 use Rattle.std.specs.Coded.{Coded, code_by, coded×, coded_ℕ, coded_list}
+use Rattle.mc_model.specs.declared.request.Entry.{Entry}
 use Rattle.mc_model.specs.declared.settings.Limits.{Limits}
-use Rattle.mc_model.specs.Log.{Sighting, coded_sighting, entries}
 use Rattle.mc_model.specs.Replay.{EachStands}
 use Rattle.mc_model.specs.State.{TableState, coded_limits, coded_state}
+use Rattle.uc_cells.specs.Sighting.{Sighting, coded_sighting, entries}
+
+-- the entry that was seen; one of another ticket counts as absent already
+abbrev pub entry_of : Sighting → Option Entry
+entry_of seen = seen.entry
 
 -- whose it is, how many places its history may have, the quotas that each tenant's table was opened with, what was seen of the
 -- places, and each tenant's table

@@ -1,15 +1,16 @@
 //! What any two replicas agree on.
 ghost use Rattle.std.specs.Prelude.{◌≡◌, ℕ, Some, slice_get};
 ghost use Rattle.mc_model.specs.declared.request.Entry.{Entry};
-ghost use Rattle.mc_model.specs.Log.{entries, own};
+ghost use Rattle.mc_model.specs.Log.{own};
 ghost use Rattle.mc_model.specs.Replay.{reply_to};
+ghost use Rattle.uc_cells.specs.Sighting.{entries};
 
 use crate::Replica;
 
 /// Two replicas whose histories have the same own commands of a tenant, and that opened its table with the same quotas, have
 /// equal tables of it, whatever other tenants there are and whatever those did; and the replies to one and the same next entry
 /// of the tenant are equal.
-pub fn replicas_agree(one: &Replica, other: &Replica)
+pub fn replicas_agree(one: &Replica<'_>, other: &Replica<'_>)
     ensures tables { (tenant : ℕ) →
         own tenant (entries one.now.history) ≡ own tenant (entries other.now.history) →
         slice_get one.now.openings tenant ≡ slice_get other.now.openings tenant →

@@ -2,9 +2,6 @@
 #![tactic(auto)]
 
 pub use replica::Replica;
-pub use seen::Seen;
 
 pub mod laws;
 pub mod replica;
-pub mod seen;
-pub mod tables;

@@ -3,30 +3,32 @@ ghost use Rattle.std.specs.Prelude.{◌≡◌, ◌≢◌, ◌<◌, ◌≤◌, �
 ghost use Rattle.std.specs.Option.{option_map};
 ghost use Rattle.mc_model.specs.History.{state_after};
 ghost use Rattle.mc_model.specs.Kinds.{IsRetrieval, IsTakingOut};
-ghost use Rattle.mc_model.specs.Log.{entries, entry_of, own};
+ghost use Rattle.mc_model.specs.Log.{own};
 ghost use Rattle.mc_model.specs.Replay.{EachStands, IsNobodys, IsRefused, TakeEffect, answer_to, empty_tables};
+ghost use Rattle.mc_replica.specs.Replica.{entry_of};
+ghost use Rattle.uc_cells.specs.Sighting.{entries};
 
-use crate::seen::Seen;
-use crate::tables::{tables_of, take_effect};
 use mc_items::Items;
+use mc_items::tables::{tables_of, take_effect};
 use mc_model::{Fault, Limits, Reply, TenantId, WorkerId};
 use std::alloc::Global;
 use std::marker::Model;
+use uc_cells::Seen;
 
 /// The tables of all tenants, after what one worker has seen of the log.
-#[derive(Debug, Drop)]
-pub struct Replica {
+#[derive(Drop)]
+pub struct Replica<'a> {
     worker: WorkerId,
     places: u64,
     /// The quotas that each tenant's table was opened with.
     openings: Vec<Limits>,
     /// Has room for all places from its opening on.
-    history: Vec<Seen>,
+    history: Vec<Seen<'a>>,
     /// One table a tenant, by the tenants' numbers.
     tables: Vec<Items>,
 }
 
-impl Model for Replica {
+impl<'a> Model for Replica<'a> {
     ghost use Rattle.std.specs.Prelude.{vec_capacity};
     ghost use Rattle.mc_replica.specs.Replica.{IsInOrder, ReplicaState, coded_replica};
 
@@ -39,7 +41,7 @@ impl Model for Replica {
     ghost invariant = { λ r. IsInOrder r.places (vec_capacity r.history) r.openings.items r.history.items r.tables.items };
 }
 
-impl Replica {
+impl<'a> Replica<'a> {
     /// A replica of this worker that has seen nothing, with an empty table for each tenant's quotas. Room for a history of
     /// so many places is reserved here, once. Where memory runs out: `Memory`.
     pub fn open(
@@ -47,7 +49,7 @@ impl Replica {
         worker: WorkerId,
         limits: &[Limits],
         places: u64,
-    ) -> Result<Replica, Fault>
+    ) -> Result<Replica<'a>, Fault>
         ensures worker { IfOk result (λ replica. replica.worker ≡ worker) }
         ensures places { IfOk result (λ replica. replica.places ≡ places) }
         ensures openings { IfOk result (λ replica. replica.openings ≡ limits.now) }
@@ -72,16 +74,16 @@ impl Replica {
     /// absent entry, or one whose tenant isn't among the tables, belongs to nobody and changes no table. The answer comes
     /// where the entry is this worker's own; a command of another worker is applied without one. Where memory runs out:
     /// `Memory`, and nothing changes; the history itself never needs any.
-    pub fn replay(&mut self, seen: Seen) -> Result<Option<Reply>, Fault>
+    pub fn replay(&mut self, seen: Seen<'a>) -> Result<Option<Reply>, Fault>
         requires { length self.old.history < self.old.places }
 
         ensures reply { IfOk result (λ reply.
-            reply ≡ answer_to self.old.worker self.old.openings (entries self.old.history) (entry_of seen)) }
-        ensures history { OnOk result (self.new.history ≡ self.old.history ++ seen ∷ []) }
+            reply ≡ answer_to self.old.worker self.old.openings (entries self.old.history) (entry_of seen.entry)) }
+        ensures history { OnOk result (self.new.history ≡ self.old.history ++ seen.entry ∷ []) }
 
         // A table takes its own tenant's command alone; all others are equal to what they were.
-        ensures tables { OnOk result (TakeEffect (entry_of seen) self.old.tables self.new.tables) }
-        ensures untouched { IsNobodys self.old.openings (entry_of seen) → self.new.tables ≡ self.old.tables }
+        ensures tables { OnOk result (TakeEffect (entry_of seen.entry) self.old.tables self.new.tables) }
+        ensures untouched { IsNobodys self.old.openings (entry_of seen.entry) → self.new.tables ≡ self.old.tables }
         ensures tenants { length self.new.tables ≡ length self.old.tables }
         ensures stands { EachStands self.new.openings (entries self.new.history) self.new.tables }
         ensures openings { self.new.openings ≡ self.old.openings }
@@ -89,19 +91,19 @@ impl Replica {
         ensures places { self.new.places ≡ self.old.places }
 
         // What needs no memory. An entry that is nobody's counts as refused.
-        ensures takes_out { IfSome (entry_of seen) (λ entry. IsTakingOut entry.command) → IsOk result }
-        ensures reads { IfSome (entry_of seen) (λ entry. IsRetrieval entry.command × (entry.ticket.worker ≢ self.old.worker)) → IsOk result }
-        ensures refused { IsRefused self.old.openings (entries self.old.history) (entry_of seen) → IsOk result }
+        ensures takes_out { IfSome (entry_of seen.entry) (λ entry. IsTakingOut entry.command) → IsOk result }
+        ensures reads { IfSome (entry_of seen.entry) (λ entry. IsRetrieval entry.command × (entry.ticket.worker ≢ self.old.worker)) → IsOk result }
+        ensures refused { IsRefused self.old.openings (entries self.old.history) (entry_of seen.entry) → IsOk result }
         ensures memory { IsOkUnless result Fault.Memory }
         ensures unchanged { OnErr result (self.new ≡ self.old) }
     {
-        let reply = take_effect(&mut self.tables, self.worker, seen.own_entry())?;
+        let reply = take_effect(&mut self.tables, self.worker, seen.entry())?;
         self.history.push_reserved(seen);
         Ok(reply)
     }
 
     /// What was seen at each place that was replayed.
-    pub fn history(&self) -> &[Seen]
+    pub fn history(&self) -> &[Seen<'a>]
         ensures history { result.now ≡ self.now.history }
         ensures few { length self.now.history ≤ self.now.places }
         ensures stands { EachStands self.now.openings (entries self.now.history) self.now.tables }

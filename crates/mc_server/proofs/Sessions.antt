@@ -7,15 +7,16 @@ use Rattle.mc_model.specs.declared.command.Command.{Command}
 use Rattle.mc_model.specs.declared.reply.Reply.{Reply}
 use Rattle.mc_model.specs.declared.settings.Limits.{Limits}
 use Rattle.mc_model.specs.History.{answer}
-use Rattle.mc_model.specs.Log.{Sighting, entries, entry_of, own, own-push}
+use Rattle.mc_model.specs.Log.{own, own-push}
 use Rattle.mc_model.specs.Replay.{answer_to}
 use Rattle.mc_server.specs.declared.session.Session.{Session}
 use Rattle.mc_server.specs.Owed.{applied_with, logged_reply}
 use Rattle.mc_server.specs.Session.{Stands}
+use Rattle.uc_cells.specs.Sighting.{Sighting, entries}
 
 -- a sighting whose entry is the one tenant's command, under a ticket of the one worker
 pub record IsOwn (seen : Sighting) (command : Command) : Type 0 where
-  pub entry : entry_of seen ≡ Some (record { ticket = seen.ticket; tenant = 0; command = command })
+  pub entry : seen.entry ≡ Some (record { ticket = seen.ticket; tenant = 0; command = command })
   pub worker : seen.ticket.worker ≡ 0
 
 module _ (limits : Limits) (places : ℕ) (applied : List Command) (command : Command) (session : Session) (seen : Sighting) (stands : Stands limits places applied session) (is_own : IsOwn seen command)
@@ -25,7 +26,7 @@ module _ (limits : Limits) (places : ℕ) (applied : List Command) (command : Co
 
   own_later : own 0 (entries (session.replica.history ++ seen ∷ [])) ≡ applied ++ command ∷ []
   own_later =
-      ap (own 0) (map-append entry_of session.replica.history (seen ∷ [])) ∙ own-push 0 (entries session.replica.history) (entry_of seen) ∙ rw (is_own.entry, stands.own) refl
+      ap (own 0) (map-append (λ (one : Sighting). one.entry) session.replica.history (seen ∷ [])) ∙ own-push 0 (entries session.replica.history) seen.entry ∙ rw (is_own.entry, stands.own) refl
 
   -- the session stands for one more
   pub stands_later : (later : Session) → later.limits ≡ session.limits → later.replica.places ≡ session.replica.places
@@ -42,7 +43,7 @@ module _ (limits : Limits) (places : ℕ) (applied : List Command) (command : Co
 
   -- the one table answers it after those before
   pub reply_is_answer : session.replica.worker ≡ 0 → session.replica.openings ≡ session.limits ∷ [] → (reply : Reply)
-      → Some reply ≡ answer_to session.replica.worker session.replica.openings (entries session.replica.history) (entry_of seen) → reply ≡ logged_reply limits places applied command
+      → Some reply ≡ answer_to session.replica.worker session.replica.openings (entries session.replica.history) seen.entry → reply ≡ logged_reply limits places applied command
   reply_is_answer worker openings reply given =
       let one : session.replica.openings ≡ limits ∷ [] = openings ∙ ap (λ (l : Limits). l ∷ []) stands.is_limits in
       let answered : Some reply ≡ Some (answer limits (own 0 (entries session.replica.history)) command) = rw (worker, is_own.entry, one, is_own.worker) at given in

@@ -271,6 +271,10 @@ module _ (limits : Limits) (places : ℕ) (before now : Streams) (held : Held) (
         caught_up = more_sent limits places under.came (last_moved now.input.events) under.sent moves.front under.caught_up;
       }
 
+  -- nothing more was pushed
+  pub serves_no_more : ServesInPart limits places before now
+  serves_no_more = serves_in_part now.output (session.queue.items, record { front = []; split = refl; went = sym (append-nil (moved now.output.events)) })
+
   -- memory ran out for a look for a request
   pub starved_looking : IsUnfailed before.output now.output → IsStarved limits places before now held session
   starved_looking unfailed =

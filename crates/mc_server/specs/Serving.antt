@@ -73,13 +73,14 @@ pub record ServesUntilStarved (limits : Limits) (places : ℕ) (before after : S
   pub stops : IsAllOrStopped unsent before.output after.output
   pub caught_up : IsCaughtUp limits places comes.bytes (last_moved after.input.events) sent
 
--- what a client was given where a fault ended it, and where memory ran out this
+-- what a client was given where a fault ended it, and where memory ran out this; where a command's cell was taken, a front of what is
+-- owed and no refusal
 abbrev pub StopsAt : Limits → ℕ → Fault → Streams → Streams → Type 0 → Type 0
 StopsAt limits places Memory before after is_starved = is_starved
 StopsAt limits places Input before after is_starved = ServesOn limits places before after
 StopsAt limits places Output before after is_starved = ServesInPart limits places before after
 StopsAt limits places LogFull before after is_starved = ⊥
-StopsAt limits places Taken before after is_starved = ⊥
+StopsAt limits places Taken before after is_starved = ServesInPart limits places before after
 StopsAt limits places BadEvent before after is_starved = ⊥
 StopsAt limits places BadSettings before after is_starved = ⊥
 
@@ -95,9 +96,9 @@ IsUnfailedInput before after = failures after.events ≡ failures before.events
 abbrev pub NeitherFails : Streams → Streams → Type 0
 NeitherFails before after = IsUnfailedInput before.input after.input × IsUnfailed before.output after.output
 
--- The failures of an input and of an output before and after a call: without a fault there was none; a failure of the
--- input, or of the output, is the one fault that names it; and where memory ran out, the output may fail once more while
--- the client is told.
+-- The failures of an input and of an output before and after a call: without a fault there was none, nor where a command's cell was
+-- taken; a failure of the input, or of the output, is the one fault that names it; and where memory ran out, the output may fail once
+-- more while the client is told.
 abbrev pub CountsFailures : Result (Unit {0}) Fault → Streams → Streams → Type 0
 CountsFailures (Ok done) before after = NeitherFails before after
 CountsFailures (Err Input) before after = (failures after.input.events ≡ failures before.input.events + 1) × IsUnfailed before.output after.output
@@ -105,6 +106,6 @@ CountsFailures (Err Output) before after = IsUnfailedInput before.input after.in
 CountsFailures (Err Memory) before after =
     IsUnfailedInput before.input after.input × (failures before.output.events ≤ failures after.output.events) × (failures after.output.events ≤ failures before.output.events + 1)
 CountsFailures (Err LogFull) before after = ⊥
-CountsFailures (Err Taken) before after = ⊥
+CountsFailures (Err Taken) before after = NeitherFails before after
 CountsFailures (Err BadEvent) before after = ⊥
 CountsFailures (Err BadSettings) before after = ⊥

@@ -7,7 +7,7 @@ use Rattle.mc_model.specs.declared.reply.WireNo.TheVariants.{E11}
 use Rattle.mc_model.specs.declared.request.Request.{Request}
 use Rattle.mc_model.specs.declared.settings.Limits.{Limits}
 use Rattle.mc_read.specs.Reading.{Held, ReadsOn}
-use Rattle.mc_model.specs.Log.{entries, own}
+use Rattle.mc_model.specs.Log.{own}
 use Rattle.mc_server.specs.declared.session.Session.{Session}
 use Rattle.mc_server.specs.Owed.{applied_by, owed}
 use Rattle.mc_server.specs.Serving.{Comes, IsCaughtUp, Serves, StopsAt}
@@ -15,6 +15,7 @@ use Rattle.mc_stream.specs.Event.{last_moved}
 use Rattle.mc_stream.specs.Pushing.{IsUnfailed, Pushes, PushesAtOnce}
 use Rattle.mc_stream.specs.Stream.{Streams}
 use Rattle.mc_write.specs.Text.{text}
+use Rattle.uc_cells.specs.Sighting.{entries}
 
 -- A session under these quotas and with so many places stands for these commands: its replica's history has them, each the one tenant's.
 pub record Stands (limits : Limits) (places : ℕ) (applied : List Command) (session : Session) : Type 0 where

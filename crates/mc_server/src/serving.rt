@@ -20,6 +20,7 @@ use mc_stream::{Input, Output, Pull, push_while_taken};
 use mc_write::refusal_text;
 use std::alloc::Global;
 use std::sync::Wait;
+use uc_cells::Cells;
 
 /// How many bytes a pull asks for.
 pub(crate) const PULL_BYTES: usize = 16_384;
@@ -56,7 +57,7 @@ fn make_room<R: Wait, O: Output>(rt: &R, queue: &mut Vec<u8>, output: &mut O) ->
 fn exchange<R: Wait, I: Input, O: Output>(
     rt: &R,
     reader: &mut Reader,
-    session: &mut Session,
+    session: &mut Session<'_>,
     input: &mut I,
     output: &mut O,
 ) -> Result<(), Fault>
@@ -103,7 +104,7 @@ fn tell_starved<O: Output>(queue: &[u8], output: &mut O)
 fn serve<R: Wait, I: Input, O: Output>(
     rt: &R,
     reader: &mut Reader,
-    session: &mut Session,
+    session: &mut Session<'_>,
     input: &mut I,
     output: &mut O,
 ) -> Result<(), Fault>
@@ -121,11 +122,21 @@ fn serve<R: Wait, I: Input, O: Output>(
     served
 }
 
+/// Tells the client that memory ran out before any request was read, as far as the output takes it at once, and answers the fault.
+fn refuse_to_open<O: Output>(output: &mut O) -> Fault
+    ensures fault { result ≡ Fault.Memory }
+    ensures told { PushesAtOnce (text (Refused E11)) (O.tells output.old) (O.tells output.new) }
+{
+    push_while_taken(refusal_text(WireNo::E11), output);
+    Fault::Memory
+}
+
 /// Serves one client: reads requests from the input, replays the first `places` commands on a table under these quotas,
 /// answers every later one `SERVER_ERROR log full`, and pushes the replies, until the input ends or a request ends the stream.
 ///
 /// Where memory runs out, the replies that are queued and then `SERVER_ERROR out of memory` are pushed, as far as the
-/// output takes them at once. After a failure of the input or the output nothing more is pushed.
+/// output takes them at once. After a failure of the input or the output, or where a command's cell holds another value (`Taken`),
+/// nothing more is pushed.
 pub fn pump<R: Wait, I: Input, O: Output>(
     rt: &R,
     alloc: Global,
@@ -144,9 +155,11 @@ pub fn pump<R: Wait, I: Input, O: Output>(
     ensures failures { CountsFailures result (both (I.tells input.old) (O.tells output.old)) (both (I.tells input.new) (O.tells output.new)) }
 {
     let mut reader = Reader::new(alloc);
-    let Ok(mut session) = Session::open(alloc, limits, places) else {
-        push_while_taken(refusal_text(WireNo::E11), output);
-        return Err(Fault::Memory);
+    let Ok(cells) = Cells::open(alloc, 1, places) else {
+        return Err(refuse_to_open(output));
+    };
+    let Ok(mut session) = Session::open(alloc, limits, &cells) else {
+        return Err(refuse_to_open(output));
     };
     serve(rt, &mut reader, &mut session, input, output)
 }

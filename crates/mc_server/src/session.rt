@@ -1,27 +1,32 @@
 //! What requests do, one after another, and the replies that are to be pushed for them.
-ghost use Rattle.std.specs.Prelude.{◌≡◌, ℕ, ◌≤◌, ◌⊎◌, ◌++◌, ◌∷◌, [], List, Some, length, IfOk, OnOk, OnErr, IsOkUnless};
+ghost use Rattle.std.specs.Prelude.{◌≡◌, ℕ, ◌<◌, ◌≤◌, ◌⊎◌, ◌++◌, ◌∷◌, [], List, Some, length, IfErr, IfOk, OnOk, OnErr, IsOkUnless};
 ghost use Rattle.mc_model.specs.declared.command.Command.{Command};
 ghost use Rattle.mc_model.specs.declared.request.Request.{Request};
 ghost use Rattle.mc_model.specs.declared.settings.Limits.{Limits};
-ghost use Rattle.mc_model.specs.Log.{entry_of};
 ghost use Rattle.mc_server.specs.declared.session.TheConstants.{QUEUE_BYTES};
 ghost use Rattle.mc_server.specs.Owed.{answered, applied_by, applied_with, logged_reply, owed};
 
 use mc_model::{Command, Entry, Fault, Limits, Reply, Request, TenantId, Ticket, WireNo, WorkerId};
-use mc_replica::{Replica, Seen};
+use mc_replica::Replica;
 use mc_write::write_reply;
 use std::alloc::Global;
+use uc_cells::{Cells, Seen};
 
 /// How many bytes may be queued when a request is taken.
 pub const QUEUE_BYTES: usize = 1_048_576;
 
-/// One tenant's replica of a log of its own commands, and the replies that are to be pushed.
-#[derive(Debug, Drop)]
-pub struct Session {
+/// One tenant's replica of a log of its own commands, the cells of these, and the replies that are to be pushed.
+#[derive(Drop)]
+pub struct Session<'a> {
+    alloc: Global,
     /// The tenant's quotas.
     pub limits: Limits,
-    pub replica: Replica,
+    /// Has a cell for each place of the replica.
+    cells: &'a Cells,
+    pub replica: Replica<'a>,
     pub queue: Vec<u8>,
+    ghost one_worker: { cells.now.workers ≡ 1 },
+    ghost all_places: { cells.now.places ≡ replica.places },
     ghost own_worker: { replica.worker ≡ 0 },
     ghost one_table: { replica.openings ≡ limits ∷ [] },
 }
@@ -38,21 +43,24 @@ fn queue_reply(reply: &Reply, quiet: bool, queue: &mut Vec<u8>) -> Result<(), Fa
     write_reply(reply, queue)
 }
 
-impl Session {
+impl<'a> Session<'a> {
     ghost use Rattle.mc_server.specs.Session.{Stands};
 
-    /// A session under these quotas with nothing in its log, which has so many places. Where memory runs out: `Memory`.
-    pub fn open(alloc: Global, limits: Limits, places: u64) -> Result<Session, Fault>
+    /// A session under these quotas with nothing in its log, which has as many places as there are cells. Where memory runs out: `Memory`.
+    pub fn open(alloc: Global, limits: Limits, cells: &'a Cells) -> Result<Session<'a>, Fault>
+        requires { cells.now.workers ≡ 1 }
         ensures limits { IfOk result (λ session. session.limits ≡ limits) }
-        ensures places { IfOk result (λ session. session.replica.places ≡ places) }
-        ensures stands { IfOk result (λ session. Stands limits places [] session) }
+        ensures places { IfOk result (λ session. session.replica.places ≡ cells.now.places) }
+        ensures stands { IfOk result (λ session. Stands limits cells.now.places [] session) }
         ensures queue { IfOk result (λ session. session.queue.items ≡ []) }
         ensures memory { IsOkUnless result Fault.Memory }
     {
         let worker = WorkerId::new(0).unwrap();
         Ok(Session {
+            alloc,
             limits,
-            replica: Replica::open(alloc, worker, &[limits], places)?,
+            cells,
+            replica: Replica::open(alloc, worker, &[limits], cells.places())?,
             queue: Vec::new(alloc),
         })
     }
@@ -67,18 +75,21 @@ impl Session {
         }
     }
 
-    /// What the log has for the next command: its ticket is the worker's next, and its entry is the one tenant's.
-    fn next_seen(&self, command: Command) -> Seen
-        ensures entry { entry_of result ≡ Some (record { ticket = result.ticket; tenant = 0; command = command }) }
-        ensures worker { result.ticket.worker ≡ 0 }
-        ensures number { result.ticket.number ≡ length self.now.replica.history }
+    /// Puts the next command's entry into its cell, and sees it there: the ticket is the worker's next, and the entry is the one tenant's.
+    /// Where the cell holds another value: `Taken`; where memory runs out: `Memory`.
+    fn next_seen(&self, command: Command) -> Result<Seen<'a>, Fault>
+        requires { length self.now.replica.history < self.now.replica.places }
+        ensures entry { IfOk result (λ seen. seen.entry ≡ Some (record { ticket = seen.ticket; tenant = 0; command = command })) }
+        ensures worker { IfOk result (λ seen. seen.ticket.worker ≡ 0) }
+        ensures number { IfOk result (λ seen. seen.ticket.number ≡ length self.now.replica.history) }
+        ensures faults { IfErr result (λ fault. (fault ≡ Fault.Memory) ⊎ (fault ≡ Fault.Taken)) }
     {
         let entry = Entry {
             ticket: self.next_ticket(),
             tenant: TenantId::new(0).unwrap(),
             command,
         };
-        Seen::new(self.next_ticket(), Some(entry))
+        self.cells.put(self.alloc, entry)
     }
 
     /// Replays a command where a place is left, and queues the reply.
@@ -87,7 +98,8 @@ impl Session {
             Stands limits places (applied_with places applied command) self.new) }
         ensures queued { OnOk result ((limits : Limits) (places : ℕ) (applied : List Command) → Stands limits places applied self.old →
             self.new.queue.items ≡ self.old.queue.items ++ answered quiet (logged_reply limits places applied command)) }
-        ensures memory { IsOkUnless result Fault.Memory }
+        ensures faults { IfErr result (λ fault. (fault ≡ Fault.Memory) ⊎ (fault ≡ Fault.Taken)) }
+        ensures taken { IfErr result (λ fault. fault ≡ Fault.Taken → self.new ≡ self.old) }
         ensures unchanged { OnErr result (self.new.queue.items ≡ self.old.queue.items) }
         ensures starved { OnErr result ((limits : Limits) (places : ℕ) (applied : List Command) → Stands limits places applied self.old →
             Stands limits places applied self.new ⊎ Stands limits places (applied_with places applied command) self.new) }
@@ -95,21 +107,23 @@ impl Session {
         if !self.replica.has_place() {
             return queue_reply(&Reply::Refused(WireNo::E10), quiet, &mut self.queue);
         }
-        let seen = self.next_seen(command);
+        let seen = self.next_seen(command)?;
         let Some(reply) = self.replica.replay(seen)? else {
             unreachable!()
         };
         queue_reply(&reply, quiet, &mut self.queue)
     }
 
-    /// Does what a request asks for, and queues the reply. At a fault no reply is queued, but the command may have been applied.
+    /// Does what a request asks for, and queues the reply. At a fault no reply is queued; at `Memory` the command may have been applied,
+    /// and at `Taken`, where the command's cell holds another value, it wasn't. A fault ends a session: the next cell may be full already.
     pub fn respond(&mut self, request: Request) -> Result<(), Fault>
         requires room { length self.old.queue.items ≤ QUEUE_BYTES }
         ensures stands { OnOk result ((limits : Limits) (places : ℕ) (applied : List Command) → Stands limits places applied self.old →
             Stands limits places (applied_by places applied (request ∷ [])) self.new) }
         ensures queued { OnOk result ((limits : Limits) (places : ℕ) (applied : List Command) → Stands limits places applied self.old →
             self.new.queue.items ≡ self.old.queue.items ++ owed limits places applied (request ∷ [])) }
-        ensures memory { IsOkUnless result Fault.Memory }
+        ensures faults { IfErr result (λ fault. (fault ≡ Fault.Memory) ⊎ (fault ≡ Fault.Taken)) }
+        ensures taken { IfErr result (λ fault. fault ≡ Fault.Taken → self.new ≡ self.old) }
         ensures unchanged { OnErr result (self.new.queue.items ≡ self.old.queue.items) }
         ensures starved { OnErr result ((limits : Limits) (places : ℕ) (applied : List Command) → Stands limits places applied self.old →
             Stands limits places applied self.new ⊎ Stands limits places (applied_by places applied (request ∷ [])) self.new) }

@@ -9,8 +9,8 @@ ghost use Rattle.mc_model.specs.State.{TableState};
 ghost use Rattle.mc_model.specs.Shown.{announce, look, proposal, propose, read, stop};
 
 use mc_items::Items;
+use mc_items::tables::{tables_of, take_effect};
 use mc_model::{Entry, Fault, Limits, Phase, Reply, Ticket, WorkerId};
-use mc_replica::tables::{tables_of, take_effect};
 use std::alloc::Global;
 
 /// What the core keeps of a worker, apart from what it announced.

@@ -1,11 +1,11 @@
 use Rattle.std.proofs.Common.{◌≡◌, ◌≤◌, ◌||◌, Result, Err, [], ◌++◌, length, take, refl, sym, ap, append-nil, ◌∙◌, inl, inr, arith, rules}
 use Rattle.std.proofs.lemmas.List.{length-take-le}
 use Rattle.mc_model.specs.declared.fault.Fault.{Fault}
-use Rattle.mc_model.specs.declared.fault.Fault.TheVariants.{Memory, Output}
+use Rattle.mc_model.specs.declared.fault.Fault.TheVariants.{Memory, Output, Taken}
 use Rattle.mc_read.specs.Reading.{IsNext}
 use Rattle.mc_server.specs.declared.serving.TheConstants.{PULL_BYTES}
 use Rattle.mc_stream.specs.Event.{failures, has_ended, last_moved, moved}
-use Rattle.mc_server.proofs.Underway.{serves_at_end, serves_in_part, serves_on, starved_feeding, starved_looking, starved_responding, underway_begins, underway_fed, underway_moved, underway_next}
+use Rattle.mc_server.proofs.Underway.{serves_at_end, serves_in_part, serves_no_more, serves_on, starved_feeding, starved_looking, starved_responding, underway_begins, underway_fed, underway_moved, underway_next}
 use Rattle.mc_server.proofs.serving.exchange.Goals as goal
 
 pub loop-init : goal.loop-init
@@ -23,13 +23,19 @@ returns-in_err-request-clause-stops g c =
     let failed : ◌≡◌ {A = Result (Unit {0}) Fault} c.from_residual.result (Err Memory) = search rules in
     rw (failed, c.in_err-request.ensures.unchanged) (starved_looking _ _ _ _ c.loop.reader.held c.loop.session c.loop.closed c.loop.invariant.underway c.loop.invariant.output_unfailed)
 
--- memory ran out for the answer to a request
+-- memory ran out for the answer to a request, or its cell was taken
 pub returns-in_err-respond-clause-stops : goal.returns-in_err-respond-clause-stops
 returns-in_err-respond-clause-stops g c =
     let now = c.loop.invariant in
     let next : IsNext c.loop.reader.held c.in-Some-2.request c.next-in-loop.new.self.held = rw c.in-Some-2.is at c.in_ok-request.ensures.answer in
-    let failed : ◌≡◌ {A = Result (Unit {0}) Fault} c.from_residual-in_err-respond.result (Err Memory) = search rules in
-    rw failed (starved_responding _ _ _ _ c.loop.reader.held c.loop.session c.loop.closed now.underway c.in-Some-2.request c.next-in-loop.new.self.held c.respond.new.self now.output_unfailed next c.in_err-respond.ensures.unchanged c.in_err-respond.ensures.starved)
+    elim c.in_err-respond.ensures.faults [
+      | inl starved ↦
+          let failed : ◌≡◌ {A = Result (Unit {0}) Fault} c.from_residual-in_err-respond.result (Err Memory) = search (rules, starved) in
+          rw failed (starved_responding _ _ _ _ c.loop.reader.held c.loop.session c.loop.closed now.underway c.in-Some-2.request c.next-in-loop.new.self.held c.respond.new.self now.output_unfailed next c.in_err-respond.ensures.unchanged c.in_err-respond.ensures.starved)
+      | inr taken ↦
+          let failed : ◌≡◌ {A = Result (Unit {0}) Fault} c.from_residual-in_err-respond.result (Err Taken) = search (rules, taken) in
+          rw failed (serves_no_more _ _ _ _ c.loop.reader.held c.loop.session c.loop.closed now.underway)
+    ]
 
 -- the output failed after a request
 pub returns-in_err-make_room-clause-stops : goal.returns-in_err-make_room-clause-stops

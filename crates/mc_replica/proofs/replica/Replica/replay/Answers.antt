@@ -1,6 +1,6 @@
 use Rattle.std.proofs.Common.{arith, rules, [], ◌∷◌, ◌++◌}
 use Rattle.std.proofs.lemmas.List.{length-map}
-use Rattle.mc_model.specs.Log.{entries, entry_of}
+use Rattle.uc_cells.specs.Sighting.{Sighting, entries}
 use Rattle.mc_model.specs.Replay.{uniques-few}
 use Rattle.mc_replica.proofs.Effects.{EachStands-seen, TakeEffect-nobody, tables-stay}
 use Rattle.mc_replica.proofs.replica.Replica.replay.Goals as goal
@@ -8,7 +8,7 @@ use Rattle.mc_replica.proofs.replica.Replica.replay.Goals as goal
 pub take_effect-requires : goal.take_effect-requires
 take_effect-requires c = λ tenant state at.
     let few = uniques-few c.self.inside.openings.items (entries c.self.inside.history.items) c.self.inside.tables.items c.self.invariant.stands tenant state at in
-    let same = length-map c.self.inside.history.items entry_of in
+    let same = length-map c.self.inside.history.items (λ (one : Sighting). one.entry) in
     omega arith
 
 pub returns-in_err-reply-clause-stands : goal.returns-in_err-reply-clause-stands
@@ -20,20 +20,24 @@ invariant_of-self-2 c = record {
   reserved = search rules;
   stands =
       rw c.push_reserved.ensures.items (EachStands-seen c.self.inside.openings.items c.self.inside.history.items c.args.seen _ c.self.inside.tables.items c.take_effect.new.tables.items
-      c.own_entry.ensures c.self.invariant.stands c.in_ok-reply.ensures.tables);
+      c.entry.ensures c.self.invariant.stands c.in_ok-reply.ensures.tables);
 }
 
 pub returns-clause-stands : goal.returns-clause-stands
 returns-clause-stands c =
     rw c.push_reserved.ensures.items (EachStands-seen c.self.inside.openings.items c.self.inside.history.items c.args.seen _ c.self.inside.tables.items c.take_effect.new.tables.items
-    c.own_entry.ensures c.self.invariant.stands c.in_ok-reply.ensures.tables)
+    c.entry.ensures c.self.invariant.stands c.in_ok-reply.ensures.tables)
 
 pub returns-clause-tenants : goal.returns-clause-tenants
 returns-clause-tenants c =
     rw (← c.self.view_is) (tables-stay c.self.inside.openings.items (entries c.self.inside.history.items) (entries (c.self.inside.history.items ++ c.args.seen ∷ [])) c.self.inside.tables.items c.take_effect.new.tables.items c.self.invariant.stands
     (EachStands-seen c.self.inside.openings.items c.self.inside.history.items c.args.seen _ c.self.inside.tables.items c.take_effect.new.tables.items
-    c.own_entry.ensures c.self.invariant.stands c.in_ok-reply.ensures.tables))
+    c.entry.ensures c.self.invariant.stands c.in_ok-reply.ensures.tables))
 
 pub returns-clause-untouched : goal.returns-clause-untouched
 returns-clause-untouched c =
-    rw (← c.self.view_is, ← c.own_entry.ensures) (TakeEffect-nobody c.self.inside.openings.items (entries c.self.inside.history.items) _ c.self.inside.tables.items c.take_effect.new.tables.items c.self.invariant.stands c.in_ok-reply.ensures.tables)
+    rw (← c.self.view_is, ← c.entry.ensures) (TakeEffect-nobody c.self.inside.openings.items (entries c.self.inside.history.items) _ c.self.inside.tables.items c.take_effect.new.tables.items c.self.invariant.stands c.in_ok-reply.ensures.tables)
+
+pub returns-clause-reply : goal.returns-clause-reply
+returns-clause-reply c =
+    rw (← c.self.view_is, ← c.entry.ensures) (c.in_ok-reply.ensures.reply c.self.inside.openings.items (entries c.self.inside.history.items) c.self.invariant.stands)

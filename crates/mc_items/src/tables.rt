@@ -7,7 +7,7 @@ ghost use Rattle.mc_model.specs.State.{TableState, empty_table};
 ghost use Rattle.mc_model.specs.declared.request.Entry.{Entry};
 ghost use Rattle.mc_model.specs.declared.settings.Limits.{Limits};
 
-use mc_items::Items;
+use crate::items::Items;
 use mc_model::{Entry, Fault, Limits, Reply, WorkerId};
 use std::alloc::Global;
 

@@ -1,7 +1,7 @@
 use Rattle.std.proofs.Common.{◌≡◌, ◌<◌, length, get_or, rules}
-use Rattle.mc_replica.proofs.Effects.{TakeEffect-set}
+use Rattle.mc_items.proofs.Effects.{TakeEffect-set}
 use Rattle.mc_model.specs.State.{next_state}
-use Rattle.mc_replica.proofs.tables.take_effect.Goals as goal
+use Rattle.mc_items.proofs.tables.take_effect.Goals as goal
 
 pub returns-in_ok-reply-clause-tables : goal.returns-in_ok-reply-clause-tables
 returns-in_ok-reply-clause-tables c =
