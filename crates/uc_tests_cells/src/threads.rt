@@ -15,9 +15,6 @@ use uc_cells::{Cells, Seen};
 /// How many cells the threads share.
 const CELLS: u64 = 100;
 
-/// How many threads see them.
-const SEEING: usize = 4;
-
 /// Sees each of the first worker's cells.
 fn see_all<'a>(cells: &'a Cells, alloc: Global) -> Result<Vec<Seen<'a>>, Fault>
     ensures { IfOk result (λ all. All (IsSeenIn cells.now) all.items) }
@@ -99,6 +96,7 @@ fn agreed<'a>(
     requires others { All (IsSeenIn cells.now) others.items }
     ensures { IfOk result (λ all. All (IsSeenIn cells.now) all.items) }
 {
+    assert!(rt; ones.len() == others.len());
     let mut all = Vec::new(alloc);
     for (one, other) in ones.into_iter().zip(others) {
         all.push(assert_agreed(rt, cells, one, other))?;
@@ -119,16 +117,14 @@ fn see_twice<'a, R: Threads + Sync>(
     Ok((one?, other?))
 }
 
-/// What five threads see: one that puts the command, and four more.
-fn put_and_see<'a, R: Threads + Sync>(
+/// Five threads, of which one puts the command and four see: what they saw of each cell is equal, after all of them have ended.
+fn put_and_see<'a, R: Threads + Sync + Abort>(
     rt: &R,
     cells: &'a Cells,
     alloc: Global,
     tenant: TenantId,
     command: &Command,
-) -> Result<(Vec<Seen<'a>>, [Vec<Seen<'a>>; 4]), Fault>
-    ensures put { IfOk result (λ all. All (IsSeenIn cells.now) all.0.items) }
-{
+) -> Result<Vec<Seen<'a>>, Fault> {
     let (put, seen) = thread::join(
         rt,
         || put_all(cells, alloc, tenant, command),
@@ -136,5 +132,23 @@ fn put_and_see<'a, R: Threads + Sync>(
     );
     let (one, other) = seen;
     let ((first, second), (third, fourth)) = (one?, other?);
-    Ok((put?, [first, second, third, fourth]))
+    let all = agreed(rt, cells, alloc, put?, first)?;
+    let all = agreed(rt, cells, alloc, all, second)?;
+    let all = agreed(rt, cells, alloc, all, third)?;
+    let all = agreed(rt, cells, alloc, all, fourth)?;
+    agreed(rt, cells, alloc, all, see_all(cells, alloc)?)
+}
+
+#[test]
+fn all_threads_see_the_same(rt: HostRuntime) -> Result<(), Fail> {
+    let alloc = rt.alloc();
+    let cells = Cells::open(alloc, 1, CELLS)?;
+    let command = command_of(alloc, "set a 7 0 3\r\nabc\r\n")?;
+    let tenant = TenantId::new(0).ok_or("no tenant")?;
+    let all = put_and_see(&rt, &cells, alloc, tenant, &command)?;
+    assert_eq!(rt; all.len() as u64, CELLS);
+    for seen in all.iter() {
+        assert!(rt; seen.entry().is_none_or(|entry| entry.command == command));
+    }
+    Ok(())
 }
