@@ -1,5 +1,5 @@
--- Two entries are the same where `==` says so.
-use Rattle.std.proofs.Common.{◌≡◌, true, Option, Some, None, refl, ap}
+-- What `==` finds equal of a cell's contents is the same.
+use Rattle.std.proofs.Common.{Bool, false, not, ◌≡◌, true, Option, Some, None, refl, ap}
 use Rattle.std.proofs.lemmas.Bool.{and_parts}
 use Rattle.std.proofs.lemmas.Bool.Decides.{Decides-eqb}
 use Rattle.std.proofs.lemmas.Slice.Eq.{slice_eq-Decides}
@@ -23,7 +23,7 @@ same_verb Append Append is = refl
 same_verb Prepend Prepend is = refl
 same_verb one other is = absurd (cc)
 
-pub same_command : (one other : Command) → commands.ghosts.eq one other ≡ true → one ≡ other
+same_command : (one other : Command) → commands.ghosts.eq one other ≡ true → one ≡ other
 same_command (Store verb key flags block) (Store verb2 key2 flags2 block2) is =
     let verbs = and_parts _ _ is in
     let keys = and_parts _ _ verbs.1 in
@@ -61,7 +61,7 @@ same_command (Decr key by) (Decr key2 by2) is =
 same_command Flush Flush is = refl
 same_command one other is = absurd (cc)
 
-pub same_entry : (one other : Entry) → entries.ghosts.eq one other ≡ true → one ≡ other
+same_entry : (one other : Entry) → entries.ghosts.eq one other ≡ true → one ≡ other
 same_entry one other is =
     let tickets = and_parts _ _ is in
     let numbers = and_parts _ _ tickets.0 in
@@ -72,8 +72,15 @@ same_entry one other is =
     let same_command = same_command one.command other.command tenants.1 in
     λ i. record { ticket = record { worker = same_worker i; number = same_number i }; tenant = same_tenant i; command = same_command i }
 
--- nor do two contents of a cell differ where `==` says so
-pub same_value : (one other : Option Entry) → option_eq entries.eq-value.it one other ≡ true → one ≡ other
-same_value None None is = refl
-same_value (Some one) (Some other) is = ap (λ (e : Entry). Some e) (same_entry one other is)
-same_value one other is = absurd (cc)
+same_content : (one other : Option Entry) → option_eq entries.eq-value.it one other ≡ true → one ≡ other
+same_content None None is = refl
+same_content (Some one) (Some other) is = ap (λ (e : Entry). Some e) (same_entry one other is)
+same_content one other is = absurd (cc)
+
+passes : (test : Bool) → false ≡ not test → test ≡ true
+passes true fails = refl
+passes false fails = absurd (cc)
+
+-- two contents of a cell are the same where `!=` doesn't tell them apart
+pub same_unless : (one other : Option Entry) → false ≡ not (option_eq entries.eq-value.it one other) → one ≡ other
+same_unless one other fails = same_content one other (passes _ fails)

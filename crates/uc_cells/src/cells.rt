@@ -88,21 +88,17 @@ impl Cells {
         // The box is made before the cell is set, so that at `Memory` nothing was written.
         let boxed = Box::new(alloc, Some(entry))?;
         let refused = own.set_as(boxed, &mut cell).err();
-        match (own.get_as(&mut cell), refused) {
-            (Some(value), None) => Ok(Seen {
+        let Some(value) = own.get_as(&mut cell) else {
+            unreachable!()
+        };
+        match refused {
+            Some(back) if *value != *back => Err(Fault::Taken),
+            _ => Ok(Seen {
                 ticket: Ticket { worker, number },
                 value,
                 row,
                 cell,
             }),
-            (Some(value), Some(back)) if *value == *back => Ok(Seen {
-                ticket: Ticket { worker, number },
-                value,
-                row,
-                cell,
-            }),
-            (Some(_), Some(_)) => Err(Fault::Taken),
-            (None, _) => unreachable!(),
         }
     }
 

@@ -1,7 +1,11 @@
-use Rattle.std.proofs.Common.{rules, sym}
-use Rattle.uc_cells.proofs.Entries.{same_value}
+use Rattle.std.proofs.Common.{rules}
+use Rattle.uc_cells.proofs.Entries.{same_unless}
 use Rattle.uc_cells.proofs.cells.Cells.put.Goals as goal
+use Rattle.uc_cells.proofs.cells.Cells.put.Goals.{in_default-refused-via-in-Some-refused+else-ne, in_default-refused-via-in_default-refused}
 
--- src/cells.rt:80:5
-pub returns-in-Some-Some-clause-put : goal.returns-in-Some-Some-clause-put
-returns-in-Some-Some-clause-put c = let same = same_value c.in-Some-Some.value.now c.deref.result.now (sym c.if-eq.ensures) in search (rules, same)
+pub returns-clause-put : goal.returns-clause-put
+returns-clause-put c =
+    elim c.in_default-refused.branch [
+      | in_default-refused-via-in-Some-refused+else-ne w ↦ let same = same_unless c.in-Some.value.now w.deref.result.now w.if-ne.ensures in search (rules, same)
+      | in_default-refused-via-in_default-refused w ↦ search rules
+    ]

@@ -1,0 +1,57 @@
+//! What the tests share: tickets that have a cell, and entries of commands as a client writes them.
+ghost use Rattle.std.specs.Prelude.{◌≡◌, IfOk, IfSome};
+ghost use Rattle.uc_cells.specs.Cells.{HasCell};
+
+use mc_model::{Command, Entry, Fault, Request, TenantId, Ticket, WorkerId};
+use mc_read::Reader;
+use std::alloc::Global;
+use std::process::Abort;
+use std::test::Fail;
+use uc_cells::{Cells, Seen};
+
+/// The ticket of this worker and number, if it has a cell.
+pub(crate) fn ticket_in(cells: &Cells, worker: u8, number: u64) -> Option<Ticket>
+    ensures { IfSome result (λ ticket. HasCell cells.now ticket) }
+{
+    let id = WorkerId::new(worker)?;
+    if worker < cells.workers() && number < cells.places() {
+        Some(Ticket { worker: id, number })
+    } else {
+        None
+    }
+}
+
+/// The command that a client writes so.
+pub(crate) fn command_of(alloc: Global, text: &str) -> Result<Command, Fail> {
+    match request_of(alloc, text)? {
+        Some(Request::Logged { command, .. }) => Ok(command),
+        _ => Err(Fail::from("no command")),
+    }
+}
+
+fn request_of(alloc: Global, text: &str) -> Result<Option<Request>, Fault> {
+    let mut reader = Reader::new(alloc);
+    reader.feed(text.as_bytes())?;
+    reader.next()
+}
+
+/// The entry of the first tenant under this ticket.
+pub(crate) fn entry_of(alloc: Global, ticket: Ticket, text: &str) -> Result<Entry, Fail>
+    ensures { IfOk result (λ entry. entry.ticket ≡ ticket) }
+{
+    let command = command_of(alloc, text)?;
+    let tenant = TenantId::new(0).ok_or("no tenant")?;
+    Ok(Entry {
+        ticket,
+        tenant,
+        command,
+    })
+}
+
+/// The cell that was seen holds this entry.
+pub(crate) fn assert_holds(rt: &impl Abort, seen: &Seen<'_>, want: &Entry) {
+    let Some(entry) = seen.entry() else {
+        panic!(rt; "no entry was seen")
+    };
+    assert!(rt; *entry == *want);
+}
