@@ -1,10 +1,12 @@
 //! The cells of all tickets.
 ghost use Rattle.std.specs.Prelude.{◌≡◌, ◌⊎◌, ◌≤◌, Some, IfOk, IfErr, IsOkUnless};
 ghost use Rattle.mc_model.specs.declared.settings.TheConstants.{MAX_PLACES};
-ghost use Rattle.uc_cells.specs.Cells.{HasCell, row_at};
+ghost use Rattle.once_cell.specs.Once.{cell_name};
+ghost use Rattle.uc_cells.specs.Cells.{HasCell, row_at, rows_each};
 ghost use Rattle.uc_cells.specs.Sighting.{sighting};
 
-use crate::seen::{Row, Seen};
+use crate::row::Row;
+use crate::seen::Seen;
 use mc_model::{Entry, Fault, Ticket};
 use once_cell::race::OnceBox;
 use std::alloc::Global;
@@ -43,17 +45,61 @@ impl Cells {
         ensures places { IfOk result (λ cells. cells.places ≡ places) }
         ensures memory { IsOkUnless result Fault.Memory }
     {
-        Err(Fault::Memory)
+        let count = usize::from(workers) * rows_of_each(places);
+        let mut rows = Vec::with_capacity(alloc, count)?;
+        for _row in 0..count {
+            rows.push(OnceBox::new(alloc))?;
+        }
+        Ok(Cells {
+            rows,
+            workers,
+            places,
+        })
+    }
+
+    /// How many workers have cells.
+    pub fn workers(&self) -> u8
+        ensures { result ≡ self.now.workers }
+    {
+        self.workers
+    }
+
+    /// How many cells each worker has.
+    pub fn places(&self) -> u64
+        ensures { result ≡ self.now.places }
+    {
+        self.places
     }
 
     /// Puts an entry into its ticket's cell, and sees it there. Where the cell holds another value: `Taken`; where memory runs out:
-    /// `Memory`. The entry is dropped then. To put an equal entry again isn't taken.
+    /// `Memory`, and nothing was written to the cell. The entry is dropped then. To put an equal entry again isn't taken.
     pub fn put(&self, alloc: Global, entry: Entry) -> Result<Seen<'_>, Fault>
         requires { HasCell self.now entry.ticket }
         ensures put { IfOk result (λ seen. seen ≡ sighting entry.ticket (Some entry) (row_at self.now entry.ticket)) }
         ensures faults { IfErr result (λ fault. (fault ≡ Fault.Memory) ⊎ (fault ≡ Fault.Taken)) }
     {
-        Err(Fault::Memory)
+        let ticket = entry.ticket;
+        let Ticket { worker, number } = ticket;
+        let place = self.row(ticket);
+        let mut row = place.note();
+        let cells = place.get_or_try_init_as(move || Row::open(alloc), &mut row)?;
+        let own = cells.cell(number);
+        let mut cell = own.note();
+        // The box is made before the cell is set, so that at `Memory` nothing was written.
+        let boxed = Box::new(alloc, Some(entry))?;
+        let refused = own.set_as(boxed, &mut cell).err();
+        let Some(value) = own.get_as(&mut cell) else {
+            unreachable!()
+        };
+        match refused {
+            Some(back) if *value != *back => Err(Fault::Taken),
+            _ => Ok(Seen {
+                ticket: Ticket { worker, number },
+                value,
+                row,
+                cell,
+            }),
+        }
     }
 
     /// The value of the ticket's cell. An empty cell is filled as absent, for good.
@@ -63,6 +109,34 @@ impl Cells {
         ensures row { IfOk result (λ seen. seen.row ≡ row_at self.now ticket) }
         ensures memory { IsOkUnless result Fault.Memory }
     {
-        Err(Fault::Memory)
+        let Ticket { worker, number } = ticket;
+        let place = self.row(ticket);
+        let mut row = place.note();
+        let cells = place.get_or_try_init_as(move || Row::open(alloc), &mut row)?;
+        let own = cells.cell(number);
+        let mut cell = own.note();
+        let value = own.get_or_try_init_as(move || Box::new(alloc, None), &mut cell)?;
+        Ok(Seen {
+            ticket: Ticket { worker, number },
+            value,
+            row,
+            cell,
+        })
     }
+
+    /// Where the row of the ticket's cell stands.
+    fn row(&self, ticket: Ticket) -> &OnceBox<Row>
+        requires { HasCell self.now ticket }
+        ensures { cell_name result.now ≡ row_at self.now ticket }
+    {
+        let before = usize::from(ticket.worker.number()) * rows_of_each(self.places);
+        &self.rows[before + (ticket.number / ROW_CELLS) as usize]
+    }
+}
+
+/// How many rows the cells of one worker take.
+fn rows_of_each(places: u64) -> usize
+    ensures { result ≡ rows_each places }
+{
+    (places / ROW_CELLS + 1) as usize
 }

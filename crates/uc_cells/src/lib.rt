@@ -5,4 +5,5 @@ pub use cells::Cells;
 pub use seen::Seen;
 
 pub mod cells;
+mod row;
 pub mod seen;

@@ -2,12 +2,10 @@
 ghost use Rattle.std.specs.Option.{option_copied};
 ghost use Rattle.std.specs.Prelude.{◌≡◌};
 
+use crate::row::Row;
 use mc_model::{Entry, Ticket};
-use once_cell::race::{Note, OnceBox};
+use once_cell::race::Note;
 use std::marker::Model;
-
-/// What is known of a row of cells.
-pub(crate) type Row = Vec<OnceBox<Option<Entry>>>;
 
 /// The value of a ticket's cell, which no other call will ever find different. It outlives the thread that made it.
 #[derive(Drop)]

@@ -1,0 +1,49 @@
+//! A row of cells.
+ghost use Rattle.std.specs.Prelude.{◌≡◌, ◌<◌, ◌%◌, Some, slice_get};
+ghost use Rattle.once_cell.specs.Once.{cell_name};
+ghost use Rattle.uc_cells.specs.declared.cells.TheConstants.{ROW_CELLS};
+
+use crate::cells::ROW_CELLS;
+use mc_model::Entry;
+use once_cell::race::OnceBox;
+use std::alloc::{AllocError, Global};
+use std::marker::Model;
+
+/// A cell: what it holds once it is set, an entry or that there is none.
+pub(crate) type Cell = OnceBox<Option<Entry>>;
+
+/// `ROW_CELLS` cells, whoever made the row. Contracts see their names.
+#[derive(Drop)]
+pub(crate) struct Row {
+    cells: Vec<Cell>,
+}
+
+impl Model for Row {
+    ghost use Rattle.std.specs.Prelude.{◌≡◌, ℕ, List, map, vec_len};
+    ghost use Rattle.once_cell.specs.Once.{cell_name};
+    ghost use Rattle.uc_cells.specs.declared.cells.TheConstants.{ROW_CELLS};
+
+    ghost Value = { List ℕ };
+
+    ghost view = { λ row. map cell_name row.cells.items };
+
+    ghost invariant = { λ row. vec_len row.cells ≡ ROW_CELLS };
+}
+
+impl Row {
+    /// A row of empty cells.
+    pub(crate) fn open(alloc: Global) -> Result<Box<Row>, AllocError> {
+        let mut cells = Vec::with_capacity(alloc, ROW_CELLS as usize)?;
+        for _cell in 0..ROW_CELLS {
+            cells.push(OnceBox::new(alloc))?;
+        }
+        Ok(Box::new(alloc, Row { cells })?)
+    }
+
+    /// The cell of the ticket of this number, if this is its row.
+    pub(crate) fn cell(&self, number: u64) -> &Cell
+        ensures { slice_get self.now (number % ROW_CELLS) ≡ Some (cell_name result.now) }
+    {
+        &self.cells[(number % ROW_CELLS) as usize]
+    }
+}
