@@ -1,11 +1,14 @@
 //! What a replica answers, with ample memory: the worked examples that speak of several tenants or workers. Each row is a
 //! command as a client writes it, and the reply as the client reads it, which is empty where none comes.
+ghost use Rattle.uc_cells.specs.Cells.{HasCell};
+
 use crate::values::{assert_text, command_of, numbered_get, numbered_set, numbered_values};
 use mc_model::{Command, Entry, Fault, Limits, Reply, TenantId, Ticket, WorkerId};
-use mc_replica::{Replica, Seen};
+use mc_replica::Replica;
 use std::alloc::Global;
 use std::process::Abort;
 use std::test::Fail;
+use uc_cells::{Cells, Seen};
 
 const QUOTAS: Limits = Limits {
     items: 4,
@@ -26,28 +29,68 @@ fn ticket_of(worker: WorkerId, number: u64) -> Ticket {
     Ticket { worker, number }
 }
 
-/// What is seen of a worker's command on a tenant's table.
-fn seen_of(worker: WorkerId, number: u64, tenant: TenantId, command: Command) -> Seen {
-    let entry = Entry {
-        ticket: ticket_of(worker, number),
-        tenant,
-        command,
-    };
-    Seen::new(ticket_of(worker, number), Some(entry))
+/// Cells for the tickets of three workers, as many as any test here needs.
+fn cells_of(alloc: Global) -> Result<Cells, Fail> {
+    Ok(Cells::open(alloc, 3, 1_001)?)
 }
 
-fn replay(rt: &impl Abort, replica: &mut Replica, seen: Seen) -> Result<Option<Reply>, Fault> {
+fn assert_cell(rt: &impl Abort, cells: &Cells, ticket: Ticket)
+    ensures { HasCell cells.now ticket }
+{
+    assert!(rt; ticket.worker.number() < cells.workers() && ticket.number < cells.places());
+}
+
+/// Puts an entry into its ticket's cell.
+fn put(rt: &impl Abort, alloc: Global, cells: &Cells, entry: Entry) -> Result<(), Fault> {
+    assert_cell(rt, cells, entry.ticket);
+    let _ = cells.put(alloc, entry)?;
+    Ok(())
+}
+
+/// What is seen of a ticket's cell.
+fn see<'a>(
+    rt: &impl Abort,
+    alloc: Global,
+    cells: &'a Cells,
+    ticket: Ticket,
+) -> Result<Seen<'a>, Fault> {
+    assert_cell(rt, cells, ticket);
+    cells.see(alloc, ticket)
+}
+
+/// What is seen of a worker's command on a tenant's table, once it stands in its cell.
+fn seen_of<'a>(
+    rt: &impl Abort,
+    alloc: Global,
+    cells: &'a Cells,
+    entry: Entry,
+) -> Result<Seen<'a>, Fault> {
+    let ticket = entry.ticket;
+    put(rt, alloc, cells, entry)?;
+    see(rt, alloc, cells, ticket)
+}
+
+fn replay<'a>(
+    rt: &impl Abort,
+    replica: &mut Replica<'a>,
+    seen: Seen<'a>,
+) -> Result<Option<Reply>, Fault> {
     assert!(rt; replica.has_place());
     replica.replay(seen)
 }
 
 /// The unique of the latest change of a tenant's table.
-fn unique_at(rt: &impl Abort, replica: &Replica, tenant: TenantId) -> u64 {
+fn unique_at(rt: &impl Abort, replica: &Replica<'_>, tenant: TenantId) -> u64 {
     assert!(rt; replica.has_tenant(tenant));
     replica.table(tenant).last_unique()
 }
 
-fn assert_unique(rt: &impl Abort, replica: &Replica, tenant: u8, unique: u64) -> Result<(), Fail> {
+fn assert_unique(
+    rt: &impl Abort,
+    replica: &Replica<'_>,
+    tenant: u8,
+    unique: u64,
+) -> Result<(), Fail> {
     let tenant = tenant_of(tenant)?;
     assert!(rt; unique_at(rt, replica, tenant) == unique);
     Ok(())
@@ -70,11 +113,11 @@ fn assert_shown(
 }
 
 /// What is seen is answered so.
-fn assert_reply(
+fn assert_reply<'a>(
     rt: &impl Abort,
     alloc: Global,
-    replica: &mut Replica,
-    seen: Seen,
+    replica: &mut Replica<'a>,
+    seen: Seen<'a>,
     want: &str,
 ) -> Result<(), Fail> {
     let reply = replay(rt, replica, seen)?;
@@ -84,59 +127,72 @@ fn assert_reply(
 /// A worker, a tenant, what is asked and what is wanted.
 type Row = (u8, u8, &'static str, &'static str);
 
-fn row_seen(alloc: Global, worker: u8, number: u64, tenant: u8, text: &str) -> Result<Seen, Fail> {
+/// The entry of a row, with its worker's ticket of this number.
+fn entry_of(alloc: Global, number: u64, row: Row) -> Result<Entry, Fail> {
+    let (worker, tenant, text, _want) = row;
     let command = command_of(alloc, text.as_bytes())?;
-    let (worker, tenant) = (worker_of(worker)?, tenant_of(tenant)?);
-    Ok(seen_of(worker, number, tenant, command))
+    Ok(Entry {
+        ticket: ticket_of(worker_of(worker)?, number),
+        tenant: tenant_of(tenant)?,
+        command,
+    })
 }
 
-fn assert_row(
+fn assert_row<'a>(
     rt: &impl Abort,
     alloc: Global,
-    replica: &mut Replica,
+    cells: &'a Cells,
+    replica: &mut Replica<'a>,
     number: u64,
     row: Row,
 ) -> Result<(), Fail> {
-    let (worker, tenant, text, want) = row;
-    let seen = row_seen(alloc, worker, number, tenant, text)?;
-    assert_reply(rt, alloc, replica, seen, want)
+    let entry = entry_of(alloc, number, row)?;
+    let seen = seen_of(rt, alloc, cells, entry)?;
+    assert_reply(rt, alloc, replica, seen, row.3)
 }
 
 /// Rows one after another.
-fn assert_rows(
+fn assert_rows<'a>(
     rt: &impl Abort,
     alloc: Global,
-    replica: &mut Replica,
+    cells: &'a Cells,
+    replica: &mut Replica<'a>,
     rows: &[Row],
 ) -> Result<(), Fail> {
     for (number, row) in rows.iter().enumerate() {
-        assert_row(rt, alloc, replica, number as u64, *row)?;
+        assert_row(rt, alloc, cells, replica, number as u64, *row)?;
     }
     Ok(())
 }
 
-fn opened(alloc: Global, worker: u8, limits: &[Limits], places: u64) -> Result<Replica, Fail> {
+fn opened<'a>(
+    alloc: Global,
+    worker: u8,
+    limits: &[Limits],
+    places: u64,
+) -> Result<Replica<'a>, Fail> {
     let worker = worker_of(worker)?;
     Ok(Replica::open(alloc, worker, limits, places)?)
 }
 
 /// A replica of this worker after these rows.
-fn replayed(
+fn replayed<'a>(
     rt: &impl Abort,
     alloc: Global,
+    cells: &'a Cells,
     worker: u8,
     limits: &[Limits],
     rows: &[Row],
-) -> Result<Replica, Fail> {
+) -> Result<Replica<'a>, Fail> {
     let mut replica = opened(alloc, worker, limits, 8)?;
-    assert_rows(rt, alloc, &mut replica, rows)?;
+    assert_rows(rt, alloc, cells, &mut replica, rows)?;
     Ok(replica)
 }
 
 /// So many places are replayed, and the uniques of two tenants' tables are these.
 fn assert_stands(
     rt: &impl Abort,
-    replica: &Replica,
+    replica: &Replica<'_>,
     places: usize,
     uniques: (u64, u64),
 ) -> Result<(), Fail> {
@@ -154,35 +210,29 @@ fn tenants_are_apart(rt: HostRuntime) -> Result<(), Fail> {
         (0, 1, "set a 0 0 1\r\nq\r\n", "STORED\r\n"),
         (0, 1, "gets a\r\n", "VALUE a 0 1 1\r\nq\r\nEND\r\n"),
     ];
-    let replica = replayed(&rt, rt.alloc(), 0, &[QUOTAS, QUOTAS], &ROWS)?;
+    let cells = cells_of(rt.alloc())?;
+    let replica = replayed(&rt, rt.alloc(), &cells, 0, &[QUOTAS, QUOTAS], &ROWS)?;
     assert!(rt; replica.worker().number() == 0);
     assert_stands(&rt, &replica, 5, (3, 1))
 }
 
-/// Nothing is found for this worker's second ticket.
-fn assert_absent(rt: &impl Abort, replica: &mut Replica) -> Result<(), Fail> {
-    let worker = worker_of(0)?;
-    let ticket = Ticket { worker, number: 1 };
-    let reply = replay(rt, replica, Seen::new(ticket, None))?;
-    assert!(rt; reply.is_none());
-    Ok(())
-}
-
-/// What is found for this worker's third ticket has its fourth, and counts as absent.
-fn assert_strange(rt: &impl Abort, replica: &mut Replica, command: Command) -> Result<(), Fail> {
-    let worker = worker_of(0)?;
-    let found = Entry {
-        ticket: Ticket { worker, number: 3 },
-        tenant: tenant_of(0)?,
-        command,
-    };
-    let seen = Seen::new(Ticket { worker, number: 2 }, Some(found));
+/// Nothing stands in the cell of this worker's ticket.
+fn assert_absent<'a>(
+    rt: &impl Abort,
+    alloc: Global,
+    cells: &'a Cells,
+    replica: &mut Replica<'a>,
+    number: u64,
+) -> Result<(), Fail> {
+    let ticket = ticket_of(worker_of(0)?, number);
+    let seen = see(rt, alloc, cells, ticket)?;
+    assert!(rt; seen.ticket() == ticket && seen.entry().is_none());
     let reply = replay(rt, replica, seen)?;
     assert!(rt; reply.is_none());
     Ok(())
 }
 
-fn knows_tenant(replica: &Replica, tenant: u8) -> Result<bool, Fail> {
+fn knows_tenant(replica: &Replica<'_>, tenant: u8) -> Result<bool, Fail> {
     let tenant = tenant_of(tenant)?;
     Ok(replica.has_tenant(tenant))
 }
@@ -191,19 +241,26 @@ fn knows_tenant(replica: &Replica, tenant: u8) -> Result<bool, Fail> {
 fn nobodys_entries_change_no_table(rt: HostRuntime) -> Result<(), Fail> {
     const KNOWN: [Row; 1] = [(0, 1, "set a 0 0 1\r\nx\r\n", "STORED\r\n")];
     const UNKNOWN: Row = (0, 2, "set a 0 0 1\r\ny\r\n", "");
-    let mut replica = replayed(&rt, rt.alloc(), 0, &[QUOTAS, QUOTAS], &KNOWN)?;
-    assert_absent(&rt, &mut replica)?;
-    assert_row(&rt, rt.alloc(), &mut replica, 2, UNKNOWN)?;
+    let cells = cells_of(rt.alloc())?;
+    let mut replica = replayed(&rt, rt.alloc(), &cells, 0, &[QUOTAS, QUOTAS], &KNOWN)?;
+    assert_absent(&rt, rt.alloc(), &cells, &mut replica, 1)?;
+    assert_row(&rt, rt.alloc(), &cells, &mut replica, 2, UNKNOWN)?;
     assert!(rt; !knows_tenant(&replica, 2)?);
     assert_stands(&rt, &replica, 3, (0, 1))
 }
 
+/// Tickets of one number, and of one worker, have cells of their own: what stands in those is nothing to this one.
 #[test]
 fn an_entry_of_another_ticket_counts_as_absent(rt: HostRuntime) -> Result<(), Fail> {
     const KNOWN: [Row; 1] = [(0, 1, "set a 0 0 1\r\nx\r\n", "STORED\r\n")];
-    let mut replica = replayed(&rt, rt.alloc(), 0, &[QUOTAS, QUOTAS], &KNOWN)?;
-    let command = command_of(rt.alloc(), b"set a 0 0 1\r\ny\r\n")?;
-    assert_strange(&rt, &mut replica, command)?;
+    const STRANGE: &str = "set a 0 0 1\r\ny\r\n";
+    let cells = cells_of(rt.alloc())?;
+    let mut replica = replayed(&rt, rt.alloc(), &cells, 0, &[QUOTAS, QUOTAS], &KNOWN)?;
+    let next = entry_of(rt.alloc(), 3, (0, 0, STRANGE, ""))?;
+    put(&rt, rt.alloc(), &cells, next)?;
+    let others = entry_of(rt.alloc(), 2, (1, 0, STRANGE, ""))?;
+    put(&rt, rt.alloc(), &cells, others)?;
+    assert_absent(&rt, rt.alloc(), &cells, &mut replica, 2)?;
     assert_stands(&rt, &replica, 2, (0, 1))
 }
 
@@ -218,7 +275,8 @@ fn another_workers_commands_are_applied_without_reply(rt: HostRuntime) -> Result
         (1, 0, "gets b\r\n", "END\r\n"),
         (1, 0, "delete a\r\n", "DELETED\r\n"),
     ];
-    let _ = replayed(&rt, rt.alloc(), 1, &[QUOTAS], &ROWS)?;
+    let cells = cells_of(rt.alloc())?;
+    let _ = replayed(&rt, rt.alloc(), &cells, 1, &[QUOTAS], &ROWS)?;
     Ok(())
 }
 
@@ -243,43 +301,61 @@ fn quotas_are_each_tenants_own(rt: HostRuntime) -> Result<(), Fail> {
         (0, 1, "gets b\r\n", "END\r\n"),
     ];
     let limits = [one_item, three_bytes, QUOTAS];
-    let replica = replayed(&rt, rt.alloc(), 0, &limits, &ROWS)?;
+    let cells = cells_of(rt.alloc())?;
+    let replica = replayed(&rt, rt.alloc(), &cells, 0, &limits, &ROWS)?;
     assert!(rt; !replica.has_place());
     Ok(())
 }
 
 /// Two replicas of one log answer alike in their tables, whosever the commands are.
-fn assert_both(
+fn assert_both<'a>(
     rt: &impl Abort,
     alloc: Global,
-    short: &mut Replica,
-    long: &mut Replica,
+    cells: &'a Cells,
+    short: &mut Replica<'a>,
+    long: &mut Replica<'a>,
     tenant: u8,
 ) -> Result<(), Fail> {
     let (number, text) = (u64::from(tenant), "set a 0 0 1\r\nx\r\n");
-    assert_row(rt, alloc, short, number, (0, tenant, text, "STORED\r\n"))?;
-    assert_row(rt, alloc, long, number, (0, tenant, text, ""))?;
+    assert_row(
+        rt,
+        alloc,
+        cells,
+        short,
+        number,
+        (0, tenant, text, "STORED\r\n"),
+    )?;
+    assert_row(rt, alloc, cells, long, number, (0, tenant, text, ""))?;
     assert_unique(rt, short, tenant, 1)?;
     assert_unique(rt, long, tenant, 1)
 }
 
-fn assert_places(rt: &impl Abort, replica: &Replica, places: u64, has_place: bool) {
+fn assert_places(rt: &impl Abort, replica: &Replica<'_>, places: u64, has_place: bool) {
     assert!(rt; replica.places() == places && replica.has_place() == has_place);
 }
 
+/// At each place both have seen one and the same.
+fn assert_same(rt: &impl Abort, short: &Replica<'_>, long: &Replica<'_>) {
+    assert!(rt; short.history().len() == long.history().len());
+    for (one, other) in short.history().iter().zip(long.history()) {
+        assert!(rt; one.ticket() == other.ticket() && one.entry() == other.entry());
+    }
+}
+
 /// One history, of two places and of a thousand.
-fn assert_unequal(rt: &impl Abort, short: &Replica, long: &Replica) {
-    assert!(rt; short.history() == long.history());
+fn assert_unequal(rt: &impl Abort, short: &Replica<'_>, long: &Replica<'_>) {
+    assert_same(rt, short, long);
     assert_places(rt, short, 2, false);
     assert_places(rt, long, 1000, true);
 }
 
 #[test]
 fn replicas_of_unequal_places_agree(rt: HostRuntime) -> Result<(), Fail> {
+    let cells = cells_of(rt.alloc())?;
     let mut short = opened(rt.alloc(), 0, &[QUOTAS, QUOTAS], 2)?;
     let mut long = opened(rt.alloc(), 1, &[QUOTAS, QUOTAS], 1000)?;
-    assert_both(&rt, rt.alloc(), &mut short, &mut long, 0)?;
-    assert_both(&rt, rt.alloc(), &mut short, &mut long, 1)?;
+    assert_both(&rt, rt.alloc(), &cells, &mut short, &mut long, 0)?;
+    assert_both(&rt, rt.alloc(), &cells, &mut short, &mut long, 1)?;
     assert_unequal(&rt, &short, &long);
     Ok(())
 }
@@ -289,6 +365,7 @@ fn replicas_of_unequal_places_agree(rt: HostRuntime) -> Result<(), Fail> {
 fn assert_worker(
     rt: &impl Abort,
     alloc: Global,
+    cells: &Cells,
     worker: u8,
     learned: &[LogRow],
 ) -> Result<(), Fail> {
@@ -298,21 +375,26 @@ fn assert_worker(
     };
     let one_item = Limits { items: 1, bytes: 9 };
     let mut replica = opened(alloc, worker, &[two_items, one_item], 9)?;
-    for (owner, number, tenant, text, want) in learned {
+    for (owner, number, _tenant, _text, want) in learned {
         let want = if *owner == worker { *want } else { "" };
-        assert_row(
-            rt,
-            alloc,
-            &mut replica,
-            *number,
-            (*owner, *tenant, text, want),
-        )?;
+        let ticket = ticket_of(worker_of(*owner)?, *number);
+        let seen = see(rt, alloc, cells, ticket)?;
+        assert_reply(rt, alloc, &mut replica, seen, want)?;
     }
     assert_stands(rt, &replica, learned.len(), (1, 1))
 }
 
 /// An owner, its ticket's number, a tenant, what is asked and what the owner is answered.
 type LogRow = (u8, u64, u8, &'static str, &'static str);
+
+/// Each owner has put its entry.
+fn put_all(rt: &impl Abort, alloc: Global, cells: &Cells, log: &[LogRow]) -> Result<(), Fail> {
+    for (owner, number, tenant, text, want) in log {
+        let entry = entry_of(alloc, *number, (*owner, *tenant, *text, *want))?;
+        put(rt, alloc, cells, entry)?;
+    }
+    Ok(())
+}
 
 #[test]
 fn three_workers_answer_their_own_commands_of_one_log(rt: HostRuntime) -> Result<(), Fail> {
@@ -322,24 +404,31 @@ fn three_workers_answer_their_own_commands_of_one_log(rt: HostRuntime) -> Result
         (0, 0, 1, "set b 0 0 1\r\nq\r\n", FULL),
         (2, 1, 0, "gets a\r\n", "VALUE a 0 1 1\r\nx\r\nEND\r\n"),
     ];
-    assert_worker(&rt, rt.alloc(), 0, &LOG[..3])?;
-    assert_worker(&rt, rt.alloc(), 1, &LOG[..2])?;
-    assert_worker(&rt, rt.alloc(), 2, &LOG)
+    let cells = cells_of(rt.alloc())?;
+    put_all(&rt, rt.alloc(), &cells, &LOG)?;
+    assert_worker(&rt, rt.alloc(), &cells, 0, &LOG[..3])?;
+    assert_worker(&rt, rt.alloc(), &cells, 1, &LOG[..2])?;
+    assert_worker(&rt, rt.alloc(), &cells, 2, &LOG)
 }
 
 /// This worker's command on its tenant's table.
-fn own_seen(number: u64, command: Command) -> Result<Seen, Fail> {
-    let (worker, tenant) = (worker_of(0)?, tenant_of(0)?);
-    Ok(seen_of(worker, number, tenant, command))
+fn own_entry(number: u64, command: Command) -> Result<Entry, Fail> {
+    Ok(Entry {
+        ticket: ticket_of(worker_of(0)?, number),
+        tenant: tenant_of(0)?,
+        command,
+    })
 }
 
-fn assert_set(
+fn assert_set<'a>(
     rt: &impl Abort,
     alloc: Global,
-    replica: &mut Replica,
+    cells: &'a Cells,
+    replica: &mut Replica<'a>,
     number: u64,
 ) -> Result<(), Fail> {
-    let seen = own_seen(number, numbered_set(alloc, number)?)?;
+    let entry = own_entry(number, numbered_set(alloc, number)?)?;
+    let seen = seen_of(rt, alloc, cells, entry)?;
     assert_reply(rt, alloc, replica, seen, "STORED\r\n")
 }
 
@@ -350,11 +439,13 @@ fn a_thousand_keys(rt: HostRuntime) -> Result<(), Fail> {
         items: 1_000,
         bytes: 1_048_577,
     };
+    let cells = cells_of(rt.alloc())?;
     let mut replica = opened(rt.alloc(), 0, &[quotas], 1_001)?;
     for number in 0..1_000 {
-        assert_set(&rt, rt.alloc(), &mut replica, number)?;
+        assert_set(&rt, rt.alloc(), &cells, &mut replica, number)?;
     }
-    let seen = own_seen(1_000, numbered_get(rt.alloc(), 1_000)?)?;
+    let entry = own_entry(1_000, numbered_get(rt.alloc(), 1_000)?)?;
+    let seen = seen_of(&rt, rt.alloc(), &cells, entry)?;
     let want = numbered_values(rt.alloc(), 1_000)?;
     assert_reply(&rt, rt.alloc(), &mut replica, seen, &want)
 }
