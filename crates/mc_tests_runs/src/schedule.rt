@@ -270,8 +270,8 @@ Options:
   -V, --version  Print version
 
 An event list stands on standard input, line by line, its words with spaces between them:
-  core WORKERS PLACES   first: how many workers there are, and how many places for commands the log has
-  tenant ITEMS BYTES    then 1 to 64 such lines: how many items and bytes each tenant's table may hold
+  core WORKERS PLACES   first: 1 to 16 workers, and a log with 1 to 1048576 places for commands
+  tenant ITEMS BYTES    then 1 to 64 such lines: each tenant's quotas, to 1048576 and 1073741824
 and then any number of these, where W is a worker and T a tenant, each numbered from 0:
   submit W T COMMAND    W announces a command of T, helps by turns until it is decided, and replays
   announce W T COMMAND  W announces a command of T, and no more
