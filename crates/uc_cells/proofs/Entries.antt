@@ -15,6 +15,7 @@ use Rattle.mc_model.specs.contracts.request.EntryPartialEq.TheImpl as entries
 use Rattle.mc_model.specs.contracts.command.CommandPartialEq.TheImpl as commands
 use Rattle.mc_model.specs.contracts.command.VerbPartialEq.TheImpl as verbs
 
+-- each variant is equal to itself alone
 same_verb : (one other : Verb) → verbs.ghosts.eq one other ≡ true → one ≡ other
 same_verb Set Set is = refl
 same_verb Add Add is = refl
@@ -23,6 +24,7 @@ same_verb Append Append is = refl
 same_verb Prepend Prepend is = refl
 same_verb one other is = absurd (cc)
 
+-- commands of one kind with the same fields are the same
 same_command : (one other : Command) → commands.ghosts.eq one other ≡ true → one ≡ other
 same_command (Store verb key flags block) (Store verb2 key2 flags2 block2) is =
     let verbs = and_parts _ _ is in
@@ -61,6 +63,7 @@ same_command (Decr key by) (Decr key2 by2) is =
 same_command Flush Flush is = refl
 same_command one other is = absurd (cc)
 
+-- as are entries of one ticket, tenant and command
 same_entry : (one other : Entry) → entries.ghosts.eq one other ≡ true → one ≡ other
 same_entry one other is =
     let tickets = and_parts _ _ is in
@@ -72,11 +75,13 @@ same_entry one other is =
     let same_command = same_command one.command other.command tenants.1 in
     λ i. record { ticket = record { worker = same_worker i; number = same_number i }; tenant = same_tenant i; command = same_command i }
 
+-- and what two cells may hold
 same_content : (one other : Option Entry) → option_eq entries.eq-value.it one other ≡ true → one ≡ other
 same_content None None is = refl
 same_content (Some one) (Some other) is = ap (λ (e : Entry). Some e) (same_entry one other is)
 same_content one other is = absurd (cc)
 
+-- a test whose opposite fails passes
 passes : (test : Bool) → false ≡ not test → test ≡ true
 passes true fails = refl
 passes false fails = absurd (cc)

@@ -79,6 +79,7 @@ impl Cells {
         ensures faults { IfErr result (λ fault. (fault ≡ Fault.Memory) ⊎ (fault ≡ Fault.Taken)) }
     {
         let ticket = entry.ticket;
+        // Its parts, since a ticket that is held across a `?` gets no proof.
         let Ticket { worker, number } = ticket;
         let place = self.row(ticket);
         let mut row = place.note();
@@ -109,6 +110,7 @@ impl Cells {
         ensures row { IfOk result (λ seen. seen.row ≡ row_at self.now ticket) }
         ensures memory { IsOkUnless result Fault.Memory }
     {
+        // Its parts, since a ticket that is held across a `?` gets no proof.
         let Ticket { worker, number } = ticket;
         let place = self.row(ticket);
         let mut row = place.note();
