@@ -54,8 +54,9 @@ fn see<'a>(
     cells: &'a Cells,
     ticket: Ticket,
 ) -> Result<Seen<'a>, Fault> {
+    let Ticket { worker, number } = ticket;
     assert_cell(rt, cells, ticket);
-    cells.see(alloc, ticket)
+    cells.see(alloc, Ticket { worker, number })
 }
 
 /// What is seen of a worker's command on a tenant's table, once it stands in its cell.
@@ -249,7 +250,7 @@ fn nobodys_entries_change_no_table(rt: HostRuntime) -> Result<(), Fail> {
     assert_stands(&rt, &replica, 3, (0, 1))
 }
 
-/// Tickets of one number, and of one worker, have cells of their own: what stands in those is nothing to this one.
+/// What stands in the cells of the next ticket, and of another worker's ticket of the same number, is nothing to this one.
 #[test]
 fn an_entry_of_another_ticket_counts_as_absent(rt: HostRuntime) -> Result<(), Fail> {
     const KNOWN: [Row; 1] = [(0, 1, "set a 0 0 1\r\nx\r\n", "STORED\r\n")];
