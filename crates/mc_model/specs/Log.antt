@@ -6,9 +6,6 @@ use Rattle.std.specs.Prelude.{◌≡◌, ℕ, ◌≤◌, Bool, ◌&&◌, ◌==�
 use Rattle.std.proofs.Common.{ap, ◌∙◌, arith}
 use Rattle.std.proofs.lemmas.Bool.Decides.{nat_tests}
 use Rattle.std.proofs.lemmas.List.Elements.{filter_map-append}
-use Rattle.std.specs.Coded.{Coded, code_by, coded×, coded_option}
-use Rattle.mc_model.specs.contracts.id.Ticket as ticket_row
-use Rattle.mc_model.specs.contracts.request.Entry as entry_row
 use Rattle.mc_model.specs.declared.command.Command.{Command}
 use Rattle.mc_model.specs.declared.id.Ticket.{Ticket}
 use Rattle.mc_model.specs.declared.request.Entry.{Entry}
@@ -17,11 +14,6 @@ use Rattle.mc_model.specs.declared.request.Entry.{Entry}
 pub record Sighting : Type 0 where
   pub ticket : Ticket
   pub entry : Option Entry
-
--- how a sighting is stored as a model's value
-abbrev pub coded_sighting : Coded Sighting
-coded_sighting =
-    code_by (Ticket × Option Entry) (coded× ticket_row.the_row.coded (coded_option entry_row.the_row.coded)) (λ s. (s.ticket, s.entry)) (λ p. record { ticket = p.0; entry = p.1 }) (λ _. refl)
 
 abbrev pub is_ticket : Ticket → Ticket → Bool
 is_ticket ticket other = ticket.worker == other.worker && ticket.number == other.number
