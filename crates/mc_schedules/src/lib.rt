@@ -7,7 +7,7 @@
 //! printed of a run.
 #![tactic(auto)]
 
-pub use picture::draw;
+pub use picture::draw_items;
 pub use running::{Outcome, run_items};
 pub use schedule::{Action, Item, Reading, Schedule, read_schedule};
 pub use watching::{Unwatched, Watch};

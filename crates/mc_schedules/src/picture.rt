@@ -1,7 +1,9 @@
 //! A picture of a run: time goes down, and each worker has a column.
-ghost use Rattle.std.specs.Prelude.{IsOkUnless};
+ghost use Rattle.std.specs.Prelude.{IfOk, IsOkUnless};
+ghost use Rattle.mc_schedules.specs.Doing.{DoesAll};
+ghost use Rattle.uc_core.specs.Core.{new_core};
 
-use crate::running::run_items;
+use crate::running::{Outcome, run_items};
 use crate::schedule::Item;
 use crate::watching::Watch;
 use mc_model::{Fault, Phase, Settings, WorkerId};
@@ -38,22 +40,26 @@ struct Picture {
     is_starved: bool,
 }
 
-/// A chart of a run as text: a line for each event, with the number of the line that asks for it, a column for each worker, and beside
-/// a proposal that decides a place, the place and its ticket. A worker's column says what it does, of a look whose command it found,
-/// and `|` while another works; it ends where the worker stops. A star stands where the worker learned that its own command is in the
-/// log. Up to 6 workers fit into 100 columns. `Memory` where memory runs out, for an event too.
-pub fn draw(alloc: Global, settings: &Settings, items: Vec<Item>) -> Result<Vec<u8>, Fault>
-    ensures { IsOkUnless result Fault.Memory }
+/// As `run_items`, with a picture of the run and an empty line behind it: a line for each event, with the number of the line that asks
+/// for it, a column for each worker, and beside a proposal that decides a place, the place and its ticket. A worker's column says what
+/// it does, of a look whose command it found, and `|` while another works; it ends where the worker stops. A star stands where the
+/// worker learned that its own command is in the log. Up to 6 workers fit into 100 columns. `Memory` where there is none for the
+/// picture, too.
+pub fn draw_items(
+    alloc: Global,
+    settings: &Settings,
+    items: Vec<Item>,
+) -> Result<(Vec<u8>, Outcome), Fault>
+    ensures outcome { IfOk result (λ drawn. DoesAll items.items (new_core settings.now) drawn.1.core drawn.1.replies.items drawn.1.fault) }
+    ensures memory { IsOkUnless result Fault.Memory }
 {
     let mut picture = Picture::new(alloc, settings.workers())?;
     let outcome = run_items(alloc, settings, items, &mut picture)?;
-    // Another run may get farther, so that this would be no picture of it.
-    let ran_out = matches!(outcome.fault, Some((_, Fault::Memory)));
-    if ran_out || picture.is_starved {
+    if picture.is_starved {
         return Err(Fault::Memory);
     }
     picture.text.push(b'\n')?;
-    Ok(picture.text)
+    Ok((picture.text, outcome))
 }
 
 impl Picture {

@@ -46,9 +46,9 @@ module _ (words : List Text) (options : ScheduleOptions) (asks : AsksFor words o
     core = reported.runs.core;
     given = reported.runs.given;
     did = reported.runs.did;
-    picture = reported.picture;
-    undrawn = λ unasked. reported.undrawn (asks.picture ∙ unasked);
-    told = reported.told ∙ ap (λ (lines : List ℕ). reported.picture ++ lines) (reported.runs.told ∙ ap (λ quiet. report quiet reported.runs.core reported.runs.given end) asks.quiet);
+    picture = reported.runs.picture;
+    undrawn = λ unasked. reported.runs.undrawn (asks.picture ∙ unasked);
+    told = reported.runs.told ∙ ap (λ quiet. reported.runs.picture ++ report quiet reported.runs.core reported.runs.given end) asks.quiet;
   }
 
   module _ (before after : Streams) (errors_before errors : Outflow) (status : ℕ) where

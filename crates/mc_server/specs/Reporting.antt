@@ -26,23 +26,21 @@ StopsReading fault.Memory before after = IsUnfailedInput before after
 StopsReading fault.Input before after = failures after.events ≡ failures before.events + 1
 StopsReading other before after = ⊥
 
--- The items were done in these settings, which ended so, and this is the report of that.
-pub record Runs (settings : Configuration) (items : List Item) (quiet : Bool) (end : Ending) (text : List ℕ) : Type 0 where
+-- The items were done in these settings, which ended so, and this is the report of that, after a picture where one is asked for.
+pub record Runs (settings : Configuration) (items : List Item) (options : ScheduleOptions) (end : Ending) (text : List ℕ) : Type 0 where
   pub core : CoreState
   pub given : List Given
   pub did : DoesAll items (new_core settings) core given end
-  pub told : text ≡ report quiet core given end
+  pub picture : List ℕ
+  pub undrawn : options.picture ≡ false → picture ≡ []
+  pub told : text ≡ picture ++ report options.quiet core given end
 
--- The bytes read as a list in lawful settings, whose run ended so, and this is its report, after a picture where one is asked for.
+-- The bytes read as a list in lawful settings, whose run ended so, and this is told of it.
 pub record IsReportOf (options : ScheduleOptions) (bytes : List ℕ) (end : Ending) (text : List ℕ) : Type 0 where
   pub list : Listed
   pub reads : reading bytes ≡ Whole list
   pub lawful : IsLawful (settings_of list)
-  pub picture : List ℕ
-  pub undrawn : options.picture ≡ false → picture ≡ []
-  pub lines : List ℕ
-  pub runs : Runs (settings_of list) list.items options.quiet end lines
-  pub told : text ≡ picture ++ lines
+  pub runs : Runs (settings_of list) list.items options end text
 
 -- what the bytes are answered
 abbrev pub IsAnswerTo : ScheduleOptions → List ℕ → Answer → Type 0

@@ -13,7 +13,7 @@ use crate::words::answer_words;
 use itoa::Buffer;
 use mc_model::{Fault, Settings};
 use mc_schedules::schedule::INPUT_BYTES;
-use mc_schedules::{Item, Reading, Unwatched, draw, read_schedule, run_items};
+use mc_schedules::{Item, Reading, Unwatched, draw_items, read_schedule, run_items};
 use mc_stream::{Input, Output, Pull};
 use std::alloc::Global;
 use std::sync::Wait;
@@ -57,29 +57,25 @@ fn receive<R: Wait, I: Input>(rt: &R, alloc: Global, input: &mut I) -> Result<Ve
     unreachable!()
 }
 
-/// The picture of the run of a list that was read before.
-fn picture_of(alloc: Global, settings: &Settings, bytes: &[u8]) -> Result<Vec<u8>, Fault>
-    ensures { IsOkUnless result Fault.Memory }
-{
-    match read_schedule(alloc, bytes)? {
-        Reading::Bad(_) => Ok(Vec::new(alloc)),
-        Reading::Schedule(schedule) => draw(alloc, settings, schedule.items),
-    }
-}
-
-/// The report of the run of these items, and what ended the run early.
+/// What is told of the run of these items, and what ended it early.
 fn report_of(
     alloc: Global,
     settings: &Settings,
     items: Vec<Item>,
-    quiet: bool,
+    options: ScheduleOptions,
 ) -> Result<(Vec<u8>, Option<(u64, Fault)>), Fault>
-    ensures runs { IfOk result (λ told. Runs settings.now items.items quiet told.1 told.0.items) }
+    ensures runs { IfOk result (λ told. Runs settings.now items.items options told.1 told.0.items) }
     ensures memory { IsOkUnless result Fault.Memory }
 {
-    let outcome = run_items(alloc, settings, items, &mut Unwatched)?;
-    let end = outcome.fault;
-    Ok((outcome.report(alloc, quiet)?, end))
+    let (mut text, outcome) = if options.picture {
+        draw_items(alloc, settings, items)?
+    } else {
+        let outcome = run_items(alloc, settings, items, &mut Unwatched)?;
+        (Vec::new(alloc), outcome)
+    };
+    let lines = outcome.report(alloc, options.quiet)?;
+    text.extend_from_slice(&lines)?;
+    Ok((text, outcome.fault))
 }
 
 /// What a list of these bytes is answered.
@@ -94,13 +90,7 @@ fn answer_to(alloc: Global, options: ScheduleOptions, bytes: &[u8]) -> Result<An
     let Ok(settings) = Settings::check(schedule.workers, schedule.places, schedule.tenants) else {
         return Ok(Answer::BadSettings);
     };
-    let mut text = if options.picture {
-        picture_of(alloc, &settings, bytes)?
-    } else {
-        Vec::new(alloc)
-    };
-    let (lines, end) = report_of(alloc, &settings, schedule.items, options.quiet)?;
-    text.extend_from_slice(&lines)?;
+    let (text, end) = report_of(alloc, &settings, schedule.items, options)?;
     Ok(Answer::Report { text, end })
 }
 

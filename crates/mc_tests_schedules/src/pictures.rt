@@ -1,7 +1,7 @@
 //! Pictures of runs.
 use crate::lists::list_of;
 use mc_model::Settings;
-use mc_schedules::draw;
+use mc_schedules::draw_items;
 use std::alloc::Global;
 use std::process::Abort;
 use std::test::Fail;
@@ -10,7 +10,8 @@ use std::test::Fail;
 fn picture_of(alloc: Global, list: &str) -> Result<Vec<u8>, Fail> {
     let schedule = list_of(alloc, list)?;
     let settings = Settings::check(schedule.workers, schedule.places, schedule.tenants)?;
-    Ok(draw(alloc, &settings, schedule.items)?)
+    let (drawn, _) = draw_items(alloc, &settings, schedule.items)?;
+    Ok(drawn)
 }
 
 /// The list's run is drawn so, and an empty line after it.
