@@ -64,8 +64,7 @@ fn put_and_see(alloc: Global, cells: &Cells, entries: Vec<Entry>) -> Option<u64>
 }
 
 /// Pushes each entry and reads it four times; how many entries were read.
-fn push_and_read(alloc: Global, entries: Vec<Entry>) -> Option<u64> {
-    let mut log = Vec::new(alloc);
+fn push_and_read(log: &mut Vec<Entry>, entries: Vec<Entry>) -> Option<u64> {
     let mut count = 0u64;
     for entry in entries {
         let number = entry.ticket.number;
@@ -87,8 +86,9 @@ fn report(rt: &(impl AllocGlobal + Clock + Print), timed: bool) -> io::Result<()
     let start = Instant::now(rt)?;
     let seen = put_and_see(alloc, &cells, ours).ok_or(AllocError)?;
     let cells_time = start.elapsed(rt)?.as_nanos();
+    let mut log = Vec::new(alloc);
     let start = Instant::now(rt)?;
-    let read = push_and_read(alloc, plain).ok_or(AllocError)?;
+    let read = push_and_read(&mut log, plain).ok_or(AllocError)?;
     let plain_time = start.elapsed(rt)?.as_nanos();
     if timed {
         println!(rt; "cells {cells_time} ns, plain {plain_time} ns")
