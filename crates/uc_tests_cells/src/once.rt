@@ -14,7 +14,11 @@ fn the_first_entry_stays(rt: HostRuntime) -> Result<(), Fail> {
     let cells = Cells::open(alloc, 1, 2)?;
     let ticket = ticket_in(&cells, 0, 0).ok_or("no cell")?;
     let first = entry_of(alloc, ticket, FIRST)?;
-    assert_holds(&rt, &cells.put(alloc, entry_of(alloc, ticket, FIRST)?)?, &first);
+    assert_holds(
+        &rt,
+        &cells.put(alloc, entry_of(alloc, ticket, FIRST)?)?,
+        &first,
+    );
     let other = cells.put(alloc, entry_of(alloc, ticket, OTHER)?);
     assert!(rt; other.err() == Some(Fault::Taken));
     assert_holds(&rt, &cells.see(alloc, ticket)?, &first);

@@ -128,7 +128,11 @@ fn put_and_see<'a, R: Threads + Sync + Abort>(
     let (put, seen) = thread::join(
         rt,
         || put_all(cells, alloc, tenant, command),
-        || thread::join(rt, || see_twice(rt, cells, alloc), || see_twice(rt, cells, alloc)),
+        || thread::join(
+            rt,
+            || see_twice(rt, cells, alloc),
+            || see_twice(rt, cells, alloc),
+        ),
     );
     let (one, other) = seen;
     let ((first, second), (third, fourth)) = (one?, other?);

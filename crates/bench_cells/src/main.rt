@@ -1,0 +1,106 @@
+//! Measures the cells: a put of an entry and four sightings of it, beside a push of an entry to a plain vector and four reads of it. With
+//! `--time` it prints the nanoseconds of each pass; without, how many entries were counted.
+#![tactic(auto)]
+
+use mc_model::{Command, Entry, Key, KeyList, TenantId, Ticket, WorkerId};
+use std::alloc::{AllocError, Global};
+use std::rt::Clock;
+use std::time::Instant;
+use std::{env, io};
+use uc_cells::Cells;
+
+/// How many entries are written and read in a pass.
+const ENTRIES: u64 = 50_000;
+
+/// How often all is done for its time.
+const PASSES: usize = 7;
+
+/// How often an entry is read.
+const READS: usize = 4;
+
+/// A `get a` of the first tenant under this ticket.
+fn entry_of(alloc: Global, ticket: Ticket) -> Option<Entry> {
+    let key = Key::new(alloc, b"a").ok()??;
+    let mut keys = Vec::new(alloc);
+    keys.push(key).ok()?;
+    let keys = KeyList::new(keys)?;
+    Some(Entry {
+        ticket,
+        tenant: TenantId::new(0)?,
+        command: Command::Get {
+            keys,
+            uniques: false,
+        },
+    })
+}
+
+/// The entries of the first worker's tickets.
+fn entries(alloc: Global) -> Option<Vec<Entry>> {
+    let mut made = Vec::new(alloc);
+    for number in 0..ENTRIES {
+        let worker = WorkerId::new(0)?;
+        made.push(entry_of(alloc, Ticket { worker, number })?).ok()?;
+    }
+    Some(made)
+}
+
+/// Puts each entry into its cell and sees it four times; how many entries were seen.
+fn put_and_see(alloc: Global, cells: &Cells, entries: Vec<Entry>) -> Option<u64> {
+    let mut count = 0u64;
+    for entry in entries {
+        let ticket = entry.ticket;
+        let Ticket { worker, number } = ticket;
+        if worker.number() < cells.workers() && number < cells.places() {
+            cells.put(alloc, entry).ok()?;
+            for _ in 0..READS {
+                let seen = cells.see(alloc, Ticket { worker, number }).ok()?;
+                if seen.entry().is_some() {
+                    count = count.saturating_add(1);
+                }
+            }
+        }
+    }
+    Some(count)
+}
+
+/// Pushes each entry and reads it four times; how many entries were read.
+fn push_and_read(log: &mut Vec<Entry>, entries: Vec<Entry>) -> Option<u64> {
+    let mut count = 0u64;
+    for entry in entries {
+        let number = entry.ticket.number;
+        log.push(entry).ok()?;
+        for _ in 0..READS {
+            if log.get(number as usize).is_some_and(|entry| entry.ticket.number == number) {
+                count = count.saturating_add(1);
+            }
+        }
+    }
+    Some(count)
+}
+
+fn report(rt: &(impl AllocGlobal + Clock + Print), timed: bool) -> io::Result<()> {
+    let alloc = rt.alloc();
+    let ours = entries(alloc).ok_or(AllocError)?;
+    let plain = entries(alloc).ok_or(AllocError)?;
+    let cells = Cells::open(alloc, 1, ENTRIES).map_err(|_| AllocError)?;
+    let start = Instant::now(rt)?;
+    let seen = put_and_see(alloc, &cells, ours).ok_or(AllocError)?;
+    let cells_time = start.elapsed(rt)?.as_nanos();
+    let mut log = Vec::new(alloc);
+    let start = Instant::now(rt)?;
+    let read = push_and_read(&mut log, plain).ok_or(AllocError)?;
+    let plain_time = start.elapsed(rt)?.as_nanos();
+    if timed {
+        println!(rt; "cells {cells_time} ns, plain {plain_time} ns")
+    } else {
+        println!(rt; "{seen} seen, {read} read")
+    }
+}
+
+fn main(rt: HostRuntime) -> io::Result<()> {
+    let timed = env::args(&rt)?.any(|word| word.as_str() == "--time");
+    for _ in 0..PASSES {
+        report(&rt, timed)?;
+    }
+    Ok(())
+}
