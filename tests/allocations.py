@@ -3,9 +3,9 @@
 
 A run ends well, with all replies; or it writes the first of them, whole and in order, then "SERVER_ERROR out of memory", tells
 the fault on standard error and ends with status 1; or it ends with status 1 and no reply, while it reads its words. From the
-first allocation of its opening on, which reserves the history and is the first large one, the client has to be told. All
-requests come in one piece, and in other passes each once the one before is answered. Needs gcc. Prints how the runs ended,
-and fails at any other end.
+allocation on that reserves the history, which is the first large one, the client has to be told. All requests come in one
+piece, and in other passes each once the one before is answered. Needs gcc. Prints how the runs ended, and fails at any other
+end.
 """
 
 import os

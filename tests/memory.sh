@@ -93,8 +93,8 @@ sweep() {
 opening() {
     local few many
     few=$(run_with growing "$1" --places 64)
-    many=$(run_with growing "$1" ${2:+--places "$2"})
-    echo "opening, ${2:-65536} places in $1 KB: $many bytes of replies before the refusal; with 64 places the run ended $few"
+    many=$(run_with growing "$1" --places "$2")
+    echo "opening, $2 places in $1 KB: $many bytes of replies before the refusal; with 64 places the run ended $few"
     [ "$few" = well ] && [ "$many" = 0 ]
 }
 
@@ -106,5 +106,5 @@ sweep refused 2400 5600 20 --places 64 --items 1 --bytes 263000
 [[ "$fronts" == *" queued:15 "* ]] || { echo "no run was told behind queued replies" >&2; exit 1; }
 # Two sets were done by then, and three others refused by a quota.
 [[ "$fronts" == *" refused:145 "* ]] || { echo "no run was told behind refusals of a quota" >&2; exit 1; }
-opening 8000
-opening 60000 1048576
+opening 8000 262144
+opening 20000 1048576
