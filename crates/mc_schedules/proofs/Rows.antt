@@ -1,12 +1,12 @@
 -- Worked lists, tried on the definitions: what they read as, what a worker needs, and what is printed.
-use Rattle.std.specs.Prelude.{◌≡◌, ℕ, List, [], ◌∷◌, Some, None, codes, refl}
+use Rattle.std.specs.Prelude.{◌≡◌, [], ◌∷◌, Some, None, codes, refl}
 use Rattle.std.specs.Fmt.{digits}
 use Rattle.mc_model.specs.declared.fault.Fault.TheVariants.{BadEvent, LogFull}
 use Rattle.mc_model.specs.declared.reply.Reply.TheVariants.{Stored, Values}
 use Rattle.mc_model.specs.declared.shown.Phase.TheVariants.{Idle, Looked, Pending, Stopped}
 use Rattle.mc_schedules.specs.Needed.{needed_at}
-use Rattle.mc_schedules.specs.Report.{ending_text, escaped, log_text, reply_line, worker_line}
-use Rattle.mc_schedules.specs.Schedule.{BadLine, Whole, reading}
+use Rattle.mc_schedules.specs.Report.{ending_text, log_text, reply_line, worker_line}
+use Rattle.mc_schedules.specs.Schedule.{BadLine, reading}
 use Rattle.uc_core.specs.declared.event.Event.TheVariants.{Look, Propose, Read, Replay}
 use Rattle.uc_core.specs.declared.machine.Progress.{Progress}
 

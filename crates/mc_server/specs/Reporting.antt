@@ -1,6 +1,6 @@
 -- What the parts of mc_schedule's run give each other: the bytes that came, what they are answered, and what is pushed of that; this
 -- project's profile.
-use Rattle.std.specs.Prelude.{◌≡◌, ◌⊎◌, ◌+◌, ℕ, Bool, false, List, [], ◌++◌, Some, None, codes}
+use Rattle.std.specs.Prelude.{◌≡◌, ◌⊎◌, ◌+◌, ℕ, false, List, [], ◌++◌, Some, None, codes}
 use Rattle.mc_model.specs.Settings.{Configuration, IsLawful}
 use Rattle.mc_model.specs.declared.fault.Fault.{Fault}
 use Rattle.mc_model.specs.declared.fault.Fault.TheVariants as fault
