@@ -1,0 +1,5 @@
+pub mod Followed
+pub mod Wording
+pub mod Moves
+pub mod Seating
+pub mod Closing

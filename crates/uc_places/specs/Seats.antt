@@ -1,0 +1,9 @@
+-- A seat that is idle or pending.
+use Rattle.uc_places.specs.declared.desk.Desk.{Desk}
+use Rattle.uc_places.specs.declared.seats.Seat.{Seat}
+use Rattle.uc_places.specs.declared.seats.Seat.TheVariants as seat
+
+-- what a seat keeps, whether it is idle or pending
+abbrev pub desk_of : Seat → Desk
+desk_of (seat.Idle idle) = idle.desk
+desk_of (seat.Pending pending) = pending.desk

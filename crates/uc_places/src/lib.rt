@@ -1,0 +1,16 @@
+//! The words that the threads of a log share, under a rule: at every moment the words and the seats show one state of the log that
+//! events lead to. Each call of a seat is one event of that log, by one operation on one word.
+#![tactic(auto)]
+
+pub mod desk;
+pub mod rule;
+pub mod seats;
+pub mod steps;
+pub mod view;
+pub mod whole;
+pub mod words;
+
+pub use desk::Places;
+pub use seats::{Idle, Looked, Pending, Seat};
+pub use whole::open;
+pub use words::{ticket_in, word_of};
