@@ -3,3 +3,4 @@ pub mod Wording
 pub mod Moves
 pub mod Seating
 pub mod Closing
+pub mod Mirroring

@@ -30,10 +30,10 @@ pub record Mirrors (view : View) (numbers : Numbers) : Type 0 where
   pub wide : length numbers.counts ≡ 16
   pub counts : (worker : ℕ) → worker < 16 → slice_index numbers.counts worker ≡ count worker view.state.learned
 
--- one more ticket is learned
-abbrev pub learned_one : Numbers → Ticket → Numbers
-learned_one numbers ticket =
-    record numbers { learned = numbers.learned + 1; counts = slice_set numbers.counts ticket.worker (slice_index numbers.counts ticket.worker + 1) }
+-- one more ticket is learned, of this worker
+abbrev pub learned_one : Numbers → ℕ → Numbers
+learned_one numbers worker =
+    record numbers { learned = numbers.learned + 1; counts = slice_set numbers.counts worker (slice_index numbers.counts worker + 1) }
 
 -- the next place becomes the mark, where there is none
 abbrev pub mark_or : Option ℕ → ℕ → Option ℕ

@@ -60,13 +60,13 @@ impl Numbers {
         1 + self.workers + self.learned
     }
 
-    /// It has learned one more ticket.
-    pub(crate) fn learn(&mut self, ticket: Ticket)
-        requires { (length self.old.counts ≡ 16) × (slice_index self.old.counts ticket.worker < 2 ^ 32) × (self.old.learned < 2 ^ 32) }
-        ensures { self.new ≡ learned_one self.old ticket }
+    /// It has learned one more ticket, of this worker.
+    pub(crate) fn learn(&mut self, worker: WorkerId)
+        requires { (length self.old.counts ≡ 16) × (slice_index self.old.counts worker < 2 ^ 32) × (self.old.learned < 2 ^ 32) }
+        ensures { self.new ≡ learned_one self.old worker }
     {
         self.learned += 1;
-        self.counts[usize::from(ticket.worker.number())] += 1;
+        self.counts[usize::from(worker.number())] += 1;
     }
 
     /// What it proposes where the worker whose turn it is has announced this many commands: the first of them that it hasn't learned,
@@ -99,9 +99,9 @@ impl Numbers {
     }
 
     /// Whether this is the ticket of the command that its worker announced last.
-    pub(crate) fn is_own(&self, ticket: Ticket) -> bool
-        requires { ticket.number < 2 ^ 32 }
-        ensures { result ≡ owns self.now ticket }
+    pub(crate) fn is_own(&self, ticket: &Ticket) -> bool
+        requires { ticket.now.number < 2 ^ 32 }
+        ensures { result ≡ owns self.now ticket.now }
     {
         ticket.worker == self.worker && ticket.number + 1 == self.announced
     }

@@ -7,9 +7,9 @@ ghost use Rattle.uc_places.specs.Words.{said_ticket, said_word};
 use mc_model::{Ticket, WorkerId};
 
 /// The word of a place where this ticket stands.
-pub fn word_of(ticket: Ticket) -> u64
-    requires { ticket.number < MAX_PLACES }
-    ensures { result ≡ said_word ticket }
+pub fn word_of(ticket: &Ticket) -> u64
+    requires { ticket.now.number < MAX_PLACES }
+    ensures { result ≡ said_word ticket.now }
 {
     ticket.number * 256 + u64::from(ticket.worker.number()) + 1
 }
