@@ -8,17 +8,17 @@ use Rattle.atomic_table.specs.Table.{Final, Seen}
 use Rattle.mc_model.specs.declared.id.TheConstants.{WORKERS}
 use Rattle.mc_model.specs.declared.id.Ticket.{Ticket}
 use Rattle.mc_model.specs.declared.shown.LogSize.{LogSize}
-use Rattle.mc_model.specs.Helping.{BeginsWith}
-use Rattle.mc_model.specs.Legal.{IsLegal}
+use Rattle.mc_model.specs.declared.shown.ShownState.{ShownState}
+use Rattle.mc_model.specs.Lawful.{IsReached, IsWorker}
 use Rattle.uc_core.proofs.Lists.{at_pushed}
 use Rattle.uc_places.specs.declared.seats.Idle.{Idle}
 use Rattle.uc_places.specs.declared.view.Kind.TheVariants.{Seated}
 use Rattle.uc_places.specs.declared.view.View.{View}
 use Rattle.uc_places.specs.Desk.{AreTickets, Spells}
-use Rattle.uc_places.specs.Rule.{IsKept}
+use Rattle.uc_places.specs.Rule.{IsKept, OthersLead}
 use Rattle.uc_places.specs.Told.{new_seat}
 use Rattle.uc_places.specs.Words.{place_word, said_ticket}
-use Rattle.uc_places.proofs.Moves.{law, seated}
+use Rattle.uc_places.proofs.Moves.{TableState, law, seated}
 use Rattle.uc_places.proofs.Wording.{decoded, ticket_small}
 
 -- one more seat at the end
@@ -32,3 +32,32 @@ snoc_seats size id old new number seat pushed long before last worker x at = ⊎
 
 pub snoc_length : (old new : List Idle) (number : ℕ) (seat : Idle) → new ≡ old ++ seat ∷ [] → length old ≡ number → length new ≡ number + 1
 snoc_length old new number seat pushed long = ap length pushed ∙ (length-append old (seat ∷ []) ∙ ap (λ (k : ℕ). k + 1) long)
+
+-- at the end the words spell the log
+spells : (size : LogSize) (s : TableState) (kept : IsKept size s) (words : List ℕ) → s.words ≡ words → Spells words (1 + size.workers) size.places kept.log.decided
+spells size s kept words same = let law = law size s kept in let few = kept.small.1 in record {
+  few = law.few;
+  at = λ place room. ap (λ (some : List ℕ). slice_index some (1 + size.workers + place)) (sym same) ∙ kept.shows.places place room;
+  small = λ place ticket at. let below = (ticket_small size kept.log law place ticket at).0 in omega arith;
+}
+
+-- what the words are at the end: they spell the log of a state that events lead to, which a seat that stays open shows
+pub closes : (size : LogSize) (id : ℕ) (view : View) (words : List ℕ) (slots : List Unit) → view.kind ≡ Seated → Final (Seen (IsKept size) id view) words slots →
+    (log : ShownState) × IsReached size log × Spells words (1 + size.workers) size.places log.decided × IsWorker log view.worker view.state × OthersLead size view.worker view.last log
+closes size id view words slots is final =
+    let s = final.0 in let kept = final.1.0 in let at = final.1.1 in let law = law size s kept in let mine = seated size s kept id view at is in let few = kept.small.1 in (
+      kept.log,
+      kept.reached,
+      spells size s kept words final.2,
+      mine.1,
+      mine.3,
+    )
+
+-- the same, where no seat is left
+pub closes_bare : (size : LogSize) (words : List ℕ) (slots : List Unit) → Final (IsKept size) words slots →
+    (log : ShownState) × IsReached size log × Spells words (1 + size.workers) size.places log.decided
+closes_bare size words slots final = let kept = final.1 in (kept.log, kept.reached, spells size final.0 kept words final.2)
+
+pub if_ok : {A E : Type 0} (r : Result A E) (P Q : A → Type 0) → ((v : A) → P v → Q v) → IfOk r P → IfOk r Q
+if_ok (Ok v) P Q f h = f v h
+if_ok (Err e) P Q f h = h

@@ -4,3 +4,4 @@ pub mod Moves
 pub mod Seating
 pub mod Closing
 pub mod Mirroring
+pub mod Spelled

@@ -4,3 +4,4 @@ pub mod Told
 pub mod Desk
 pub mod Calls
 pub mod Seats
+pub mod End

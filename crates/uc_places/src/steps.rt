@@ -4,7 +4,7 @@ ghost use Rattle.mc_model.specs.declared.shown.Phase.TheVariants as phase;
 ghost use Rattle.mc_model.specs.Lawful.{HasRoom, announced_by, announces, looks, proposes, reads, turn};
 ghost use Rattle.mc_model.specs.Shown.{announce, look, propose, read};
 ghost use Rattle.uc_places.specs.Calls.{IsSeatOf, Makes, known, last_of, size_of, state_of, worker_of};
-ghost use Rattle.uc_places.specs.Seats.{desk_of};
+ghost use Rattle.uc_places.specs.Seats.{desk_of, is_idle};
 
 use crate::desk::{Desk, Places};
 use crate::rule::{Announcing, Looking, Proposing, Reading};
@@ -17,7 +17,8 @@ pub(crate) fn settled(desk: Desk, is_own: bool) -> Seat
     requires own { is_own ≡ true → (state_of desk).phase ≡ phase.Idle }
     requires other { is_own ≡ false → (state_of desk).phase ≡ phase.Pending }
     requires announced { is_own ≡ false → 0 < desk.numbers.announced }
-    ensures { desk_of result ≡ desk }
+    ensures desk { desk_of result ≡ desk }
+    ensures idle { is_idle result ≡ is_own }
 {
     if is_own {
         Seat::Idle(Idle { desk })

@@ -1,16 +1,26 @@
 //! The beginning and the end of the shared words.
-ghost use Rattle.std.specs.Prelude.{◌≡◌, ◌<◌, ◌≤◌, ◌+◌, ℕ, List, length, slice_get, Some, IfOk, IsOkUnless};
+ghost use Rattle.std.specs.Prelude.{◌≡◌, ◌<◌, ◌≤◌, ◌+◌, ◌^◌, ℕ, List, length, slice_get, Some, IfOk, IsOkUnless};
+ghost use Rattle.core.specs.Mem.Slots.{IsFull, slots_items, slots_len};
 ghost use Rattle.mc_model.specs.declared.fault.Fault.TheVariants as faults;
+ghost use Rattle.mc_model.specs.declared.id.Ticket as ticket;
 ghost use Rattle.mc_model.specs.declared.id.TheConstants.{WORKERS};
 ghost use Rattle.mc_model.specs.declared.settings.TheConstants.{MAX_PLACES};
-ghost use Rattle.uc_places.specs.Calls.{IsSeatOf, known};
-ghost use Rattle.uc_places.specs.Desk.{IsBlank};
+ghost use Rattle.mc_model.specs.declared.shown.ShownState as state;
+ghost use Rattle.mc_model.specs.Helping.{BeginsWith};
+ghost use Rattle.mc_model.specs.Lawful.{IsReached};
+ghost use Rattle.mc_model.specs.Legal.{IsLegal};
+ghost use Rattle.uc_places.specs.Calls.{IsSeatOf, known, state_of};
+ghost use Rattle.uc_places.specs.Desk.{AreTickets, IsBlank, Spells};
+ghost use Rattle.uc_places.specs.End.{IsEnd, IsPartOf};
+ghost use Rattle.uc_places.specs.Seats.{desk_of};
 ghost use Rattle.uc_places.specs.Told.{new_seat};
 
 use crate::desk::{Desk, Numbers, Places};
-use crate::rule::{Dealing, PlacesTable, TableSeat};
-use crate::seats::Idle;
-use mc_model::{Fault, LogSize, WorkerId};
+use crate::rule::{Dealing, PlacesTable};
+use crate::seats::{Idle, Seat};
+use crate::words::ticket_in;
+use atomic_table::Closed;
+use mc_model::{Fault, LogSize, Ticket, WorkerId};
 use std::alloc::Global;
 
 /// The words before the first event.
@@ -63,4 +73,84 @@ pub fn open(alloc: Global, workers: u8, places: u64) -> Result<(Places, Vec<Idle
         places: places as usize,
     };
     Ok((shared, seats))
+}
+
+/// The tickets of the decided places.
+fn decided(
+    alloc: Global,
+    closed: &Closed<(), Global>,
+    first: usize,
+    places: usize,
+) -> Result<Vec<Ticket>, Fault>
+    requires wide { (first + places ≤ slots_len closed.now.words) × IsFull closed.now.words × (first + places < 2 ^ 32) }
+    requires tickets { AreTickets (slots_items closed.now.words) first places }
+    ensures spelled { IfOk result (λ log. (tickets : List ticket.Ticket) → Spells (slots_items closed.now.words) first places tickets → log.items ≡ tickets) }
+    ensures memory { IsOkUnless result faults.Memory }
+{
+    let mut log = Vec::new(alloc);
+    for place in 0..places {
+        let found = closed.word(first + place);
+        if found == 0 {
+            break;
+        }
+        log.push(ticket_in(found))?;
+    }
+    Ok(log)
+}
+
+/// Closes the words, where some seat stays open.
+fn close_with(alloc: Global, places: Places, desk: Desk) -> Result<Vec<Ticket>, Fault>
+    requires { IsSeatOf places desk }
+    ensures log { IfOk result (λ tickets. (log : state.ShownState) × IsReached places.table.shared.key log × (tickets.items ≡ log.decided) × IsPartOf places.table.shared.key log desk) }
+    ensures memory { IsOkUnless result faults.Memory }
+{
+    let Places {
+        table,
+        workers,
+        places,
+    } = places;
+    let Desk { seat, numbers: _ } = desk;
+    let closed = table.close_with(seat);
+    let log = decided(alloc, &closed, 1 + workers, places);
+    closed.free();
+    log
+}
+
+/// Closes the words, where no seat stays open.
+fn close_bare(alloc: Global, places: Places) -> Result<Vec<Ticket>, Fault>
+    ensures log { IfOk result (λ tickets. (log : state.ShownState) × IsReached places.table.shared.key log × (tickets.items ≡ log.decided)) }
+    ensures memory { IsOkUnless result faults.Memory }
+{
+    let Places {
+        table,
+        workers,
+        places,
+    } = places;
+    let closed = table.close();
+    let log = decided(alloc, &closed, 1 + workers, places);
+    closed.free();
+    log
+}
+
+/// The first of the seats.
+fn first_of(seats: Vec<Seat>) -> Option<Seat>
+    ensures { result ≡ slice_get seats.items 0 }
+{
+    seats.into_iter().next()
+}
+
+/// Closes the words, and gives the log: a legal list that begins with what the first seat passed has learned. Where memory runs out:
+/// `Memory`.
+pub fn close(alloc: Global, places: Places, seats: Vec<Seat>) -> Result<Vec<Ticket>, Fault>
+    requires { (seat : _) → slice_get seats.items 0 ≡ Some seat → IsSeatOf places (desk_of seat) }
+    ensures legal { IfOk result (λ tickets. IsLegal tickets.items) }
+    ensures begins { IfOk result (λ tickets. (seat : _) → slice_get seats.items 0 ≡ Some seat → BeginsWith tickets.items (state_of (desk_of seat)).learned) }
+    // It is the log of a state that events lead to, on the run that the first seat's calls lie on.
+    ensures end { IfOk result (λ tickets. IsEnd places.table.shared.key tickets.items (slice_get seats.items 0)) }
+    ensures memory { IsOkUnless result faults.Memory }
+{
+    match first_of(seats) {
+        Some(seat) => close_with(alloc, places, seat.into_desk()),
+        None => close_bare(alloc, places),
+    }
 }
