@@ -1,12 +1,7 @@
 -- The seats that an opening gives, and what the words are at the end.
-use Rattle.std.proofs.Common.{◌≡◌, ◌≢◌, ◌⊎◌, ℕ, ◌+◌, ◌<◌, List, [], ◌∷◌, ◌++◌, ⊎_elim, length, length-append, Result, Ok, Err, IfOk, sym, ap, ◌∙◌, subst, arith, slice_get, slice_index, Option, Some, None}
-use Rattle.std.proofs.Math.Decide.{ℕ_discrete}
-use mathlib.Core.Option.{some}
-use lib.ListN.{get_elem?}
+use Rattle.std.proofs.Common.{◌≡◌, ℕ, ◌+◌, List, [], ◌∷◌, ◌++◌, ⊎_elim, length, length-append, Result, Ok, Err, IfOk, sym, ap, ◌∙◌, subst, arith, slice_get, slice_index, Some}
 use Rattle.atomic_table.specs.Seated.{TableId}
 use Rattle.atomic_table.specs.Table.{Final, Seen}
-use Rattle.mc_model.specs.declared.id.TheConstants.{WORKERS}
-use Rattle.mc_model.specs.declared.id.Ticket.{Ticket}
 use Rattle.mc_model.specs.declared.shown.LogSize.{LogSize}
 use Rattle.mc_model.specs.declared.shown.ShownState.{ShownState}
 use Rattle.mc_model.specs.Lawful.{IsReached, IsWorker}
@@ -14,12 +9,11 @@ use Rattle.uc_core.proofs.Lists.{at_pushed}
 use Rattle.uc_places.specs.declared.seats.Idle.{Idle}
 use Rattle.uc_places.specs.declared.view.Kind.TheVariants.{Seated}
 use Rattle.uc_places.specs.declared.view.View.{View}
-use Rattle.uc_places.specs.Desk.{AreTickets, Spells}
+use Rattle.uc_places.specs.Desk.{Spells}
 use Rattle.uc_places.specs.Rule.{IsKept, OthersLead}
 use Rattle.uc_places.specs.Told.{new_seat}
-use Rattle.uc_places.specs.Words.{place_word, said_ticket}
 use Rattle.uc_places.proofs.Moves.{TableState, law, seated}
-use Rattle.uc_places.proofs.Wording.{decoded, ticket_small}
+use Rattle.uc_places.proofs.Wording.{ticket_small}
 
 -- one more seat at the end
 pub snoc_seats : (size : LogSize) (id : TableId) (old new : List Idle) (number : ℕ) (seat : Idle) → new ≡ old ++ seat ∷ [] → length old ≡ number →

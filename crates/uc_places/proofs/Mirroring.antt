@@ -7,7 +7,6 @@ use Rattle.atomic_table.specs.Seated.{TableId}
 use Rattle.mc_model.specs.declared.id.TheConstants.{WORKERS}
 use Rattle.mc_model.specs.declared.id.Ticket.{Ticket}
 use Rattle.mc_model.specs.declared.shown.LogSize.{LogSize}
-use Rattle.mc_model.specs.declared.shown.Phase.{Phase}
 use Rattle.mc_model.specs.declared.shown.ShownState.{ShownState}
 use Rattle.mc_model.specs.declared.shown.WorkerState.{WorkerState}
 use Rattle.mc_model.specs.Lawful.{reads, turn}

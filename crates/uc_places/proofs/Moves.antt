@@ -1,5 +1,5 @@
 -- Each operation of a worker's seat on a word keeps the rule, and is its event.
-use Rattle.std.proofs.Common.{◌≡◌, ◌≢◌, ◌⊎◌, ℕ, zero, suc, ◌+◌, ◌%◌, ◌^◌, ◌<◌, ◌≤◌, ◌==◌, Bool, List, [], ◌∷◌, ◌++◌, length, get_or, set, sym, refl, ap, ◌∙◌, subst, inl, inr, ⊎_elim, arith, append-nil, eq-eqb, ne_eqb, slice_get, unwrap_or, Option, Some, None}
+use Rattle.std.proofs.Common.{◌≡◌, ◌≢◌, ◌⊎◌, ℕ, zero, suc, ◌+◌, ◌%◌, ◌^◌, ◌<◌, ◌==◌, Bool, List, [], ◌∷◌, ◌++◌, length, get_or, set, sym, refl, ap, ◌∙◌, subst, inl, inr, ⊎_elim, arith, eq-eqb, ne_eqb, slice_get, unwrap_or, Option, Some, None}
 use Rattle.std.proofs.lemmas.List.Sums.{count_by-le-length}
 use Rattle.std.proofs.lemmas.Option.{slice_get_within}
 use mathlib.Core.Option.{none, some}
@@ -14,14 +14,14 @@ use Rattle.mc_model.specs.declared.shown.Phase.TheVariants.{Idle, Pending, Looke
 use Rattle.mc_model.specs.declared.shown.ShownState.{ShownState}
 use Rattle.mc_model.specs.declared.shown.WorkerState.{WorkerState}
 use Rattle.mc_model.specs.Helping.{BeginsWith, LogLaw}
-use Rattle.mc_model.specs.Lawful.{HasRoom, IsReached, IsWorker, ShownEvent, Step, announced_by, announces, decided_with, looks, next, proposes, reads, turn, with_worker}
+use Rattle.mc_model.specs.Lawful.{HasRoom, IsWorker, ShownEvent, Step, announced_by, announces, decided_with, looks, next, proposes, reads, turn, with_worker}
 use Rattle.mc_model.specs.Shown.{announce, look, new_log, new_worker, proposal, propose, read}
 use Rattle.uc_core.proofs.Lists.{at_seam, begins_self, begins_through, nothing_next, set_elsewhere, set_here}
 use Rattle.uc_core.proofs.Waiting.{is_lawful}
 use Rattle.uc_places.specs.declared.view.Kind.{Kind}
 use Rattle.uc_places.specs.declared.view.Kind.TheVariants.{Spare, Seated, Note, Spent}
 use Rattle.uc_places.specs.declared.view.View.{View}
-use Rattle.uc_places.specs.Rule.{Fits, IsKept, IsSmall, Knows, OthersLead, taker}
+use Rattle.uc_places.specs.Rule.{Fits, IsKept, Knows, OthersLead, taker}
 use Rattle.uc_places.specs.Told.{AnnounceTells, CompareTells, Happens, IsTicketOf, LookTells, ProposeTells, ReadTells, SeatState, moved_on}
 use Rattle.uc_places.specs.Words.{Shows, found_in, place_word, said_word}
 use Rattle.uc_places.proofs.Followed.{none_lead, others_lead_on}
@@ -84,13 +84,15 @@ module _ (size : LogSize) where
         shows = shows;
         owner = kept.owner;
         fits = λ other some_view there. ⊎_elim
-            (λ (same : (other ≡ id) × (moved ≡ some_view)). subst (λ (z : ℕ × View). Fits size new kept.owner z.0 z.1) (λ i. (sym same.0 i, same.1 i))
-            ((kept.fits id view at).0, subst (Knows size new kept.owner id moved) (sym is) (
-              mine.0,
-              set_here kept.log.workers view.worker state (slice_get_within kept.log.workers view.worker view.state mine.1),
-              begins_through decided kept.log.decided view.told longer mine.2,
-              none_lead size view.worker new,
-            )))
+            (λ (same : (other ≡ id) × (moved ≡ some_view)). subst (λ (z : ℕ × View). Fits size new kept.owner z.0 z.1) (λ i. (sym same.0 i, same.1 i)) (
+              (kept.fits id view at).0,
+              subst (Knows size new kept.owner id moved) (sym is) (
+                mine.0,
+                set_here kept.log.workers view.worker state (slice_get_within kept.log.workers view.worker view.state mine.1),
+                begins_through decided kept.log.decided view.told longer mine.2,
+                none_lead size view.worker new,
+              ),
+            ))
             (λ (apart : (other ≢ id) × (get_elem? s.views other ≡ some some_view)). let fits = kept.fits other some_view apart.1 in
             (fits.0, others kept.log new event kept.owner view.worker id other state takes step mine.0 apart.0 refl longer some_view some_view.kind fits.1))
             (table_lists.at_set s.views id other moved some_view there);

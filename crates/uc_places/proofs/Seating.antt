@@ -1,5 +1,5 @@
 -- The rule holds at the opening, and stays so as seats are given out and told.
-use Rattle.std.proofs.Common.{◌≡◌, ◌≢◌, ◌⊎◌, ℕ, zero, suc, ◌+◌, ◌<◌, ◌≤◌, ◌==◌, Bool, cond, List, [], ◌∷◌, ◌++◌, length, length-set, replicate, set, sym, refl, ap, ◌∙◌, subst, inl, inr, ⊎_elim, arith, eq-eqb, ne_eqb, le_refl, slice_get, Some}
+use Rattle.std.proofs.Common.{◌≡◌, ◌≢◌, ◌⊎◌, ℕ, zero, suc, ◌+◌, ◌<◌, ◌==◌, Bool, cond, List, [], ◌∷◌, ◌++◌, length, length-set, replicate, set, sym, refl, ap, ◌∙◌, subst, inl, inr, ⊎_elim, arith, eq-eqb, ne_eqb, le_refl, slice_get, Some}
 use Rattle.std.specs.Prelude.{slice_index}
 use mathlib.Core.Option.{some, some-injective, some-ne-none}
 use lib.ListN.{get_elem?}
@@ -7,7 +7,6 @@ use Rattle.atomic_table.specs.Table.{Joins, Splits, opening}
 use Rattle.atomic_table.proofs.Lists.{at_set, at_snoc, set_again}
 use Rattle.mc_model.specs.declared.shown.LogSize.{LogSize}
 use Rattle.mc_model.specs.declared.shown.ShownState.{ShownState}
-use Rattle.mc_model.specs.declared.id.Ticket.{Ticket}
 use Rattle.mc_model.specs.Helping.{BeginsWith}
 use Rattle.mc_model.specs.Shown.{new_log, new_worker}
 use Rattle.uc_places.specs.declared.view.Kind.{Kind}
@@ -15,7 +14,6 @@ use Rattle.uc_places.specs.declared.view.Kind.TheVariants.{Spare, Seated, Note, 
 use Rattle.uc_places.specs.declared.view.View.{View}
 use Rattle.uc_places.specs.Rule.{Fits, IsKept, IsSmall, Knows, OthersLead}
 use Rattle.uc_places.specs.Told.{fewer, first_of, informed, note_of, spare_from, spent}
-use Rattle.uc_places.specs.Words.{Shows}
 use Rattle.uc_places.proofs.Followed.{none_lead}
 use Rattle.uc_places.proofs.Moves.{TableState, law, seated}
 use Rattle.uc_places.proofs.Wording.{announced_in}

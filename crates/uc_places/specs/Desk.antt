@@ -2,7 +2,6 @@
 use Rattle.std.specs.Prelude.{◌≡◌, ◌≢◌, ℕ, ◌+◌, ◌-◌, ◌<◌, ◌≤◌, Bool, List, length, slice_get, slice_index, slice_set, ltb, if◌then◌else◌, Option, Some, None}
 use Rattle.mc_model.specs.declared.id.TheConstants.{WORKERS}
 use Rattle.mc_model.specs.declared.id.Ticket.{Ticket}
-use Rattle.mc_model.specs.declared.settings.TheConstants.{MAX_PLACES}
 use Rattle.mc_model.specs.Legal.{count, ticket_of}
 use Rattle.uc_core.specs.Kept.{is_latest_of}
 use Rattle.uc_places.specs.declared.desk.Numbers.{Numbers}

@@ -8,11 +8,9 @@ use mathlib.Core.Option.{some}
 use lib.ListN.{get_elem?}
 use Rattle.atomic_table.specs.Table.{State}
 use Rattle.mc_model.specs.declared.id.TheConstants.{WORKERS}
-use Rattle.mc_model.specs.declared.id.Ticket.{Ticket}
 use Rattle.mc_model.specs.declared.settings.TheConstants.{MAX_PLACES}
 use Rattle.mc_model.specs.declared.shown.LogSize.{LogSize}
 use Rattle.mc_model.specs.declared.shown.ShownState.{ShownState}
-use Rattle.mc_model.specs.declared.shown.WorkerState.{WorkerState}
 use Rattle.mc_model.specs.Helping.{BeginsWith}
 use Rattle.mc_model.specs.Lawful.{IsReached, IsWorker, LeadOn, ShownEvent, announces, looks, proposes, reads, stops}
 use Rattle.mc_model.specs.Shown.{new_log, new_worker}

@@ -9,6 +9,7 @@ use crate::rule::{PlacesTable, TableSeat};
 use mc_model::{Ticket, WorkerId};
 
 /// The words that the threads of a log share.
+#[derive(Drop)]
 pub struct Places {
     pub(crate) table: PlacesTable,
     pub(crate) workers: usize,

@@ -40,7 +40,10 @@ impl Idle {
             mut numbers,
         } = desk;
         let word = numbers.own_word();
-        let before = places.table.shared.fetch_add::<Announcing>(&mut seat, word, 1);
+        let before = places
+            .table
+            .shared
+            .fetch_add::<Announcing>(&mut seat, word, 1);
         numbers.announced = before + 1;
         numbers.proposals = 0;
         numbers.mark = None;
@@ -138,12 +141,11 @@ impl Looked {
         } = desk;
         let place = numbers.next_word();
         let word = word_of(&ticket);
-        let found = places.table.shared.compare_exchange::<Proposing>(&mut seat, place, 0, word);
-        let learned = if found == 0 {
-            ticket
-        } else {
-            ticket_in(found)
-        };
+        let found = places
+            .table
+            .shared
+            .compare_exchange::<Proposing>(&mut seat, place, 0, word);
+        let learned = if found == 0 { ticket } else { ticket_in(found) };
         let is_own = numbers.is_own(&learned);
         numbers.learn(learned.worker);
         numbers.proposals += 1;

@@ -43,8 +43,5 @@ pub fn tell(places: &Places, from: Seat, to: Seat) -> (Seat, Seat)
     let mut first = from.into_desk();
     let mut second = to.into_desk();
     tell_desk(places, &mut first, &mut second);
-    (
-        settled(first, from_is_idle),
-        settled(second, to_is_idle),
-    )
+    (settled(first, from_is_idle), settled(second, to_is_idle))
 }

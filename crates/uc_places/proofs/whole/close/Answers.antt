@@ -1,5 +1,5 @@
 -- The list is the log of a state that events lead to, and so it is legal and begins with what its workers have learned.
-use Rattle.std.proofs.Common.{ℕ, Vec, Global, ◌≡◌, List, sym, ap, ◌∙◌, subst, slice_get, Some}
+use Rattle.std.proofs.Common.{Vec, Global, ◌≡◌, List, sym, ap, ◌∙◌, subst}
 use Rattle.std.proofs.lemmas.Option.{same_Some}
 use Rattle.mc_model.specs.declared.id.Ticket.{Ticket}
 use Rattle.mc_model.specs.declared.shown.ShownState.{ShownState}
@@ -7,7 +7,6 @@ use Rattle.mc_model.specs.Helping.{BeginsWith}
 use Rattle.mc_model.specs.Lawful.{IsReached}
 use Rattle.mc_model.specs.Legal.{IsLegal}
 use Rattle.uc_places.specs.declared.desk.Desk.{Desk}
-use Rattle.uc_places.specs.declared.seats.Seat.{Seat}
 use Rattle.uc_places.specs.Calls.{state_of}
 use Rattle.uc_places.specs.End.{IsPartOf}
 use Rattle.uc_places.specs.Seats.{desk_of}

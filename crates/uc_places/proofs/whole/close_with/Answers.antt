@@ -1,5 +1,5 @@
 -- At the end the words spell a state's log, which the seat shows (`Closing`).
-use Rattle.std.proofs.Common.{ℕ, ◌+◌, Vec, Global, ◌≡◌, List, sym, subst, ◌∙◌, arith}
+use Rattle.std.proofs.Common.{ℕ, ◌+◌, Vec, Global, ◌≡◌, List, subst, arith}
 use Rattle.core.specs.Mem.Slots.{slots_items}
 use Rattle.mc_model.specs.declared.id.Ticket.{Ticket}
 use Rattle.uc_places.specs.Desk.{AreTickets, Spells}
