@@ -21,14 +21,16 @@ pub snoc_seats : (size : LogSize) (id : TableId) (old new : List Idle) (number :
     (seat.desk.seat.table_id ≡ id) × (seat.desk.seat.me.0 ≡ new_seat size number) →
     (worker : ℕ) (x : Idle) → slice_get new worker ≡ Some x → (x.desk.seat.table_id ≡ id) × (x.desk.seat.me.0 ≡ new_seat size worker)
 snoc_seats size id old new number seat pushed long before last worker x at = ⊎_elim (λ (h : slice_get old worker ≡ Some x). before worker x h)
-    (λ (h : (worker ≡ length old) × (seat ≡ x)). subst (λ (z : ℕ × Idle). (z.1.desk.seat.table_id ≡ id) × (z.1.desk.seat.me.0 ≡ new_seat size z.0)) (λ j. (sym (h.0 ∙ long) j, h.1 j)) last)
+    (λ (h : (worker ≡ length old) × (seat ≡ x)). subst (λ (z : ℕ × Idle). (z.1.desk.seat.table_id ≡ id)
+    × (z.1.desk.seat.me.0 ≡ new_seat size z.0)) (λ j. (sym (h.0 ∙ long) j, h.1 j)) last)
     (at_pushed old seat x worker (ap (λ (l : List Idle). slice_get l worker) (sym pushed) ∙ at))
 
 pub snoc_length : (old new : List Idle) (number : ℕ) (seat : Idle) → new ≡ old ++ seat ∷ [] → length old ≡ number → length new ≡ number + 1
 snoc_length old new number seat pushed long = ap length pushed ∙ (length-append old (seat ∷ []) ∙ ap (λ (k : ℕ). k + 1) long)
 
 -- at the end the words spell the log
-spells : (size : LogSize) (s : TableState) (kept : IsKept size s) (words : List ℕ) → s.words ≡ words → Spells words (1 + size.workers) size.places kept.log.decided
+spells : (size : LogSize) (s : TableState) (kept : IsKept size s) (words : List ℕ) → s.words ≡ words →
+    Spells words (1 + size.workers) size.places kept.log.decided
 spells size s kept words same = let law = law size s kept in let few = kept.small.1 in record {
   few = law.few;
   at = λ place room. ap (λ (some : List ℕ). slice_index some (1 + size.workers + place)) (sym same) ∙ kept.shows.places place room;
@@ -36,10 +38,13 @@ spells size s kept words same = let law = law size s kept in let few = kept.smal
 }
 
 -- what the words are at the end: they spell the log of a state that events lead to, which a seat that stays open shows
-pub closes : (size : LogSize) (id : ℕ) (view : View) (words : List ℕ) (slots : List Unit) → view.kind ≡ Seated → Final (Seen (IsKept size) id view) words slots →
-    (log : ShownState) × IsReached size log × Spells words (1 + size.workers) size.places log.decided × IsWorker log view.worker view.state × OthersLead size view.worker view.last log
+pub closes : (size : LogSize) (id : ℕ) (view : View) (words : List ℕ) (slots : List Unit) → view.kind ≡ Seated →
+    Final (Seen (IsKept size) id view) words slots →
+    (log : ShownState) × IsReached size log × Spells words (1 + size.workers) size.places log.decided × IsWorker log view.worker view.state
+    × OthersLead size view.worker view.last log
 closes size id view words slots is final =
-    let s = final.0 in let kept = final.1.0 in let at = final.1.1 in let law = law size s kept in let mine = seated size s kept id view at is in let few = kept.small.1 in (
+    let s = final.0 in let kept = final.1.0 in let at = final.1.1 in let law = law size s kept in
+    let mine = seated size s kept id view at is in let few = kept.small.1 in (
       kept.log,
       kept.reached,
       spells size s kept words final.2,

@@ -31,8 +31,10 @@ found_some zero ticket ne e = absurd (ne refl)
 found_some (suc n) ticket ne e = ap (λ (y : Ticket). Some y) (sym e)
 
 -- one more ticket is learned, by a read or a proposal
-pub mirrors_learned : (last : ShownState) (view : View) (state : WorkerState) (numbers : Numbers) (ticket : Ticket) (proposals : ℕ) → Mirrors view numbers →
-    state.learned ≡ (learn view.worker view.state.phase ticket view.state).learned → state.announced ≡ view.state.announced → state.mark ≡ view.state.mark → state.proposals ≡ proposals →
+pub mirrors_learned : (last : ShownState) (view : View) (state : WorkerState) (numbers : Numbers) (ticket : Ticket) (proposals : ℕ) →
+    Mirrors view numbers →
+    state.learned ≡ (learn view.worker view.state.phase ticket view.state).learned → state.announced ≡ view.state.announced →
+    state.mark ≡ view.state.mark → state.proposals ≡ proposals →
     ticket.worker < WORKERS → numbers.learned < view.size.places → proposals ≤ numbers.learned + 1 → proposals ≤ numbers.workers + 1 →
     Mirrors (moved_on view state last) (record (learned_one numbers ticket.worker) { proposals = proposals })
 mirrors_learned last view state numbers ticket proposals m learns announces marks proposes few room low helped = record {
@@ -57,9 +59,12 @@ mirrors_learned last view state numbers ticket proposals m learns announces mark
     -- how many tickets of each worker are learned
     counted : (worker : ℕ) → worker < 16 → get_or (learned_one numbers ticket.worker).counts worker 0 ≡ count worker (view.state.learned ++ ticket ∷ [])
     counted worker inside = let many : ℕ = get_or numbers.counts ticket.worker 0 + 1 in dite (ℕ_discrete worker ticket.worker)
-        (λ here. let wide = m.wide in ap (λ (i : ℕ). get_or (set numbers.counts ticket.worker many) i 0) here ∙ (get_or-set_same numbers.counts ticket.worker many 0 (omega arith)
-        ∙ (ap (λ (k : ℕ). k + 1) (ap (λ (i : ℕ). get_or numbers.counts i 0) (sym here) ∙ m.counts worker inside) ∙ sym (count_own worker view.state.learned ticket (sym here)))))
-        (λ apart. get_or-set_other numbers.counts ticket.worker worker many 0 apart ∙ (m.counts worker inside ∙ sym (count_other worker view.state.learned ticket (λ same. apart (sym same)))))
+        (λ here. let wide = m.wide in ap (λ (i : ℕ). get_or (set numbers.counts ticket.worker many) i 0) here
+        ∙ (get_or-set_same numbers.counts ticket.worker many 0 (omega arith)
+        ∙ (ap (λ (k : ℕ). k + 1) (ap (λ (i : ℕ). get_or numbers.counts i 0) (sym here) ∙ m.counts worker inside)
+        ∙ sym (count_own worker view.state.learned ticket (sym here)))))
+        (λ apart. get_or-set_other numbers.counts ticket.worker worker many 0 apart ∙ (m.counts worker inside
+        ∙ sym (count_other worker view.state.learned ticket (λ same. apart (sym same)))))
 
 -- a seat has learned no more tickets of a worker than places
 pub count_few : (view : View) (numbers : Numbers) (worker : ℕ) → Mirrors view numbers → worker < 16 → get_or numbers.counts worker 0 ≤ numbers.learned
@@ -67,21 +72,25 @@ count_few view numbers worker m inside = let same = m.counts worker inside in
     let few = count_by-le-length (λ (some : Ticket). some.worker == worker) view.state.learned in let long = m.learned in omega arith
 
 -- the test by numbers is the definition's
-pub owns_is : (view : View) (numbers : Numbers) (ticket : Ticket) → Mirrors view numbers → owns numbers ticket ≡ is_latest view.worker view.state ticket
+pub owns_is : (view : View) (numbers : Numbers) (ticket : Ticket) → Mirrors view numbers →
+    owns numbers ticket ≡ is_latest view.worker view.state ticket
 owns_is view numbers ticket m = λ i. (ticket.worker == sym m.worker i) && (ticket.number + 1 == sym m.announced i)
 
 -- a read has made its event
-pub made_read : (old new : Desk) (at : TableStep) (found : ℕ) (stands : Option Ticket) → found_in found ≡ stands → new.seat.table_id ≡ old.seat.table_id → new.seat.id ≡ old.seat.id →
+pub made_read : (old new : Desk) (at : TableStep) (found : ℕ) (stands : Option Ticket) → found_in found ≡ stands →
+    new.seat.table_id ≡ old.seat.table_id → new.seat.id ≡ old.seat.id →
     ReadTells at old.seat.me found new.seat.me → Makes old new (reads (worker_of old)) (read (worker_of old) stands (state_of old))
 made_read old new at found stands e table id tells = (
   table,
   id,
   ap (λ (m : SeatState). m.0) tells.0 ∙ ap (λ (z : Option Ticket). moved_on (known old) (read (worker_of old) z (state_of old)) (last_of new)) e,
-  subst (λ (z : Option Ticket). Happens (known old).size (reads (worker_of old)) (known old) (read (worker_of old) z (state_of old)) (last_of new)) e tells.4,
+  subst (λ (z : Option Ticket). Happens (known old).size (reads (worker_of old)) (known old) (read (worker_of old) z (state_of old))
+      (last_of new)) e tells.4,
 )
 
 -- a word that was found in a place is a small ticket's
-pub small_ticket : (size : LogSize) (found : ℕ) (ticket : Ticket) → IsTicketOf size found → found ≢ 0 → ticket ≡ said_ticket found → (ticket.worker < WORKERS) × (ticket.number < size.places)
+pub small_ticket : (size : LogSize) (found : ℕ) (ticket : Ticket) → IsTicketOf size found → found ≢ 0 → ticket ≡ said_ticket found →
+    (ticket.worker < WORKERS) × (ticket.number < size.places)
 small_ticket size found ticket is ne e = let t = is ne in let a = t.0 in let b = t.3 in let c = t.1 in
     subst (λ (y : Ticket). (y.worker < WORKERS) × (y.number < size.places)) (sym e) (omega arith, t.1)
 
@@ -101,9 +110,11 @@ proposed_is view numbers helped found m small e = both ∙ ap (λ (i : ℕ). pro
     picked false = refl
 
     both : ticket_for numbers helped found ≡ proposal view.worker (look helped found view.state)
-    both = (λ i. if ltb (m.counts helped small i) found then ticket_of helped (m.counts helped small i) else ticket_of (sym m.worker i) (sym m.announced i - 1)) ∙ picked (ltb known_count found)
+    both = (λ i. if ltb (m.counts helped small i) found then ticket_of helped (m.counts helped small i) else ticket_of (sym m.worker i)
+        (sym m.announced i - 1)) ∙ picked (ltb known_count found)
 
-pub proposed_small : (view : View) (numbers : Numbers) (helped found : ℕ) → Mirrors view numbers → helped < 16 → numbers.learned < view.size.places → (ticket_for numbers helped found).number < 1048576
+pub proposed_small : (view : View) (numbers : Numbers) (helped found : ℕ) → Mirrors view numbers → helped < 16 →
+    numbers.learned < view.size.places → (ticket_for numbers helped found).number < 1048576
 proposed_small view numbers helped found m small room = by_test (ltb (get_or numbers.counts helped 0) found)
   where
     by_test : (b : Bool) → (if b then ticket_of helped (get_or numbers.counts helped 0) else ticket_of numbers.worker (numbers.announced - 1)).number < 1048576

@@ -40,11 +40,13 @@ module _ (size : LogSize) where
 
   -- what the rule says of a worker's seat
   pub seated : (s : TableState) (kept : IsKept size s) (id : ℕ) (view : View) → get_elem? s.views id ≡ some view → view.kind ≡ Seated →
-      (kept.owner view.worker ≡ id) × IsWorker kept.log view.worker view.state × BeginsWith kept.log.decided view.told × OthersLead size view.worker view.last kept.log
+      (kept.owner view.worker ≡ id) × IsWorker kept.log view.worker view.state × BeginsWith kept.log.decided view.told
+      × OthersLead size view.worker view.last kept.log
   seated s kept id view at is = subst (Knows size kept.log kept.owner id view) is (kept.fits id view at).1
 
   -- another seat keeps what the rule says of it
-  others : (old new : ShownState) (event : ShownEvent) (owner : ℕ → ℕ) (number id other : ℕ) (state : WorkerState) → taker event ≡ number → Step size old event new →
+  others : (old new : ShownState) (event : ShownEvent) (owner : ℕ → ℕ) (number id other : ℕ) (state : WorkerState) → taker event ≡ number →
+      Step size old event new →
       owner number ≡ id → other ≢ id → new.workers ≡ set old.workers number state → BeginsWith new.decided old.decided →
       (view : View) (kind : Kind) → Knows size old owner other view kind → Knows size new owner other view kind
   others old new event owner number id other state takes is mine apart moved longer view kind = by_kind kind
@@ -57,7 +59,8 @@ module _ (size : LogSize) where
       followed worker last theirs lead = others_lead_on size worker last old new event lead is (λ same. not_taker worker theirs (sym same ∙ takes))
 
       elsewhere : (worker : ℕ) (theirs : WorkerState) → owner worker ≡ other → IsWorker old worker theirs → IsWorker new worker theirs
-      elsewhere worker theirs own at = ap (λ (l : List WorkerState). slice_get l worker) moved ∙ (set_elsewhere old.workers number worker state (not_taker worker own) ∙ at)
+      elsewhere worker theirs own at = ap (λ (l : List WorkerState). slice_get l worker) moved
+          ∙ (set_elsewhere old.workers number worker state (not_taker worker own) ∙ at)
 
       by_kind : (kind : Kind) → Knows size old owner other view kind → Knows size new owner other view kind
       by_kind Spare knows = λ worker low high. let was = knows worker low high in
@@ -72,19 +75,23 @@ module _ (size : LogSize) where
       by_kind Spent knows = tt
 
   -- an event of a worker, by its seat, keeps the rule where the words then show the new state
-  steps : (s : TableState) (kept : IsKept size s) (id : ℕ) (view : View) (event : ShownEvent) (decided : List Ticket) (state : WorkerState) (words : List ℕ) →
+  steps : (s : TableState) (kept : IsKept size s) (id : ℕ) (view : View) (event : ShownEvent) (decided : List Ticket) (state : WorkerState)
+      (words : List ℕ) →
       get_elem? s.views id ≡ some view → view.kind ≡ Seated → taker event ≡ view.worker →
-      Step size kept.log event (after kept.log decided view.worker state) → BeginsWith decided kept.log.decided → Shows size words (after kept.log decided view.worker state) →
+      Step size kept.log event (after kept.log decided view.worker state) → BeginsWith decided kept.log.decided →
+      Shows size words (after kept.log decided view.worker state) →
       IsKept size record { words = words; homes = s.homes; views = set s.views id (moved_on view state (after kept.log decided view.worker state)) }
   steps s kept id view event decided state words at is takes step longer shows =
-      let new : ShownState = after kept.log decided view.worker state in let mine = seated s kept id view at is in let moved = moved_on view state new in record {
+      let new : ShownState = after kept.log decided view.worker state in let mine = seated s kept id view at is in
+      let moved = moved_on view state new in record {
         small = kept.small;
         log = new;
         reached = ((event ∷ kept.reached.0), (kept.log, kept.reached.1, step));
         shows = shows;
         owner = kept.owner;
         fits = λ other some_view there. ⊎_elim
-            (λ (same : (other ≡ id) × (moved ≡ some_view)). subst (λ (z : ℕ × View). Fits size new kept.owner z.0 z.1) (λ i. (sym same.0 i, same.1 i)) (
+            (λ (same : (other ≡ id) × (moved ≡ some_view)). subst
+            (λ (z : ℕ × View). Fits size new kept.owner z.0 z.1) (λ i. (sym same.0 i, same.1 i)) (
               (kept.fits id view at).0,
               subst (Knows size new kept.owner id moved) (sym is) (
                 mine.0,
@@ -121,15 +128,20 @@ at_size size slots id me is word f tells body s kept long at fits =
 module _ (slots id : ℕ) (me : SeatState) (is : me.0.kind ≡ Seated) where
   pub announces_word : (size : LogSize) → me.0.state.phase ≡ Idle → HasRoom me.0.size me.0.state →
       Allows (IsKept size) slots id me (1 + me.0.worker) (λ n. (n + 1) % 2 ^ 64) (AnnounceTells (step slots (1 + me.0.worker) 1 0 none) me)
-  announces_word size phase room = at_size size slots id me is (1 + me.0.worker) (λ n. (n + 1) % 2 ^ 64) (AnnounceTells (step slots (1 + me.0.worker) 1 0 none) me) body
+  announces_word size phase room = at_size size slots id me is (1 + me.0.worker) (λ n. (n + 1) % 2 ^ 64)
+      (AnnounceTells (step slots (1 + me.0.worker) 1 0 none) me) body
     where
-      body : Allows (IsKept me.0.size) slots id me (1 + me.0.worker) (λ n. (n + 1) % 2 ^ 64) (AnnounceTells (step slots (1 + me.0.worker) 1 0 none) me)
+      body : Allows (IsKept me.0.size) slots id me (1 + me.0.worker) (λ n. (n + 1) % 2 ^ 64)
+          (AnnounceTells (step slots (1 + me.0.worker) 1 0 none) me)
       body s kept long at _ =
-          let view = me.0 in let number = view.worker in let old = view.state in let new = announce old in let mine = seated view.size s kept id view at is in let law = law view.size s kept in
-          let inside : number < view.size.workers = (let within = slice_get_within kept.log.workers number old mine.1 in let many = law.many in omega arith) in
+          let view = me.0 in let number = view.worker in let old = view.state in let new = announce old in
+          let mine = seated view.size s kept id view at is in let law = law view.size s kept in
+          let inside : number < view.size.workers = (let within = slice_get_within kept.log.workers number old mine.1 in
+          let many = law.many in omega arith) in
           let n : ℕ = get_or s.words (1 + number) 0 in let n' : ℕ = (n + 1) % 18446744073709551616 in
           let same : n ≡ old.announced = kept.shows.counts number inside ∙ ap announced_in mine.1 in
-          let small = kept.small.2 in let own = (law.each number old mine.1).idle phase in let few = count_by-le-length (λ (some : Ticket). some.worker == number) old.learned in
+          let small = kept.small.2 in let own = (law.each number old mine.1).idle phase in
+          let few = count_by-le-length (λ (some : Ticket). some.worker == number) old.learned in
           let now : old.announced + 1 ≡ n' = omega arith in
           let event : Step view.size kept.log (announces number) (with_worker kept.log number new) = (old, mine.1, phase, room, refl) in (
             moved_on view new (with_worker kept.log number new),
@@ -143,14 +155,16 @@ module _ (slots id : ℕ) (me : SeatState) (is : me.0.kind ≡ Seated) where
   -- a load changes no word
   loads : (s : TableState) (word : ℕ) (view : View) → IsKept me.0.size record { words = s.words; homes = s.homes; views = set s.views id view } →
       IsKept me.0.size record { words = set s.words word (get_or s.words word 0); homes = s.homes; views = set s.views id view }
-  loads s word view = subst (λ (words : List ℕ). IsKept me.0.size record { words = words; homes = s.homes; views = set s.views id view }) (sym (set-get_or s.words word 0))
+  loads s word view = subst (λ (words : List ℕ). IsKept me.0.size record { words = words; homes = s.homes; views = set s.views id view })
+      (sym (set-get_or s.words word 0))
 
   read_announced : (number : ℕ) (worker : WorkerState) (stands : Option Ticket) → (read number stands worker).announced ≡ worker.announced
   read_announced number worker None = refl
   read_announced number worker (Some ticket) = refl
 
   -- what stands in a beginning stands in the list
-  at_longer : (list more : List Ticket) (place : ℕ) (ticket : Ticket) → slice_get list place ≡ Some ticket → slice_get (list ++ more) place ≡ Some ticket
+  at_longer : (list more : List Ticket) (place : ℕ) (ticket : Ticket) → slice_get list place ≡ Some ticket →
+      slice_get (list ++ more) place ≡ Some ticket
   at_longer [] more place ticket at = absurd (let no = at in cc)
   at_longer (x ∷ list) more zero ticket at = at
   at_longer (x ∷ list) more (suc place) ticket at = at_longer list more place ticket at
@@ -166,7 +180,8 @@ module _ (slots id : ℕ) (me : SeatState) (is : me.0.kind ≡ Seated) where
       body : Allows (IsKept me.0.size) slots id me (1 + me.0.size.workers + length me.0.state.learned) (λ n. n)
           (ReadTells (step slots (1 + me.0.size.workers + length me.0.state.learned) 0 0 none) me)
       body s kept long at _ =
-          let view = me.0 in let number = view.worker in let old = view.state in let mine = seated view.size s kept id view at is in let law = law view.size s kept in
+          let view = me.0 in let number = view.worker in let old = view.state in let mine = seated view.size s kept id view at is in
+          let law = law view.size s kept in
           let place : ℕ = length old.learned in let i : ℕ = 1 + view.size.workers + place in
           let n : ℕ = get_or s.words i 0 in let there = next kept.log old in
           let same : n ≡ place_word there = kept.shows.places place room in
@@ -191,11 +206,14 @@ module _ (slots id : ℕ) (me : SeatState) (is : me.0.kind ≡ Seated) where
 
   pub looks_word : (size : LogSize) → me.0.state.phase ≡ Pending → HasRoom me.0.size me.0.state → me.0.state.mark ≢ None →
       Allows (IsKept size) slots id me (1 + turn me.0.size me.0.state) (λ n. n) (LookTells (step slots (1 + turn me.0.size me.0.state) 0 0 none) me)
-  looks_word size phase room marked = at_size size slots id me is (1 + turn me.0.size me.0.state) (λ n. n) (LookTells (step slots (1 + turn me.0.size me.0.state) 0 0 none) me) body
+  looks_word size phase room marked = at_size size slots id me is (1 + turn me.0.size me.0.state) (λ n. n)
+      (LookTells (step slots (1 + turn me.0.size me.0.state) 0 0 none) me) body
     where
-      body : Allows (IsKept me.0.size) slots id me (1 + turn me.0.size me.0.state) (λ n. n) (LookTells (step slots (1 + turn me.0.size me.0.state) 0 0 none) me)
+      body : Allows (IsKept me.0.size) slots id me (1 + turn me.0.size me.0.state) (λ n. n)
+          (LookTells (step slots (1 + turn me.0.size me.0.state) 0 0 none) me)
       body s kept long at _ =
-          let view = me.0 in let number = view.worker in let old = view.state in let mine = seated view.size s kept id view at is in let i : ℕ = 1 + turn view.size old in
+          let view = me.0 in let number = view.worker in let old = view.state in let mine = seated view.size s kept id view at is in
+          let i : ℕ = 1 + turn view.size old in
           let some_worker = kept.small.0 in let inside : turn view.size old < view.size.workers = omega arith in
           let n : ℕ = get_or s.words i 0 in let saw : n ≡ announced_by kept.log (turn view.size old) = kept.shows.counts (turn view.size old) inside in
           let new = look (turn view.size old) n old in
@@ -215,7 +233,8 @@ module _ (slots id : ℕ) (me : SeatState) (is : me.0.kind ≡ Seated) where
           )
 
   pub proposes_word : (size : LogSize) → me.0.state.phase ≡ Looked →
-      Allows (IsKept size) slots id me (1 + me.0.size.workers + length me.0.state.learned) (λ n. either (n == 0) (said_word (proposal me.0.worker me.0.state)) n)
+      Allows (IsKept size) slots id me (1 + me.0.size.workers + length me.0.state.learned) (λ n. either (n == 0)
+      (said_word (proposal me.0.worker me.0.state)) n)
       (ProposeTells (step slots (1 + me.0.size.workers + length me.0.state.learned) 0 (said_word (proposal me.0.worker me.0.state)) none) me)
   proposes_word size phase = at_size size slots id me is word (λ n. either (n == 0) (said_word (proposal me.0.worker me.0.state)) n)
       (ProposeTells (step slots word 0 (said_word (proposal me.0.worker me.0.state)) none) me) body
@@ -223,12 +242,15 @@ module _ (slots id : ℕ) (me : SeatState) (is : me.0.kind ≡ Seated) where
       word : ℕ
       word = 1 + me.0.size.workers + length me.0.state.learned
 
-      body : Allows (IsKept me.0.size) slots id me (1 + me.0.size.workers + length me.0.state.learned) (λ n. either (n == 0) (said_word (proposal me.0.worker me.0.state)) n)
+      body : Allows (IsKept me.0.size) slots id me (1 + me.0.size.workers + length me.0.state.learned) (λ n. either (n == 0)
+          (said_word (proposal me.0.worker me.0.state)) n)
           (ProposeTells (step slots (1 + me.0.size.workers + length me.0.state.learned) 0 (said_word (proposal me.0.worker me.0.state)) none) me)
       body s kept long at _ =
-          let view = me.0 in let number = view.worker in let old = view.state in let mine = seated view.size s kept id view at is in let law = law view.size s kept in
+          let view = me.0 in let number = view.worker in let old = view.state in let mine = seated view.size s kept id view at is in
+          let law = law view.size s kept in
           let place : ℕ = length old.learned in let i : ℕ = 1 + view.size.workers + place in
-          let n : ℕ = get_or s.words i 0 in let ticket = proposal number old in let own = law.each number old mine.1 in let room = (own.looked phase).1 in
+          let n : ℕ = get_or s.words i 0 in let ticket = proposal number old in let own = law.each number old mine.1 in
+          let room = (own.looked phase).1 in
           let same : n ≡ place_word (next kept.log old) = kept.shows.places place room in
           let saw : found_in n ≡ next kept.log old = ap found_in same ∙ found view.size kept.log law place kept.small in
           let new = propose number (found_in n) old in
@@ -245,7 +267,8 @@ module _ (slots id : ℕ) (me : SeatState) (is : me.0.kind ≡ Seated) where
             (
               refl,
               subst (IsTicketOf view.size) (sym same) (ticket_found view.size kept.log law place kept.small),
-              stands kept.log.decided old.learned ticket (next kept.log old) refl own.begins ∙ ap (λ (o : Option Ticket). Some (unwrap_or o ticket)) (sym saw),
+              stands kept.log.decided old.learned ticket (next kept.log old) refl own.begins
+                  ∙ ap (λ (o : Option Ticket). Some (unwrap_or o ticket)) (sym saw),
               ((is_lawful view.size (after kept.log decided number new) now.4).each number new now.6).proposals,
               now,
             ),
@@ -256,47 +279,56 @@ module _ (slots id : ℕ) (me : SeatState) (is : me.0.kind ≡ Seated) where
           grows list (Some there) ticket = begins_self list
 
           -- what stands at the next place after a proposal
-          stands : (list front : List Ticket) (ticket : Ticket) (there : Option Ticket) → slice_get list (length front) ≡ there → BeginsWith list front →
+          stands : (list front : List Ticket) (ticket : Ticket) (there : Option Ticket) → slice_get list (length front) ≡ there →
+              BeginsWith list front →
               slice_get (decided_with ticket list there) (length front) ≡ Some (unwrap_or there ticket)
           stands list front ticket None at begins = let all = nothing_next list front begins at in
               ap (λ (place : ℕ). slice_get (list ++ ticket ∷ []) place) (sym (ap length all)) ∙ at_seam list ticket []
           stands list front ticket (Some there) at begins = at
 
           -- the words after a compare-exchange of the worker's next place
-          placed : (size : LogSize) (words : List ℕ) (log : ShownState) (number : ℕ) (old new : WorkerState) (ticket : Ticket) (n : ℕ) (there : Option Ticket) →
+          placed : (size : LogSize) (words : List ℕ) (log : ShownState) (number : ℕ) (old new : WorkerState) (ticket : Ticket) (n : ℕ)
+              (there : Option Ticket) →
               next log old ≡ there → n ≡ place_word there → HasRoom size old → Shows size words log → IsWorker log number old →
               BeginsWith log.decided old.learned → new.announced ≡ old.announced →
-              Shows size (set words (1 + size.workers + length old.learned) (either (n == 0) (said_word ticket) n)) (after log (decided_with ticket log.decided there) number new)
+              Shows size (set words (1 + size.workers + length old.learned) (either (n == 0) (said_word ticket) n))
+              (after log (decided_with ticket log.decided there) number new)
           placed size words log number old new ticket n None is same room shows at begins kept =
               let all : log.decided ≡ old.learned = nothing_next log.decided old.learned begins is in
-              let put : said_word ticket ≡ either (n == 0) (said_word ticket) n = sym (ap (λ (b : Bool). either b (said_word ticket) n) (eq-eqb n 0 same)) in
+              let put : said_word ticket ≡ either (n == 0) (said_word ticket) n = sym (ap (λ (b : Bool). either b (said_word ticket) n)
+              (eq-eqb n 0 same)) in
               let long : length log.decided ≡ length old.learned = ap length all in
-              subst (λ (z : ℕ × ℕ). Shows size (set words (1 + size.workers + z.0) z.1) (after log (log.decided ++ ticket ∷ []) number new)) (λ j. (long j, put j))
+              subst (λ (z : ℕ × ℕ). Shows size (set words (1 + size.workers + z.0) z.1) (after log (log.decided ++ ticket ∷ []) number new))
+              (λ j. (long j, put j))
               (shows_place size words log number old new ticket (omega arith) shows at kept)
           placed size words log number old new ticket n (Some there) is same room shows at begins kept =
               let i : ℕ = 1 + size.workers + length old.learned in
               let left : get_or words i 0 ≡ either (n == 0) (said_word ticket) n = shows.places (length old.learned) room
               ∙ (ap place_word is ∙ (sym same ∙ sym (ap (λ (b : Bool). either b (said_word ticket) n) (ne_eqb n 0 (λ none. omega arith))))) in
               subst (λ (z : ℕ). Shows size (set words i z) (with_worker log number new)) left
-              (subst (λ (some : List ℕ). Shows size some (with_worker log number new)) (sym (set-get_or words i 0)) (shows_same size words log number old new shows at kept))
+              (subst (λ (some : List ℕ). Shows size some (with_worker log number new)) (sym (set-get_or words i 0))
+              (shows_same size words log number old new shows at kept))
 
   -- of two beginnings of a list, one begins with the other
   compared : (a b r q : List Ticket) → a ++ r ≡ b ++ q → BeginsWith a b ⊎ BeginsWith b a
   compared [] b r q e = inr (b, refl)
   compared (x ∷ a) [] r q e = inl (x ∷ a, refl)
   compared (x ∷ a) (y ∷ b) r q e = let same : x ≡ y = cc in let rest : a ++ r ≡ b ++ q = cc in
-      ⊎_elim (λ (h : BeginsWith a b). inl (h.0, λ i. same i ∷ h.1 i)) (λ (h : BeginsWith b a). inr (h.0, λ i. sym same i ∷ h.1 i)) (compared a b r q rest)
+      ⊎_elim (λ (h : BeginsWith a b). inl (h.0, λ i. same i ∷ h.1 i)) (λ (h : BeginsWith b a). inr (h.0, λ i. sym same i ∷ h.1 i))
+      (compared a b r q rest)
 
   pub compares_word : (size : LogSize) → Allows (IsKept size) slots id me 0 (λ n. n) (CompareTells (step slots 0 0 0 none) me)
   compares_word size = at_size size slots id me is 0 (λ n. n) (CompareTells (step slots 0 0 0 none) me) body
     where
       body : Allows (IsKept me.0.size) slots id me 0 (λ n. n) (CompareTells (step slots 0 0 0 none) me)
       body s kept long at _ =
-          let view = me.0 in let mine = seated view.size s kept id view at is in let begins = ((law view.size s kept).each view.worker view.state mine.1).begins in (
+          let view = me.0 in let mine = seated view.size s kept id view at is in
+          let begins = ((law view.size s kept).each view.worker view.state mine.1).begins in (
             view,
             keeps,
             tt,
-            loads s 0 view (subst (λ (views : List View). IsKept view.size record { words = s.words; homes = s.homes; views = views }) (sym (table_lists.set_again s.views id view at)) kept),
+            loads s 0 view (subst (λ (views : List View). IsKept view.size record { words = s.words; homes = s.homes; views = views })
+                (sym (table_lists.set_again s.views id view at)) kept),
             (refl, compared view.told view.state.learned mine.2.0 begins.0 (sym mine.2.1 ∙ begins.1)),
           )
 
@@ -305,19 +337,25 @@ module _ (slots id : ℕ) (me : SeatState) (is : me.0.kind ≡ Seated) (size : L
   pub announces_at : i ≡ 1 + me.0.worker → me.0.state.phase ≡ Idle → HasRoom me.0.size me.0.state →
       Allows (IsKept size) slots id me i (λ n. (n + 1) % 2 ^ 64) (AnnounceTells (step slots i 1 0 none) me)
   announces_at e phase room =
-      subst (λ (z : ℕ). Allows (IsKept size) slots id me z (λ n. (n + 1) % 2 ^ 64) (AnnounceTells (step slots z 1 0 none) me)) (sym e) (announces_word slots id me is size phase room)
+      subst (λ (z : ℕ). Allows (IsKept size) slots id me z (λ n. (n + 1) % 2 ^ 64) (AnnounceTells (step slots z 1 0 none) me)) (sym e)
+      (announces_word slots id me is size phase room)
 
-  pub reads_at : i ≡ 1 + me.0.size.workers + length me.0.state.learned → (me.0.state.phase ≡ Idle) ⊎ (me.0.state.phase ≡ Pending) → HasRoom me.0.size me.0.state →
+  pub reads_at : i ≡ 1 + me.0.size.workers + length me.0.state.learned → (me.0.state.phase ≡ Idle) ⊎ (me.0.state.phase ≡ Pending) →
+      HasRoom me.0.size me.0.state →
       Allows (IsKept size) slots id me i (λ n. n) (ReadTells (step slots i 0 0 none) me)
   reads_at e phase room =
-      subst (λ (z : ℕ). Allows (IsKept size) slots id me z (λ n. n) (ReadTells (step slots z 0 0 none) me)) (sym e) (reads_word slots id me is size phase room)
+      subst (λ (z : ℕ). Allows (IsKept size) slots id me z (λ n. n) (ReadTells (step slots z 0 0 none) me)) (sym e)
+      (reads_word slots id me is size phase room)
 
   pub looks_at_word : i ≡ 1 + turn me.0.size me.0.state → me.0.state.phase ≡ Pending → HasRoom me.0.size me.0.state → me.0.state.mark ≢ None →
       Allows (IsKept size) slots id me i (λ n. n) (LookTells (step slots i 0 0 none) me)
   looks_at_word e phase room marked =
-      subst (λ (z : ℕ). Allows (IsKept size) slots id me z (λ n. n) (LookTells (step slots z 0 0 none) me)) (sym e) (looks_word slots id me is size phase room marked)
+      subst (λ (z : ℕ). Allows (IsKept size) slots id me z (λ n. n) (LookTells (step slots z 0 0 none) me)) (sym e)
+      (looks_word slots id me is size phase room marked)
 
-  pub proposes_at : (c : ℕ) → i ≡ 1 + me.0.size.workers + length me.0.state.learned → c ≡ said_word (proposal me.0.worker me.0.state) → me.0.state.phase ≡ Looked →
+  pub proposes_at : (c : ℕ) → i ≡ 1 + me.0.size.workers + length me.0.state.learned → c ≡ said_word (proposal me.0.worker me.0.state) →
+      me.0.state.phase ≡ Looked →
       Allows (IsKept size) slots id me i (λ n. either (n == 0) c n) (ProposeTells (step slots i 0 c none) me)
   proposes_at c e said phase =
-      subst (λ (z : ℕ × ℕ). Allows (IsKept size) slots id me z.0 (λ n. either (n == 0) z.1 n) (ProposeTells (step slots z.0 0 z.1 none) me)) (λ j. (sym e j, sym said j)) (proposes_word slots id me is size phase)
+      subst (λ (z : ℕ × ℕ). Allows (IsKept size) slots id me z.0 (λ n. either (n == 0) z.1 n) (ProposeTells (step slots z.0 0 z.1 none) me))
+      (λ j. (sym e j, sym said j)) (proposes_word slots id me is size phase)

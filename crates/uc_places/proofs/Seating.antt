@@ -20,11 +20,13 @@ use Rattle.uc_places.proofs.Wording.{announced_in}
 
 -- the same words, and other views
 review : (size : LogSize) (s : TableState) (kept : IsKept size s) (owner : ℕ → ℕ) (views : List View) →
-    ((id : ℕ) (view : View) → get_elem? views id ≡ some view → Fits size kept.log owner id view) → IsKept size record { words = s.words; homes = s.homes; views = views }
+    ((id : ℕ) (view : View) → get_elem? views id ≡ some view → Fits size kept.log owner id view) →
+    IsKept size record { words = s.words; homes = s.homes; views = views }
 review size s kept owner views fits = record { small = kept.small; log = kept.log; reached = kept.reached; shows = kept.shows; owner = owner; fits = fits }
 
 -- the new seat at the end, or one of those before
-at_last : (list : List View) (x y : View) (place : ℕ) → get_elem? (list ++ x ∷ []) place ≡ some y → (get_elem? list place ≡ some y) ⊎ ((place ≡ length list) × (x ≡ y))
+at_last : (list : List View) (x y : View) (place : ℕ) → get_elem? (list ++ x ∷ []) place ≡ some y →
+    (get_elem? list place ≡ some y) ⊎ ((place ≡ length list) × (x ≡ y))
 at_last [] x y zero at = inr (refl, some-injective x y at)
 at_last [] x y (suc place) at = absurd (some-ne-none y (sym at))
 at_last (z ∷ list) x y zero at = inl at
@@ -32,7 +34,8 @@ at_last (z ∷ list) x y (suc place) at = ⊎_elim inl (λ (new : (place ≡ len
 
 -- a note of what a seat has learned
 pub notes : (size : LogSize) (id : ℕ) (view : View) → view.kind ≡ Seated → Splits (IsKept size) id view view (note_of view)
-notes size id view is s kept at = let mine = seated size s kept id view at is in let begins = ((law size s kept).each view.worker view.state mine.1).begins in
+notes size id view is s kept at = let mine = seated size s kept id view at is in
+    let begins = ((law size s kept).each view.worker view.state mine.1).begins in
     review size s kept kept.owner (set s.views id view ++ note_of view ∷ []) (λ other there_view there. ⊎_elim
     (λ (was : get_elem? (set s.views id view) other ≡ some there_view). kept.fits other there_view (subst (λ (l : List View). get_elem? l other ≡ some there_view) (set_again s.views id view at) was))
     (λ (new : note_of view ≡ there_view). subst (Fits size kept.log kept.owner other) new ((λ _. (kept.fits id view at).0 (λ q. cc)), begins))
@@ -45,7 +48,8 @@ informs size id view other note is theirs s kept at apart there =
     let new = informed view note in
     let mine = seated size s kept id view at is in
     let was : get_elem? s.views other ≡ some note = ⊎_elim
-    (λ (t : (other ≡ id) × (new ≡ note)). absurd (apart t.0)) (λ (t : (other ≢ id) × (get_elem? s.views other ≡ some note)). t.1) (at_set s.views id other new note there) in
+    (λ (t : (other ≡ id) × (new ≡ note)). absurd (apart t.0)) (λ (t : (other ≢ id)
+    × (get_elem? s.views other ≡ some note)). t.1) (at_set s.views id other new note there) in
     let told : BeginsWith kept.log.decided note.told = subst (Knows size kept.log kept.owner other note) theirs (kept.fits other note was).1 in
     review size s kept kept.owner (set (set s.views id new) other spent) (λ j y e. ⊎_elim
     (λ (q : (j ≡ other) × (spent ≡ y)). subst (Fits size kept.log kept.owner j) q.1 ((λ h. absurd (h refl)), tt))
@@ -66,7 +70,8 @@ moved_else : (owner : ℕ → ℕ) (number id worker : ℕ) → worker ≢ numbe
 moved_else owner number id worker apart = ap (λ (b : Bool). cond b id (owner worker)) (ne_eqb worker number apart)
 
 -- the spare seat gives out the seat of its first worker
-pub deals : (size : LogSize) (id : ℕ) (view : View) → view.kind ≡ Spare → view.worker < view.size.workers → Splits (IsKept size) id view (fewer view) (first_of view)
+pub deals : (size : LogSize) (id : ℕ) (view : View) → view.kind ≡ Spare → view.worker < view.size.workers →
+    Splits (IsKept size) id view (fewer view) (first_of view)
 deals size id view is below s kept at =
     let e : view.size ≡ size = (kept.fits id view at).0 (λ q. cc) in
     let inside : view.worker < size.workers = subst (λ (z : LogSize). view.worker < z.workers) e below in
@@ -80,12 +85,27 @@ deals size id view is below s kept at =
     (fits.0, again size kept.log kept.owner owner other (λ worker own. same worker other own apart) there_view there_view.kind fits.1) in
     review size s kept owner (set s.views id (fewer view) ++ first_of view ∷ []) (λ other there_view there. ⊎_elim
     (λ (was : get_elem? (set s.views id (fewer view)) other ≡ some there_view). ⊎_elim
-    (λ (r : (other ≡ id) × (fewer view ≡ there_view)). subst (λ (z : ℕ × View). Fits size kept.log owner z.0 z.1) (λ i. (sym r.0 i, r.1 i))
-    ((λ _. e), (λ worker low high. let m = mine worker (omega arith) high in (moved_else kept.owner view.worker n worker (λ h. omega arith) ∙ m.0, m.1, m.2))))
-    (λ (r : (other ≢ id) × (get_elem? s.views other ≡ some there_view)). stays other there_view r.0 r.1) (at_set s.views id other (fewer view) there_view was))
+    (λ (r : (other ≡ id) × (fewer view ≡ there_view)). subst (λ (z : ℕ × View). Fits size kept.log owner z.0 z.1) (λ i. (sym r.0 i, r.1 i)) (
+      (λ _. e),
+      (λ worker low high. let m = mine worker (omega arith) high in (
+        moved_else kept.owner view.worker n worker (λ h. omega arith)
+            ∙ m.0,
+        m.1,
+        m.2,
+      )),
+    ))
+    (λ (r : (other ≢ id) × (get_elem? s.views other ≡ some there_view)). stays other there_view r.0 r.1)
+    (at_set s.views id other (fewer view) there_view was))
     (λ (r : (other ≡ length (set s.views id (fewer view))) × (first_of view ≡ there_view)).
-    subst (λ (z : ℕ × View). Fits size kept.log owner z.0 z.1) (λ i. (sym (r.0 ∙ length-set s.views id (fewer view)) i, r.1 i))
-    ((λ _. e), (moved_here kept.owner view.worker n, first.1, (kept.log.decided, refl), subst (λ (z : LogSize). OthersLead size view.worker (new_log z) kept.log) (sym e) first.2)))
+    subst (λ (z : ℕ × View). Fits size kept.log owner z.0 z.1) (λ i. (sym (r.0 ∙ length-set s.views id (fewer view)) i, r.1 i)) (
+      (λ _. e),
+      (
+        moved_here kept.owner view.worker n,
+        first.1,
+        (kept.log.decided, refl),
+        subst (λ (z : LogSize). OthersLead size view.worker (new_log z) kept.log) (sym e) first.2,
+      ),
+    ))
     (at_last (set s.views id (fewer view)) (first_of view) there_view other there))
   where
     again : (size : LogSize) (log : ShownState) (owner new_owner : ℕ → ℕ) (id : ℕ) → ((worker : ℕ) → owner worker ≡ id → new_owner worker ≡ id) →

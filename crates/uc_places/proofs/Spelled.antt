@@ -16,7 +16,8 @@ get_is (y ∷ list) (suc i) x e = get_is list i x e
 
 module _ (words : List ℕ) (first places : ℕ) (tickets : List Ticket) (spells : Spells words first places tickets) where
   -- a place's ticket is the next one of the list
-  pub spelled_step : (place found : ℕ) → place < places → get_elem? words (first + place) ≡ some found → found ≢ 0 → (ticket : Ticket) → ticket ≡ said_ticket found →
+  pub spelled_step : (place found : ℕ) → place < places → get_elem? words (first + place) ≡ some found → found ≢ 0 → (ticket : Ticket) →
+      ticket ≡ said_ticket found →
       take place tickets ++ ticket ∷ [] ≡ take (place + 1) tickets
   spelled_step place found room at ne ticket is = by_found (slice_get tickets place) refl
     where
@@ -26,7 +27,8 @@ module _ (words : List ℕ) (first places : ℕ) (tickets : List Ticket) (spells
           let same : found ≡ said_word y = sym (get_is words (first + place) found at) ∙ (spells.at place room ∙ ap place_word e) in
           let small = spells.small place y e in
           let t : ticket ≡ y = is ∙ (ap said_ticket same ∙ decoded y (omega arith)) in
-          ap (λ (z : Ticket). take place tickets ++ z ∷ []) t ∙ (sym (take_more tickets place y e) ∙ ap (λ (k : ℕ). take k tickets) (sym (add-one place)))
+          ap (λ (z : Ticket). take place tickets ++ z ∷ []) t ∙ (sym (take_more tickets place y e)
+          ∙ ap (λ (k : ℕ). take k tickets) (sym (add-one place)))
 
   -- at an empty place the list ends
   pub spelled_end : (place found : ℕ) → place < places → get_elem? words (first + place) ≡ some found → found ≡ 0 → take place tickets ≡ tickets
@@ -34,7 +36,8 @@ module _ (words : List ℕ) (first places : ℕ) (tickets : List Ticket) (spells
     where
       by_found : (there : Option Ticket) → slice_get tickets place ≡ there → take place tickets ≡ tickets
       by_found None e = take_all place tickets (beyond tickets place e)
-      by_found (Some y) e = let same : found ≡ said_word y = sym (get_is words (first + place) found at) ∙ (spells.at place room ∙ ap place_word e) in absurd (omega arith)
+      by_found (Some y) e = let same : found ≡ said_word y = sym (get_is words (first + place) found at) ∙ (spells.at place room
+          ∙ ap place_word e) in absurd (omega arith)
 
   pub spelled_all : take places tickets ≡ tickets
   spelled_all = take_all places tickets spells.few

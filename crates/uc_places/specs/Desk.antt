@@ -65,4 +65,5 @@ pub record Spells (words : List ℕ) (first places : ℕ) (tickets : List Ticket
 
 -- each word of a decided place is that of some worker's ticket
 abbrev pub AreTickets : List ℕ → ℕ → ℕ → Type 0
-AreTickets words first places = (place : ℕ) → place < places → slice_index words (first + place) ≢ 0 → (said_ticket (slice_index words (first + place))).worker < WORKERS
+AreTickets words first places = (place : ℕ) → place < places → slice_index words (first + place) ≢ 0 →
+    (said_ticket (slice_index words (first + place))).worker < WORKERS

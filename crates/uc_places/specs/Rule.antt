@@ -2,7 +2,8 @@
 --   The words show it (`Shows`): how many commands each worker has announced, and which ticket stands at each place.
 --   Each worker's one seat shows its worker: what the seat knows of itself is that worker's part of the state, to the letter.
 --   Each seat keeps the state after its own last event, and from there to the present state only other workers' events lead.
--- So a call can't but be one event of its own worker, from a state that events lead to, and all seats' calls lie on one run.
+-- So a call can't but be one event of its own worker, from a state that events lead to, and between two calls of a seat lie only events
+-- of other workers: a seat's calls lie on one run of the log, in their order.
 use Rattle.std.specs.Prelude.{◌≡◌, ◌≢◌, ℕ, ◌<◌, ◌≤◌, List, [], ◌∷◌}
 use mathlib.Core.Option.{some}
 use lib.ListN.{get_elem?}

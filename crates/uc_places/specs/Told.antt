@@ -46,7 +46,8 @@ SeatState = Me Unit View
 
 -- what a place's word says is a ticket of this log
 abbrev pub IsTicketOf : LogSize → ℕ → Type 0
-IsTicketOf size word = word ≢ 0 → ((said_ticket word).worker < size.workers) × ((said_ticket word).number < size.places) × (word ≡ said_word (said_ticket word)) × (size.workers ≤ WORKERS)
+IsTicketOf size word = word ≢ 0 → ((said_ticket word).worker < size.workers) × ((said_ticket word).number < size.places)
+    × (word ≡ said_word (said_ticket word)) × (size.workers ≤ WORKERS)
 
 -- an announcement finds how many its worker had announced
 abbrev pub AnnounceTells : TableStep → SeatState → ℕ → SeatState → Type 0

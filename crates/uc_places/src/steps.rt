@@ -56,11 +56,13 @@ impl Idle {
     pub fn read(&mut self, places: &Places) -> Option<Ticket>
         requires place { IsSeatOf places.now self.old.desk }
         requires room { HasRoom (size_of self.old.desk) (state_of self.old.desk) }
-        ensures made { Makes self.old.desk self.new.desk (reads (worker_of self.old.desk)) (read (worker_of self.old.desk) result (state_of self.old.desk)) }
+        ensures made { Makes self.old.desk self.new.desk (reads (worker_of self.old.desk))
+            (read (worker_of self.old.desk) result (state_of self.old.desk)) }
         // What is given is what stands at the next place.
         ensures stands { slice_get (last_of self.new.desk).decided (length (state_of self.old.desk).learned) ≡ result }
         // What the seat was told of that place is what it finds.
-        ensures told { (ticket : Ticket) → slice_get (known self.old.desk).told (length (state_of self.old.desk).learned) ≡ Some ticket → result ≡ Some ticket }
+        ensures told { (ticket : Ticket) → slice_get (known self.old.desk).told (length (state_of self.old.desk).learned) ≡ Some ticket →
+            result ≡ Some ticket }
     {
         let desk = &mut self.desk;
         let word = desk.numbers.next_word();
@@ -84,7 +86,8 @@ impl Pending {
         // What is given is what stands at the next place.
         ensures stands { slice_get (last_of (desk_of result.0)).decided (length (state_of self.desk).learned) ≡ result.1 }
         // What the seat was told of that place is what it finds.
-        ensures told { (ticket : Ticket) → slice_get (known self.desk).told (length (state_of self.desk).learned) ≡ Some ticket → result.1 ≡ Some ticket }
+        ensures told { (ticket : Ticket) → slice_get (known self.desk).told (length (state_of self.desk).learned) ≡ Some ticket →
+            result.1 ≡ Some ticket }
     {
         let Pending { desk } = self;
         let Desk {
@@ -130,7 +133,8 @@ impl Looked {
     /// there then: where it is its own, the worker is idle.
     pub fn propose(self, places: &Places) -> (Seat, Ticket)
         requires { IsSeatOf places.now self.desk }
-        ensures made { Makes self.desk (desk_of result.0) (proposes (worker_of self.desk)) (propose (worker_of self.desk) (Some result.1) (state_of self.desk)) }
+        ensures made { Makes self.desk (desk_of result.0) (proposes (worker_of self.desk))
+            (propose (worker_of self.desk) (Some result.1) (state_of self.desk)) }
         // What is given is what stands at the next place.
         ensures stands { slice_get (last_of (desk_of result.0)).decided (length (state_of self.desk).learned) ≡ Some result.1 }
     {

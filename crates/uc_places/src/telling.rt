@@ -14,8 +14,10 @@ use crate::steps::settled;
 fn tell_desk(places: &Places, from: &mut Desk, to: &mut Desk)
     requires { IsSeatOf places.now from.old × IsSeatOf places.now to.old }
     ensures first { (from.new.seat.table_id ≡ from.old.seat.table_id) × (known from.new ≡ known from.old) × (from.new.numbers ≡ from.old.numbers) }
-    ensures second { (to.new.seat.table_id ≡ to.old.seat.table_id) × (known to.new ≡ told_list (known to.old) (state_of from.old).learned) × (to.new.numbers ≡ to.old.numbers) }
-    ensures compared { BeginsWith (state_of from.old).learned (state_of to.old).learned ⊎ BeginsWith (state_of to.old).learned (state_of from.old).learned }
+    ensures second { (to.new.seat.table_id ≡ to.old.seat.table_id)
+        × (known to.new ≡ told_list (known to.old) (state_of from.old).learned) × (to.new.numbers ≡ to.old.numbers) }
+    ensures compared { BeginsWith (state_of from.old).learned (state_of to.old).learned
+        ⊎ BeginsWith (state_of to.old).learned (state_of from.old).learned }
 {
     let shared = &places.table.shared;
     let note = shared.split_seat::<Noting>(&mut from.seat);

@@ -84,7 +84,8 @@ fn decided(
 ) -> Result<Vec<Ticket>, Fault>
     requires wide { (first + places ≤ slots_len closed.now.words) × IsFull closed.now.words × (first + places < 2 ^ 32) }
     requires tickets { AreTickets (slots_items closed.now.words) first places }
-    ensures spelled { IfOk result (λ log. (tickets : List ticket.Ticket) → Spells (slots_items closed.now.words) first places tickets → log.items ≡ tickets) }
+    ensures spelled { IfOk result (λ log. (tickets : List ticket.Ticket) →
+        Spells (slots_items closed.now.words) first places tickets → log.items ≡ tickets) }
     ensures memory { IsOkUnless result faults.Memory }
 {
     let mut log = Vec::new(alloc);
@@ -101,7 +102,8 @@ fn decided(
 /// Closes the words, where some seat stays open.
 fn close_with(alloc: Global, places: Places, desk: Desk) -> Result<Vec<Ticket>, Fault>
     requires { IsSeatOf places desk }
-    ensures log { IfOk result (λ tickets. (log : state.ShownState) × IsReached places.table.shared.key log × (tickets.items ≡ log.decided) × IsPartOf places.table.shared.key log desk) }
+    ensures log { IfOk result (λ tickets. (log : state.ShownState) × IsReached places.table.shared.key log
+        × (tickets.items ≡ log.decided) × IsPartOf places.table.shared.key log desk) }
     ensures memory { IsOkUnless result faults.Memory }
 {
     let Places {
@@ -144,8 +146,9 @@ fn first_of(seats: Vec<Seat>) -> Option<Seat>
 pub fn close(alloc: Global, places: Places, seats: Vec<Seat>) -> Result<Vec<Ticket>, Fault>
     requires { (seat : _) → slice_get seats.items 0 ≡ Some seat → IsSeatOf places (desk_of seat) }
     ensures legal { IfOk result (λ tickets. IsLegal tickets.items) }
-    ensures begins { IfOk result (λ tickets. (seat : _) → slice_get seats.items 0 ≡ Some seat → BeginsWith tickets.items (state_of (desk_of seat)).learned) }
-    // It is the log of a state that events lead to, on the run that the first seat's calls lie on.
+    ensures begins { IfOk result (λ tickets. (seat : _) → slice_get seats.items 0 ≡ Some seat →
+        BeginsWith tickets.items (state_of (desk_of seat)).learned) }
+    // It is the log of a state that events lead to; from the first seat's last state others' events alone lead there.
     ensures end { IfOk result (λ tickets. IsEnd places.table.shared.key tickets.items (slice_get seats.items 0)) }
     ensures memory { IsOkUnless result faults.Memory }
 {

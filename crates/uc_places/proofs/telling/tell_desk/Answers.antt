@@ -11,13 +11,14 @@ split_seat-note-requires c = let words = c.args.from.now.words in let few = ap (
     (c.requires.0, omega arith, notes _ c.args.from.now.seat.id c.args.from.now.seat.me.0 c.args.from.now.mirrors.seated)
 
 pub join_seat-requires : goal.join_seat-requires
-join_seat-requires c = let words = c.args.from.now.words in let few = ap (λ (z : TableId). z.words) c.requires.0 in let t = c.split_seat-note.ensures in (
-  c.requires.1,
-  t.3 ∙ c.requires.0,
-  ap (λ (m : SeatState). m.1) t.4,
-  omega arith,
-  informs _ c.args.to.now.seat.id c.args.to.now.seat.me.0 _ _ c.args.to.now.mirrors.seated (ap (λ (m : SeatState). m.0.kind) t.4),
-)
+join_seat-requires c = let words = c.args.from.now.words in let few = ap (λ (z : TableId). z.words) c.requires.0 in
+    let t = c.split_seat-note.ensures in (
+      c.requires.1,
+      t.3 ∙ c.requires.0,
+      ap (λ (m : SeatState). m.1) t.4,
+      omega arith,
+      informs _ c.args.to.now.seat.id c.args.to.now.seat.me.0 _ _ c.args.to.now.mirrors.seated (ap (λ (m : SeatState). m.0.kind) t.4),
+    )
 
 pub load-requires : goal.load-requires
 load-requires c = let words = c.args.from.now.words in let few = ap (λ (z : TableId). z.words) c.requires.0 in let j = c.join_seat.ensures in (

@@ -11,7 +11,8 @@ pub decided-log-requires-clause-tickets : goal.decided-log-requires-clause-ticke
 decided-log-requires-clause-tickets c =
     let p = c.args.places in
     let end = closes_bare p.table.shared.key _ _ c.close-closed.ensures.values.2 in
-    subst (λ (z : ℕ × ℕ). AreTickets (slots_items c.close-closed.result.words) (1 + z.0) z.1) (λ i. (p.sized.0 i, p.sized.1 i)) (spelled_tickets _ _ _ _ end.2)
+    subst (λ (z : ℕ × ℕ). AreTickets (slots_items c.close-closed.result.words) (1 + z.0) z.1) (λ i. (p.sized.0 i, p.sized.1 i))
+    (spelled_tickets _ _ _ _ end.2)
 
 pub free-requires : goal.free-requires
 free-requires c = λ k l. let e = c.close-closed.ensures.counts.1 in let none = c.args.places.no_slot in absurd (omega arith)
@@ -22,5 +23,6 @@ returns-clause-log c =
     let end = closes_bare p.table.shared.key _ _ c.close-closed.ensures.values.2 in
     let spells : Spells (slots_items c.close-closed.result.words) (1 + p.workers) p.places end.0.decided =
     subst (λ (z : ℕ × ℕ). Spells (slots_items c.close-closed.result.words) (1 + z.0) z.1 end.0.decided) (λ i. (p.sized.0 i, p.sized.1 i)) end.2 in
-    if_ok _ (λ (v : Vec Ticket Global). (tickets : List Ticket) → Spells (slots_items c.close-closed.result.words) (1 + p.workers) p.places tickets → v.items ≡ tickets) _
+    if_ok _ (λ (v : Vec Ticket Global). (tickets : List Ticket) →
+    Spells (slots_items c.close-closed.result.words) (1 + p.workers) p.places tickets → v.items ≡ tickets) _
     (λ v h. (end.0, end.1, h end.0.decided spells)) c.decided-log.ensures.spelled

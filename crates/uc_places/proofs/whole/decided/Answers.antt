@@ -14,10 +14,14 @@ loop-place-preserved c = λ d h. let pushed : c.push.new.self.items ≡ c.loop-p
 
 pub returns-clause-spelled : goal.returns-clause-spelled
 returns-clause-spelled c = λ d h. elim c.loop-place-test.branch [
-  | else-loop-place-test w ↦ c.loop-place.invariant d h ∙ (let end : c.loop-place.place ≡ c.args.places = omega arith in ap (λ (k : ℕ). take k d) end ∙ spelled_all _ _ _ d h)
-  | then-loop-place-test+then-found-eq0 w ↦ c.loop-place.invariant d h ∙ spelled_end _ _ _ d h c.loop-place.place w.word-found.result (search rules) w.word-found.ensures w.if-found-eq0.true
+  | else-loop-place-test w ↦ c.loop-place.invariant d h
+      ∙ (let end : c.loop-place.place ≡ c.args.places = omega arith in ap (λ (k : ℕ). take k d) end ∙ spelled_all _ _ _ d h)
+  | then-loop-place-test+then-found-eq0 w ↦ c.loop-place.invariant d h
+      ∙ spelled_end _ _ _ d h c.loop-place.place w.word-found.result (search rules) w.word-found.ensures w.if-found-eq0.true
 ]
 
 pub ticket_in-requires-clause-worker : goal.ticket_in-requires-clause-worker
-ticket_in-requires-clause-worker c = let same = get_is (slots_items c.args.closed.now.words) (c.args.first + c.loop-place.place) c.word-found.result c.word-found.ensures in
-    subst (λ (n : ℕ). (n - 1) % 256 < WORKERS) same (c.requires.tickets c.loop-place.place (search rules) (λ none. c.if-found-eq0.false (sym same ∙ none)))
+ticket_in-requires-clause-worker c = let same = get_is (slots_items c.args.closed.now.words)
+    (c.args.first + c.loop-place.place) c.word-found.result c.word-found.ensures in
+    subst (λ (n : ℕ). (n - 1) % 256 < WORKERS) same (c.requires.tickets c.loop-place.place (search rules) (λ none. c.if-found-eq0.false (sym same
+    ∙ none)))

@@ -14,14 +14,20 @@ of_words-requires c =
     let blank : IsBlank c.as_slice.result.now c.args.workers c.args.places = search rules in
     let size : ℕ → LogSize = λ workers. record { workers = workers; places = c.args.places } in
     subst (λ (workers : ℕ). IsKept (size workers) (opening c.as_slice.result.now [] (spare_from (size workers) 0))) (sym c.from.ensures)
-    (starts (size c.args.workers) c.as_slice.result.now (c.requires.workers.0, c.requires.workers.1, c.requires.places.1) blank.wide blank.first blank.blank)
+    (starts (size c.args.workers) c.as_slice.result.now (
+      c.requires.workers.0,
+      c.requires.workers.1,
+      c.requires.places.1,
+    ) blank.wide blank.first blank.blank)
 
 pub split_seat-seat-requires : goal.split_seat-seat-requires
-split_seat-seat-requires c = let i = c.loop-number.invariant in let view = c.loop-number.spare.me.0 in let some_worker = c.requires.workers.0 in let below = c.loop-number-test.true in
+split_seat-seat-requires c = let i = c.loop-number.invariant in let view = c.loop-number.spare.me.0 in
+    let some_worker = c.requires.workers.0 in let below = c.loop-number-test.true in
     let wide = c.in_ok-table.ensures.0 in (
       i.table,
       (let blank : IsBlank c.as_slice.result.now c.args.workers c.args.places = search rules in let long = blank.wide in omega arith),
-      deals _ c.loop-number.spare.id view (ap (λ (m : SeatState). m.0.kind) i.spare) (subst (λ (m : SeatState). m.0.worker < m.0.size.workers) (sym i.spare) below),
+      deals _ c.loop-number.spare.id view (ap (λ (m : SeatState). m.0.kind) i.spare) (subst (λ (m : SeatState). m.0.worker < m.0.size.workers)
+          (sym i.spare) below),
     )
 
 pub loop-number-preserved : goal.loop-number-preserved
@@ -29,5 +35,9 @@ loop-number-preserved c = let i = c.loop-number.invariant in let e = c.split_sea
   table = e.0 ∙ i.table;
   spare = e.2 ∙ (λ j. (fewer (i.spare j).0, (i.spare j).1));
   count = snoc_length _ _ _ _ c.in_ok-push.ensures.items i.count;
-  seats = snoc_seats _ _ _ _ _ _ c.in_ok-push.ensures.items i.count i.seats (e.3 ∙ i.table, ap (λ (m : SeatState). m.0) e.4 ∙ ap (λ (m : SeatState). first_of m.0) i.spare);
+  seats = snoc_seats _ _ _ _ _ _ c.in_ok-push.ensures.items i.count i.seats (
+    e.3 ∙ i.table,
+    ap (λ (m : SeatState). m.0) e.4
+        ∙ ap (λ (m : SeatState). first_of m.0) i.spare,
+  );
 }

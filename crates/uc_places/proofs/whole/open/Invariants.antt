@@ -10,5 +10,6 @@ invariant-loop-number l = let size : LogSize = record { workers = l.workers; pla
   table : l.spare.table_id ≡ l.table.shared.table_id;
   spare : l.spare.me ≡ (spare_from size l.number, []);
   count : length l.seats.items ≡ l.number;
-  seats : (worker : ℕ) (seat : Idle) → slice_get l.seats.items worker ≡ Some seat → (seat.desk.seat.table_id ≡ l.table.shared.table_id) × (seat.desk.seat.me.0 ≡ new_seat size worker);
+  seats : (worker : ℕ) (seat : Idle) → slice_get l.seats.items worker ≡ Some seat →
+      (seat.desk.seat.table_id ≡ l.table.shared.table_id) × (seat.desk.seat.me.0 ≡ new_seat size worker);
 }
