@@ -1,0 +1,122 @@
+-- The numbers of a seat follow what it knows.
+use Rattle.std.proofs.Common.{◌≡◌, ◌≢◌, ℕ, zero, suc, ◌+◌, ◌-◌, ◌<◌, ◌≤◌, ◌==◌, ◌&&◌, Bool, true, false, ltb, if◌then◌else◌, [], ◌∷◌, ◌++◌, get_or, set, length, sym, refl, ap, ◌∙◌, subst, arith, unwrap_or, Option, Some, None, length-append, length-set, get_or-set_same, get_or-set_other}
+use Rattle.std.proofs.lemmas.List.Sums.{count_by-le-length}
+use Rattle.std.proofs.Math.Decide.{ℕ_discrete}
+use Rattle.std.proofs.Math.Logic.{dite}
+use Rattle.atomic_table.specs.Seated.{TableId}
+use Rattle.mc_model.specs.declared.id.TheConstants.{WORKERS}
+use Rattle.mc_model.specs.declared.id.Ticket.{Ticket}
+use Rattle.mc_model.specs.declared.shown.LogSize.{LogSize}
+use Rattle.mc_model.specs.declared.shown.ShownState.{ShownState}
+use Rattle.mc_model.specs.declared.shown.WorkerState.{WorkerState}
+use Rattle.mc_model.specs.Lawful.{reads, turn}
+use Rattle.mc_model.specs.Legal.{count, ticket_of}
+use Rattle.mc_model.specs.Shown.{is_latest, learn, look, proposal, read}
+use Rattle.uc_core.proofs.Tickets.{count_other, count_own}
+use Rattle.uc_places.specs.declared.desk.Desk.{Desk}
+use Rattle.uc_places.specs.declared.desk.Numbers.{Numbers}
+use Rattle.uc_places.specs.declared.view.View.{View}
+use Rattle.uc_places.specs.Calls.{Makes, known, last_of, state_of, worker_of}
+use Rattle.uc_places.specs.Desk.{Mirrors, learned_one, owns, ticket_for}
+use Rattle.uc_places.specs.Told.{Happens, IsTicketOf, ReadTells, SeatState, TableStep, moved_on}
+use Rattle.uc_places.specs.Words.{found_in, said_ticket}
+
+-- a table of the same name has as many words
+pub words_of : (z z' : TableId) (n : ℕ) → z ≡ z' → z.words ≡ n → z'.words ≡ n
+words_of z z' n e h = ap (λ (t : TableId). t.words) (sym e) ∙ h
+
+-- a word that isn't 0 says its ticket
+pub found_some : (found : ℕ) (ticket : Ticket) → found ≢ 0 → ticket ≡ said_ticket found → found_in found ≡ Some ticket
+found_some zero ticket ne e = absurd (ne refl)
+found_some (suc n) ticket ne e = ap (λ (y : Ticket). Some y) (sym e)
+
+-- one more ticket is learned, by a read or a proposal
+pub mirrors_learned : (last : ShownState) (view : View) (state : WorkerState) (numbers : Numbers) (ticket : Ticket) (proposals : ℕ) →
+    Mirrors view numbers →
+    state.learned ≡ (learn view.worker view.state.phase ticket view.state).learned → state.announced ≡ view.state.announced →
+    state.mark ≡ view.state.mark → state.proposals ≡ proposals →
+    ticket.worker < WORKERS → numbers.learned < view.size.places → proposals ≤ numbers.learned + 1 → proposals ≤ numbers.workers + 1 →
+    Mirrors (moved_on view state last) (record (learned_one numbers ticket.worker) { proposals = proposals })
+mirrors_learned last view state numbers ticket proposals m learns announces marks proposes few room low helped = record {
+  seated = m.seated;
+  small = m.small;
+  workers = m.workers;
+  places = m.places;
+  worker = m.worker;
+  inside = m.inside;
+  learned = ap length learns ∙ (length-append view.state.learned (ticket ∷ []) ∙ ap (λ (k : ℕ). k + 1) m.learned);
+  few = omega arith;
+  announced = announces ∙ m.announced;
+  announced_few = m.announced_few;
+  proposals = proposes;
+  proposals_few = low;
+  proposals_helped = helped;
+  mark = marks ∙ m.mark;
+  wide = length-set numbers.counts ticket.worker (get_or numbers.counts ticket.worker 0 + 1) ∙ m.wide;
+  counts = λ worker inside. counted worker inside ∙ sym (ap (count worker) learns);
+}
+  where
+    -- how many tickets of each worker are learned
+    counted : (worker : ℕ) → worker < 16 → get_or (learned_one numbers ticket.worker).counts worker 0 ≡ count worker (view.state.learned ++ ticket ∷ [])
+    counted worker inside = let many : ℕ = get_or numbers.counts ticket.worker 0 + 1 in dite (ℕ_discrete worker ticket.worker)
+        (λ here. let wide = m.wide in ap (λ (i : ℕ). get_or (set numbers.counts ticket.worker many) i 0) here
+        ∙ (get_or-set_same numbers.counts ticket.worker many 0 (omega arith)
+        ∙ (ap (λ (k : ℕ). k + 1) (ap (λ (i : ℕ). get_or numbers.counts i 0) (sym here) ∙ m.counts worker inside)
+        ∙ sym (count_own worker view.state.learned ticket (sym here)))))
+        (λ apart. get_or-set_other numbers.counts ticket.worker worker many 0 apart ∙ (m.counts worker inside
+        ∙ sym (count_other worker view.state.learned ticket (λ same. apart (sym same)))))
+
+-- a seat has learned no more tickets of a worker than places
+pub count_few : (view : View) (numbers : Numbers) (worker : ℕ) → Mirrors view numbers → worker < 16 → get_or numbers.counts worker 0 ≤ numbers.learned
+count_few view numbers worker m inside = let same = m.counts worker inside in
+    let few = count_by-le-length (λ (some : Ticket). some.worker == worker) view.state.learned in let long = m.learned in omega arith
+
+-- the test by numbers is the definition's
+pub owns_is : (view : View) (numbers : Numbers) (ticket : Ticket) → Mirrors view numbers →
+    owns numbers ticket ≡ is_latest view.worker view.state ticket
+owns_is view numbers ticket m = λ i. (ticket.worker == sym m.worker i) && (ticket.number + 1 == sym m.announced i)
+
+-- a read has made its event
+pub made_read : (old new : Desk) (at : TableStep) (found : ℕ) (stands : Option Ticket) → found_in found ≡ stands →
+    new.seat.table_id ≡ old.seat.table_id → new.seat.id ≡ old.seat.id →
+    ReadTells at old.seat.me found new.seat.me → Makes old new (reads (worker_of old)) (read (worker_of old) stands (state_of old))
+made_read old new at found stands e table id tells = (
+  table,
+  id,
+  ap (λ (m : SeatState). m.0) tells.0 ∙ ap (λ (z : Option Ticket). moved_on (known old) (read (worker_of old) z (state_of old)) (last_of new)) e,
+  subst (λ (z : Option Ticket). Happens (known old).size (reads (worker_of old)) (known old) (read (worker_of old) z (state_of old))
+      (last_of new)) e tells.4,
+)
+
+-- a word that was found in a place is a small ticket's
+pub small_ticket : (size : LogSize) (found : ℕ) (ticket : Ticket) → IsTicketOf size found → found ≢ 0 → ticket ≡ said_ticket found →
+    (ticket.worker < WORKERS) × (ticket.number < size.places)
+small_ticket size found ticket is ne e = let t = is ne in let a = t.0 in let b = t.3 in let c = t.1 in
+    subst (λ (y : Ticket). (y.worker < WORKERS) × (y.number < size.places)) (sym e) (omega arith, t.1)
+
+-- the ticket for a look, as numbers give it
+pub proposed_is : (view : View) (numbers : Numbers) (helped found : ℕ) → Mirrors view numbers → helped < 16 → helped ≡ turn view.size view.state →
+    ticket_for numbers helped found ≡ proposal view.worker (look (turn view.size view.state) found view.state)
+proposed_is view numbers helped found m small e = both ∙ ap (λ (i : ℕ). proposal view.worker (look i found view.state)) e
+  where
+    known_count : ℕ
+    known_count = count helped view.state.learned
+
+    own : Ticket
+    own = ticket_of view.worker (view.state.announced - 1)
+
+    picked : (b : Bool) → (if b then ticket_of helped known_count else own) ≡ unwrap_or (if b then Some (ticket_of helped known_count) else None) own
+    picked true = refl
+    picked false = refl
+
+    both : ticket_for numbers helped found ≡ proposal view.worker (look helped found view.state)
+    both = (λ i. if ltb (m.counts helped small i) found then ticket_of helped (m.counts helped small i) else ticket_of (sym m.worker i)
+        (sym m.announced i - 1)) ∙ picked (ltb known_count found)
+
+pub proposed_small : (view : View) (numbers : Numbers) (helped found : ℕ) → Mirrors view numbers → helped < 16 →
+    numbers.learned < view.size.places → (ticket_for numbers helped found).number < 1048576
+proposed_small view numbers helped found m small room = by_test (ltb (get_or numbers.counts helped 0) found)
+  where
+    by_test : (b : Bool) → (if b then ticket_of helped (get_or numbers.counts helped 0) else ticket_of numbers.worker (numbers.announced - 1)).number < 1048576
+    by_test true = let few = count_few view numbers helped m small in let s = m.small in let places = s.2 in omega arith
+    by_test false = let few = m.announced_few in omega arith

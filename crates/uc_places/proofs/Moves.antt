@@ -1,0 +1,361 @@
+-- Each operation of a worker's seat on a word keeps the rule, and is its event.
+use Rattle.std.proofs.Common.{◌≡◌, ◌≢◌, ◌⊎◌, ℕ, zero, suc, ◌+◌, ◌%◌, ◌^◌, ◌<◌, ◌==◌, Bool, List, [], ◌∷◌, ◌++◌, length, get_or, set, sym, refl, ap, ◌∙◌, subst, inl, inr, ⊎_elim, arith, eq-eqb, ne_eqb, slice_get, unwrap_or, Option, Some, None}
+use Rattle.std.proofs.lemmas.List.Sums.{count_by-le-length}
+use Rattle.std.proofs.lemmas.Option.{slice_get_within}
+use mathlib.Core.Option.{none, some}
+use lib.ListN.{get_elem?}
+use lib.Seq.{set-get_or}
+use prog.Atomic.{either}
+use Rattle.atomic_table.specs.Table.{State, step, keeps, stepped, Allows}
+use Rattle.atomic_table.proofs.Lists as table_lists
+use Rattle.mc_model.specs.declared.id.Ticket.{Ticket}
+use Rattle.mc_model.specs.declared.shown.LogSize.{LogSize}
+use Rattle.mc_model.specs.declared.shown.Phase.TheVariants.{Idle, Pending, Looked}
+use Rattle.mc_model.specs.declared.shown.ShownState.{ShownState}
+use Rattle.mc_model.specs.declared.shown.WorkerState.{WorkerState}
+use Rattle.mc_model.specs.Helping.{BeginsWith, LogLaw}
+use Rattle.mc_model.specs.Lawful.{HasRoom, IsWorker, ShownEvent, Step, announced_by, announces, decided_with, looks, next, proposes, reads, turn, with_worker}
+use Rattle.mc_model.specs.Shown.{announce, look, new_log, new_worker, proposal, propose, read}
+use Rattle.uc_core.proofs.Lists.{at_seam, begins_self, begins_through, nothing_next, set_elsewhere, set_here}
+use Rattle.uc_core.proofs.Waiting.{is_lawful}
+use Rattle.uc_places.specs.declared.view.Kind.{Kind}
+use Rattle.uc_places.specs.declared.view.Kind.TheVariants.{Spare, Seated, Note, Spent}
+use Rattle.uc_places.specs.declared.view.View.{View}
+use Rattle.uc_places.specs.Rule.{Fits, IsKept, Knows, OthersLead, taker}
+use Rattle.uc_places.specs.Told.{AnnounceTells, CompareTells, Happens, IsTicketOf, LookTells, ProposeTells, ReadTells, SeatState, moved_on}
+use Rattle.uc_places.specs.Words.{Shows, found_in, place_word, said_word}
+use Rattle.uc_places.proofs.Followed.{none_lead, others_lead_on}
+use Rattle.uc_places.proofs.Wording.{announced_in, found, same_counts, shows_count, shows_place, shows_same, ticket_found}
+
+abbrev pub TableState : Type 0
+TableState = State Unit View
+
+-- the state of the log after an event of one worker, which may decide a place
+abbrev pub after : ShownState → List Ticket → ℕ → WorkerState → ShownState
+after log decided number worker = record { decided = decided; workers = set log.workers number worker }
+
+module _ (size : LogSize) where
+  pub law : (s : TableState) (kept : IsKept size s) → LogLaw size kept.log
+  law s kept = is_lawful size kept.log kept.reached
+
+  -- what the rule says of a worker's seat
+  pub seated : (s : TableState) (kept : IsKept size s) (id : ℕ) (view : View) → get_elem? s.views id ≡ some view → view.kind ≡ Seated →
+      (kept.owner view.worker ≡ id) × IsWorker kept.log view.worker view.state × BeginsWith kept.log.decided view.told
+      × OthersLead size view.worker view.last kept.log
+  seated s kept id view at is = subst (Knows size kept.log kept.owner id view) is (kept.fits id view at).1
+
+  -- another seat keeps what the rule says of it
+  others : (old new : ShownState) (event : ShownEvent) (owner : ℕ → ℕ) (number id other : ℕ) (state : WorkerState) → taker event ≡ number →
+      Step size old event new →
+      owner number ≡ id → other ≢ id → new.workers ≡ set old.workers number state → BeginsWith new.decided old.decided →
+      (view : View) (kind : Kind) → Knows size old owner other view kind → Knows size new owner other view kind
+  others old new event owner number id other state takes is mine apart moved longer view kind = by_kind kind
+    where
+      -- a worker whose seat is the other one isn't the one that took the event
+      not_taker : (worker : ℕ) → owner worker ≡ other → worker ≢ number
+      not_taker worker theirs same = apart (sym theirs ∙ (ap owner same ∙ mine))
+
+      followed : (worker : ℕ) (last : ShownState) → owner worker ≡ other → OthersLead size worker last old → OthersLead size worker last new
+      followed worker last theirs lead = others_lead_on size worker last old new event lead is (λ same. not_taker worker theirs (sym same ∙ takes))
+
+      elsewhere : (worker : ℕ) (theirs : WorkerState) → owner worker ≡ other → IsWorker old worker theirs → IsWorker new worker theirs
+      elsewhere worker theirs own at = ap (λ (l : List WorkerState). slice_get l worker) moved
+          ∙ (set_elsewhere old.workers number worker state (not_taker worker own) ∙ at)
+
+      by_kind : (kind : Kind) → Knows size old owner other view kind → Knows size new owner other view kind
+      by_kind Spare knows = λ worker low high. let was = knows worker low high in
+          (was.0, elsewhere worker new_worker was.0 was.1, followed worker (new_log size) was.0 was.2)
+      by_kind Seated knows = (
+        knows.0,
+        elsewhere view.worker view.state knows.0 knows.1,
+        begins_through new.decided old.decided view.told longer knows.2,
+        followed view.worker view.last knows.0 knows.3,
+      )
+      by_kind Note knows = begins_through new.decided old.decided view.told longer knows
+      by_kind Spent knows = tt
+
+  -- an event of a worker, by its seat, keeps the rule where the words then show the new state
+  steps : (s : TableState) (kept : IsKept size s) (id : ℕ) (view : View) (event : ShownEvent) (decided : List Ticket) (state : WorkerState)
+      (words : List ℕ) →
+      get_elem? s.views id ≡ some view → view.kind ≡ Seated → taker event ≡ view.worker →
+      Step size kept.log event (after kept.log decided view.worker state) → BeginsWith decided kept.log.decided →
+      Shows size words (after kept.log decided view.worker state) →
+      IsKept size record { words = words; homes = s.homes; views = set s.views id (moved_on view state (after kept.log decided view.worker state)) }
+  steps s kept id view event decided state words at is takes step longer shows =
+      let new : ShownState = after kept.log decided view.worker state in let mine = seated s kept id view at is in
+      let moved = moved_on view state new in record {
+        small = kept.small;
+        log = new;
+        reached = ((event ∷ kept.reached.0), (kept.log, kept.reached.1, step));
+        shows = shows;
+        owner = kept.owner;
+        fits = λ other some_view there. ⊎_elim
+            (λ (same : (other ≡ id) × (moved ≡ some_view)). subst
+            (λ (z : ℕ × View). Fits size new kept.owner z.0 z.1) (λ i. (sym same.0 i, same.1 i)) (
+              (kept.fits id view at).0,
+              subst (Knows size new kept.owner id moved) (sym is) (
+                mine.0,
+                set_here kept.log.workers view.worker state (slice_get_within kept.log.workers view.worker view.state mine.1),
+                begins_through decided kept.log.decided view.told longer mine.2,
+                none_lead size view.worker new,
+              ),
+            ))
+            (λ (apart : (other ≢ id) × (get_elem? s.views other ≡ some some_view)). let fits = kept.fits other some_view apart.1 in
+            (fits.0, others kept.log new event kept.owner view.worker id other state takes step mine.0 apart.0 refl longer some_view some_view.kind fits.1))
+            (table_lists.at_set s.views id other moved some_view there);
+      }
+
+  happens : (s : TableState) (kept : IsKept size s) (id : ℕ) (view : View) (event : ShownEvent) (decided : List Ticket) (state : WorkerState) →
+      get_elem? s.views id ≡ some view → view.kind ≡ Seated → Step size kept.log event (after kept.log decided view.worker state) →
+      Happens size event view state (after kept.log decided view.worker state)
+  happens s kept id view event decided state at is step = let mine = seated s kept id view at is in (
+    kept.log,
+    mine.3,
+    kept.reached,
+    step,
+    ((event ∷ kept.reached.0), (kept.log, kept.reached.1, step)),
+    mine.1,
+    set_here kept.log.workers view.worker state (slice_get_within kept.log.workers view.worker view.state mine.1),
+  )
+
+-- the view's size is the rule's
+at_size : (size : LogSize) (slots id : ℕ) (me : SeatState) → me.0.kind ≡ Seated → (word : ℕ) (f : ℕ → ℕ) (tells : ℕ → SeatState → Type 0) →
+    Allows (IsKept me.0.size) slots id me word f tells → Allows (IsKept size) slots id me word f tells
+at_size size slots id me is word f tells body s kept long at fits =
+    let same = (kept.fits id me.0 at).0 (λ q. cc) in let done = body s (subst (λ (z : LogSize). IsKept z s) (sym same) kept) long at fits in
+    (done.0, done.1, done.2, subst (λ (z : LogSize). IsKept z (stepped s word (f (get_or s.words word 0)) id me.1 done.0 done.1)) same done.3, done.4)
+
+module _ (slots id : ℕ) (me : SeatState) (is : me.0.kind ≡ Seated) where
+  pub announces_word : (size : LogSize) → me.0.state.phase ≡ Idle → HasRoom me.0.size me.0.state →
+      Allows (IsKept size) slots id me (1 + me.0.worker) (λ n. (n + 1) % 2 ^ 64) (AnnounceTells (step slots (1 + me.0.worker) 1 0 none) me)
+  announces_word size phase room = at_size size slots id me is (1 + me.0.worker) (λ n. (n + 1) % 2 ^ 64)
+      (AnnounceTells (step slots (1 + me.0.worker) 1 0 none) me) body
+    where
+      body : Allows (IsKept me.0.size) slots id me (1 + me.0.worker) (λ n. (n + 1) % 2 ^ 64)
+          (AnnounceTells (step slots (1 + me.0.worker) 1 0 none) me)
+      body s kept long at _ =
+          let view = me.0 in let number = view.worker in let old = view.state in let new = announce old in
+          let mine = seated view.size s kept id view at is in let law = law view.size s kept in
+          let inside : number < view.size.workers = (let within = slice_get_within kept.log.workers number old mine.1 in
+          let many = law.many in omega arith) in
+          let n : ℕ = get_or s.words (1 + number) 0 in let n' : ℕ = (n + 1) % 18446744073709551616 in
+          let same : n ≡ old.announced = kept.shows.counts number inside ∙ ap announced_in mine.1 in
+          let small = kept.small.2 in let own = (law.each number old mine.1).idle phase in
+          let few = count_by-le-length (λ (some : Ticket). some.worker == number) old.learned in
+          let now : old.announced + 1 ≡ n' = omega arith in
+          let event : Step view.size kept.log (announces number) (with_worker kept.log number new) = (old, mine.1, phase, room, refl) in (
+            moved_on view new (with_worker kept.log number new),
+            keeps,
+            tt,
+            steps view.size s kept id view (announces number) kept.log.decided new (set s.words (1 + number) n') at is refl event (begins_self kept.log.decided)
+                (shows_count view.size s.words kept.log number old new n' inside kept.shows mine.1 now),
+            (refl, same, omega arith, happens view.size s kept id view (announces number) kept.log.decided new at is event),
+          )
+
+  -- a load changes no word
+  loads : (s : TableState) (word : ℕ) (view : View) → IsKept me.0.size record { words = s.words; homes = s.homes; views = set s.views id view } →
+      IsKept me.0.size record { words = set s.words word (get_or s.words word 0); homes = s.homes; views = set s.views id view }
+  loads s word view = subst (λ (words : List ℕ). IsKept me.0.size record { words = words; homes = s.homes; views = set s.views id view })
+      (sym (set-get_or s.words word 0))
+
+  read_announced : (number : ℕ) (worker : WorkerState) (stands : Option Ticket) → (read number stands worker).announced ≡ worker.announced
+  read_announced number worker None = refl
+  read_announced number worker (Some ticket) = refl
+
+  -- what stands in a beginning stands in the list
+  at_longer : (list more : List Ticket) (place : ℕ) (ticket : Ticket) → slice_get list place ≡ Some ticket →
+      slice_get (list ++ more) place ≡ Some ticket
+  at_longer [] more place ticket at = absurd (let no = at in cc)
+  at_longer (x ∷ list) more zero ticket at = at
+  at_longer (x ∷ list) more (suc place) ticket at = at_longer list more place ticket at
+
+  pub reads_word : (size : LogSize) → (me.0.state.phase ≡ Idle) ⊎ (me.0.state.phase ≡ Pending) → HasRoom me.0.size me.0.state →
+      Allows (IsKept size) slots id me (1 + me.0.size.workers + length me.0.state.learned) (λ n. n)
+      (ReadTells (step slots (1 + me.0.size.workers + length me.0.state.learned) 0 0 none) me)
+  reads_word size phase room = at_size size slots id me is word (λ n. n) (ReadTells (step slots word 0 0 none) me) body
+    where
+      word : ℕ
+      word = 1 + me.0.size.workers + length me.0.state.learned
+
+      body : Allows (IsKept me.0.size) slots id me (1 + me.0.size.workers + length me.0.state.learned) (λ n. n)
+          (ReadTells (step slots (1 + me.0.size.workers + length me.0.state.learned) 0 0 none) me)
+      body s kept long at _ =
+          let view = me.0 in let number = view.worker in let old = view.state in let mine = seated view.size s kept id view at is in
+          let law = law view.size s kept in
+          let place : ℕ = length old.learned in let i : ℕ = 1 + view.size.workers + place in
+          let n : ℕ = get_or s.words i 0 in let there = next kept.log old in
+          let same : n ≡ place_word there = kept.shows.places place room in
+          let saw : found_in n ≡ there = ap found_in same ∙ found view.size kept.log law place kept.small in
+          let new = read number (found_in n) old in
+          let event : Step view.size kept.log (reads number) (with_worker kept.log number new) =
+          (old, mine.1, phase, room, ap (λ (o : Option Ticket). with_worker kept.log number (read number o old)) saw) in (
+            moved_on view new (with_worker kept.log number new),
+            keeps,
+            tt,
+            loads s i (moved_on view new (with_worker kept.log number new))
+                (steps view.size s kept id view (reads number) kept.log.decided new s.words at is refl event (begins_self kept.log.decided)
+                (shows_same view.size s.words kept.log number old new kept.shows mine.1 (read_announced number old (found_in n)))),
+            (
+              refl,
+              subst (IsTicketOf view.size) (sym same) (ticket_found view.size kept.log law place kept.small),
+              (λ ticket told. saw ∙ (ap (λ (list : List Ticket). slice_get list place) mine.2.1 ∙ at_longer view.told mine.2.0 place ticket told)),
+              sym saw,
+              happens view.size s kept id view (reads number) kept.log.decided new at is event,
+            ),
+          )
+
+  pub looks_word : (size : LogSize) → me.0.state.phase ≡ Pending → HasRoom me.0.size me.0.state → me.0.state.mark ≢ None →
+      Allows (IsKept size) slots id me (1 + turn me.0.size me.0.state) (λ n. n) (LookTells (step slots (1 + turn me.0.size me.0.state) 0 0 none) me)
+  looks_word size phase room marked = at_size size slots id me is (1 + turn me.0.size me.0.state) (λ n. n)
+      (LookTells (step slots (1 + turn me.0.size me.0.state) 0 0 none) me) body
+    where
+      body : Allows (IsKept me.0.size) slots id me (1 + turn me.0.size me.0.state) (λ n. n)
+          (LookTells (step slots (1 + turn me.0.size me.0.state) 0 0 none) me)
+      body s kept long at _ =
+          let view = me.0 in let number = view.worker in let old = view.state in let mine = seated view.size s kept id view at is in
+          let i : ℕ = 1 + turn view.size old in
+          let some_worker = kept.small.0 in let inside : turn view.size old < view.size.workers = omega arith in
+          let n : ℕ = get_or s.words i 0 in let saw : n ≡ announced_by kept.log (turn view.size old) = kept.shows.counts (turn view.size old) inside in
+          let new = look (turn view.size old) n old in
+          let event : Step view.size kept.log (looks number) (with_worker kept.log number new) =
+          (old, mine.1, phase, room, marked, ap (λ (many : ℕ). with_worker kept.log number (look (turn view.size old) many old)) saw) in (
+            moved_on view new (with_worker kept.log number new),
+            keeps,
+            tt,
+            loads s i (moved_on view new (with_worker kept.log number new))
+                (steps view.size s kept id view (looks number) kept.log.decided new s.words at is refl event (begins_self kept.log.decided)
+                (shows_same view.size s.words kept.log number old new kept.shows mine.1 refl)),
+            (
+              refl,
+              saw ∙ same_counts kept.log number (turn view.size old) old new mine.1 refl,
+              happens view.size s kept id view (looks number) kept.log.decided new at is event,
+            ),
+          )
+
+  pub proposes_word : (size : LogSize) → me.0.state.phase ≡ Looked →
+      Allows (IsKept size) slots id me (1 + me.0.size.workers + length me.0.state.learned) (λ n. either (n == 0)
+      (said_word (proposal me.0.worker me.0.state)) n)
+      (ProposeTells (step slots (1 + me.0.size.workers + length me.0.state.learned) 0 (said_word (proposal me.0.worker me.0.state)) none) me)
+  proposes_word size phase = at_size size slots id me is word (λ n. either (n == 0) (said_word (proposal me.0.worker me.0.state)) n)
+      (ProposeTells (step slots word 0 (said_word (proposal me.0.worker me.0.state)) none) me) body
+    where
+      word : ℕ
+      word = 1 + me.0.size.workers + length me.0.state.learned
+
+      body : Allows (IsKept me.0.size) slots id me (1 + me.0.size.workers + length me.0.state.learned) (λ n. either (n == 0)
+          (said_word (proposal me.0.worker me.0.state)) n)
+          (ProposeTells (step slots (1 + me.0.size.workers + length me.0.state.learned) 0 (said_word (proposal me.0.worker me.0.state)) none) me)
+      body s kept long at _ =
+          let view = me.0 in let number = view.worker in let old = view.state in let mine = seated view.size s kept id view at is in
+          let law = law view.size s kept in
+          let place : ℕ = length old.learned in let i : ℕ = 1 + view.size.workers + place in
+          let n : ℕ = get_or s.words i 0 in let ticket = proposal number old in let own = law.each number old mine.1 in
+          let room = (own.looked phase).1 in
+          let same : n ≡ place_word (next kept.log old) = kept.shows.places place room in
+          let saw : found_in n ≡ next kept.log old = ap found_in same ∙ found view.size kept.log law place kept.small in
+          let new = propose number (found_in n) old in
+          let decided = decided_with ticket kept.log.decided (next kept.log old) in
+          let event : Step view.size kept.log (proposes number) (after kept.log decided number new) =
+          (old, mine.1, phase, ap (λ (o : Option Ticket). after kept.log decided number (propose number o old)) saw) in
+          let now = happens view.size s kept id view (proposes number) decided new at is event in (
+            moved_on view new (after kept.log decided number new),
+            keeps,
+            tt,
+            steps view.size s kept id view (proposes number) decided new (set s.words i (either (n == 0) (said_word ticket) n)) at is refl event
+                (grows kept.log.decided (next kept.log old) ticket)
+                (placed view.size s.words kept.log number old new ticket n (next kept.log old) refl same room kept.shows mine.1 own.begins refl),
+            (
+              refl,
+              subst (IsTicketOf view.size) (sym same) (ticket_found view.size kept.log law place kept.small),
+              stands kept.log.decided old.learned ticket (next kept.log old) refl own.begins
+                  ∙ ap (λ (o : Option Ticket). Some (unwrap_or o ticket)) (sym saw),
+              ((is_lawful view.size (after kept.log decided number new) now.4).each number new now.6).proposals,
+              now,
+            ),
+          )
+        where
+          grows : (list : List Ticket) (stands : Option Ticket) (ticket : Ticket) → BeginsWith (decided_with ticket list stands) list
+          grows list None ticket = (ticket ∷ [], refl)
+          grows list (Some there) ticket = begins_self list
+
+          -- what stands at the next place after a proposal
+          stands : (list front : List Ticket) (ticket : Ticket) (there : Option Ticket) → slice_get list (length front) ≡ there →
+              BeginsWith list front →
+              slice_get (decided_with ticket list there) (length front) ≡ Some (unwrap_or there ticket)
+          stands list front ticket None at begins = let all = nothing_next list front begins at in
+              ap (λ (place : ℕ). slice_get (list ++ ticket ∷ []) place) (sym (ap length all)) ∙ at_seam list ticket []
+          stands list front ticket (Some there) at begins = at
+
+          -- the words after a compare-exchange of the worker's next place
+          placed : (size : LogSize) (words : List ℕ) (log : ShownState) (number : ℕ) (old new : WorkerState) (ticket : Ticket) (n : ℕ)
+              (there : Option Ticket) →
+              next log old ≡ there → n ≡ place_word there → HasRoom size old → Shows size words log → IsWorker log number old →
+              BeginsWith log.decided old.learned → new.announced ≡ old.announced →
+              Shows size (set words (1 + size.workers + length old.learned) (either (n == 0) (said_word ticket) n))
+              (after log (decided_with ticket log.decided there) number new)
+          placed size words log number old new ticket n None is same room shows at begins kept =
+              let all : log.decided ≡ old.learned = nothing_next log.decided old.learned begins is in
+              let put : said_word ticket ≡ either (n == 0) (said_word ticket) n = sym (ap (λ (b : Bool). either b (said_word ticket) n)
+              (eq-eqb n 0 same)) in
+              let long : length log.decided ≡ length old.learned = ap length all in
+              subst (λ (z : ℕ × ℕ). Shows size (set words (1 + size.workers + z.0) z.1) (after log (log.decided ++ ticket ∷ []) number new))
+              (λ j. (long j, put j))
+              (shows_place size words log number old new ticket (omega arith) shows at kept)
+          placed size words log number old new ticket n (Some there) is same room shows at begins kept =
+              let i : ℕ = 1 + size.workers + length old.learned in
+              let left : get_or words i 0 ≡ either (n == 0) (said_word ticket) n = shows.places (length old.learned) room
+              ∙ (ap place_word is ∙ (sym same ∙ sym (ap (λ (b : Bool). either b (said_word ticket) n) (ne_eqb n 0 (λ none. omega arith))))) in
+              subst (λ (z : ℕ). Shows size (set words i z) (with_worker log number new)) left
+              (subst (λ (some : List ℕ). Shows size some (with_worker log number new)) (sym (set-get_or words i 0))
+              (shows_same size words log number old new shows at kept))
+
+  -- of two beginnings of a list, one begins with the other
+  compared : (a b r q : List Ticket) → a ++ r ≡ b ++ q → BeginsWith a b ⊎ BeginsWith b a
+  compared [] b r q e = inr (b, refl)
+  compared (x ∷ a) [] r q e = inl (x ∷ a, refl)
+  compared (x ∷ a) (y ∷ b) r q e = let same : x ≡ y = cc in let rest : a ++ r ≡ b ++ q = cc in
+      ⊎_elim (λ (h : BeginsWith a b). inl (h.0, λ i. same i ∷ h.1 i)) (λ (h : BeginsWith b a). inr (h.0, λ i. sym same i ∷ h.1 i))
+      (compared a b r q rest)
+
+  pub compares_word : (size : LogSize) → Allows (IsKept size) slots id me 0 (λ n. n) (CompareTells (step slots 0 0 0 none) me)
+  compares_word size = at_size size slots id me is 0 (λ n. n) (CompareTells (step slots 0 0 0 none) me) body
+    where
+      body : Allows (IsKept me.0.size) slots id me 0 (λ n. n) (CompareTells (step slots 0 0 0 none) me)
+      body s kept long at _ =
+          let view = me.0 in let mine = seated view.size s kept id view at is in
+          let begins = ((law view.size s kept).each view.worker view.state mine.1).begins in (
+            view,
+            keeps,
+            tt,
+            loads s 0 view (subst (λ (views : List View). IsKept view.size record { words = s.words; homes = s.homes; views = views })
+                (sym (table_lists.set_again s.views id view at)) kept),
+            (refl, compared view.told view.state.learned mine.2.0 begins.0 (sym mine.2.1 ∙ begins.1)),
+          )
+
+-- the operations at a word by another name
+module _ (slots id : ℕ) (me : SeatState) (is : me.0.kind ≡ Seated) (size : LogSize) (i : ℕ) where
+  pub announces_at : i ≡ 1 + me.0.worker → me.0.state.phase ≡ Idle → HasRoom me.0.size me.0.state →
+      Allows (IsKept size) slots id me i (λ n. (n + 1) % 2 ^ 64) (AnnounceTells (step slots i 1 0 none) me)
+  announces_at e phase room =
+      subst (λ (z : ℕ). Allows (IsKept size) slots id me z (λ n. (n + 1) % 2 ^ 64) (AnnounceTells (step slots z 1 0 none) me)) (sym e)
+      (announces_word slots id me is size phase room)
+
+  pub reads_at : i ≡ 1 + me.0.size.workers + length me.0.state.learned → (me.0.state.phase ≡ Idle) ⊎ (me.0.state.phase ≡ Pending) →
+      HasRoom me.0.size me.0.state →
+      Allows (IsKept size) slots id me i (λ n. n) (ReadTells (step slots i 0 0 none) me)
+  reads_at e phase room =
+      subst (λ (z : ℕ). Allows (IsKept size) slots id me z (λ n. n) (ReadTells (step slots z 0 0 none) me)) (sym e)
+      (reads_word slots id me is size phase room)
+
+  pub looks_at_word : i ≡ 1 + turn me.0.size me.0.state → me.0.state.phase ≡ Pending → HasRoom me.0.size me.0.state → me.0.state.mark ≢ None →
+      Allows (IsKept size) slots id me i (λ n. n) (LookTells (step slots i 0 0 none) me)
+  looks_at_word e phase room marked =
+      subst (λ (z : ℕ). Allows (IsKept size) slots id me z (λ n. n) (LookTells (step slots z 0 0 none) me)) (sym e)
+      (looks_word slots id me is size phase room marked)
+
+  pub proposes_at : (c : ℕ) → i ≡ 1 + me.0.size.workers + length me.0.state.learned → c ≡ said_word (proposal me.0.worker me.0.state) →
+      me.0.state.phase ≡ Looked →
+      Allows (IsKept size) slots id me i (λ n. either (n == 0) c n) (ProposeTells (step slots i 0 c none) me)
+  proposes_at c e said phase =
+      subst (λ (z : ℕ × ℕ). Allows (IsKept size) slots id me z.0 (λ n. either (n == 0) z.1 n) (ProposeTells (step slots z.0 0 z.1 none) me))
+      (λ j. (sym e j, sym said j)) (proposes_word slots id me is size phase)

@@ -1,0 +1,40 @@
+-- A load of the next place's word, which is the read (`Moves`); the numbers follow what was learned.
+use Rattle.std.proofs.Common.{◌≡◌, ◌+◌, sym, refl, ap, ◌∙◌, subst, arith, inr, Option, Some}
+use Rattle.atomic_table.specs.Seated.{TableId}
+use Rattle.mc_model.specs.declared.id.Ticket.{Ticket}
+use Rattle.mc_model.specs.Shown.{learn, read}
+use Rattle.uc_places.specs.declared.view.View.{View}
+use Rattle.uc_places.specs.Desk.{Mirrors}
+use Rattle.uc_places.specs.Told.{SeatState, moved_on}
+use Rattle.uc_places.specs.Words.{found_in}
+use Rattle.uc_places.proofs.Mirroring.{found_some, mirrors_learned, small_ticket, words_of}
+use Rattle.uc_places.proofs.Moves.{reads_at}
+use Rattle.uc_places.proofs.seats.Pending.read.Goals as goal
+
+pub load-found-requires : goal.load-found-requires
+load-found-requires c = let d = c.args.self.desk in let m = d.mirrors in let workers = m.workers in let learned = m.learned in
+    let room = c.requires.room in let words = d.words in
+    let few = ap (λ (z : TableId). z.words) c.requires.place in let word = c.next_word-word.ensures in (
+      c.requires.place,
+      omega arith,
+      reads_at _ _ d.seat.me m.seated _ _ (omega arith) (inr c.args.self.pending) c.requires.room,
+    )
+
+pub invariant_of-desk-2 : goal.invariant_of-desk-2
+invariant_of-desk-2 c =
+    let d = c.args.self.desk in let view = d.seat.me.0 in let m = d.mirrors in let tells = c.load-found.ensures.2 in
+    let ticket = c.ticket_in-ticket.result in let some = c.if-found-eq0.false in
+    let last = c.load-found.new.seat.me.0.last in let state = learn view.worker view.state.phase ticket view.state in
+    let seen : found_in c.load-found.result ≡ Some ticket = found_some _ ticket some c.ticket_in-ticket.ensures in
+    let now : c.load-found.new.seat.me.0 ≡ moved_on view state last =
+    ap (λ (z : SeatState). z.0) tells.0 ∙ ap (λ (o : Option Ticket). moved_on view (read view.worker o view.state) last) seen in
+    let learned = m.learned in let room = c.requires.room in let low = m.proposals_few in
+    let small = small_ticket _ _ ticket tells.1 some c.ticket_in-ticket.ensures in
+    record {
+      words = subst (λ (v : View). c.load-found.new.seat.table_id.words ≡ 1 + v.size.workers + v.size.places) (sym now)
+          (words_of _ _ _ (sym c.load-found.ensures.0) d.words);
+      mirrors = subst (λ (v : View). Mirrors v c.learn.new.self) (sym now) (subst (Mirrors (moved_on view state last)) (sym c.learn.ensures)
+          (mirrors_learned last view state d.numbers ticket d.numbers.proposals m refl refl refl m.proposals small.0 (omega arith)
+          (omega arith) m.proposals_helped));
+      holds_no_slot = ap (λ (z : SeatState). z.1) tells.0 ∙ d.holds_no_slot;
+    }

@@ -1,0 +1,28 @@
+-- At the end the words spell a state's log (`Closing`).
+use Rattle.std.proofs.Common.{ℕ, ◌+◌, Vec, Global, ◌≡◌, List, subst, arith}
+use Rattle.core.specs.Mem.Slots.{slots_items}
+use Rattle.mc_model.specs.declared.id.Ticket.{Ticket}
+use Rattle.uc_places.specs.Desk.{AreTickets, Spells}
+use Rattle.uc_places.proofs.Closing.{closes_bare, if_ok}
+use Rattle.uc_places.proofs.Spelled.{spelled_tickets}
+use Rattle.uc_places.proofs.whole.close_bare.Goals as goal
+
+pub decided-log-requires-clause-tickets : goal.decided-log-requires-clause-tickets
+decided-log-requires-clause-tickets c =
+    let p = c.args.places in
+    let end = closes_bare p.table.shared.key _ _ c.close-closed.ensures.values.2 in
+    subst (λ (z : ℕ × ℕ). AreTickets (slots_items c.close-closed.result.words) (1 + z.0) z.1) (λ i. (p.sized.0 i, p.sized.1 i))
+    (spelled_tickets _ _ _ _ end.2)
+
+pub free-requires : goal.free-requires
+free-requires c = λ k l. let e = c.close-closed.ensures.counts.1 in let none = c.args.places.no_slot in absurd (omega arith)
+
+pub returns-clause-log : goal.returns-clause-log
+returns-clause-log c =
+    let p = c.args.places in
+    let end = closes_bare p.table.shared.key _ _ c.close-closed.ensures.values.2 in
+    let spells : Spells (slots_items c.close-closed.result.words) (1 + p.workers) p.places end.0.decided =
+    subst (λ (z : ℕ × ℕ). Spells (slots_items c.close-closed.result.words) (1 + z.0) z.1 end.0.decided) (λ i. (p.sized.0 i, p.sized.1 i)) end.2 in
+    if_ok _ (λ (v : Vec Ticket Global). (tickets : List Ticket) →
+    Spells (slots_items c.close-closed.result.words) (1 + p.workers) p.places tickets → v.items ≡ tickets) _
+    (λ v h. (end.0, end.1, h end.0.decided spells)) c.decided-log.ensures.spelled

@@ -1,0 +1,15 @@
+-- A seat that is idle or pending.
+use Rattle.std.specs.Prelude.{Bool, true, false}
+use Rattle.uc_places.specs.declared.desk.Desk.{Desk}
+use Rattle.uc_places.specs.declared.seats.Seat.{Seat}
+use Rattle.uc_places.specs.declared.seats.Seat.TheVariants as seat
+
+-- what a seat keeps, whether it is idle or pending
+abbrev pub desk_of : Seat → Desk
+desk_of (seat.Idle idle) = idle.desk
+desk_of (seat.Pending pending) = pending.desk
+
+-- its worker has no command that waits
+abbrev pub is_idle : Seat → Bool
+is_idle (seat.Idle idle) = true
+is_idle (seat.Pending pending) = false

@@ -1,0 +1,109 @@
+//! The shared words, and what each seat keeps.
+ghost use Rattle.std.specs.Prelude.{◌≡◌, ◌≢◌, ◌+◌, ◌<◌, ◌^◌, [], length, slice_index};
+ghost use Rattle.mc_model.specs.declared.id.TheConstants.{WORKERS};
+ghost use Rattle.mc_model.specs.declared.settings.TheConstants.{MAX_PLACES};
+ghost use Rattle.uc_places.specs.Desk.{Mirrors, learned_one, marked_here, owns, ticket_for};
+ghost use Rattle.uc_places.specs.Rule.{IsSmall};
+
+use crate::rule::{PlacesTable, TableSeat};
+use mc_model::{Ticket, WorkerId};
+
+/// The words that the threads of a log share.
+#[derive(Drop)]
+pub struct Places {
+    pub(crate) table: PlacesTable,
+    pub(crate) workers: usize,
+    pub(crate) places: usize,
+    ghost sized: { (table.shared.key.workers ≡ workers) × (table.shared.key.places ≡ places) × (table.shared.table_id.words ≡ 1 + workers + places) },
+    ghost small: { IsSmall table.shared.key },
+    ghost no_slot: { table.shared.table_id.slots ≡ 0 },
+}
+
+/// What a seat knows, as numbers.
+#[derive(Clone, Copy, Drop)]
+pub struct Numbers {
+    pub(crate) workers: usize,
+    pub(crate) places: usize,
+    pub(crate) worker: WorkerId,
+    /// How many places its worker has learned.
+    pub(crate) learned: usize,
+    /// How many commands its worker has announced.
+    pub(crate) announced: u64,
+    pub(crate) proposals: u64,
+    pub(crate) mark: Option<u64>,
+    /// How many tickets of each worker it has learned, by the workers' numbers.
+    pub(crate) counts: [u64; 16],
+}
+
+/// A worker's seat at the words, with its numbers.
+#[derive(Drop)]
+pub struct Desk {
+    pub(crate) seat: TableSeat,
+    pub(crate) numbers: Numbers,
+    ghost words: { seat.table_id.words ≡ 1 + seat.me.0.size.workers + seat.me.0.size.places },
+    ghost mirrors: { Mirrors seat.me.0 numbers },
+    ghost holds_no_slot: { seat.me.1 ≡ [] },
+}
+
+impl Numbers {
+    /// Where its worker's own word stands.
+    pub(crate) fn own_word(&self) -> usize
+        ensures { result ≡ 1 + self.now.worker }
+    {
+        1 + usize::from(self.worker.number())
+    }
+
+    /// Where the word of its next place stands.
+    pub(crate) fn next_word(&self) -> usize
+        requires { (self.now.workers < 2 ^ 20) × (self.now.learned < 2 ^ 30) }
+        ensures { result ≡ 1 + self.now.workers + self.now.learned }
+    {
+        1 + self.workers + self.learned
+    }
+
+    /// It has learned one more ticket, of this worker.
+    pub(crate) fn learn(&mut self, worker: WorkerId)
+        requires { (length self.old.counts ≡ 16) × (slice_index self.old.counts worker < 2 ^ 32) × (self.old.learned < 2 ^ 32) }
+        ensures { self.new ≡ learned_one self.old worker }
+    {
+        self.learned += 1;
+        self.counts[usize::from(worker.number())] += 1;
+    }
+
+    /// What it proposes where the worker whose turn it is has announced this many commands: the first of them that it hasn't learned,
+    /// or else its own.
+    pub(crate) fn proposed(&self, turn: usize, found: u64) -> Ticket
+        requires { (turn < WORKERS) × (length self.now.counts ≡ 16) × (0 < self.now.announced) }
+        ensures { result ≡ ticket_for self.now turn found }
+    {
+        let learned = self.counts[turn];
+        if learned < found {
+            Ticket {
+                worker: WorkerId::new(turn as u8).unwrap(),
+                number: learned,
+            }
+        } else {
+            Ticket {
+                worker: self.worker,
+                number: self.announced - 1,
+            }
+        }
+    }
+
+    /// Its next place becomes its mark, where it has none.
+    pub(crate) fn mark_here(&mut self)
+        ensures { self.new ≡ marked_here self.old }
+    {
+        if self.mark.is_none() {
+            self.mark = Some(self.learned as u64);
+        }
+    }
+
+    /// Whether this is the ticket of the command that its worker announced last.
+    pub(crate) fn is_own(&self, ticket: &Ticket) -> bool
+        requires { ticket.now.number < 2 ^ 32 }
+        ensures { result ≡ owns self.now ticket.now }
+    {
+        ticket.worker == self.worker && ticket.number + 1 == self.announced
+    }
+}

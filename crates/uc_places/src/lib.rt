@@ -1,0 +1,19 @@
+//! The words that the threads of a log share, under a rule: at every moment the words and the seats show one state of the log that
+//! events lead to. Each call of a seat is one event of that log, by one operation on one word.
+#![tactic(auto)]
+
+pub mod asking;
+pub mod desk;
+pub mod rule;
+pub mod seats;
+pub mod steps;
+pub mod telling;
+pub mod view;
+pub mod whole;
+pub mod words;
+
+pub use desk::Places;
+pub use seats::{Idle, Looked, Pending, Seat};
+pub use telling::tell;
+pub use whole::{close, open};
+pub use words::{ticket_in, word_of};
