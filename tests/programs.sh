@@ -1,7 +1,7 @@
 #!/usr/bin/env bash
 # Runs the built programs on their worked rows, each as both compilers built it: tests/rows/PROGRAM/ROW has the words of the
-# command line (one a line), the input, and the output, errors and status that are wanted, byte for byte. Prints a line for
-# each row that goes wrong; the last line is 'N passed, M failed'.
+# command line (one a line), the input (or the name of one of examples/), and the output, errors and status that are wanted, byte for
+# byte. Prints a line for each row that goes wrong; the last line is 'N passed, M failed'.
 set -euo pipefail
 cd "$(dirname "$0")/.."
 
@@ -13,9 +13,10 @@ failed=0
 
 # What is wrong with a run of this binary on this row; nothing where all is well.
 wrong_with() {
-    local binary=$1 row=$2 status=0 words
+    local binary=$1 row=$2 status=0 words input=$2/input
     mapfile -t words <"$row/words"
-    timeout "$seconds" "$binary" "${words[@]}" <"$row/input" >"$folder/output" 2>"$folder/errors" || status=$?
+    [ ! -e "$row/example" ] || input=examples/$(cat "$row/example")
+    timeout "$seconds" "$binary" "${words[@]}" <"$input" >"$folder/output" 2>"$folder/errors" || status=$?
     [ "$status" -eq "$(cat "$row/status")" ] || echo "status $status in place of $(cat "$row/status")"
     cmp "$row/output" "$folder/output" 2>&1 || true
     cmp "$row/errors" "$folder/errors" 2>&1 || true
