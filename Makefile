@@ -36,6 +36,7 @@ bench: kit
 	@python3 bench/items.py
 	@python3 bench/cost.py
 	@bench/reader.sh
+	@bench/cells.sh
 	@python3 bench/schedule.py
 
 # A clear word where the kit is missing, in place of the shell's.
