@@ -1,5 +1,5 @@
 # `make run` and `make test` do all set-up on a machine that has the kit (`rt` on the PATH).
-.PHONY: help run schedule test edits memory bench kit
+.PHONY: help run schedule test edits memory model bench kit
 
 help:
 	@echo 'make run      proves, builds and runs mc_stdin on its first run, and prints what it prints'
@@ -7,6 +7,7 @@ help:
 	@echo 'make test     the gate: every proof from nothing, the telling edits, the tests, the programs on their worked rows'
 	@echo 'make edits    tries all edits that must be refused; make edits CRATES="mc_items mc_read" those of some crates'
 	@echo 'make memory   runs the programs with each allocation refused in turn, mc_stdin with less and less memory too, and looks at what they answer'
+	@echo 'make model    compares mc_schedule with an independent model on lists made at random'
 	@echo 'make bench    measures the built programs; the figures of docs/BENCHMARKS.md come from it'
 
 run: kit
@@ -30,6 +31,10 @@ memory: kit
 	@tests/memory.sh
 	@python3 tests/allocations.py
 	@python3 tests/schedule_allocations.py
+
+model: kit
+	@tools/prove.sh mc_schedule >&2
+	@python3 tests/schedules.py
 
 bench: kit
 	@bench/stdin.sh
