@@ -2,7 +2,7 @@
 use crate::programs::{NO_STEPS, Program, Steps, Wanted, check_run};
 use crate::runs::{joined, single_pulls, single_pushes};
 use mc_server::{InputStep, OutputStep};
-use std::alloc::AllocError;
+use std::alloc::{AllocError, Global};
 use std::process::Abort;
 use std::sync::Wait;
 use std::test::Fail;
@@ -203,15 +203,36 @@ fn bad_lines_come_before_bad_settings(rt: HostRuntime) -> Result<(), Fail> {
     Ok(())
 }
 
+/// A list that asks for nothing.
+const OPENING: &str = "core 1 4\ntenant 4 100\n";
+
+/// The same with a comment behind it, so many bytes in all.
+fn list_of_bytes(alloc: Global, count: usize) -> Result<Vec<u8>, AllocError> {
+    let comment = "#".repeat(alloc, count.saturating_sub(OPENING.len()))?;
+    joined(alloc, &[OPENING.as_bytes(), comment.as_bytes()])
+}
+
 #[test]
-fn a_list_has_at_most_1_048_576_bytes(rt: HostRuntime) -> Result<(), Fail> {
-    let list = "core 1 4\ntenant 4 100\n";
-    let comment = "#".repeat(rt.alloc(), 1_048_576 - list.len())?;
-    let longest = [list, comment.as_str()].concat(rt.alloc())?;
-    let report = "log\nworker 0 idle learned 0 replayed 0 proposals 0\n";
-    check_reported(&rt, "", longest.as_str(), 0, report)?;
-    let longer = [list, comment.as_str(), "#"].concat(rt.alloc())?;
-    check_refused(&rt, "", longer.as_str(), "mc_schedule: line 0: bad line\n")?;
+fn a_list_of_1_048_576_bytes_is_read(rt: HostRuntime) -> Result<(), Fail> {
+    let list = list_of_bytes(rt.alloc(), 1_048_576)?;
+    let wanted = Wanted {
+        status: 0,
+        output: b"log\nworker 0 idle learned 0 replayed 0 proposals 0\n",
+        errors: b"",
+    };
+    check_run(&rt, Program::Schedule, "", &list, NO_STEPS, wanted)?;
+    Ok(())
+}
+
+#[test]
+fn a_list_of_one_byte_more_is_refused(rt: HostRuntime) -> Result<(), Fail> {
+    let list = list_of_bytes(rt.alloc(), 1_048_577)?;
+    let wanted = Wanted {
+        status: 2,
+        output: b"",
+        errors: b"mc_schedule: line 0: bad line\n",
+    };
+    check_run(&rt, Program::Schedule, "", &list, NO_STEPS, wanted)?;
     Ok(())
 }
 
