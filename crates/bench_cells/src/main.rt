@@ -70,7 +70,10 @@ fn push_and_read(log: &mut Vec<Entry>, entries: Vec<Entry>) -> Option<u64> {
         let number = entry.ticket.number;
         log.push(entry).ok()?;
         for _ in 0..READS {
-            if log.get(number as usize).is_some_and(|entry| entry.ticket.number == number) {
+            if log
+                .get(number as usize)
+                .is_some_and(|entry| entry.ticket.number == number)
+            {
                 count = count.saturating_add(1);
             }
         }
