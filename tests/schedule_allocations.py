@@ -58,6 +58,9 @@ def judge(ended, well):
         return "well"
     if (status, output, errors) == (1, b"", FAULT):
         return "told, with nothing printed"
+    if output.startswith(b"   line "):
+        # A picture comes first, and an empty line.
+        output, well = output.partition(b"\n\n")[2], well.partition(b"\n\n")[2]
     told = re.fullmatch(rb"((?:reply .*\n)*)fault (\d+) out of memory\nlog( \(\d+,\d+\))*\n(worker \d .*\n){3}", output)
     if status == 1 and errors == b"" and told and well.startswith(told[1]) and int(told[2]) in NEEDY:
         return "told of an event"
