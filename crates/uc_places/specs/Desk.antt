@@ -1,14 +1,17 @@
 -- What a seat keeps as numbers.
-use Rattle.std.specs.Prelude.{◌≡◌, ◌≢◌, ℕ, ◌+◌, ◌-◌, ◌<◌, ◌≤◌, Bool, List, length, slice_get, slice_index, slice_set, ltb, if◌then◌else◌, Option, Some, None}
+use Rattle.std.specs.Prelude.{◌≡◌, ◌≢◌, ℕ, ◌+◌, ◌-◌, ◌<◌, ◌≤◌, Bool, List, length, slice_get, slice_index, slice_set, ltb, if◌then◌else◌, Some}
 use Rattle.mc_model.specs.declared.id.TheConstants.{WORKERS}
 use Rattle.mc_model.specs.declared.id.Ticket.{Ticket}
+use Rattle.mc_model.specs.declared.shown.Phase.{Phase}
+use Rattle.mc_model.specs.declared.shown.Phase.TheVariants.{Idle, Looked}
 use Rattle.mc_model.specs.Legal.{count, ticket_of}
+use Rattle.mc_model.specs.Shown.{marked, proposal}
 use Rattle.uc_core.specs.Kept.{is_latest_of}
 use Rattle.uc_places.specs.declared.desk.Numbers.{Numbers}
 use Rattle.uc_places.specs.declared.view.Kind.TheVariants.{Seated}
 use Rattle.uc_places.specs.declared.view.View.{View}
 use Rattle.uc_places.specs.Rule.{IsSmall}
-use Rattle.uc_places.specs.Words.{place_word, said_ticket}
+use Rattle.uc_places.specs.Words.{place_word, said_ticket, said_word}
 
 -- the numbers are those of what the seat knows
 pub record Mirrors (view : View) (numbers : Numbers) : Type 0 where
@@ -26,25 +29,28 @@ pub record Mirrors (view : View) (numbers : Numbers) : Type 0 where
   pub proposals_few : numbers.proposals ≤ numbers.learned
   pub proposals_helped : numbers.proposals ≤ numbers.workers + 1
   pub mark : view.state.mark ≡ numbers.mark
+  pub phase : view.state.phase ≡ numbers.phase
+  pub word : view.state.phase ≡ Looked → numbers.proposal ≡ said_word (proposal view.worker view.state)
+  pub proposes : view.state.phase ≡ Looked → (proposal view.worker view.state).worker < WORKERS
+  pub room : view.state.phase ≡ Looked → numbers.learned < view.size.places
   pub wide : length numbers.counts ≡ 16
   pub counts : (worker : ℕ) → worker < 16 → slice_index numbers.counts worker ≡ count worker view.state.learned
 
--- one more ticket is learned, of this worker
-abbrev pub learned_one : Numbers → ℕ → Numbers
-learned_one numbers worker =
-    record numbers { learned = numbers.learned + 1; counts = slice_set numbers.counts worker (slice_index numbers.counts worker + 1) }
-
--- the next place becomes the mark, where there is none
-abbrev pub mark_or : Option ℕ → ℕ → Option ℕ
-mark_or None place = Some place
-mark_or (Some mark) place = Some mark
-
+-- the next place becomes the mark of a pending worker that has none
 abbrev pub marked_here : Numbers → Numbers
-marked_here numbers = record numbers { mark = mark_or numbers.mark numbers.learned }
+marked_here numbers = record numbers { mark = marked numbers.phase numbers.mark numbers.learned }
 
 -- the ticket is that of the command that the worker announced last
 abbrev pub owns : Numbers → Ticket → Bool
 owns numbers ticket = is_latest_of numbers.worker numbers.announced ticket
+
+-- one more ticket is learned: where it is its own, the worker is idle, and else at what is given
+abbrev pub learned_one : Numbers → Ticket → Phase → Numbers
+learned_one numbers ticket phase = record numbers {
+  learned = numbers.learned + 1;
+  phase = if owns numbers ticket then Idle else phase;
+  counts = slice_set numbers.counts ticket.worker (slice_index numbers.counts ticket.worker + 1);
+}
 
 -- what is proposed where so many commands were found of the worker whose turn it is
 abbrev pub ticket_for : Numbers → ℕ → ℕ → Ticket

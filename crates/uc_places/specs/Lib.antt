@@ -1,6 +1,7 @@
 pub mod Words
 pub mod Rule
 pub mod Told
+pub mod SeatLaw
 pub mod Desk
 pub mod Calls
 pub mod Seats

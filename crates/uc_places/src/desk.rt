@@ -1,12 +1,12 @@
 //! The shared words, and what each seat keeps.
 ghost use Rattle.std.specs.Prelude.{◌≡◌, ◌≢◌, ◌+◌, ◌<◌, ◌^◌, [], length, slice_index};
 ghost use Rattle.mc_model.specs.declared.id.TheConstants.{WORKERS};
-ghost use Rattle.mc_model.specs.declared.settings.TheConstants.{MAX_PLACES};
 ghost use Rattle.uc_places.specs.Desk.{Mirrors, learned_one, marked_here, owns, ticket_for};
 ghost use Rattle.uc_places.specs.Rule.{IsSmall};
+ghost use Rattle.uc_places.specs.SeatLaw.{SeatLaw};
 
 use crate::rule::{PlacesTable, TableSeat};
-use mc_model::{Ticket, WorkerId};
+use mc_model::{Phase, Ticket, WorkerId};
 
 /// The words that the threads of a log share.
 #[derive(Drop)]
@@ -31,17 +31,22 @@ pub struct Numbers {
     pub(crate) announced: u64,
     pub(crate) proposals: u64,
     pub(crate) mark: Option<u64>,
+    pub(crate) phase: Phase,
+    /// The word of the ticket that it proposes next, once it has looked.
+    pub(crate) proposal: u64,
     /// How many tickets of each worker it has learned, by the workers' numbers.
     pub(crate) counts: [u64; 16],
 }
 
-/// A worker's seat at the words, with its numbers.
+/// A worker's seat at the words, with its numbers. What its worker is at is known while it runs; the seats by whose types it is known
+/// before stand in `seats`.
 #[derive(Drop)]
 pub struct Desk {
     pub(crate) seat: TableSeat,
     pub(crate) numbers: Numbers,
     ghost words: { seat.table_id.words ≡ 1 + seat.me.0.size.workers + seat.me.0.size.places },
     ghost mirrors: { Mirrors seat.me.0 numbers },
+    ghost law: { SeatLaw seat.me.0.size seat.me.0.worker seat.me.0.state },
     ghost holds_no_slot: { seat.me.1 ≡ [] },
 }
 
@@ -61,13 +66,19 @@ impl Numbers {
         1 + self.workers + self.learned
     }
 
-    /// It has learned one more ticket, of this worker.
-    pub(crate) fn learn(&mut self, worker: WorkerId)
-        requires { (length self.old.counts ≡ 16) × (slice_index self.old.counts worker < 2 ^ 32) × (self.old.learned < 2 ^ 32) }
-        ensures { self.new ≡ learned_one self.old worker }
+    /// It has learned one more ticket: where that is its own, it is idle, and else at what is given.
+    pub(crate) fn learn(&mut self, ticket: &Ticket, phase: Phase)
+        requires counts { (length self.old.counts ≡ 16) × (slice_index self.old.counts ticket.now.worker < 2 ^ 32) }
+        requires small { (self.old.learned < 2 ^ 32) × (ticket.now.number < 2 ^ 32) }
+        ensures { self.new ≡ learned_one self.old ticket.now phase }
     {
+        self.phase = if self.is_own(ticket) {
+            Phase::Idle
+        } else {
+            phase
+        };
         self.learned += 1;
-        self.counts[usize::from(worker.number())] += 1;
+        self.counts[usize::from(ticket.worker.number())] += 1;
     }
 
     /// What it proposes where the worker whose turn it is has announced this many commands: the first of them that it hasn't learned,
@@ -90,17 +101,17 @@ impl Numbers {
         }
     }
 
-    /// Its next place becomes its mark, where it has none.
+    /// Its next place becomes its mark, where it is pending and has none.
     pub(crate) fn mark_here(&mut self)
         ensures { self.new ≡ marked_here self.old }
     {
-        if self.mark.is_none() {
+        if self.phase == Phase::Pending && self.mark.is_none() {
             self.mark = Some(self.learned as u64);
         }
     }
 
     /// Whether this is the ticket of the command that its worker announced last.
-    pub(crate) fn is_own(&self, ticket: &Ticket) -> bool
+    fn is_own(&self, ticket: &Ticket) -> bool
         requires { ticket.now.number < 2 ^ 32 }
         ensures { result ≡ owns self.now ticket.now }
     {

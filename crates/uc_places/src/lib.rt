@@ -4,6 +4,7 @@
 
 pub mod asking;
 pub mod desk;
+pub mod events;
 pub mod rule;
 pub mod seats;
 pub mod steps;
@@ -12,7 +13,7 @@ pub mod view;
 pub mod whole;
 pub mod words;
 
-pub use desk::Places;
+pub use desk::{Desk, Places};
 pub use seats::{Idle, Looked, Pending, Seat};
 pub use telling::tell;
 pub use whole::{close, open};

@@ -1,11 +1,9 @@
 //! The seats, by what their workers are at: a seat has the calls that its worker can take, and no others.
-ghost use Rattle.std.specs.Prelude.{◌≡◌, ◌<◌, ◌^◌};
+ghost use Rattle.std.specs.Prelude.{◌≡◌};
 ghost use Rattle.mc_model.specs.declared.shown.Phase.TheVariants as phase;
-ghost use Rattle.mc_model.specs.Shown.{proposal};
-ghost use Rattle.uc_places.specs.Calls.{size_of, state_of, worker_of};
+ghost use Rattle.uc_places.specs.Calls.{state_of};
 
 use crate::desk::Desk;
-use mc_model::Ticket;
 
 /// The seat of a worker that has no command that waits.
 #[derive(Drop)]
@@ -19,20 +17,13 @@ pub struct Idle {
 pub struct Pending {
     pub(crate) desk: Desk,
     ghost pending: { (state_of desk).phase ≡ phase.Pending },
-    ghost announced: { 0 < desk.numbers.announced },
 }
 
 /// The seat of a pending worker that has looked at whom to help at its next place.
 #[derive(Drop)]
 pub struct Looked {
     pub(crate) desk: Desk,
-    // What it will propose.
-    pub(crate) ticket: Ticket,
     ghost looked: { (state_of desk).phase ≡ phase.Looked },
-    ghost announced: { 0 < desk.numbers.announced },
-    ghost room: { desk.numbers.learned < (size_of desk).places },
-    ghost ticket_is: { ticket ≡ proposal (worker_of desk) (state_of desk) },
-    ghost small: { ticket.number < 2 ^ 20 },
 }
 
 /// A seat between two of its worker's steps: idle, or pending still.

@@ -1,5 +1,5 @@
-//! The calls of a seat: each is one operation on one word, and one event of the log.
-ghost use Rattle.std.specs.Prelude.{◌≡◌, ◌≢◌, ◌<◌, None, Some, true, false, length, slice_get};
+//! The calls of a seat: each is an event of its desk.
+ghost use Rattle.std.specs.Prelude.{◌≡◌, ◌≢◌, ◌⊎◌, None, Some, true, false, length, slice_get};
 ghost use Rattle.mc_model.specs.declared.shown.Phase.TheVariants as phase;
 ghost use Rattle.mc_model.specs.Lawful.{HasRoom, announced_by, announces, looks, proposes, reads, turn};
 ghost use Rattle.mc_model.specs.Shown.{announce, look, propose, read};
@@ -7,20 +7,17 @@ ghost use Rattle.uc_places.specs.Calls.{IsSeatOf, Makes, known, last_of, size_of
 ghost use Rattle.uc_places.specs.Seats.{desk_of, is_idle};
 
 use crate::desk::{Desk, Places};
-use crate::rule::{Announcing, Looking, Proposing, Reading};
 use crate::seats::{Idle, Looked, Pending, Seat};
-use crate::words::{ticket_in, word_of};
 use mc_model::Ticket;
 
-/// The seat of a worker that has learned a ticket, which may be its own.
-pub(crate) fn settled(desk: Desk, is_own: bool) -> Seat
-    requires own { is_own ≡ true → (state_of desk).phase ≡ phase.Idle }
-    requires other { is_own ≡ false → (state_of desk).phase ≡ phase.Pending }
-    requires announced { is_own ≡ false → 0 < desk.numbers.announced }
+/// The seat of a worker that is between two steps.
+pub(crate) fn settled(desk: Desk) -> Seat
+    requires rests { ((state_of desk).phase ≡ phase.Idle) ⊎ ((state_of desk).phase ≡ phase.Pending) }
     ensures desk { desk_of result ≡ desk }
-    ensures idle { is_idle result ≡ is_own }
+    ensures idle { is_idle result ≡ true → (state_of desk).phase ≡ phase.Idle }
+    ensures pending { is_idle result ≡ false → (state_of desk).phase ≡ phase.Pending }
 {
-    if is_own {
+    if desk.is_idle() {
         Seat::Idle(Idle { desk })
     } else {
         Seat::Pending(Pending { desk })
@@ -34,22 +31,9 @@ impl Idle {
         requires room { HasRoom (size_of self.desk) (state_of self.desk) }
         ensures { Makes self.desk result.desk (announces (worker_of self.desk)) (announce (state_of self.desk)) }
     {
-        let Idle { desk } = self;
-        let Desk {
-            mut seat,
-            mut numbers,
-        } = desk;
-        let word = numbers.own_word();
-        let before = places
-            .table
-            .shared
-            .fetch_add::<Announcing>(&mut seat, word, 1);
-        numbers.announced = before + 1;
-        numbers.proposals = 0;
-        numbers.mark = None;
-        Pending {
-            desk: Desk { seat, numbers },
-        }
+        let Idle { mut desk } = self;
+        desk.announce(places);
+        Pending { desk }
     }
 
     /// Reads the next place, and learns the ticket that stands there, if one does.
@@ -64,15 +48,7 @@ impl Idle {
         ensures told { (ticket : Ticket) → slice_get (known self.old.desk).told (length (state_of self.old.desk).learned) ≡ Some ticket →
             result ≡ Some ticket }
     {
-        let desk = &mut self.desk;
-        let word = desk.numbers.next_word();
-        let found = places.table.shared.load::<Reading>(&mut desk.seat, word);
-        if found == 0 {
-            return None;
-        }
-        let ticket = ticket_in(found);
-        desk.numbers.learn(ticket.worker);
-        Some(ticket)
+        self.desk.read(places)
     }
 }
 
@@ -89,23 +65,9 @@ impl Pending {
         ensures told { (ticket : Ticket) → slice_get (known self.desk).told (length (state_of self.desk).learned) ≡ Some ticket →
             result.1 ≡ Some ticket }
     {
-        let Pending { desk } = self;
-        let Desk {
-            mut seat,
-            mut numbers,
-        } = desk;
-        let word = numbers.next_word();
-        let found = places.table.shared.load::<Reading>(&mut seat, word);
-        if found == 0 {
-            numbers.mark_here();
-            let desk = Desk { seat, numbers };
-            return (Seat::Pending(Pending { desk }), None);
-        }
-        let ticket = ticket_in(found);
-        let is_own = numbers.is_own(&ticket);
-        numbers.learn(ticket.worker);
-        let desk = Desk { seat, numbers };
-        (settled(desk, is_own), Some(ticket))
+        let Pending { mut desk } = self;
+        let found = desk.read(places);
+        (settled(desk), found)
     }
 
     /// Looks at the worker whose turn it is at the next place: its first command that isn't learned is to be helped, if there is one.
@@ -116,15 +78,9 @@ impl Pending {
         ensures { Makes self.desk result.desk (looks (worker_of self.desk)) (look (turn (size_of self.desk) (state_of self.desk))
             (announced_by (last_of result.desk) (turn (size_of self.desk) (state_of self.desk))) (state_of self.desk)) }
     {
-        let Pending { desk } = self;
-        let Desk { mut seat, numbers } = desk;
-        let turn = numbers.learned % numbers.workers;
-        let found = places.table.shared.load::<Looking>(&mut seat, 1 + turn);
-        let ticket = numbers.proposed(turn, found);
-        Looked {
-            desk: Desk { seat, numbers },
-            ticket,
-        }
+        let Pending { mut desk } = self;
+        desk.look(places);
+        Looked { desk }
     }
 }
 
@@ -138,22 +94,8 @@ impl Looked {
         // What is given is what stands at the next place.
         ensures stands { slice_get (last_of (desk_of result.0)).decided (length (state_of self.desk).learned) ≡ Some result.1 }
     {
-        let Looked { desk, ticket } = self;
-        let Desk {
-            mut seat,
-            mut numbers,
-        } = desk;
-        let place = numbers.next_word();
-        let word = word_of(&ticket);
-        let found = places
-            .table
-            .shared
-            .compare_exchange::<Proposing>(&mut seat, place, 0, word);
-        let learned = if found == 0 { ticket } else { ticket_in(found) };
-        let is_own = numbers.is_own(&learned);
-        numbers.learn(learned.worker);
-        numbers.proposals += 1;
-        let desk = Desk { seat, numbers };
-        (settled(desk, is_own), learned)
+        let Looked { mut desk } = self;
+        let ticket = desk.propose(places);
+        (settled(desk), ticket)
     }
 }

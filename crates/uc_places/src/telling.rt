@@ -10,19 +10,25 @@ use crate::rule::{Comparing, Noting};
 use crate::seats::Seat;
 use crate::steps::settled;
 
-/// Tells what the first desk's worker has learned to the second, by three loads of word 0: a note is made, taken in, and compared.
-fn tell_desk(places: &Places, from: &mut Desk, to: &mut Desk)
-    requires { IsSeatOf places.now from.old × IsSeatOf places.now to.old }
-    ensures first { (from.new.seat.table_id ≡ from.old.seat.table_id) × (known from.new ≡ known from.old) × (from.new.numbers ≡ from.old.numbers) }
-    ensures second { (to.new.seat.table_id ≡ to.old.seat.table_id)
-        × (known to.new ≡ told_list (known to.old) (state_of from.old).learned) × (to.new.numbers ≡ to.old.numbers) }
-    ensures compared { BeginsWith (state_of from.old).learned (state_of to.old).learned
-        ⊎ BeginsWith (state_of to.old).learned (state_of from.old).learned }
-{
-    let shared = &places.table.shared;
-    let note = shared.split_seat::<Noting>(&mut from.seat);
-    shared.join_seat::<Noting>(&mut to.seat, note);
-    shared.load::<Comparing>(&mut to.seat, 0);
+impl Desk {
+    /// Tells what this worker has learned to another's desk, by three loads of word 0: a note is made, taken in, and compared. The other
+    /// finds each place of which it was told as it was told, and of what the two have learned, one begins with the other.
+    pub fn tell(&mut self, places: &Places, other: &mut Desk)
+        requires { IsSeatOf places.now self.old × IsSeatOf places.now other.old }
+        // This one knows what it knew.
+        ensures first { (self.new.seat.table_id ≡ self.old.seat.table_id) × (known self.new ≡ known self.old) }
+        // The other was told this one's list, and knows what it knew.
+        ensures second { (other.new.seat.table_id ≡ other.old.seat.table_id)
+            × (known other.new ≡ told_list (known other.old) (state_of self.old).learned) }
+        // One learned list begins with the other.
+        ensures compared { BeginsWith (state_of self.old).learned (state_of other.old).learned
+            ⊎ BeginsWith (state_of other.old).learned (state_of self.old).learned }
+    {
+        let shared = &places.table.shared;
+        let note = shared.split_seat::<Noting>(&mut self.seat);
+        shared.join_seat::<Noting>(&mut other.seat, note);
+        shared.load::<Comparing>(&mut other.seat, 0);
+    }
 }
 
 /// Tells what the first seat's worker has learned to the second, and gives both back. The second finds each place of which it was told
@@ -40,10 +46,8 @@ pub fn tell(places: &Places, from: Seat, to: Seat) -> (Seat, Seat)
     // Each is idle or pending as it was.
     ensures idle { (is_idle result.0 ≡ is_idle from) × (is_idle result.1 ≡ is_idle to) }
 {
-    let from_is_idle = from.is_idle();
-    let to_is_idle = to.is_idle();
     let mut first = from.into_desk();
     let mut second = to.into_desk();
-    tell_desk(places, &mut first, &mut second);
-    (settled(first, from_is_idle), settled(second, to_is_idle))
+    first.tell(places, &mut second);
+    (settled(first), settled(second))
 }

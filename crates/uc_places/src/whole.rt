@@ -20,7 +20,7 @@ use crate::rule::{Dealing, PlacesTable};
 use crate::seats::{Idle, Seat};
 use crate::words::ticket_in;
 use atomic_table::Closed;
-use mc_model::{Fault, LogSize, Ticket, WorkerId};
+use mc_model::{Fault, LogSize, Phase, Ticket, WorkerId};
 use std::alloc::Global;
 
 /// The words before the first event.
@@ -61,6 +61,8 @@ pub fn open(alloc: Global, workers: u8, places: u64) -> Result<(Places, Vec<Idle
             announced: 0,
             proposals: 0,
             mark: None,
+            phase: Phase::Idle,
+            proposal: 0,
             counts: [0; 16],
         };
         seats.push(Idle {

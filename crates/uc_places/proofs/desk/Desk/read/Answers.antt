@@ -1,7 +1,9 @@
 -- A load of the next place's word, which is the read (`Moves`); the numbers follow what was learned.
-use Rattle.std.proofs.Common.{◌≡◌, ◌+◌, sym, refl, ap, ◌∙◌, subst, arith, inl, Option, Some}
+use Rattle.std.proofs.Common.{◌≡◌, ◌+◌, sym, refl, ap, ◌∙◌, subst, arith, ⊎_elim, Option, Some}
 use Rattle.atomic_table.specs.Seated.{TableId}
 use Rattle.mc_model.specs.declared.id.Ticket.{Ticket}
+use Rattle.mc_model.specs.declared.shown.Phase.{Phase}
+use Rattle.mc_model.specs.Lawful.{reads}
 use Rattle.mc_model.specs.Shown.{learn, read}
 use Rattle.uc_places.specs.declared.view.View.{View}
 use Rattle.uc_places.specs.Desk.{Mirrors}
@@ -9,20 +11,21 @@ use Rattle.uc_places.specs.Told.{SeatState, moved_on}
 use Rattle.uc_places.specs.Words.{found_in}
 use Rattle.uc_places.proofs.Mirroring.{found_some, mirrors_learned, small_ticket, words_of}
 use Rattle.uc_places.proofs.Moves.{reads_at}
-use Rattle.uc_places.proofs.seats.Idle.read.Goals as goal
+use Rattle.uc_places.proofs.SeatLaws.{law_after}
+use Rattle.uc_places.proofs.desk.Desk.read.Goals as goal
 
 pub load-found-requires : goal.load-found-requires
-load-found-requires c = let d = c.args.self.now.desk in let m = d.mirrors in let workers = m.workers in let learned = m.learned in
+load-found-requires c = let d = c.args.self.now in let m = d.mirrors in let workers = m.workers in let learned = m.learned in
     let room = c.requires.room in let words = d.words in
     let few = ap (λ (z : TableId). z.words) c.requires.place in let word = c.next_word-word.ensures in (
       c.requires.place,
       omega arith,
-      reads_at _ _ d.seat.me m.seated _ _ (omega arith) (inl c.args.self.now.idle) c.requires.room,
+      reads_at _ _ d.seat.me m.seated _ _ (omega arith) c.requires.phase c.requires.room,
     )
 
-pub invariant_of-desk-2 : goal.invariant_of-desk-2
-invariant_of-desk-2 c =
-    let d = c.args.self.now.desk in let view = d.seat.me.0 in let m = d.mirrors in let tells = c.load-found.ensures.2 in
+pub invariant_of-self-2 : goal.invariant_of-self-2
+invariant_of-self-2 c =
+    let d = c.args.self.now in let view = d.seat.me.0 in let m = d.mirrors in let tells = c.load-found.ensures.2 in
     let ticket = c.ticket_in-ticket.result in let some = c.if-found-eq0.false in
     let last = c.load-found.new.seat.me.0.last in let state = learn view.worker view.state.phase ticket view.state in
     let seen : found_in c.load-found.result ≡ Some ticket = found_some _ ticket some c.ticket_in-ticket.ensures in
@@ -34,7 +37,10 @@ invariant_of-desk-2 c =
       words = subst (λ (v : View). c.load-found.new.seat.table_id.words ≡ 1 + v.size.workers + v.size.places) (sym now)
           (words_of _ _ _ (sym c.load-found.ensures.0) d.words);
       mirrors = subst (λ (v : View). Mirrors v c.learn.new.self) (sym now) (subst (Mirrors (moved_on view state last)) (sym c.learn.ensures)
-          (mirrors_learned last view state d.numbers ticket d.numbers.proposals m refl refl refl m.proposals small.0 (omega arith)
+          (mirrors_learned last view state d.numbers ticket d.numbers.proposals d.numbers.phase m
+          (⊎_elim (λ idle same. (let e = sym idle ∙ m.phase ∙ same in cc)) (λ pending same. (let e = sym pending ∙ m.phase ∙ same in cc)) c.requires.phase)
+          refl (ap (λ (p : Phase). (learn view.worker p ticket view.state).phase) m.phase) refl refl m.proposals small.0 (omega arith)
           (omega arith) m.proposals_helped));
+      law = law_after view c.load-found.new.seat.me.0 (reads view.worker) _ (ap (λ (z : SeatState). z.0) tells.0) tells.4;
       holds_no_slot = ap (λ (z : SeatState). z.1) tells.0 ∙ d.holds_no_slot;
     }

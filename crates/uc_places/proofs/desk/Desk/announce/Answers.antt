@@ -2,13 +2,13 @@
 use Rattle.std.proofs.Common.{ℕ, ◌+◌, ◌∙◌, sym, ap, arith}
 use Rattle.atomic_table.specs.Seated.{TableId}
 use Rattle.uc_places.proofs.Moves.{announces_at}
-use Rattle.uc_places.proofs.seats.Idle.announce.Goals as goal
+use Rattle.uc_places.proofs.desk.Desk.announce.Goals as goal
 
 pub fetch_add-before-requires : goal.fetch_add-before-requires
-fetch_add-before-requires c = let d = c.args.self.desk in let m = d.mirrors in let inside = m.inside in let workers = m.workers in
+fetch_add-before-requires c = let d = c.args.self.now in let m = d.mirrors in let inside = m.inside in let workers = m.workers in
     let words = d.words in
     let few = ap (λ (z : TableId). z.words) c.requires.place in let word = c.own_word-word.ensures in (
       c.requires.place,
       omega arith,
-      announces_at _ _ d.seat.me m.seated _ _ (word ∙ ap (λ (number : ℕ). 1 + number) (sym m.worker)) c.args.self.idle c.requires.room,
+      announces_at _ _ d.seat.me m.seated _ _ (word ∙ ap (λ (number : ℕ). 1 + number) (sym m.worker)) c.requires.idle c.requires.room,
     )

@@ -1,0 +1,91 @@
+//! The events of a desk, in place: each is one operation on one word, and one event of the log.
+ghost use Rattle.std.specs.Prelude.{◌≡◌, ◌≢◌, ◌⊎◌, ◌<◌, None, Some, length, slice_get};
+ghost use Rattle.mc_model.specs.declared.id.Ticket.{Ticket};
+ghost use Rattle.mc_model.specs.declared.shown.Phase.TheVariants as phase;
+ghost use Rattle.mc_model.specs.Lawful.{HasRoom, announced_by, announces, looks, proposes, reads, turn};
+ghost use Rattle.mc_model.specs.Shown.{announce, look, propose, read};
+ghost use Rattle.uc_places.specs.Calls.{IsSeatOf, Makes, known, last_of, size_of, state_of, worker_of};
+
+use crate::desk::{Desk, Places};
+use crate::rule::{Announcing, Looking, Proposing, Reading};
+use crate::words::{ticket_in, word_of};
+use mc_model::{Phase, Ticket};
+
+impl Desk {
+    /// Announces the worker's next command.
+    pub fn announce(&mut self, places: &Places)
+        requires place { IsSeatOf places.now self.old }
+        requires idle { (state_of self.old).phase ≡ phase.Idle }
+        requires room { HasRoom (size_of self.old) (state_of self.old) }
+        ensures { Makes self.old self.new (announces (worker_of self.old)) (announce (state_of self.old)) }
+    {
+        let word = self.numbers.own_word();
+        let shared = &places.table.shared;
+        let before = shared.fetch_add::<Announcing>(&mut self.seat, word, 1);
+        self.numbers.announced = before + 1;
+        self.numbers.proposals = 0;
+        self.numbers.mark = None;
+        self.numbers.phase = Phase::Pending;
+    }
+
+    /// Reads the next place, and learns the ticket that stands there, if one does: where it is its own, the worker is idle. An empty
+    /// place becomes the mark of a pending worker that has none.
+    pub fn read(&mut self, places: &Places) -> Option<Ticket>
+        requires place { IsSeatOf places.now self.old }
+        requires phase { ((state_of self.old).phase ≡ phase.Idle) ⊎ ((state_of self.old).phase ≡ phase.Pending) }
+        requires room { HasRoom (size_of self.old) (state_of self.old) }
+        ensures made { Makes self.old self.new (reads (worker_of self.old)) (read (worker_of self.old) result (state_of self.old)) }
+        // What is given is what stands at the next place.
+        ensures stands { slice_get (last_of self.new).decided (length (state_of self.old).learned) ≡ result }
+        // What the seat was told of that place is what it finds.
+        ensures told { (ticket : Ticket) → slice_get (known self.old).told (length (state_of self.old).learned) ≡ Some ticket → result ≡ Some ticket }
+    {
+        let word = self.numbers.next_word();
+        let shared = &places.table.shared;
+        let found = shared.load::<Reading>(&mut self.seat, word);
+        if found == 0 {
+            self.numbers.mark_here();
+            return None;
+        }
+        let ticket = ticket_in(found);
+        let phase = self.numbers.phase;
+        self.numbers.learn(&ticket, phase);
+        Some(ticket)
+    }
+
+    /// Looks at the worker whose turn it is at the next place: its first command that isn't learned is to be helped, if there is one.
+    pub fn look(&mut self, places: &Places)
+        requires place { IsSeatOf places.now self.old }
+        requires pending { (state_of self.old).phase ≡ phase.Pending }
+        requires room { HasRoom (size_of self.old) (state_of self.old) }
+        requires marked { (state_of self.old).mark ≢ None }
+        ensures { Makes self.old self.new (looks (worker_of self.old)) (look (turn (size_of self.old) (state_of self.old))
+            (announced_by (last_of self.new) (turn (size_of self.old) (state_of self.old))) (state_of self.old)) }
+    {
+        let turn = self.numbers.learned % self.numbers.workers;
+        let shared = &places.table.shared;
+        let found = shared.load::<Looking>(&mut self.seat, 1 + turn);
+        self.numbers.proposal = word_of(&self.numbers.proposed(turn, found));
+        self.numbers.phase = Phase::Looked;
+    }
+
+    /// Proposes at the next place what it found, or else its own command, by one compare-exchange, and learns the ticket that stands
+    /// there then: where it is its own, the worker is idle.
+    pub fn propose(&mut self, places: &Places) -> Ticket
+        requires place { IsSeatOf places.now self.old }
+        requires looked { (state_of self.old).phase ≡ phase.Looked }
+        ensures made { Makes self.old self.new (proposes (worker_of self.old)) (propose (worker_of self.old) (Some result) (state_of self.old)) }
+        // What is given is what stands at the next place.
+        ensures stands { slice_get (last_of self.new).decided (length (state_of self.old).learned) ≡ Some result }
+    {
+        let place = self.numbers.next_word();
+        let word = self.numbers.proposal;
+        let shared = &places.table.shared;
+        let found = shared.compare_exchange::<Proposing>(&mut self.seat, place, 0, word);
+        let stands = if found == 0 { word } else { found };
+        let ticket = ticket_in(stands);
+        self.numbers.learn(&ticket, Phase::Pending);
+        self.numbers.proposals += 1;
+        ticket
+    }
+}
