@@ -1,13 +1,16 @@
 -- What an entry that is nobody's does to a list of tables, and what they stand for after a sighting.
-use Rattle.std.proofs.Common.{◌≡◌, ℕ, suc, ◌≤◌, List, [], ◌∷◌, ◌++◌, length, Option, Some, None, true, false, refl, sym, ap, ap₂, subst, ◌∙◌, arith, slice_get, ◌==◌, if◌then◌else◌}
+use Rattle.std.proofs.Common.{◌≡◌, ℕ, ◌≤◌, List, [], ◌∷◌, ◌++◌, length, Option, Some, None, true, false, refl, sym, ap, ap₂, subst, ◌∙◌, arith, slice_get, ◌==◌, if◌then◌else◌}
 use Rattle.std.proofs.lemmas.Bool.Decides.{nat_tests}
 use Rattle.std.proofs.lemmas.Iterator.Adapters.{option_map_id}
 use Rattle.std.proofs.lemmas.List.{map-append}
-use Rattle.std.proofs.lemmas.Option.{none-some, same_Some, slice_get_past}
+use Rattle.std.proofs.lemmas.Option.{slice_get_past}
 use Rattle.std.specs.Option.{option_map}
+use Rattle.mc_model.specs.History.{state_after}
+use Rattle.mc_model.specs.Log.{own}
 use Rattle.mc_model.specs.State.{TableState, next_state}
 use Rattle.mc_model.specs.declared.request.Entry.{Entry}
 use Rattle.uc_cells.specs.Sighting.{Sighting, entries}
+use Rattle.mc_replica.proofs.Places.{same_by_places}
 use Rattle.mc_model.specs.declared.settings.Limits.{Limits}
 use Rattle.mc_model.specs.Replay.{EachStands, EachStands-length, EachStands-push, IsNobodys, TakeEffect, with_command}
 
@@ -23,13 +26,6 @@ TakeEffect-unknown tables entry unknown tenant = elim (entry.tenant == tenant) a
           slice_get_past tables tenant past ∙ sym (ap (option_map (λ state. next_state state entry.command)) (slice_get_past tables tenant past))
       | false ↦ λ apart. sym (option_map_id (slice_get tables tenant))
     ] refl
-
--- lists that are the same at each place are equal
-same_by_places : {X : Type 0} (xs ys : List X) → ((k : ℕ) → slice_get xs k ≡ slice_get ys k) → xs ≡ ys
-same_by_places [] [] same = refl
-same_by_places [] (y ∷ ys) same = absurd (none-some y (same 0))
-same_by_places (x ∷ xs) [] same = absurd (none-some x (sym (same 0)))
-same_by_places (x ∷ xs) (y ∷ ys) same = ap₂ (λ first rest. first ∷ rest) (same_Some x y (same 0)) (same_by_places xs ys (λ k. same (suc k)))
 
 -- an entry that is nobody's leaves all tables
 pub TakeEffect-nobody : (openings : List Limits) (log : List (Option Entry)) (entry : Option Entry) (old new : List TableState) → EachStands openings log old →
@@ -52,3 +48,12 @@ EachStands-seen openings history seen found old new is stands takes =
 -- as many tables as before
 pub tables-stay : (openings : List Limits) (log later : List (Option Entry)) (old new : List TableState) → EachStands openings log old → EachStands openings later new → length new ≡ length old
 tables-stay openings log later old new stands stands_later = EachStands-length openings later new stands_later ∙ sym (EachStands-length openings log old stands)
+
+-- tables of one history that were opened with the same quotas are the same
+pub tables_agree : (openings openings2 : List Limits) (history history2 : List Sighting) (tables tables2 : List TableState) →
+    openings ≡ openings2 → history ≡ history2 →
+    EachStands openings (entries history) tables → EachStands openings2 (entries history2) tables2 → tables ≡ tables2
+tables_agree openings openings2 history history2 tables tables2 quotas seen stands stands2 =
+    let state = λ (tenant : ℕ) (all : List Limits) (log : List Sighting).
+    option_map (λ opening. state_after opening (own tenant (entries log))) (slice_get all tenant) in
+    same_by_places tables tables2 (λ tenant. stands tenant ∙ (ap₂ (state tenant) quotas seen ∙ sym (stands2 tenant)))

@@ -1,5 +1,5 @@
 -- What a replica is to contracts: this project's profile.
-use Rattle.std.specs.Prelude.{ℕ, ◌≤◌, List, length, Option, refl}
+use Rattle.std.specs.Prelude.{◌≡◌, ℕ, ◌≤◌, List, length, Option, Some, refl, slice_get}
 use Rattle.std.specs.Coded.{Coded, code_by, coded×, coded_ℕ, coded_list}
 use Rattle.mc_model.specs.declared.request.Entry.{Entry}
 use Rattle.mc_model.specs.declared.settings.Limits.{Limits}
@@ -10,6 +10,11 @@ use Rattle.uc_cells.specs.Sighting.{Sighting, coded_sighting, entries}
 -- the entry that was seen; one of another ticket counts as absent already
 abbrev pub entry_of : Sighting → Option Entry
 entry_of seen = seen.entry
+
+-- at each place both histories have a sighting of one ticket in one row, if both reach it
+abbrev pub SameCells : List Sighting → List Sighting → Type 0
+SameCells ones others = (place : ℕ) (one other : Sighting) → slice_get ones place ≡ Some one → slice_get others place ≡ Some other →
+    (one.ticket ≡ other.ticket) × (one.row ≡ other.row)
 
 -- whose it is, how many places its history may have, the quotas that each tenant's table was opened with, what was seen of the
 -- places, and each tenant's table

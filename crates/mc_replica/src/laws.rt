@@ -9,12 +9,13 @@ use crate::Replica;
 
 /// Two replicas whose histories have the same own commands of a tenant, and that opened its table with the same quotas, have
 /// equal tables of it, whatever other tenants there are and whatever those did; and the replies to one and the same next entry
-/// of the tenant are equal.
+/// of the tenant are equal. So replicas of one history that opened all tables with the same quotas have equal tables.
 pub fn replicas_agree(one: &Replica<'_>, other: &Replica<'_>)
     ensures tables { (tenant : ℕ) →
         own tenant (entries one.now.history) ≡ own tenant (entries other.now.history) →
         slice_get one.now.openings tenant ≡ slice_get other.now.openings tenant →
         slice_get one.now.tables tenant ≡ slice_get other.now.tables tenant }
+    ensures whole { one.now.openings ≡ other.now.openings → one.now.history ≡ other.now.history → one.now.tables ≡ other.now.tables }
     ensures replies { (entry : Entry) →
         own entry.tenant (entries one.now.history) ≡ own entry.tenant (entries other.now.history) →
         slice_get one.now.openings entry.tenant ≡ slice_get other.now.openings entry.tenant →

@@ -5,7 +5,7 @@ ghost use Rattle.mc_model.specs.History.{state_after};
 ghost use Rattle.mc_model.specs.Kinds.{IsRetrieval, IsTakingOut};
 ghost use Rattle.mc_model.specs.Log.{own};
 ghost use Rattle.mc_model.specs.Replay.{EachStands, IsNobodys, IsRefused, TakeEffect, answer_to, empty_tables};
-ghost use Rattle.mc_replica.specs.Replica.{entry_of};
+ghost use Rattle.mc_replica.specs.Replica.{SameCells, entry_of};
 ghost use Rattle.uc_cells.specs.Sighting.{entries};
 
 use mc_items::Items;
@@ -111,6 +111,26 @@ impl<'a> Replica<'a> {
         self.history.as_slice()
     }
 
+    /// How many places were replayed.
+    pub fn len(&self) -> usize
+        ensures { result ≡ length self.now.history }
+    {
+        self.history.len()
+    }
+
+    /// Two histories of the same cells are equal, whichever threads saw them, and so are the tables that were opened with the same
+    /// quotas. Needs no memory.
+    pub fn agree(&mut self, other: &mut Replica<'_>)
+        requires long { length self.old.history ≡ length other.old.history }
+        requires cells { SameCells self.old.history other.old.history }
+        ensures equal { self.old.history ≡ other.old.history }
+        ensures tables { self.old.openings ≡ other.old.openings → self.old.tables ≡ other.old.tables }
+        ensures one { self.new ≡ self.old }
+        ensures two { other.new ≡ other.old }
+    {
+        agree_all(self.history.as_mut_slice(), other.history.as_mut_slice());
+    }
+
     /// The tenant's table.
     pub fn table(&self, tenant: TenantId) -> &Items
         requires { tenant < length self.now.tables }
@@ -155,5 +175,18 @@ impl<'a> Replica<'a> {
     {
         let Replica { places, .. } = self;
         *places
+    }
+}
+
+/// Sightings of the same cells are equal, place by place.
+fn agree_all(ones: &mut [Seen<'_>], others: &mut [Seen<'_>])
+    requires long { length ones.old ≡ length others.old }
+    requires cells { SameCells ones.old others.old }
+    ensures equal { ones.old ≡ others.old }
+    ensures one { ones.new ≡ ones.old }
+    ensures two { others.new ≡ others.old }
+{
+    for place in 0..ones.len() {
+        ones[place].agree(&mut others[place]);
     }
 }

@@ -13,3 +13,7 @@ pub record IsKnown (ticket : Ticket) (known : Option RowCells) (cell : ℕ) (fou
   pub knows_row : known ≡ Some row
   pub is_there : slice_get row (ticket.number % ROW_CELLS) ≡ Some cell
   pub knows_value : found ≡ Some value
+
+-- the same where the value isn't at hand: it is known all the same
+abbrev pub IsSealed : Ticket → Option RowCells → ℕ → Option (Option Entry) → Type 0
+IsSealed ticket known cell found = (value : Option Entry) × IsKnown ticket known cell found value

@@ -28,6 +28,10 @@ coded_sighting =
 abbrev pub counted : Ticket → Option Entry → Option Entry
 counted ticket value = option_and_then (entry_for ticket) value
 
+-- what is known of a cell's value counts as the value does
+abbrev pub known_for : Ticket → Option (Option Entry) → Option Entry
+known_for ticket found = option_and_then (counted ticket) found
+
 -- the entries that were seen, one after another
 abbrev pub entries : List Sighting → List (Option Entry)
 entries history = map (λ seen. seen.entry) history

@@ -6,6 +6,7 @@ ghost use Rattle.uc_cells.specs.Cells.{HasCell, row_at, rows_each};
 ghost use Rattle.uc_cells.specs.Sighting.{sighting};
 
 use crate::row::Row;
+use crate::sealed::Sealed;
 use crate::seen::Seen;
 use mc_model::{Entry, Fault, Ticket};
 use once_cell::race::OnceBox;
@@ -124,6 +125,31 @@ impl Cells {
             row,
             cell,
         })
+    }
+
+    /// Shows again what was seen of these cells. It takes no memory.
+    pub fn see_again(&self, known: &mut Sealed) -> Seen<'_>
+        requires has { HasCell self.now known.old.ticket }
+        requires row { known.old.row ≡ row_at self.now known.old.ticket }
+        ensures seen { result ≡ known.old }
+        ensures same { known.new ≡ known.old }
+    {
+        let Ticket { worker, number } = known.ticket;
+        let place = self.row(known.ticket);
+        let mut row = known.row.again();
+        let Some(cells) = place.get_as(&mut row) else {
+            unreachable!()
+        };
+        let mut cell = known.cell.again();
+        let Some(value) = cells.cell(number).get_as(&mut cell) else {
+            unreachable!()
+        };
+        Seen {
+            ticket: Ticket { worker, number },
+            value,
+            row,
+            cell,
+        }
     }
 
     /// Where the row of the ticket's cell stands.

@@ -2,8 +2,10 @@
 #![tactic(auto)]
 
 pub use cells::Cells;
+pub use sealed::Sealed;
 pub use seen::Seen;
 
 pub mod cells;
 mod row;
+pub mod sealed;
 pub mod seen;

@@ -3,6 +3,7 @@ ghost use Rattle.std.specs.Option.{option_copied};
 ghost use Rattle.std.specs.Prelude.{◌≡◌};
 
 use crate::row::Row;
+use crate::sealed::Sealed;
 use mc_model::{Entry, Ticket};
 use once_cell::race::Note;
 use std::marker::Model;
@@ -47,6 +48,19 @@ impl<'a> Seen<'a> {
         } else {
             None
         }
+    }
+
+    /// The same without the borrow of the cells.
+    pub fn seal(self) -> Sealed
+        ensures { result ≡ self.entry }
+    {
+        let Seen {
+            ticket,
+            value: _,
+            row,
+            cell,
+        } = self;
+        Sealed { ticket, row, cell }
     }
 
     /// Two sightings of one cell are equal, whichever threads made them. Needs no memory.
