@@ -1,0 +1,71 @@
+-- What contracts say of passes.
+use Rattle.std.specs.Prelude.{◌≡◌, ℕ, List, [], Some, slice_get}
+use Rattle.mc_model.specs.declared.command.Command.{Command}
+use Rattle.mc_model.specs.declared.id.Ticket.{Ticket}
+use Rattle.mc_model.specs.declared.request.Entry.{Entry}
+use Rattle.mc_model.specs.declared.shown.LogSize.{LogSize}
+use Rattle.mc_model.specs.declared.shown.WorkerState.{WorkerState}
+use Rattle.mc_model.specs.Legal.{ticket_of}
+use Rattle.uc_cells.specs.Cells.{row_at}
+use Rattle.uc_cells.specs.Sighting.{Sighting, sighting}
+use Rattle.uc_log.specs.declared.log.Log.{Log}
+use Rattle.uc_log.specs.declared.pass.Pass.{Pass}
+use Rattle.uc_places.specs.declared.desk.Desk.{Desk}
+use Rattle.uc_places.specs.declared.seats.Idle.{Idle}
+use Rattle.uc_places.specs.declared.view.View.{View}
+use Rattle.uc_places.specs.Calls.{IsSeatOf, known}
+use Rattle.uc_places.specs.Told.{new_seat}
+
+-- what the pass's seat knows: the size of the log, its worker's number, what its worker has come to, and what it was told
+abbrev pub seat : Pass → View
+seat pass = known pass.desk
+
+abbrev pub desk : Pass → Desk
+desk pass = pass.desk
+
+abbrev pub size : Pass → LogSize
+size pass = (seat pass).size
+
+abbrev pub worker : Pass → ℕ
+worker pass = (seat pass).worker
+
+abbrev pub state : Pass → WorkerState
+state pass = (seat pass).state
+
+abbrev pub learned : Pass → List Ticket
+learned pass = (state pass).learned
+
+-- what it saw of the cells that it filled, by the numbers of their tickets
+abbrev pub own_sightings : Pass → List Sighting
+own_sightings pass = pass.sealed.items
+
+-- the ticket of the worker's next command
+abbrev pub next_ticket : Pass → Ticket
+next_ticket pass = ticket_of (worker pass) (state pass).announced
+
+-- the size of the log, by its settings
+abbrev pub size_of : Log → LogSize
+size_of log = record { workers = log.settings.workers; places = log.settings.places }
+
+-- in which row of the log's cells the ticket's cell stands
+abbrev pub row_of : Log → Ticket → ℕ
+row_of log ticket = row_at log.cells ticket
+
+-- the pass was made with the log, and what it put is in the log's cells
+abbrev pub IsOf : Log → Pass → Type 0
+IsOf log pass = IsSeatOf log.places pass.desk × (size pass ≡ size_of log)
+    × ((number : ℕ) (seen : Sighting) → slice_get (own_sightings pass) number ≡ Some seen → seen.row ≡ row_of log seen.ticket)
+
+-- a sighting of the entry that the pass's next ticket would have with this tenant and command
+abbrev pub next_sighting : Log → Pass → ℕ → Command → Sighting
+next_sighting log pass tenant command = let ticket = next_ticket pass in
+    sighting ticket (Some (record { ticket = ticket; tenant = tenant; command = command })) (row_of log ticket)
+
+-- the pass of the worker of this number, which was never used
+abbrev pub IsNew : Log → ℕ → Pass → Type 0
+IsNew log number pass = IsOf log pass × (seat pass ≡ new_seat (size_of log) number)
+
+-- each pass has the seat of its number, and was never used
+abbrev pub AreMadeOf : List Pass → List Idle → Type 0
+AreMadeOf passes seats = (number : ℕ) (pass : Pass) → slice_get passes number ≡ Some pass →
+    (own_sightings pass ≡ []) × (seat : Idle) × (slice_get seats number ≡ Some seat) × (pass.desk ≡ seat.desk)

@@ -1,0 +1,24 @@
+//! What the workers share.
+ghost use Rattle.std.specs.Prelude.{◌≡◌};
+
+use mc_model::Settings;
+use uc_cells::Cells;
+use uc_places::Places;
+
+/// A log of set-once places: a cell for each ticket, and the words in which the workers decide which ticket stands where.
+#[derive(Drop)]
+pub struct Log {
+    pub(crate) settings: Settings,
+    pub(crate) cells: Cells,
+    pub(crate) places: Places,
+    ghost sized: { (cells.workers ≡ settings.workers) × (cells.places ≡ settings.places) },
+}
+
+impl Log {
+    /// The settings that it was opened with.
+    pub fn settings(&self) -> &Settings
+        ensures { result.now ≡ self.now.settings }
+    {
+        &self.settings
+    }
+}
