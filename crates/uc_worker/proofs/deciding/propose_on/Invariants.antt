@@ -1,0 +1,8 @@
+-- The command waits still, and has its mark.
+use Rattle.std.proofs.Common.{◌≢◌, None}
+use Rattle.uc_log.specs.Passes.{state}
+use Rattle.uc_worker.specs.Waiting.{IsWaiting}
+use Rattle.uc_worker.proofs.deciding.propose_on.Given as goal
+
+abbrev pub invariant-loop-place : goal.invariant-loop-place
+invariant-loop-place g l = record { waiting : IsWaiting l.log l.fn.pass l.pass l._place l._place-end; marked : (state l.pass).mark ≢ None }

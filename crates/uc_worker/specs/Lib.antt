@@ -1,0 +1,4 @@
+pub mod Steps
+pub mod Histories
+pub mod Waiting
+pub mod Worker

@@ -1,0 +1,56 @@
+-- What a worker's steps do to what its seat knows.
+use Rattle.std.specs.Prelude.{◌≡◌, ◌≢◌, ◌⊎◌, ℕ, ◌+◌, ◌-◌, ◌<◌, List, [], ◌∷◌, ◌++◌, length, Some, slice_get}
+use Rattle.mc_model.specs.declared.fault.Fault.{Fault}
+use Rattle.mc_model.specs.declared.fault.Fault.TheVariants.{Memory, LogFull, Taken}
+use Rattle.mc_model.specs.declared.id.Ticket.{Ticket}
+use Rattle.mc_model.specs.declared.shown.Phase.{Phase}
+use Rattle.mc_model.specs.declared.shown.Phase.TheVariants.{Idle, Pending, Looked, Stopped}
+use Rattle.mc_model.specs.Helping.{BeginsWith}
+use Rattle.mc_model.specs.Legal.{ticket_of}
+use Rattle.uc_places.specs.declared.view.View.{View}
+
+-- it is between two commands, or between two steps of one
+abbrev pub Rests : Phase → Type 0
+Rests phase = (phase ≢ Looked) × (phase ≢ Stopped)
+
+-- the same worker of a log of the same size
+abbrev pub IsSame : View → View → Type 0
+IsSame old new = (new.size ≡ old.size) × (new.worker ≡ old.worker)
+
+-- one more ticket is learned
+pub record Learns (old new : View) (ticket : Ticket) : Type 0 where
+  pub same : IsSame old new
+  pub told : new.told ≡ old.told
+  pub announced : new.state.announced ≡ old.state.announced
+  pub mark : new.state.mark ≡ old.state.mark
+  pub learned : new.state.learned ≡ old.state.learned ++ ticket ∷ []
+
+-- some tickets are learned, and nothing is announced
+pub record Later (old new : View) : Type 0 where
+  pub same : IsSame old new
+  pub told : new.told ≡ old.told
+  pub announced : new.state.announced ≡ old.state.announced
+  pub learned : BeginsWith new.state.learned old.state.learned
+
+-- one command is announced, which waits then
+pub record Announced (old new : View) : Type 0 where
+  pub same : IsSame old new
+  pub announced : new.state.announced ≡ old.state.announced + 1
+  pub learned : new.state.learned ≡ old.state.learned
+  pub phase : new.state.phase ≡ Pending
+
+-- the command that was announced last is decided, and its ticket is the last that was learned
+pub record Decided (old new : View) : Type 0 where
+  pub idle : new.state.phase ≡ Idle
+  pub more : length old.state.learned < length new.state.learned
+  pub last : slice_get new.state.learned (length new.state.learned - 1) ≡ Some (ticket_of old.worker (old.state.announced - 1))
+
+-- What a fault leaves. Where memory runs out, at most the call's command is announced, and it may take effect. Where the log is full, all
+-- places are learned; the call's command, where it was announced, isn't among them. Where the command's cell holds another value, nothing
+-- is announced.
+pub record Leaves (fault : Fault) (old new : View) : Type 0 where
+  pub which : (fault ≡ Memory) ⊎ (fault ≡ LogFull) ⊎ (fault ≡ Taken)
+  pub announced : (new.state.announced ≡ old.state.announced) ⊎ (new.state.announced ≡ old.state.announced + 1)
+  pub full : fault ≡ LogFull → length new.state.learned ≡ new.size.places
+  pub waits : fault ≡ LogFull → new.state.announced ≡ old.state.announced + 1 → new.state.phase ≡ Pending
+  pub taken : fault ≡ Taken → (new.state.announced ≡ old.state.announced) × (new.state.phase ≡ Idle)

@@ -1,0 +1,77 @@
+//! From an announcement on until it is decided.
+ghost use Rattle.std.specs.Prelude.{◌≡◌, ◌≢◌, length, None, true, false};
+ghost use Rattle.mc_model.specs.declared.shown.Phase.TheVariants as phase;
+ghost use Rattle.mc_model.specs.Lawful.{HasRoom};
+ghost use Rattle.uc_log.specs.Passes.{IsOf, learned, own_sightings, seat, size, state};
+ghost use Rattle.uc_worker.specs.Steps.{Decided, Later};
+
+use crate::gate::{Gate, Step};
+use uc_log::{Log, Pass};
+
+/// Reads until an empty place is marked, or the own ticket or all places are learned. Says whether the own ticket is.
+fn read_on<G: Gate>(log: &Log, pass: &mut Pass, gate: &mut G) -> bool
+    requires of { IsOf log.now pass.old }
+    requires pending { (state pass.old).phase ≡ phase.Pending }
+    ensures of { IsOf log.now pass.new }
+    ensures own { own_sightings pass.new ≡ own_sightings pass.old }
+    ensures later { Later (seat pass.old) (seat pass.new) }
+    ensures decided { result ≡ true → Decided (seat pass.old) (seat pass.new) }
+    ensures pending { result ≡ false → (state pass.new).phase ≡ phase.Pending }
+    ensures marked { result ≡ false → HasRoom (size pass.new) (state pass.new) → (state pass.new).mark ≢ None }
+{
+    for _place in pass.learned()..pass.places() {
+        let found = log.read(pass);
+        gate.at(Step::Read);
+        if found.is_none() {
+            return false;
+        }
+        if pass.is_idle() {
+            return true;
+        }
+    }
+    false
+}
+
+/// Looks and proposes until the own ticket is learned. Says whether it is; if not, all places are learned.
+fn propose_on<G: Gate>(log: &Log, pass: &mut Pass, gate: &mut G) -> bool
+    requires of { IsOf log.now pass.old }
+    requires pending { (state pass.old).phase ≡ phase.Pending }
+    requires marked { (state pass.old).mark ≢ None }
+    ensures of { IsOf log.now pass.new }
+    ensures own { own_sightings pass.new ≡ own_sightings pass.old }
+    ensures later { Later (seat pass.old) (seat pass.new) }
+    ensures decided { result ≡ true → Decided (seat pass.old) (seat pass.new) }
+    ensures pending { result ≡ false → (state pass.new).phase ≡ phase.Pending }
+    ensures full { result ≡ false → length (learned pass.new) ≡ (size pass.new).places }
+{
+    for _place in pass.learned()..pass.places() {
+        log.look(pass);
+        gate.at(Step::Look);
+        log.propose(pass);
+        gate.at(Step::Propose);
+        if pass.is_idle() {
+            return true;
+        }
+    }
+    false
+}
+
+/// Goes on until the command that was announced last is decided. Says whether it is; if not, all places are learned.
+pub(crate) fn decide<G: Gate>(log: &Log, pass: &mut Pass, gate: &mut G) -> bool
+    requires of { IsOf log.now pass.old }
+    requires pending { (state pass.old).phase ≡ phase.Pending }
+    ensures of { IsOf log.now pass.new }
+    ensures own { own_sightings pass.new ≡ own_sightings pass.old }
+    ensures later { Later (seat pass.old) (seat pass.new) }
+    ensures decided { result ≡ true → Decided (seat pass.old) (seat pass.new) }
+    ensures pending { result ≡ false → (state pass.new).phase ≡ phase.Pending }
+    ensures full { result ≡ false → length (learned pass.new) ≡ (size pass.new).places }
+{
+    if !pass.is_marked() && read_on(log, pass, gate) {
+        return true;
+    }
+    if pass.is_full() {
+        return false;
+    }
+    propose_on(log, pass, gate)
+}

@@ -1,0 +1,12 @@
+//! A worker of a shared log: it submits commands, helps others by turns, replays what was decided on tables of its own, and meets
+//! others. No call waits for another worker, whatever that one does or leaves undone.
+#![tactic(auto)]
+
+pub use gate::{Gate, Open, Step};
+pub use worker::{Answer, Worker};
+
+mod announcing;
+mod deciding;
+pub mod gate;
+mod replaying;
+pub mod worker;
