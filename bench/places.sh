@@ -46,8 +46,8 @@ sed 's/[:,]//g' "$log" | awk -v runs="$runs" '
     $1 == "submits" { nanoseconds = $4 }
     $1 == "steps" {
         steps = $2 + $4 + $6 + $8 + $10
-        note(head "time over submits, ns", nanoseconds / 65536)
-        note(head "steps over submits", steps / 65536)
+        note(head "time over the number of submits, ns", nanoseconds / 65536)
+        note(head "steps over the number of submits", steps / 65536)
         note(head "a step of a thread, ns", threads * nanoseconds / steps)
     }
     $1 == "timed" { for (at = 3; at <= 15; at += 2) timed[$(at + 1)] = $at }
@@ -56,7 +56,7 @@ sed 's/[:,]//g' "$log" | awk -v runs="$runs" '
         for (at = 2; at <= 10; at += 2)
             if (timed[$(at + 1)] > 0) note(head said[$(at + 1)] " by itself, ns", $at / timed[$(at + 1)] - clock)
         note(head "two readings of the clock, ns", clock)
-        note(head "timed steps left out, since the thread was stopped", timed["stopped"])
+        note(head "timed steps left out, the thread was stopped", timed["stopped"])
     }
     END {
         printf "%-64s %9s %9s\n", "of " runs " runs", "median", "range"
