@@ -42,6 +42,7 @@ bench: kit
 	@python3 bench/cost.py
 	@bench/reader.sh
 	@bench/cells.sh
+	@bench/places.sh
 	@python3 bench/schedule.py
 
 # A clear word where the kit is missing, in place of the shell's.

@@ -1,0 +1,431 @@
+//! Measures the shared words: the opening of the greatest log, reads one after another, and submits by one thread, two and four. Prints
+//! what was counted, and with `--time` also what depends on the machine: nanoseconds, memory, and how the threads met.
+#![tactic(auto)]
+
+ghost use Rattle.std.specs.Prelude.{◌≡◌, ◌<◌, ◌≤◌, ℕ, slice_get, Some, IfSome};
+ghost use Rattle.mc_model.specs.declared.id.TheConstants.{WORKERS};
+ghost use Rattle.uc_places.specs.Calls.{IsSeatOf};
+
+use mc_model::Fault;
+use std::alloc::{AllocError, Global};
+use std::fs::Files;
+use std::rt::Clock;
+use std::thread::{Threads, map_vec};
+use std::time::{Duration, Instant};
+use std::{env, fs, io};
+use uc_places::{Idle, Pending, Places, Seat, close, open};
+
+/// The most workers and the most places.
+const MOST_WORKERS: u8 = 16;
+
+const MOST_PLACES: u64 = 1_048_576;
+
+/// How many places the log of a pass has, and how many commands all workers announce together.
+const PLACES: u64 = 65_536;
+
+/// A step that takes so long was interrupted.
+const STOPPED_NANOSECONDS: u64 = 10_000;
+
+/// The kinds of steps.
+#[derive(Clone, Copy)]
+enum Kind {
+    Announce,
+    /// A read that finds a ticket.
+    Find,
+    /// A read of an empty place.
+    Miss,
+    Look,
+    Propose,
+    /// No step: the time of two readings of the clock.
+    Nothing,
+    /// A step of any kind in which its thread was stopped.
+    Stopped,
+}
+
+/// Something of each kind of step.
+#[derive(Clone, Copy, Default)]
+struct Each {
+    announce: u64,
+    find: u64,
+    miss: u64,
+    look: u64,
+    propose: u64,
+    nothing: u64,
+    stopped: u64,
+}
+
+impl Each {
+    /// Adds to what it has of the kind.
+    fn add(&mut self, kind: Kind, more: u64) {
+        let old = match kind {
+            Kind::Announce => &mut self.announce,
+            Kind::Find => &mut self.find,
+            Kind::Miss => &mut self.miss,
+            Kind::Look => &mut self.look,
+            Kind::Propose => &mut self.propose,
+            Kind::Nothing => &mut self.nothing,
+            Kind::Stopped => &mut self.stopped,
+        };
+        *old = old.saturating_add(more);
+    }
+
+    /// Of each kind what both have together.
+    fn plus(&self, other: &Each) -> Each {
+        Each {
+            announce: self.announce.saturating_add(other.announce),
+            find: self.find.saturating_add(other.find),
+            miss: self.miss.saturating_add(other.miss),
+            look: self.look.saturating_add(other.look),
+            propose: self.propose.saturating_add(other.propose),
+            nothing: self.nothing.saturating_add(other.nothing),
+            stopped: self.stopped.saturating_add(other.stopped),
+        }
+    }
+}
+
+/// Takes note of a worker's steps.
+trait Watch {
+    /// A step begins.
+    fn begin(&mut self);
+
+    /// A step of this kind has ended.
+    fn end(&mut self, kind: Kind);
+}
+
+/// Counts the steps.
+#[derive(Drop)]
+struct Counter {
+    steps: Each,
+}
+
+impl Watch for Counter {
+    fn begin(&mut self) {}
+
+    fn end(&mut self, kind: Kind) {
+        self.steps.add(kind, 1);
+    }
+}
+
+/// Counts the steps, and reads the clock before and after each.
+#[derive(Drop)]
+struct Stopwatch<'a, R: Clock> {
+    clock: &'a R,
+    start: Duration,
+    steps: Each,
+    nanoseconds: Each,
+}
+
+impl<'a, R: Clock> Watch for Stopwatch<'a, R> {
+    fn begin(&mut self) {
+        self.start = now(self.clock);
+    }
+
+    fn end(&mut self, kind: Kind) {
+        let time = now(self.clock).saturating_sub(self.start);
+        let nanoseconds = u64::try_from(time.as_nanos()).unwrap_or(u64::MAX);
+        // The system gave the processor to others: that says nothing of the step.
+        let kind = if nanoseconds < STOPPED_NANOSECONDS {
+            kind
+        } else {
+            Kind::Stopped
+        };
+        self.steps.add(kind, 1);
+        self.nanoseconds.add(kind, nanoseconds);
+    }
+}
+
+/// What the clock shows; zero where it can't be read.
+fn now(clock: &impl Clock) -> Duration {
+    clock.monotonic().unwrap_or(Duration::ZERO)
+}
+
+/// Announces a command and goes on until it is decided; none where there is no room.
+fn submit<W: Watch>(places: &Places, idle: Idle, watch: &mut W) -> Option<Idle>
+    requires { IsSeatOf places.now idle.desk }
+    ensures { IfSome result (λ next. IsSeatOf places.now next.desk) }
+{
+    if idle.is_full() {
+        return None;
+    }
+    watch.begin();
+    let mut pending = idle.announce(places);
+    watch.end(Kind::Announce);
+    for _ in 0..u64::MAX {
+        if pending.is_full() {
+            break;
+        }
+        let is_marked = pending.is_marked();
+        watch.begin();
+        let seat = if is_marked {
+            let looked = pending.look(places);
+            watch.end(Kind::Look);
+            watch.begin();
+            let (seat, _) = looked.propose(places);
+            watch.end(Kind::Propose);
+            seat
+        } else {
+            let (seat, found) = pending.read(places);
+            watch.end(if found.is_some() {
+                Kind::Find
+            } else {
+                Kind::Miss
+            });
+            seat
+        };
+        match seat {
+            Seat::Idle(idle) => return Some(idle),
+            Seat::Pending(next) => pending = next,
+        }
+    }
+    None
+}
+
+/// Announces so many commands, each once the one before is decided.
+fn submit_all<W: Watch>(places: &Places, mut idle: Idle, commands: u64, watch: &mut W)
+    requires { IsSeatOf places.now idle.desk }
+{
+    for _ in 0..commands {
+        watch.begin();
+        watch.end(Kind::Nothing);
+        match submit(places, idle, watch) {
+            Some(next) => idle = next,
+            None => return,
+        }
+    }
+}
+
+/// What one worker's steps were, and their nanoseconds, which are zero where they are only counted.
+fn work<R: Clock>(rt: &R, places: &Places, idle: Idle, commands: u64, timed: bool) -> (Each, Each)
+    requires { IsSeatOf places.now idle.desk }
+{
+    let steps = Each::default();
+    let nanoseconds = Each::default();
+    if timed {
+        let mut watch = Stopwatch {
+            clock: rt,
+            start: Duration::ZERO,
+            steps,
+            nanoseconds,
+        };
+        submit_all(places, idle, commands, &mut watch);
+        (watch.steps, watch.nanoseconds)
+    } else {
+        let mut watch = Counter { steps };
+        submit_all(places, idle, commands, &mut watch);
+        (watch.steps, nanoseconds)
+    }
+}
+
+/// What the workers of one log did.
+#[derive(Clone, Copy, Default)]
+struct Run {
+    /// How many places were decided in the end.
+    decided: usize,
+    /// From before the first thread's start to after the last one's end.
+    nanoseconds: u128,
+    steps: Each,
+    /// The time of all workers' steps of each kind, a reading of the clock in each; zero where the steps were only counted.
+    step_nanoseconds: Each,
+}
+
+/// So many workers, each in a thread of its own, announce all commands of a new log. With `timed` each step is timed.
+fn run_threads<R: Threads + Clock + Sync>(
+    rt: &R,
+    alloc: Global,
+    workers: u8,
+    timed: bool,
+) -> Result<Run, Fault>
+    requires { (0 < workers) × (workers ≤ WORKERS) }
+{
+    let (places, seats) = open(alloc, workers, PLACES)?;
+    let shared = &places;
+    let commands = PLACES / u64::from(workers);
+    let start = now(rt);
+    let worked = map_vec(
+        rt,
+        seats,
+        &|idle: Idle| -> (Each, Each)
+            requires { IsSeatOf shared.now idle.desk }
+        { work(rt, shared, idle, commands, timed) },
+    )?;
+    let time = now(rt).saturating_sub(start);
+    let log = close(alloc, places, Vec::new(alloc))?;
+    let mut run = Run {
+        decided: log.len(),
+        nanoseconds: time.as_nanos(),
+        steps: Each::default(),
+        step_nanoseconds: Each::default(),
+    };
+    for (steps, nanoseconds) in &worked {
+        run.steps = run.steps.plus(steps);
+        run.step_nanoseconds = run.step_nanoseconds.plus(nanoseconds);
+    }
+    Ok(run)
+}
+
+/// The seats of worker 0 and worker 1.
+fn both_seats(places: &Places, mut seats: Vec<Idle>) -> Option<(Idle, Idle)>
+    requires { (worker : ℕ) (seat : _) → slice_get seats.items worker ≡ Some seat → IsSeatOf places.now seat.desk }
+    ensures { IfSome result (λ pair. IsSeatOf places.now pair.0.desk × IsSeatOf places.now pair.1.desk) }
+{
+    let second = seats.pop()?;
+    let first = seats.pop()?;
+    Some((first, second))
+}
+
+/// Reads so many places, while they are decided.
+fn read_idle(places: &Places, mut idle: Idle, most: u64) -> Idle
+    requires { IsSeatOf places.now idle.desk }
+    ensures { IsSeatOf places.now result.desk }
+{
+    for _ in 0..most {
+        if idle.is_full() || idle.read(places).is_none() {
+            break;
+        }
+    }
+    idle
+}
+
+/// Reads so often; none where the worker's own command is found.
+fn read_pending(places: &Places, mut pending: Pending, times: u64) -> Option<Pending>
+    requires { IsSeatOf places.now pending.desk }
+    ensures { IfSome result (λ next. IsSeatOf places.now next.desk) }
+{
+    for _ in 0..times {
+        if pending.is_full() {
+            break;
+        }
+        match pending.read(places).0 {
+            Seat::Pending(next) => pending = next,
+            Seat::Idle(_) => return None,
+        }
+    }
+    Some(pending)
+}
+
+/// What the clock shows before and after each part of a worker's reads, and how many places it has learned in the end.
+struct Reads {
+    times: [Duration; 5],
+    learned: usize,
+}
+
+/// A worker reads places that another has decided, half of them idle and half of them pending, and then an empty place again and again.
+fn read_parts<R: Clock>(rt: &R, places: &Places, first: Idle, second: Idle) -> Option<Reads>
+    requires { IsSeatOf places.now first.desk × IsSeatOf places.now second.desk }
+{
+    let mut watch = Counter {
+        steps: Each::default(),
+    };
+    submit_all(places, first, PLACES - 1, &mut watch);
+    let before_idle = now(rt);
+    let second = read_idle(places, second, PLACES / 2);
+    let after_idle = now(rt);
+    if second.is_full() {
+        return None;
+    }
+    let pending = second.announce(places);
+    let before_pending = now(rt);
+    let pending = read_pending(places, pending, PLACES / 2 - 1)?;
+    let after_pending = now(rt);
+    let pending = read_pending(places, pending, PLACES)?;
+    Some(Reads {
+        times: [
+            before_idle,
+            after_idle,
+            before_pending,
+            after_pending,
+            now(rt),
+        ],
+        learned: pending.learned(),
+    })
+}
+
+/// The line of the process's status that begins so, in kB; 0 where the system tells none.
+fn status_of<R: Files + AllocGlobal>(rt: &R, head: &str) -> io::Result<u64> {
+    let status = fs::read_to_string(rt, "/proc/self/status")?;
+    let line = status.lines().find(|line| line.starts_with(head));
+    let number = line.and_then(|line| line.split_whitespace().nth(1));
+    Ok(number.and_then(|number| number.parse().ok()).unwrap_or(0))
+}
+
+/// Opens the greatest log and lets it go.
+fn report_open(rt: &(impl AllocGlobal + Clock + Files + Print), timed: bool) -> io::Result<()> {
+    let before = if timed { status_of(rt, "VmRSS:")? } else { 0 };
+    let start = Instant::now(rt)?;
+    let (places, seats) = open(rt.alloc(), MOST_WORKERS, MOST_PLACES).map_err(|_| AllocError)?;
+    let nanoseconds = start.elapsed(rt)?.as_nanos();
+    let count = seats.len();
+    println!(rt; "opened: {count} seats")?;
+    if timed {
+        let after = status_of(rt, "VmRSS:")?;
+        let most = status_of(rt, "VmHWM:")?;
+        println!(rt;
+            "open: {nanoseconds} ns, {before} kB before, {after} kB after, {most} kB at most"
+        )?;
+    }
+    drop(places);
+    Ok(())
+}
+
+/// Times reads by one worker of what another has decided.
+fn report_reads(rt: &(impl AllocGlobal + Clock + Print), timed: bool) -> io::Result<()> {
+    let (places, seats) = open(rt.alloc(), 2, PLACES).map_err(|_| AllocError)?;
+    let (first, second) = both_seats(&places, seats).ok_or(AllocError)?;
+    let Reads { times, learned } = read_parts(rt, &places, first, second).ok_or(AllocError)?;
+    println!(rt; "read: {learned} places")?;
+    if timed {
+        let idle = times[1].saturating_sub(times[0]).as_nanos();
+        let pending = times[3].saturating_sub(times[2]).as_nanos();
+        let empty = times[4].saturating_sub(times[3]).as_nanos();
+        println!(rt; "reads: {idle} ns idle, {pending} ns pending, {empty} ns empty")?;
+    }
+    Ok(())
+}
+
+/// Prints what there is of each kind.
+fn print_each(rt: &impl Print, what: &str, each: &Each) -> io::Result<()> {
+    let Each {
+        announce,
+        find,
+        miss,
+        look,
+        propose,
+        nothing,
+        stopped,
+    } = *each;
+    print!(rt; "{what}: {announce} announce, {find} find, {miss} miss, {look} look, ")?;
+    println!(rt; "{propose} propose, {nothing} nothing, {stopped} stopped")
+}
+
+/// So many workers announce all commands of a log, first with their steps counted, then with each step timed.
+fn report_threads<R: AllocGlobal + Clock + Print + Threads + Sync>(
+    rt: &R,
+    workers: u8,
+    timed: bool,
+) -> io::Result<()>
+    requires { (0 < workers) × (workers ≤ WORKERS) }
+{
+    let counted = run_threads(rt, rt.alloc(), workers, false).map_err(|_| AllocError)?;
+    let watched = run_threads(rt, rt.alloc(), workers, true).map_err(|_| AllocError)?;
+    let decided = counted.decided;
+    let again = watched.decided;
+    println!(rt; "{workers} threads: {decided} decided, {again} again")?;
+    if timed {
+        let nanoseconds = counted.nanoseconds;
+        println!(rt; "submits of {workers}: {nanoseconds} ns")?;
+        print_each(rt, "steps", &counted.steps)?;
+        print_each(rt, "timed steps", &watched.steps)?;
+        print_each(rt, "nanoseconds", &watched.step_nanoseconds)?;
+    }
+    Ok(())
+}
+
+fn main(rt: HostRuntime) -> io::Result<()> {
+    let timed = env::args(&rt)?.any(|word| word.as_str() == "--time");
+    report_open(&rt, timed)?;
+    report_reads(&rt, timed)?;
+    for workers in [1, 2, 4] {
+        report_threads(&rt, workers, timed)?;
+    }
+    Ok(())
+}
