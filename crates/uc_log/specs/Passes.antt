@@ -56,10 +56,12 @@ abbrev pub IsOf : Log → Pass → Type 0
 IsOf log pass = IsSeatOf log.places pass.desk × (size pass ≡ size_of log)
     × ((number : ℕ) (seen : Sighting) → slice_get (own_sightings pass) number ≡ Some seen → seen.row ≡ row_of log seen.ticket)
 
--- a sighting of the entry that the pass's next ticket would have with this tenant and command
+-- the entry that its next ticket would have with this tenant and command, and a sighting of it
+abbrev pub next_entry : Pass → ℕ → Command → Entry
+next_entry pass tenant command = record { ticket = next_ticket pass; tenant = tenant; command = command }
+
 abbrev pub next_sighting : Log → Pass → ℕ → Command → Sighting
-next_sighting log pass tenant command = let ticket = next_ticket pass in
-    sighting ticket (Some (record { ticket = ticket; tenant = tenant; command = command })) (row_of log ticket)
+next_sighting log pass tenant command = sighting (next_ticket pass) (Some (next_entry pass tenant command)) (row_of log (next_ticket pass))
 
 -- the pass of the worker of this number, which was never used
 abbrev pub IsNew : Log → ℕ → Pass → Type 0

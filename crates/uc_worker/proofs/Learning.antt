@@ -1,19 +1,18 @@
 -- What a worker's steps do to what its seat knows.
-use Rattle.std.proofs.Common.{◌≡◌, ◌≢◌, ◌⊎◌, ℕ, ◌+◌, ◌-◌, ◌<◌, ◌≤◌, ◌==◌, ◌&&◌, Bool, true, false, if◌then◌else◌, List, [], ◌∷◌, ◌++◌, length, length-append, slice_get, Option, Some, None, sym, refl, ap, ◌∙◌, subst, inl, inr, arith, eqb-true, true≢false, unwrap_or}
+use Rattle.std.proofs.Common.{◌≡◌, ◌≢◌, ℕ, ◌+◌, ◌-◌, ◌==◌, ◌&&◌, Bool, true, false, if◌then◌else◌, [], ◌∷◌, length, length-append, slice_get, Option, Some, None, sym, refl, ap, ◌∙◌, subst, arith, eqb-true, true≢false}
 use Rattle.mc_model.specs.declared.id.Ticket.{Ticket}
 use Rattle.mc_model.specs.declared.shown.Phase.{Phase}
-use Rattle.mc_model.specs.declared.shown.Phase.TheVariants.{Idle, Pending, Looked, Stopped}
+use Rattle.mc_model.specs.declared.shown.Phase.TheVariants.{Idle, Pending, Looked}
 use Rattle.mc_model.specs.declared.shown.ShownState.{ShownState}
 use Rattle.mc_model.specs.declared.shown.WorkerState.{WorkerState}
-use Rattle.mc_model.specs.Helping.{BeginsWith}
-use Rattle.mc_model.specs.Lawful.{ShownEvent, announces, looks, proposes, reads}
+use Rattle.mc_model.specs.Lawful.{announces, looks, proposes, reads}
 use Rattle.mc_model.specs.Legal.{ticket_of}
-use Rattle.mc_model.specs.Shown.{announce, is_latest, learn, look, marked, proposal, propose, read}
+use Rattle.mc_model.specs.Shown.{announce, is_latest, look, marked, propose, read}
 use Rattle.uc_places.specs.declared.desk.Desk.{Desk}
 use Rattle.uc_places.specs.declared.view.View.{View}
 use Rattle.uc_places.specs.Calls.{Makes, known, state_of, worker_of}
 use Rattle.uc_places.specs.Told.{moved_on}
-use Rattle.uc_worker.specs.Steps.{Announced, Decided, IsSame, Later, Learns, Rests}
+use Rattle.uc_worker.specs.Steps.{Announced, Decided, IsSame, Later, Learns}
 use Rattle.uc_worker.proofs.Lists.{begins_length, begins_same, begins_self, begins_through, last_at}
 
 both_true : (p q : Bool) → (p && q) ≡ true → (p ≡ true) × (q ≡ true)

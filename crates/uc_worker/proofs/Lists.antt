@@ -1,5 +1,5 @@
 -- Lists that grow at their end, and lists that begin with others.
-use Rattle.std.proofs.Common.{◌≡◌, ◌⊎◌, ℕ, zero, suc, ◌+◌, ◌<◌, ◌≤◌, List, [], ◌∷◌, ◌++◌, length, take, slice_get, Some, sym, refl, ap, ◌∙◌, inl, inr, ⊎_elim, arith, append_assoc, append-nil, length-append}
+use Rattle.std.proofs.Common.{◌≡◌, ◌⊎◌, ℕ, zero, suc, ◌<◌, ◌≤◌, List, [], ◌∷◌, ◌++◌, length, take, slice_get, Some, sym, refl, ap, ◌∙◌, inl, inr, ⊎_elim, arith, append_assoc, append-nil, length-append}
 use Rattle.std.proofs.lemmas.Option.{none-some, same_Some}
 use Rattle.mc_model.specs.Helping.{BeginsWith}
 
@@ -54,3 +54,15 @@ module _ {X : Type 0} where
   longer_begins list other (inl begins) few = begins
   longer_begins list other (inr begins) few = let long = begins_length other list begins in
       let same = begins_whole other list begins (omega arith) in begins_same list other same
+
+  -- what comes next in a list that begins with a shorter one
+  pub next_of : (list front : List X) → BeginsWith list front → length front < length list → (x : X) × (slice_get list (length front) ≡ Some x) × BeginsWith list (front ++ x ∷ [])
+  next_of list front (rest, is) shorter = by_rest rest is
+    where
+      at_seam : (front rest : List X) (x : X) → slice_get (front ++ x ∷ rest) (length front) ≡ Some x
+      at_seam [] rest x = refl
+      at_seam (y ∷ front) rest x = at_seam front rest x
+
+      by_rest : (rest : List X) → list ≡ front ++ rest → (x : X) × (slice_get list (length front) ≡ Some x) × BeginsWith list (front ++ x ∷ [])
+      by_rest [] is = absurd (let long = ap length (is ∙ append-nil front) in omega arith)
+      by_rest (x ∷ rest) is = (x, ap (λ (l : List X). slice_get l (length front)) is ∙ at_seam front rest x, (rest, is ∙ sym (append_assoc front (x ∷ []) rest)))

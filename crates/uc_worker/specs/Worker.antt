@@ -1,9 +1,15 @@
 -- What contracts say of a worker.
-use Rattle.std.specs.Prelude.{ℕ, List}
+use Rattle.std.specs.Option.{unwrap_or}
+use Rattle.std.specs.Prelude.{ℕ, ◌-◌, List, Option, Some, None, slice_get}
 use Rattle.mc_model.specs.declared.command.Command.{Command}
+use Rattle.mc_model.specs.declared.command.Command.TheVariants.{Flush}
+use Rattle.mc_model.specs.declared.request.Entry.{Entry}
 use Rattle.mc_model.specs.declared.settings.Limits.{Limits}
-use Rattle.uc_cells.specs.Sighting.{Sighting}
-use Rattle.uc_log.specs.Passes.{next_sighting, seat}
+use Rattle.mc_model.specs.Legal.{ticket_of}
+use Rattle.uc_cells.specs.Sighting.{Sighting, sighting}
+use Rattle.uc_log.specs.declared.log.Log.{Log}
+use Rattle.uc_log.specs.declared.pass.Pass.{Pass}
+use Rattle.uc_log.specs.Passes.{next_sighting, own_sightings, row_of, seat, state}
 use Rattle.uc_places.specs.declared.view.View.{View}
 use Rattle.uc_worker.specs.declared.worker.Worker.{Worker}
 
@@ -22,3 +28,15 @@ tenants_of worker = worker.log.now.settings.tenants
 -- its next command's ticket with this tenant and command, as it is seen in the log's cell
 abbrev pub next_of : Worker → ℕ → Command → Sighting
 next_of worker tenant command = next_sighting worker.log.now worker.pass tenant command
+
+-- an entry as it is seen in the cell of its ticket
+abbrev pub sighting_of : Log → Entry → Sighting
+sighting_of log entry = sighting entry.ticket (Some entry) (row_of log entry.ticket)
+
+-- the entry of the command that a pass announced last, or any where it has announced none
+abbrev pub entry_or : Option Sighting → Entry
+entry_or (Some seen) = unwrap_or seen.entry (record { ticket = ticket_of 0 0; tenant = 0; command = Flush })
+entry_or None = record { ticket = ticket_of 0 0; tenant = 0; command = Flush }
+
+abbrev pub last_entry : Pass → Entry
+last_entry pass = entry_or (slice_get (own_sightings pass) ((state pass).announced - 1))

@@ -6,7 +6,12 @@ pub use gate::{Gate, Open, Step};
 pub use worker::{Answer, Worker};
 
 mod announcing;
+mod asking;
+mod catching_up;
 mod deciding;
 pub mod gate;
+mod meeting;
+mod opening;
 mod replaying;
+mod submitting;
 pub mod worker;

@@ -1,5 +1,5 @@
 -- The cell of the next ticket is filled, kept at the end, and then the ticket is announced.
-use Rattle.std.proofs.Common.{rules, ◌≡◌, ℕ, ◌+◌, ◌≤◌, [], ◌∷◌, List, length, length-append, Some, slice_get, vec_capacity, sym, ap, ◌∙◌, subst}
+use Rattle.std.proofs.Common.{rules, ◌≡◌, ℕ, ◌+◌, ◌≤◌, [], ◌∷◌, length, length-append, Some, slice_get, vec_capacity, sym, ap, ◌∙◌, subst}
 use Rattle.mc_model.specs.Legal.{ticket_of}
 use Rattle.uc_cells.specs.Sighting.{Sighting}
 use Rattle.uc_log.specs.Passes.{row_of}

@@ -1,0 +1,15 @@
+-- The places before this one are learned.
+use Rattle.std.proofs.Common.{◌≡◌, length}
+use Rattle.uc_log.specs.Passes.{IsOf, learned, own_sightings, seat, size, state}
+use Rattle.uc_worker.specs.Steps.{Later, Rests}
+use Rattle.uc_worker.proofs.catching_up.read_up.Given as goal
+
+abbrev pub invariant-loop-place : goal.invariant-loop-place
+invariant-loop-place g l = record {
+  of : IsOf l.log l.pass;
+  rests : Rests (state l.pass).phase;
+  later : Later (seat l.fn.pass) (seat l.pass);
+  here : length (learned l.pass) ≡ l._place;
+  end : l._place-end ≡ (size l.fn.pass).places;
+  own : own_sightings l.pass ≡ own_sightings l.fn.pass;
+}

@@ -1,0 +1,53 @@
+//! A worker catches up with the log.
+ghost use Rattle.std.specs.Prelude.{◌≡◌, length, IsOkUnless, OnOk};
+ghost use Rattle.mc_model.specs.declared.fault.Fault.TheVariants as faults;
+ghost use Rattle.mc_model.specs.Helping.{BeginsWith};
+ghost use Rattle.uc_log.specs.Passes.{IsOf, own_sightings, seat, state};
+ghost use Rattle.uc_worker.specs.Steps.{Later, Rests};
+ghost use Rattle.uc_worker.specs.Worker.{history_of, seat_of};
+
+use crate::gate::{Gate, Step};
+use crate::replaying::replay_to;
+use crate::worker::Worker;
+use mc_model::Fault;
+use uc_log::{Log, Pass};
+
+/// Reads up to a place that is found empty, or to the end.
+fn read_up<G: Gate>(log: &Log, pass: &mut Pass, gate: &mut G)
+    requires of { IsOf log.now pass.old }
+    requires rests { Rests (state pass.old).phase }
+    ensures of { IsOf log.now pass.new }
+    ensures rests { Rests (state pass.new).phase }
+    ensures own { own_sightings pass.new ≡ own_sightings pass.old }
+    ensures later { Later (seat pass.old) (seat pass.new) }
+{
+    for _place in pass.learned()..pass.places() {
+        let found = log.read(pass);
+        gate.at(Step::Read);
+        if found.is_none() {
+            return;
+        }
+    }
+}
+
+impl<'a> Worker<'a> {
+    /// Reads up to a place that is found empty, or to the end, and replays all that is learned then. Where memory runs out: `Memory`; some
+    /// of it may be replayed then.
+    pub fn catch_up<G: Gate>(&mut self, gate: &mut G) -> Result<(), Fault>
+        ensures history { BeginsWith (history_of self.new) (history_of self.old) }
+        ensures all { OnOk result (length (history_of self.new) ≡ length (seat_of self.new).state.learned) }
+        ensures later { Later (seat_of self.old) (seat_of self.new) }
+        ensures log { self.new.log ≡ self.old.log }
+        ensures memory { IsOkUnless result faults.Memory }
+    {
+        let Worker {
+            log,
+            alloc,
+            pass,
+            replica,
+        } = self;
+        read_up(log, pass, gate);
+        let end = pass.learned();
+        replay_to(log, *alloc, pass, replica, end, gate)
+    }
+}

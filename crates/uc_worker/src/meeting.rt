@@ -1,0 +1,88 @@
+//! Workers that meet.
+ghost use Rattle.std.specs.Prelude.{◌≡◌, ◌≤◌, length, IsOkUnless, OnOk};
+ghost use Rattle.mc_model.specs.declared.fault.Fault.TheVariants as faults;
+ghost use Rattle.mc_model.specs.Helping.{BeginsWith};
+ghost use Rattle.uc_log.specs.Passes.{IsOf, learned, own_sightings, seat, size, state};
+ghost use Rattle.uc_worker.specs.Steps.{IsSame, Rests};
+ghost use Rattle.uc_worker.specs.Worker.{history_of, seat_of};
+
+use crate::gate::Open;
+use crate::replaying::replay_to;
+use crate::worker::Worker;
+use mc_model::Fault;
+use uc_log::{Log, Pass};
+
+/// Reads the list that the pass was told.
+fn read_told(log: &Log, pass: &mut Pass, end: usize)
+    requires of { IsOf log.now pass.old }
+    requires rests { Rests (state pass.old).phase }
+    requires end { end ≡ length (seat pass.old).told }
+    requires room { end ≤ (size pass.old).places }
+    requires told { BeginsWith (seat pass.old).told (learned pass.old) }
+    ensures of { IsOf log.now pass.new }
+    ensures rests { Rests (state pass.new).phase }
+    ensures same { IsSame (seat pass.old) (seat pass.new) }
+    ensures announced { (state pass.new).announced ≡ (state pass.old).announced }
+    ensures learned { learned pass.new ≡ (seat pass.old).told }
+{
+    for _place in pass.learned()..end {
+        log.read(pass);
+    }
+}
+
+/// The one that has learned less learns what the other has.
+fn even(log: &Log, one: &mut Pass, other: &mut Pass)
+    requires of { IsOf log.now one.old × IsOf log.now other.old }
+    requires rests { Rests (state one.old).phase × Rests (state other.old).phase }
+    ensures of { IsOf log.now one.new × IsOf log.now other.new }
+    ensures rests { Rests (state one.new).phase × Rests (state other.new).phase }
+    ensures same { IsSame (seat one.old) (seat one.new) × IsSame (seat other.old) (seat other.new) }
+    ensures announced { ((state one.new).announced ≡ (state one.old).announced) × ((state other.new).announced ≡ (state other.old).announced) }
+    ensures learned { learned one.new ≡ learned other.new }
+    ensures first { BeginsWith (learned one.new) (learned one.old) }
+    ensures second { BeginsWith (learned other.new) (learned other.old) }
+{
+    if one.learned() < other.learned() {
+        log.tell(other, one);
+        read_told(log, one, other.learned());
+    } else {
+        log.tell(one, other);
+        read_told(log, other, one.learned());
+    }
+}
+
+impl<'a> Worker<'a> {
+    /// Both learn what either has learned, and replay it: then both have the same history, entry by entry. Where memory runs out:
+    /// `Memory`; then some of it may be replayed.
+    pub fn meet(&mut self, other: &mut Worker<'a>) -> Result<(), Fault>
+        requires { self.old.log.now ≡ other.old.log.now }
+        ensures equal { OnOk result (history_of self.new ≡ history_of other.new) }
+        ensures tables { OnOk result (self.new.replica.tables ≡ other.new.replica.tables) }
+        ensures all { OnOk result ((length (history_of self.new) ≡ length (seat_of self.new).state.learned) × ((seat_of self.new).state.learned ≡ (seat_of other.new).state.learned)) }
+        ensures first { BeginsWith (history_of self.new) (history_of self.old) }
+        ensures second { BeginsWith (history_of other.new) (history_of other.old) }
+        ensures announced { ((seat_of self.new).state.announced ≡ (seat_of self.old).state.announced) × ((seat_of other.new).state.announced ≡ (seat_of other.old).state.announced) }
+        ensures same { IsSame (seat_of self.old) (seat_of self.new) × IsSame (seat_of other.old) (seat_of other.new) }
+        ensures log { (self.new.log ≡ self.old.log) × (other.new.log ≡ other.old.log) }
+        ensures memory { IsOkUnless result faults.Memory }
+    {
+        let Worker {
+            log,
+            alloc,
+            pass: one,
+            replica: mine,
+        } = self;
+        let Worker {
+            log: _,
+            alloc: _,
+            pass: two,
+            replica: theirs,
+        } = other;
+        even(log, one, two);
+        let end = one.learned();
+        replay_to(log, *alloc, one, mine, end, &mut Open)?;
+        replay_to(log, *alloc, two, theirs, end, &mut Open)?;
+        mine.agree(theirs);
+        Ok(())
+    }
+}

@@ -1,0 +1,35 @@
+//! A worker that has done nothing.
+ghost use Rattle.std.specs.Prelude.{◌≡◌, [], IfOk, IsOkUnless};
+ghost use Rattle.mc_model.specs.declared.fault.Fault.TheVariants as faults;
+ghost use Rattle.mc_model.specs.declared.shown.Phase.TheVariants as phase;
+ghost use Rattle.uc_log.specs.Passes.{IsOf, learned, seat, state};
+ghost use Rattle.uc_worker.specs.Worker.{history_of, seat_of};
+
+use crate::worker::Worker;
+use mc_model::Fault;
+use mc_replica::Replica;
+use std::alloc::Global;
+use uc_log::{Log, Pass};
+
+impl<'a> Worker<'a> {
+    /// The worker with this pass of the log, which has an empty table for each tenant of the log's settings. Where memory runs out:
+    /// `Memory`.
+    pub fn open(alloc: Global, log: &'a Log, pass: Pass) -> Result<Worker<'a>, Fault>
+        requires of { IsOf log.now pass }
+        requires idle { (state pass).phase ≡ phase.Idle }
+        requires new { learned pass ≡ [] }
+        ensures log { IfOk result (λ worker. worker.log.now ≡ log.now) }
+        ensures seat { IfOk result (λ worker. seat_of worker ≡ seat pass) }
+        ensures history { IfOk result (λ worker. history_of worker ≡ []) }
+        ensures memory { IsOkUnless result faults.Memory }
+    {
+        let settings = log.settings();
+        let replica = Replica::open(alloc, pass.worker(), settings.tenants(), settings.places())?;
+        Ok(Worker {
+            log,
+            alloc,
+            pass,
+            replica,
+        })
+    }
+}
