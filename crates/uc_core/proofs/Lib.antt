@@ -20,6 +20,9 @@ mod Each
 pub mod Workers
 pub mod Opened
 mod Enabled
+mod Leads
+mod Alone
+mod Asked
 pub mod Shows
 mod Ties
 mod Followed
