@@ -1,4 +1,5 @@
 mod Rows
+mod CoreRows
 pub mod Lists
 pub mod Tickets
 pub mod StateLaws
