@@ -13,7 +13,8 @@ use Rattle.uc_core.specs.declared.event.Event.TheVariants.{Announce, Look, Propo
 
 -- what an event says of a core is true of every run
 abbrev pub ByEvents : (Configuration → List Event → CoreState → Type 0) → Type 0
-ByEvents Holds = (settings : Configuration) (events : List Event) (core : CoreState) (given : List Given) → IsRun settings events core given → Holds settings events core
+ByEvents Holds = (settings : Configuration) (events : List Event) (core : CoreState) (given : List Given) →
+    IsRun settings events core given → Holds settings events core
 
 -- the core has the workers, the places and the tenants' quotas of its settings
 pub record IsOfSettings (settings : Configuration) (core : CoreState) : Type 0 where

@@ -10,7 +10,7 @@ ghost use Rattle.mc_model.specs.declared.shown.LogSize as size;
 ghost use Rattle.mc_model.specs.declared.shown.ShownState as state;
 ghost use Rattle.uc_core.specs.Asked.{AnnouncementsStand, ByEvents, FewProposals, IsOfSettings, ReplaysCount};
 ghost use Rattle.uc_core.specs.Core.{CoreState, size_of};
-ghost use Rattle.uc_core.specs.Headline.{AnswerAlike, IsDecidedSoon, LogIsSound, OfEveryRun, OwnAreAnswered, RepliesAreAnswers, ReplicasAgree, StepsAreAlone, StepsAreEnabled, StepsAreOne, StepsLeadOn, StepsLearn, StopsForGood, TablesStand};
+ghost use Rattle.uc_core.specs.Headline.{AnswerAlike, IsDecidedSoon, LogIsSound, OfEveryRun, OwnAreAnswered, RepliesAreAnswers, ReplicasAgree, StepsAreAlone, StepsAreEnabled, StepsAreOne, StepsLeadOn, StepsLearn, StopsForGood, TablesStand, WorkersAreFree};
 
 /// What is true of every run: of any settings, and any events of any workers in any order.
 pub fn laws()
@@ -56,6 +56,9 @@ pub fn events_lead_one_way()
 
     // An event that meets no fault leads on.
     ensures on { (core : CoreState) → StepsLeadOn core }
+
+    // No worker waits for another.
+    ensures free { (core : CoreState) → WorkersAreFree core }
 
     // An event changes its own worker alone.
     ensures alone { (core : CoreState) → StepsAreAlone core }

@@ -2,7 +2,7 @@
 -- `Alone`).
 use Rattle.uc_core.proofs.Alone.{steps_are_alone}
 use Rattle.uc_core.proofs.Leads.{steps_lead_on, steps_learn}
-use Rattle.uc_core.proofs.OneWay.{steps_are_enabled, steps_are_one}
+use Rattle.uc_core.proofs.OneWay.{steps_are_enabled, steps_are_one, workers_are_free}
 use Rattle.uc_core.proofs.Runs.{law_of}
 use Rattle.uc_core.proofs.theorem.events_lead_one_way.Goals as goal
 
@@ -20,3 +20,6 @@ returns-clause-alone c = steps_are_alone
 
 pub returns-clause-learns : goal.returns-clause-learns
 returns-clause-learns c = steps_learn
+
+pub returns-clause-free : goal.returns-clause-free
+returns-clause-free c = workers_are_free
