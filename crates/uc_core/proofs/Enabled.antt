@@ -38,49 +38,49 @@ exists s event enabled =
     ] refl
 
 -- a condition without its fault is met, and so are those after it
-met : (condition : Bool) (fault : Fault) (others : Option Fault) → needs condition fault others ≡ None → condition ≡ true
+pub met : (condition : Bool) (fault : Fault) (others : Option Fault) → needs condition fault others ≡ None → condition ≡ true
 met true fault others is = refl
 met false fault others is = absurd (none-some fault (sym is))
 
-rest : (condition : Bool) (fault : Fault) (others : Option Fault) → needs condition fault others ≡ None → others ≡ None
+pub rest : (condition : Bool) (fault : Fault) (others : Option Fault) → needs condition fault others ≡ None → others ≡ None
 rest true fault others is = is
 rest false fault others is = absurd (none-some fault (sym is))
 
-idle : (phase : Phase) → is_idle phase ≡ true → phase ≡ Idle
+pub idle : (phase : Phase) → is_idle phase ≡ true → phase ≡ Idle
 idle Idle is = refl
 idle Pending is = absurd (false≢true is)
 idle Looked is = absurd (false≢true is)
 idle Stopped is = absurd (false≢true is)
 
-pending : (phase : Phase) → is_pending phase ≡ true → phase ≡ Pending
+pub pending : (phase : Phase) → is_pending phase ≡ true → phase ≡ Pending
 pending Idle is = absurd (false≢true is)
 pending Pending is = refl
 pending Looked is = absurd (false≢true is)
 pending Stopped is = absurd (false≢true is)
 
-looked : (phase : Phase) → is_looked phase ≡ true → phase ≡ Looked
+pub looked : (phase : Phase) → is_looked phase ≡ true → phase ≡ Looked
 looked Idle is = absurd (false≢true is)
 looked Pending is = absurd (false≢true is)
 looked Looked is = refl
 looked Stopped is = absurd (false≢true is)
 
-goes_on : (phase : Phase) → not (is_stopped phase) ≡ true → phase ≢ Stopped
+pub goes_on : (phase : Phase) → not (is_stopped phase) ≡ true → phase ≢ Stopped
 goes_on Idle is same = cc
 goes_on Pending is same = cc
 goes_on Looked is same = cc
 goes_on Stopped is same = absurd (false≢true is)
 
-idle_or_pending : (phase : Phase) → (is_idle phase || is_pending phase) ≡ true → (phase ≡ Idle) ⊎ (phase ≡ Pending)
+pub idle_or_pending : (phase : Phase) → (is_idle phase || is_pending phase) ≡ true → (phase ≡ Idle) ⊎ (phase ≡ Pending)
 idle_or_pending Idle is = inl refl
 idle_or_pending Pending is = inr refl
 idle_or_pending Looked is = absurd (false≢true is)
 idle_or_pending Stopped is = absurd (false≢true is)
 
-has_some : {X : Type 0} (found : Option X) → is_some found ≡ true → found ≢ None
+pub has_some : {X : Type 0} (found : Option X) → is_some found ≡ true → found ≢ None
 has_some None is same = absurd (false≢true is)
 has_some (Some x) is same = absurd (none-some x (sym same))
 
-below : (n m : ℕ) → ltb n m ≡ true → n < m
+pub below : (n m : ℕ) → ltb n m ≡ true → n < m
 below n m is = grind (arith, nat_tests)
 
 -- what each event's conditions say of the fields

@@ -1,4 +1,5 @@
 mod Rows
+mod CoreRows
 pub mod Lists
 pub mod Tickets
 pub mod StateLaws
@@ -20,6 +21,9 @@ mod Each
 pub mod Workers
 pub mod Opened
 mod Enabled
+mod Leads
+mod Alone
+mod Asked
 pub mod Shows
 mod Ties
 mod Followed

@@ -1,9 +1,10 @@
 -- An event that leads on meets no fault, and it leads to one state alone, with one reply or with none.
-use Rattle.std.proofs.Common.{◌≡◌, ◌≢◌, ◌⊎◌, ℕ, ◌+◌, ◌<◌, List, length, Option, Some, None, Bool, true, ◌||◌, not, ltb, is_some, slice_get, slice_set, ⊎_elim, refl, sym, ap, ap₂, ◌∙◌, arith}
+use Rattle.std.proofs.Common.{◌≡◌, ◌≢◌, ◌⊎◌, ℕ, ◌+◌, ◌<◌, List, length, Option, Some, None, ◌≤◌, Bool, true, false, ◌||◌, not, ltb, is_some, slice_get, slice_set, ⊎_elim, refl, sym, ap, ap₂, ◌∙◌, arith}
 use Rattle.std.proofs.lemmas.Bool.Decides.{nat_tests}
 use Rattle.std.proofs.lemmas.Option.{same_Some, slice_get_within}
 use Rattle.std.specs.Option.{option_map}
 use Rattle.mc_model.specs.declared.fault.Fault.{Fault}
+use Rattle.mc_model.specs.declared.fault.Fault.TheVariants.{BadEvent, LogFull}
 use Rattle.mc_model.specs.declared.reply.Reply.{Reply}
 use Rattle.mc_model.specs.declared.shown.LogSize.{LogSize}
 use Rattle.mc_model.specs.declared.shown.Phase.{Phase}
@@ -16,7 +17,7 @@ use Rattle.mc_model.specs.Replay.{reply_from, with_command}
 use Rattle.mc_model.specs.Shown.{announce, look, proposal, propose, read, stop}
 use Rattle.mc_model.specs.State.{TableState}
 use Rattle.uc_core.specs.Core.{CoreState, ReplayState, size_of}
-use Rattle.uc_core.specs.Headline.{StepsAreEnabled, StepsAreOne}
+use Rattle.uc_core.specs.Headline.{HasReplica, NobodyWaits, StepsAreEnabled, StepsAreOne, WorkersAreFree}
 use Rattle.uc_core.specs.Step.{CoreStep, actor, announced_entry, entry_at, is_idle, is_looked, is_pending, is_stopped, needs, refusal, refusal_by, refusal_of, with_entry}
 use Rattle.uc_core.specs.declared.event.Event.{Event}
 use Rattle.uc_core.specs.declared.event.Event.TheVariants.{Announce, Look, Propose, Read, Replay, Stop}
@@ -74,6 +75,38 @@ module _ (core : CoreState) (law : CoreLaw core) where
       granted _ _ _ (not_stopped _ step.2) (granted _ _ _ more refl))
   steps_are_enabled (Stop number) new reply step =
       told (Stop number) step.0.0 step.0.1 (λ replay at. granted _ _ _ (not_stopped _ step.0.2) refl)
+
+-- and the other way round: where its conditions hold of its worker it has no fault, and where there is no place left it is told so
+denied : (condition : Bool) (fault : Fault) (others : Option Fault) → condition ≡ false → needs condition fault others ≡ Some fault
+denied condition fault others is = ap (λ (b : Bool). needs b fault others) is
+
+is_not_below : (n m : ℕ) → m ≤ n → ltb n m ≡ false
+is_not_below n m above = grind (arith, nat_tests)
+
+module _ (core : CoreState) (number : ℕ) (worker : WorkerState) (replay : ReplayState) (has : HasReplica core number worker replay) where
+  by_its_own : (event : Event) (fault : Option Fault) → actor event ≡ number → refusal_by core event worker replay ≡ fault → refusal core event ≡ fault
+  by_its_own event fault mine is =
+      ap₂ (refusal_of core event) (ap (slice_get core.shown.workers) mine ∙ has.0) (ap (slice_get core.replays) mine ∙ has.1) ∙ is
+
+  nobody_waits : NobodyWaits core number worker replay
+  nobody_waits = record {
+    announces = λ tenant command phase known room. by_its_own (Announce number tenant command) None refl
+        (granted _ _ _ (ap is_idle phase) (granted _ _ _ (is_below _ _ known) (granted _ _ _ (is_below _ _ room) refl)));
+    reads = λ phase room. by_its_own (Read number) None refl (granted _ _ _ (idle_or_pending _ phase) (granted _ _ _ (is_below _ _ room) refl));
+    looks = λ phase room marked. by_its_own (Look number) None refl
+        (granted _ _ _ (ap is_pending phase) (granted _ _ _ (is_below _ _ room) (granted _ _ _ (has_mark _ marked) refl)));
+    proposes = λ phase. by_its_own (Propose number) None refl (granted _ _ _ (ap is_looked phase) refl);
+    replays = λ phase more. by_its_own (Replay number) None refl (granted _ _ _ (not_stopped _ phase) (granted _ _ _ (is_below _ _ more) refl));
+    stops = λ phase. by_its_own (Stop number) None refl (granted _ _ _ (not_stopped _ phase) refl);
+    full = λ tenant command phase known none. by_its_own (Announce number tenant command) (Some LogFull) refl
+        (met_first (is_idle worker.phase) _ (ap is_idle phase) ∙ met_first _ _ (is_below _ _ known) ∙ denied _ _ _ (is_not_below _ _ none));
+  }
+    where
+      met_first : (condition : Bool) (others : Option Fault) → condition ≡ true → needs condition BadEvent others ≡ others
+      met_first condition others is = ap (λ (b : Bool). needs b BadEvent others) is
+
+pub workers_are_free : (core : CoreState) → WorkersAreFree core
+workers_are_free core number worker replay has = nobody_waits core number worker replay has
 
 -- there is one worker of a number, so that an event of the shown log makes one state
 shown_one : (size : LogSize) (old : ShownState) (event : ShownEvent) (new other : ShownState) →

@@ -1,6 +1,7 @@
 -- Worked runs of the shared log, tried on the definitions themselves.
-use Rattle.std.proofs.Common.{◌≡◌, List, [], ◌∷◌, None, inr, refl, arith}
+use Rattle.std.proofs.Common.{◌≡◌, List, [], ◌∷◌, Some, None, inr, refl, arith}
 use Rattle.mc_model.specs.declared.id.Ticket.{Ticket}
+use Rattle.mc_model.specs.declared.shown.Phase.TheVariants.{Idle, Stopped}
 use Rattle.mc_model.specs.declared.shown.LogSize.{LogSize}
 use Rattle.mc_model.specs.declared.shown.ShownState.{ShownState}
 use Rattle.mc_model.specs.declared.shown.WorkerState.{WorkerState}
@@ -84,5 +85,9 @@ helped_after_stop = (
   ),
 )
 
-it_is_idle_with_two_proposals : (done.phase ≡ Rattle.mc_model.specs.declared.shown.Phase.TheVariants.Idle) × (done.proposals ≡ 2) × (done.learned ≡ log_with_both)
-it_is_idle_with_two_proposals = (refl, refl, refl)
+-- what is shown of the two at the end, field by field
+it_has_stopped : stop waiting ≡ record { phase = Stopped; announced = 1; learned = []; mark = None; look = None; proposals = 0 }
+it_has_stopped = refl
+
+it_is_idle_with_two_proposals : done ≡ record { phase = Idle; announced = 1; learned = log_with_both; mark = Some 0; look = None; proposals = 2 }
+it_is_idle_with_two_proposals = refl

@@ -26,8 +26,8 @@ workers_stay size old new (proposes number) step = ap (λ (it : ShownState). len
 workers_stay size old new (stops number) step = ap (λ (it : ShownState). length it.workers) step.3 ∙ length-set old.workers number _
 
 -- what an event of the core is to what the log shows: an event of the same size of log, or nothing
-record ShowsStep (old new : CoreState) : Type 0 where
-  size : size_of new ≡ size_of old
+pub record ShowsStep (old new : CoreState) : Type 0 where
+  pub size : size_of new ≡ size_of old
   before : (last : ShownState) → LeadsOn (size_of old) new.shown last → LeadsOn (size_of old) old.shown last
 
 shows_event : (old new : CoreState) (event : ShownEvent) → Step (size_of old) old.shown event new.shown → new.places ≡ old.places → ShowsStep old new
@@ -36,7 +36,7 @@ shows_event old new event step places = record {
   before = λ last on. (event ∷ on.0, (new.shown, step, on.1));
 }
 
-shows_step : (old new : CoreState) (event : Event) (reply : Option Reply) → CoreStep old event new reply → ShowsStep old new
+pub shows_step : (old new : CoreState) (event : Event) (reply : Option Reply) → CoreStep old event new reply → ShowsStep old new
 shows_step old new (Announce number tenant command) reply step = shows_event old new (announces number) step.1 (ap (λ (it : CoreState). it.places) step.2)
 shows_step old new (Read number) reply step = shows_event old new (reads number) step.0 (ap (λ (it : CoreState). it.places) step.1)
 shows_step old new (Look number) reply step = shows_event old new (looks number) step.0 (ap (λ (it : CoreState). it.places) step.1)

@@ -1,23 +1,25 @@
 -- The theorem of this project, clause by clause, as statements about a core and the replies that were given on the way to it. The laws
 -- of the crate say that they are true of every run, whatever its events.
-use Rattle.std.specs.Prelude.{◌≡◌, ℕ, ◌+◌, ◌<◌, ◌≤◌, List, length, map, take, Option, Some, None, slice_get}
+use Rattle.std.specs.Prelude.{◌≡◌, ◌≢◌, ◌⊎◌, ℕ, ◌+◌, ◌<◌, ◌≤◌, List, length, map, take, Option, Some, None, slice_get}
 use Rattle.mc_model.specs.declared.command.Command.{Command}
+use Rattle.mc_model.specs.declared.fault.Fault.TheVariants.{LogFull}
 use Rattle.mc_model.specs.declared.id.Ticket.{Ticket}
 use Rattle.mc_model.specs.declared.reply.Reply.{Reply}
 use Rattle.mc_model.specs.declared.request.Entry.{Entry}
 use Rattle.mc_model.specs.declared.settings.Limits.{Limits}
+use Rattle.mc_model.specs.declared.shown.Phase.TheVariants.{Idle, Pending, Looked, Stopped}
 use Rattle.mc_model.specs.declared.shown.WorkerState.{WorkerState}
 use Rattle.mc_model.specs.History.{answer}
-use Rattle.mc_model.specs.Lawful.{IsWorker, announced_by}
+use Rattle.mc_model.specs.Lawful.{HasRoom, IsWorker, announced_by}
 use Rattle.mc_model.specs.Legal.{IsLegal, StandsBefore, ticket_of}
 use Rattle.mc_model.specs.Log.{Sighting, entries, own}
 use Rattle.mc_model.specs.Replay.{EachStands}
 use Rattle.mc_model.specs.Settings.{Configuration}
-use Rattle.uc_core.specs.Core.{CoreState, ReplayState, entry_under, log_of}
+use Rattle.uc_core.specs.Core.{CoreState, ReplayState, entry_under, log_of, size_of}
 use Rattle.uc_core.specs.Run.{Given, IsRun, Runs}
-use Rattle.uc_core.specs.Step.{CoreStep, refusal}
+use Rattle.uc_core.specs.Step.{CoreStep, actor, refusal}
 use Rattle.uc_core.specs.declared.event.Event.{Event}
-use Rattle.uc_core.specs.declared.event.Event.TheVariants.{Announce}
+use Rattle.uc_core.specs.declared.event.Event.TheVariants.{Announce, Look, Propose, Read, Replay, Stop}
 
 -- it is true of every run, whatever the settings and the events: of the core that it leads to, and of the replies that it gives
 abbrev pub OfEveryRun : (CoreState → List Given → Type 0) → Type 0
@@ -110,6 +112,14 @@ abbrev pub AnswerAlike : CoreState → List Given → CoreState → List Given �
 AnswerAlike one given other other_given = (tenant other_tenant j : ℕ) (reply other_reply : Reply) → LogsAgree one other tenant other_tenant j →
     Answered one given tenant j reply → Answered other other_given other_tenant j other_reply → reply ≡ other_reply
 
+-- "whichever workers stop for good": after a worker has stopped no event is its own, and what is shown of it and what it has replayed stay
+abbrev pub StopsForGood : CoreState → Type 0
+StopsForGood old = (number : ℕ) (stopped new : CoreState) (reply : Option Reply) (events : List Event) (given : List Given) →
+    CoreStep old (Stop number) stopped reply → Runs stopped events new given →
+    ((k : ℕ) (event : Event) → slice_get events k ≡ Some event → actor event ≢ number)
+    × (slice_get new.shown.workers number ≡ slice_get stopped.shown.workers number)
+    × (slice_get new.replays number ≡ slice_get old.replays number)
+
 -- an event that leads on from the core meets no fault there
 abbrev pub StepsAreEnabled : CoreState → Type 0
 StepsAreEnabled core = (event : Event) (new : CoreState) (reply : Option Reply) → CoreStep core event new reply → refusal core event ≡ None
@@ -118,3 +128,44 @@ StepsAreEnabled core = (event : Event) (new : CoreState) (reply : Option Reply) 
 abbrev pub StepsAreOne : CoreState → Type 0
 StepsAreOne core = (event : Event) (new other : CoreState) (reply other_reply : Option Reply) →
     CoreStep core event new reply → CoreStep core event other other_reply → (new ≡ other) × (reply ≡ other_reply)
+
+-- an event that meets no fault leads on
+abbrev pub StepsLeadOn : CoreState → Type 0
+StepsLeadOn core = (event : Event) → refusal core event ≡ None → (new : CoreState) × (reply : Option Reply) × CoreStep core event new reply
+
+-- No worker waits for another: what it may do rests on what is shown of itself, and on whether it has places left. One that finds none left
+-- is told so.
+pub record NobodyWaits (core : CoreState) (number : ℕ) (worker : WorkerState) (replay : ReplayState) : Type 0 where
+  pub announces : (tenant : ℕ) (command : Command) → worker.phase ≡ Idle → tenant < length core.openings → HasRoom (size_of core) worker →
+      refusal core (Announce number tenant command) ≡ None
+  pub reads : (worker.phase ≡ Idle) ⊎ (worker.phase ≡ Pending) → HasRoom (size_of core) worker → refusal core (Read number) ≡ None
+  pub looks : worker.phase ≡ Pending → HasRoom (size_of core) worker → worker.mark ≢ None → refusal core (Look number) ≡ None
+  pub proposes : worker.phase ≡ Looked → refusal core (Propose number) ≡ None
+  pub replays : worker.phase ≢ Stopped → replay.replayed < length worker.learned → refusal core (Replay number) ≡ None
+  pub stops : worker.phase ≢ Stopped → refusal core (Stop number) ≡ None
+  pub full : (tenant : ℕ) (command : Command) → worker.phase ≡ Idle → tenant < length core.openings → core.places ≤ length worker.learned →
+      refusal core (Announce number tenant command) ≡ Some LogFull
+
+-- so of every worker
+abbrev pub WorkersAreFree : CoreState → Type 0
+WorkersAreFree core = (number : ℕ) (worker : WorkerState) (replay : ReplayState) → HasReplica core number worker replay →
+    NobodyWaits core number worker replay
+
+-- an event leaves what is shown of every other worker, and what it has replayed
+abbrev pub StepsAreAlone : CoreState → Type 0
+StepsAreAlone core = (event : Event) (new : CoreState) (reply : Option Reply) (other : ℕ) →
+    CoreStep core event new reply → other ≢ actor event →
+    (slice_get new.shown.workers other ≡ slice_get core.shown.workers other) × (slice_get new.replays other ≡ slice_get core.replays other)
+
+-- a worker has learned so many places
+abbrev pub HasLearnedUpTo : CoreState → ℕ → ℕ → Type 0
+HasLearnedUpTo core number many = (worker : WorkerState) × IsWorker core.shown number worker × (length worker.learned ≡ many)
+
+-- a read of a place that is decided learns it, and a proposal learns its place
+pub record StepsLearn (core : CoreState) : Type 0 where
+  pub reads : (number many : ℕ) (new : CoreState) (reply : Option Reply) →
+      CoreStep core (Read number) new reply → HasLearnedUpTo core number many →
+      many < length core.shown.decided → HasLearnedUpTo new number (many + 1)
+  pub proposes : (number many : ℕ) (new : CoreState) (reply : Option Reply) →
+      CoreStep core (Propose number) new reply → HasLearnedUpTo core number many →
+      HasLearnedUpTo new number (many + 1)

@@ -5,7 +5,7 @@
 
 pub use event::{Event, RunFault};
 pub use machine::{Core, Progress};
-pub use theorem::{events_lead_one_way, laws, shown_states, two_worlds};
+pub use theorem::{events_lead_one_way, laws, runs_do_what_is_asked, shown_states, two_worlds};
 
 pub mod event;
 pub mod machine;

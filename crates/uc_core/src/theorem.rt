@@ -8,8 +8,9 @@ ghost use Rattle.mc_model.specs.Helping.{HelpingLaw, IsSoonDecided, LogLaw};
 ghost use Rattle.mc_model.specs.Lawful.{IsReached};
 ghost use Rattle.mc_model.specs.declared.shown.LogSize as size;
 ghost use Rattle.mc_model.specs.declared.shown.ShownState as state;
+ghost use Rattle.uc_core.specs.Asked.{AnnouncementsStand, ByEvents, FewProposals, IsOfSettings, ReplaysCount};
 ghost use Rattle.uc_core.specs.Core.{CoreState, size_of};
-ghost use Rattle.uc_core.specs.Headline.{AnswerAlike, IsDecidedSoon, LogIsSound, OfEveryRun, OwnAreAnswered, RepliesAreAnswers, ReplicasAgree, StepsAreEnabled, StepsAreOne, TablesStand};
+ghost use Rattle.uc_core.specs.Headline.{AnswerAlike, IsDecidedSoon, LogIsSound, OfEveryRun, OwnAreAnswered, RepliesAreAnswers, ReplicasAgree, StepsAreAlone, StepsAreEnabled, StepsAreOne, StepsLeadOn, StepsLearn, StopsForGood, TablesStand, WorkersAreFree};
 
 /// What is true of every run: of any settings, and any events of any workers in any order.
 pub fn laws()
@@ -31,6 +32,9 @@ pub fn laws()
     // An announced command stands in the log soon, whether or not its worker has stopped.
     ensures helped { OfEveryRun (λ core given. IsDecidedSoon core) }
 
+    // A worker that stops has stopped for good.
+    ensures stopped { OfEveryRun (λ core given. StopsForGood core) }
+
     // Whatever the log shows, events of the shown log alone lead there.
     ensures shown { OfEveryRun (λ core given. IsReached (size_of core) core.shown) }
 {}
@@ -41,14 +45,41 @@ pub fn two_worlds()
     ensures { OfEveryRun (λ core given. OfEveryRun (λ other other_given. AnswerAlike core given other other_given)) }
 {}
 
-/// What is true of every event: in any state that a run leads to it leads on only where it meets no fault, and from any state it
-/// leads one way.
+/// What is true of every event: in any state that a run leads to it leads on only where it meets no fault, and in any state it leads on
+/// wherever it meets none, one way, and changes its own worker alone.
 pub fn events_lead_one_way()
     // An event that leads on meets no fault.
     ensures enabled { OfEveryRun (λ core given. StepsAreEnabled core) }
 
     // An event leads to one state alone, with one reply or with none.
     ensures one { (core : CoreState) → StepsAreOne core }
+
+    // An event that meets no fault leads on.
+    ensures on { (core : CoreState) → StepsLeadOn core }
+
+    // No worker waits for another.
+    ensures free { (core : CoreState) → WorkersAreFree core }
+
+    // An event changes its own worker alone.
+    ensures alone { (core : CoreState) → StepsAreAlone core }
+
+    // A read of a decided place learns it, and a proposal learns its place.
+    ensures learns { (core : CoreState) → StepsLearn core }
+{}
+
+/// What the settings and the events of a run say of the core that it leads to, by the list of the events alone.
+pub fn runs_do_what_is_asked()
+    // The core has the workers, the places and the tenants' quotas of its settings.
+    ensures settings { ByEvents (λ settings events core. IsOfSettings settings core) }
+
+    // Under a worker's ticket number k stand the tenant and the command of its announcement number k, for good.
+    ensures announced { ByEvents (λ settings events core. AnnouncementsStand events core) }
+
+    // A worker has replayed as many places as it was to replay.
+    ensures replayed { ByEvents (λ settings events core. ReplaysCount events core) }
+
+    // For one command a worker proposes at most once more than there are workers.
+    ensures proposed { ByEvents (λ settings events core. FewProposals settings events) }
 {}
 
 /// What is true of the shown log in every state that events lead to, and how soon a command is decided there.

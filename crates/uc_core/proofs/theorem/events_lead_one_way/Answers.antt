@@ -1,5 +1,8 @@
--- A step's conditions are those that its event's faults are told by, and what it makes is told by the state before it (`OneWay`).
-use Rattle.uc_core.proofs.OneWay.{steps_are_enabled, steps_are_one}
+-- A step's conditions are those that its event's faults are told by, and what it makes is told by the state before it (`OneWay`, `Leads`,
+-- `Alone`).
+use Rattle.uc_core.proofs.Alone.{steps_are_alone}
+use Rattle.uc_core.proofs.Leads.{steps_lead_on, steps_learn}
+use Rattle.uc_core.proofs.OneWay.{steps_are_enabled, steps_are_one, workers_are_free}
 use Rattle.uc_core.proofs.Runs.{law_of}
 use Rattle.uc_core.proofs.theorem.events_lead_one_way.Goals as goal
 
@@ -8,3 +11,15 @@ returns-clause-enabled c = λ settings events core given run. steps_are_enabled 
 
 pub returns-clause-one : goal.returns-clause-one
 returns-clause-one c = steps_are_one
+
+pub returns-clause-on : goal.returns-clause-on
+returns-clause-on c = steps_lead_on
+
+pub returns-clause-alone : goal.returns-clause-alone
+returns-clause-alone c = steps_are_alone
+
+pub returns-clause-learns : goal.returns-clause-learns
+returns-clause-learns c = steps_learn
+
+pub returns-clause-free : goal.returns-clause-free
+returns-clause-free c = workers_are_free

@@ -1,5 +1,6 @@
 -- Every run keeps the core's law (`Runs`), and the clauses follow from it.
 use Rattle.uc_core.proofs.Agreement.{log_is_sound, replicas_agree, tables_stand}
+use Rattle.uc_core.proofs.Alone.{stops_for_good}
 use Rattle.uc_core.proofs.Answered.{own_answered}
 use Rattle.uc_core.proofs.Runs.{answers_of, law_of}
 use Rattle.uc_core.proofs.Soon.{decided_soon}
@@ -25,3 +26,6 @@ returns-clause-shown c = λ settings events core given run. (law_of settings eve
 
 pub returns-clause-helped : goal.returns-clause-helped
 returns-clause-helped c = λ settings events core given run. decided_soon core (law_of settings events core given run)
+
+pub returns-clause-stopped : goal.returns-clause-stopped
+returns-clause-stopped c = λ settings events core given run. stops_for_good core

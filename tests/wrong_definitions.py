@@ -1,0 +1,650 @@
+#!/usr/bin/env python3
+"""Which law each wrong definition of the shared log breaks: the table of docs/QUESTIONS.md.
+
+The definitions of the log and of the core are told here once more, one method each, and the laws as tests of a run. A wrong definition
+overrides a method, code and definition being wrong alike. It is taken through random runs of small cores; the names of the laws that
+turn out false are printed. That none is false on these runs proves nothing; that one is false shows that it can't be proved. The tables
+have one key and four commands. The real definitions must break no law, each of the `WRONG` ones one at least, and the `EQUAL` ones none.
+"""
+
+import random
+import sys
+from typing import NamedTuple
+
+IDLE, PENDING, LOOKED, STOPPED = "idle", "pending", "looked", "stopped"
+COMMANDS = ["set", "add", "get", "flush"]
+RUNS, EVENTS = 60, 40
+
+
+class Worker(NamedTuple):
+    phase: str = IDLE
+    announced: int = 0
+    learned: tuple = ()
+    mark: object = None
+    look: object = None
+    proposals: int = 0
+
+
+class Entry(NamedTuple):
+    ticket: tuple
+    tenant: int
+    command: str
+
+
+class Table(NamedTuple):
+    quota: int
+    item: object = None
+    unique: int = 0
+
+
+class Replay(NamedTuple):
+    replayed: int
+    tables: tuple
+
+
+class Core(NamedTuple):
+    places: int
+    openings: tuple
+    decided: tuple
+    workers: tuple
+    entries: tuple
+    replays: tuple
+
+
+class Event(NamedTuple):
+    kind: str
+    worker: int
+    tenant: int = 0
+    command: str = ""
+
+
+def at(items, place):
+    """What stands at the place, if there is one."""
+    return items[place] if 0 <= place < len(items) else None
+
+
+def with_at(items, place, item):
+    return items[:place] + (item,) + items[place + 1 :] if 0 <= place < len(items) else items
+
+
+class Definitions:
+    """The definitions, by the names that they have in specs/."""
+
+    def count(self, number, tickets):
+        return sum(1 for worker, _ in tickets if worker == number)
+
+    def is_legal(self, tickets):
+        return all(self.count(worker, tickets[:place]) == number for place, (worker, number) in enumerate(tickets))
+
+    def stands_before(self, end, ticket, tickets):
+        return ticket in tickets[:end]
+
+    def announce(self, worker):
+        return worker._replace(phase=PENDING, announced=worker.announced + 1, mark=None, proposals=0)
+
+    def is_latest(self, number, worker, ticket):
+        return ticket == (number, worker.announced - 1)
+
+    def learn(self, number, phase, ticket, worker):
+        phase = IDLE if self.is_latest(number, worker, ticket) else phase
+        return worker._replace(phase=phase, learned=worker.learned + (ticket,))
+
+    def marked(self, phase, mark, place):
+        return place if phase == PENDING and mark is None else mark
+
+    def read(self, number, found, worker):
+        if found is not None:
+            return self.learn(number, worker.phase, found, worker)
+        return worker._replace(mark=self.marked(worker.phase, worker.mark, len(worker.learned)))
+
+    def look(self, helped, announced, worker, core):
+        known = self.count(helped, worker.learned)
+        return worker._replace(phase=LOOKED, look=(helped, known) if known < announced else None)
+
+    def proposal(self, number, worker):
+        return worker.look if worker.look is not None else (number, max(0, worker.announced - 1))
+
+    def propose(self, number, found, worker):
+        ticket = found if found is not None else self.proposal(number, worker)
+        return self.learn(number, PENDING, ticket, worker)._replace(look=None, proposals=worker.proposals + 1)
+
+    def stop(self, worker):
+        return worker._replace(phase=STOPPED)
+
+    def turn(self, core, worker):
+        return len(worker.learned) % len(core.workers)
+
+    def decided_with(self, proposal, core, place):
+        return core.decided if place < len(core.decided) else core.decided + (proposal,)
+
+    def conditions(self, core, event, worker, replay):
+        """The conditions of an event in their order, each with the fault of its failing."""
+        room = len(worker.learned) < core.places
+        if event.kind == "announce":
+            return [(worker.phase == IDLE, "bad"), (event.tenant < len(core.openings), "bad"), (room, "full")]
+        if event.kind == "read":
+            return [(worker.phase in (IDLE, PENDING), "bad"), (room, "bad")]
+        if event.kind == "look":
+            return [(worker.phase == PENDING, "bad"), (room, "full"), (worker.mark is not None, "bad")]
+        if event.kind == "propose":
+            return [(worker.phase == LOOKED, "bad")]
+        if event.kind == "replay":
+            return [(worker.phase != STOPPED, "bad"), (replay.replayed < len(worker.learned), "bad")]
+        return [(worker.phase != STOPPED, "bad")]
+
+    def refusal(self, core, event):
+        worker, replay = at(core.workers, event.worker), at(core.replays, event.worker)
+        if worker is None:
+            return "bad"
+        return next((fault for is_met, fault in self.conditions(core, event, worker, replay) if not is_met), None)
+
+    def is_enabled(self, core, event):
+        """Where the step leads on, which is told apart from the fault."""
+        return self.refusal(core, event) is None
+
+    def announced_entry(self, core, event):
+        return Entry((event.worker, core.workers[event.worker].announced), event.tenant, event.command)
+
+    def with_entry(self, entries, entry):
+        return with_at(entries, entry.ticket[0], entries[entry.ticket[0]] + (entry,))
+
+    def step(self, core, event):
+        """The next core and the reply, or nothing."""
+        if not self.is_enabled(core, event):
+            return None
+        number, worker = event.worker, core.workers[event.worker]
+        if event.kind == "replay":
+            return self.replay(core, number)
+        if event.kind == "announce":
+            core = core._replace(entries=self.with_entry(core.entries, self.announced_entry(core, event)))
+            is_now = self.announce(worker)
+        elif event.kind == "read":
+            is_now = self.read(number, at(core.decided, len(worker.learned)), worker)
+        elif event.kind == "look":
+            helped = self.turn(core, worker)
+            is_now = self.look(helped, core.workers[helped].announced, worker, core)
+        elif event.kind == "propose":
+            is_now = self.propose(number, at(core.decided, len(worker.learned)), worker)
+            core = core._replace(decided=self.decided_with(self.proposal(number, worker), core, len(worker.learned)))
+        else:
+            is_now = self.stop(worker)
+        return core._replace(workers=with_at(core.workers, number, is_now)), None
+
+    def replay(self, core, number):
+        replay = core.replays[number]
+        entry = at(self.log_of(core), replay.replayed)
+        tables = self.take_effect(number, entry, replay.tables)
+        replays = with_at(core.replays, number, Replay(replay.replayed + 1, tables))
+        return core._replace(replays=replays), self.reply_from(number, replay.tables, entry)
+
+    def effect(self, table, command):
+        if command == "set" or command == "add" and table.item is None:
+            return table.unique + 1, "STORED"
+        if command == "add":
+            return table.item, "NOT_STORED"
+        return (table.item, ("VALUE", table.item)) if command == "get" else (None, "OK")
+
+    def is_acceptance(self, reply):
+        return reply == "STORED"
+
+    def next_state(self, table, command):
+        item, reply = self.effect(table, command)
+        return Table(table.quota, item, table.unique + (1 if self.is_acceptance(reply) else 0))
+
+    def state_after(self, quota, commands):
+        table = Table(quota)
+        for command in commands:
+            table = self.next_state(table, command)
+        return table
+
+    def answer(self, quota, commands, command):
+        return self.effect(self.state_after(quota, commands), command)[1]
+
+    def own_command(self, tenant, entry):
+        return entry.command if entry is not None and entry.tenant == tenant else None
+
+    def own(self, tenant, log):
+        found = (self.own_command(tenant, entry) for entry in log)
+        return tuple(command for command in found if command is not None)
+
+    def take_effect(self, number, entry, tables):
+        taken = ((table, self.own_command(tenant, entry)) for tenant, table in enumerate(tables))
+        return tuple(table if command is None else self.next_state(table, command) for table, command in taken)
+
+    def reply_from(self, number, tables, entry):
+        if entry is None or entry.ticket[0] != number or entry.tenant >= len(tables):
+            return None
+        return self.effect(tables[entry.tenant], entry.command)[1]
+
+    def new_core(self, workers, places, openings):
+        opened = Replay(0, tuple(Table(quota) for quota in openings))
+        return Core(places, openings, (), (Worker(),) * workers, ((),) * workers, (opened,) * workers)
+
+    def entry_under(self, core, ticket):
+        announced = at(core.entries, ticket[0])
+        return None if announced is None else at(announced, ticket[1])
+
+    def log_of(self, core):
+        return tuple(self.entry_under(core, ticket) for ticket in core.decided)
+
+    def given_by(self, core, event, reply):
+        return () if reply is None else ((event.worker, core.replays[event.worker].replayed, reply),)
+
+
+class Run:
+    """A run of some definitions, with the laws that were false on it."""
+
+    def __init__(self, definitions, settings):
+        self.it, self.settings = definitions, settings
+        self.core = definitions.new_core(*settings)
+        self.events, self.given, self.stopped, self.waiting, self.broken = [], (), {}, [], set()
+
+    def wants(self, holds, law):
+        if not holds:
+            self.broken.add(law)
+
+    def take(self, event):
+        """Takes the event, where it leads on."""
+        stepped, free = self.it.step(self.core, event), self.it.refusal(self.core, event) is None
+        self.wants(stepped is None or free, "events_lead_one_way: enabled")
+        self.wants(stepped is not None or not free, "events_lead_one_way: on")
+        if stepped is None:
+            return False
+        old, (self.core, reply) = self.core, stepped
+        if event.kind == "announce":
+            self.waiting.append(((event.worker, old.workers[event.worker].announced), len(old.decided)))
+        self.wants(event.worker not in self.stopped, "laws: stopped")
+        self.given += self.it.given_by(old, event, reply)
+        self.events.append(event)
+        self.look_at_step(old, event)
+        if event.kind == "stop":
+            self.stopped[event.worker] = self.replica(event.worker)
+        for law in (self.look_at_log, self.look_at_replicas, self.look_at_replies, self.look_at_workers, self.look_at_events):
+            law()
+        return True
+
+    def replica(self, number):
+        return self.core.workers[number], self.core.replays[number]
+
+    def look_at_step(self, old, event):
+        for number in range(len(old.workers)):
+            if number != event.worker:
+                self.wants(self.replica(number) == (old.workers[number], old.replays[number]), "events_lead_one_way: alone")
+        was, now = len(old.workers[event.worker].learned), len(self.core.workers[event.worker].learned)
+        if event.kind == "propose" or event.kind == "read" and was < len(old.decided):
+            self.wants(now == was + 1, "events_lead_one_way: learns")
+        self.wants(all(self.replica(number) == kept for number, kept in self.stopped.items()), "laws: stopped")
+
+    def look_at_free(self):
+        """What a worker may do rests on itself alone."""
+        for number, worker in enumerate(self.core.workers):
+            room = len(worker.learned) < self.core.places
+            may = {
+                "announce": worker.phase == IDLE and room,
+                "read": worker.phase in (IDLE, PENDING) and room,
+                "look": worker.phase == PENDING and room and worker.mark is not None,
+                "propose": worker.phase == LOOKED,
+                "replay": worker.phase != STOPPED and self.core.replays[number].replayed < len(worker.learned),
+                "stop": worker.phase != STOPPED,
+            }
+            for kind, free in may.items():
+                told = self.it.refusal(self.core, Event(kind, number, 0, "get"))
+                self.wants(not free or told is None, "events_lead_one_way: free")
+                if kind == "announce" and worker.phase == IDLE and not room:
+                    self.wants(told == "full", "events_lead_one_way: free")
+
+    def look_at_log(self):
+        it, core = self.it, self.core
+        self.wants(len(set(core.decided)) == len(core.decided), "laws: once")
+        self.wants(it.is_legal(core.decided), "laws: once")
+        for ticket in core.decided:
+            entry = it.entry_under(core, ticket)
+            self.wants(entry is not None and entry.ticket == ticket and entry.tenant < len(core.openings), "laws: once")
+        for ticket, decided in self.waiting:
+            end = decided + len(core.workers) + 1
+            self.wants(len(core.decided) < end or it.stands_before(end, ticket, core.decided), "laws: helped")
+
+    def seen(self, number, many):
+        return [(ticket, self.it.entry_under(self.core, ticket)) for ticket in self.core.workers[number].learned][:many]
+
+    def look_at_replicas(self):
+        it, core = self.it, self.core
+        for number, replay in enumerate(core.replays):
+            self.wants(replay.replayed <= len(core.workers[number].learned), "laws: tables")
+            log = [entry for _, entry in self.seen(number, replay.replayed)]
+            for tenant, quota in enumerate(core.openings):
+                self.wants(at(replay.tables, tenant) == it.state_after(quota, it.own(tenant, log)), "laws: tables")
+            for other, others in enumerate(core.replays):
+                if replay.replayed <= others.replayed:
+                    self.wants(self.seen(number, replay.replayed) == self.seen(other, replay.replayed), "laws: replicas")
+                if replay.replayed == others.replayed:
+                    self.wants(replay.tables == others.tables, "laws: replicas")
+
+    def look_at_replies(self):
+        it, core, log = self.it, self.core, self.it.log_of(self.core)
+        for worker, place, reply in self.given:
+            entry = at(log, place)
+            is_there = entry is not None and entry.ticket == core.decided[place] and entry.ticket[0] == worker
+            self.wants(is_there and entry.tenant < len(core.openings), "laws: replies")
+            if is_there and entry.tenant < len(core.openings):
+                before = it.own(entry.tenant, log[:place])
+                self.wants(reply == it.answer(core.openings[entry.tenant], before, entry.command), "laws: replies")
+        told = {(worker, place) for worker, place, _ in self.given}
+        for number, replay in enumerate(core.replays):
+            for place in range(min(replay.replayed, len(core.decided))):
+                self.wants(core.decided[place][0] != number or (number, place) in told, "laws: answered")
+
+    def look_at_workers(self):
+        it, core, count = self.it, self.core, len(self.core.workers)
+        lawful, helping = "shown_states: lawful", "shown_states: helping"
+        self.wants(len(core.decided) <= core.places, lawful)
+        self.wants(all(number < core.workers[worker].announced for worker, number in core.decided), lawful)
+        for number, worker in enumerate(core.workers):
+            known, learned = it.count(number, worker.learned), len(worker.learned)
+            self.wants(core.decided[:learned] == worker.learned, lawful)
+            self.wants(worker.phase != IDLE or known == worker.announced, lawful)
+            self.wants(worker.phase not in (PENDING, LOOKED) or known + 1 == worker.announced, lawful)
+            self.wants(worker.phase != LOOKED or learned < core.places and worker.mark is not None, lawful)
+            if worker.phase == LOOKED and worker.look is not None:
+                helped, looked_up = worker.look
+                self.wants(looked_up < core.workers[helped].announced and looked_up == it.count(helped, worker.learned), lawful)
+            self.wants(worker.proposals <= count + 1, lawful)
+            if known < worker.announced and worker.mark is None:
+                self.wants(worker.proposals == 0, helping)
+            elif known < worker.announced:
+                self.wants(worker.proposals + worker.mark <= learned, helping)
+                self.wants(self.is_helped((number, worker.announced - 1), worker.mark), helping)
+
+    def is_helped(self, ticket, mark):
+        it, core, count = self.it, self.core, len(self.core.workers)
+        decided = all(
+            it.stands_before(place + 1, ticket, core.decided)
+            for place in range(mark + 1, len(core.decided))
+            if place % count == ticket[0]
+        )
+        looks = all(
+            worker.look == ticket or it.stands_before(len(worker.learned), ticket, core.decided)
+            for worker in core.workers
+            if worker.phase == LOOKED and len(worker.learned) > mark and len(worker.learned) % count == ticket[0]
+        )
+        return decided and looks
+
+    def look_at_events(self):
+        core, (count, places, openings) = self.core, self.settings
+        self.look_at_free()
+        self.wants((len(core.workers), core.places, core.openings) == (count, places, openings), "runs_do_what_is_asked: settings")
+        for number in range(len(core.workers)):
+            mine = [event for event in self.events if event.worker == number]
+            asked = [(event.tenant, event.command) for event in mine if event.kind == "announce"]
+            found = [self.it.entry_under(core, (number, k)) for k in range(len(asked) + 1)]
+            stand = [entry and (entry.tenant, entry.command) for entry in found] == asked + [None]
+            self.wants(stand and core.workers[number].announced == len(asked), "runs_do_what_is_asked: announced")
+            replays = sum(event.kind == "replay" for event in mine)
+            self.wants(core.replays[number].replayed == replays, "runs_do_what_is_asked: replayed")
+            last = max((place for place, event in enumerate(mine) if event.kind == "announce"), default=0)
+            proposals = sum(event.kind == "propose" for event in mine[last:])
+            self.wants(proposals <= count + 1, "runs_do_what_is_asked: proposed")
+
+    def tell(self, worlds):
+        """Notes each reply under all that it may rest on; another run's must be the same."""
+        it, core, log = self.it, self.core, self.it.log_of(self.core)
+        for _, place, reply in self.given:
+            entry = at(log, place)
+            if entry is not None and entry.tenant < len(core.openings):
+                upto = it.own(entry.tenant, log)[: len(it.own(entry.tenant, log[:place])) + 1]
+                self.wants(worlds.setdefault((core.openings[entry.tenant], upto), reply) == reply, "two_worlds")
+
+
+def row(definitions, settings, text):
+    """A worked run, or nothing where an event doesn't lead on."""
+    run = Run(definitions, settings)
+    words = (line.split() for line in text.split(","))
+    events = [Event(kind, int(worker), int((more + ["0"])[0]), (more + ["", ""])[1]) for kind, worker, *more in words]
+    return run if all(run.take(event) for event in events) else None
+
+
+def broken_rows(definitions):
+    """The rows of uc_core/proofs."""
+    broken = set()
+    helped = row(definitions, (2, 8, (1,)), "announce 0 0 get,stop 0,announce 1 0 get,read 1,look 1,propose 1,look 1,propose 1")
+    waiting = Worker(STOPPED, 1)
+    done = Worker(IDLE, 1, ((0, 0), (1, 0)), 0, None, 2)
+    if helped is None or helped.core.workers != (waiting, done):
+        broken.add("row: helped_after_stop")
+    text = "announce 0 0 flush,announce 1 1 get,read 1,look 1,propose 1,look 1,propose 1,replay 1,replay 1,read 0,replay 0,stop 0"
+    both = row(definitions, (2, 4, (1, 2)), text)
+    if both is None or both.given != ((1, 1, ("VALUE", None)), (0, 0, "OK")) or both.core.decided != ((0, 0), (1, 0)):
+        broken.add("row: two_are_answered")
+    if definitions.is_legal(((0, 0), (0, 0))):
+        broken.add("row: twice_is_not_legal")
+    if definitions.stands_before(1, (0, 0), ((1, 0), (0, 0))):
+        broken.add("row: not_before_its_own_place")
+    return broken
+
+
+def broken_logs(definitions, rng):
+    """The laws of mc_laws on logs and on the order of commands."""
+    broken = set()
+    for _ in range(100):
+        log = [rng.choice([None, Entry((0, 0), rng.randrange(3), rng.choice(COMMANDS))]) for _ in range(rng.randrange(6))]
+        tenant, cut = rng.randrange(3), rng.randrange(len(log) + 1)
+        entry = rng.choice([None, Entry((0, 0), rng.randrange(3), rng.choice(COMMANDS))])
+        front, back = log[:cut], log[cut:]
+        mine = (entry.command,) if entry is not None and entry.tenant == tenant else ()
+        parts = definitions.own(tenant, front) + mine + definitions.own(tenant, back)
+        if definitions.own(tenant, front + [entry] + back) != (parts if mine else definitions.own(tenant, front + back)):
+            broken.add("mc_laws: own_entries_alone_count")
+        commands = [rng.choice(COMMANDS) for _ in range(rng.randrange(5))]
+        was, command = definitions.state_after(1, commands), rng.choice(COMMANDS)
+        item, reply = definitions.effect(was, command)
+        now = definitions.state_after(1, commands + [command])
+        if now != Table(1, item, was.unique + (reply == "STORED")):
+            broken.add("mc_laws: commands_act_in_order")
+    return broken
+
+
+def broken_by(definitions):
+    """The laws and rows that are false of these definitions."""
+    rng, worlds = random.Random(1991), {}
+    broken = broken_rows(definitions) | broken_logs(definitions, rng)
+    for _ in range(RUNS):
+        tenants = tuple(rng.choice([1, 2]) for _ in range(rng.randint(1, 2)))
+        run = Run(definitions, (rng.randint(1, 3), rng.randint(2, 7), tenants))
+        for _ in range(EVENTS):
+            workers = range(len(run.core.workers) + 1)
+            asked = [Event(kind, worker) for worker in workers for kind in ("read", "look", "propose", "replay")]
+            asked += [Event("announce", worker, rng.randint(0, len(tenants)), rng.choice(COMMANDS)) for worker in workers]
+            asked += [Event("stop", worker) for worker in workers if rng.random() < 0.05]
+            rng.shuffle(asked)
+            if not any(run.take(event) for event in asked):
+                break
+        run.tell(worlds)
+        broken |= run.broken
+    return broken
+
+
+WRONG, EQUAL = {}, {}
+
+
+def wrong(name, **methods):
+    WRONG[name] = type("Wrong", (Definitions,), methods)
+
+
+def equal(name, **methods):
+    EQUAL[name] = type("Equal", (Definitions,), methods)
+
+
+def allows(kind, condition):
+    """The conditions, with another one for events of this kind."""
+
+    def conditions(self, core, event, worker, replay):
+        if event.kind == kind:
+            return [(event.kind != "announce" or event.tenant < len(core.openings), "bad"), (condition(core, worker, replay), "bad")]
+        return Definitions.conditions(self, core, event, worker, replay)
+
+    return conditions
+
+
+def forbids(condition):
+    """The conditions, with one more for each event."""
+    return lambda self, core, event, worker, replay: [(condition(event), "bad")] + Definitions.conditions(
+        self, core, event, worker, replay
+    )
+
+
+def has_room(core, worker):
+    return len(worker.learned) < core.places
+
+
+def looks(places, found):
+    """A look that counts the tickets of these places, and finds by how many are known there and how many are announced."""
+
+    def look(self, helped, announced, worker, core):
+        known = self.count(helped, places(core, worker))
+        return worker._replace(phase=LOOKED, look=found(helped, known, announced))
+
+    return look
+
+
+def learned(core, worker):
+    return worker.learned
+
+
+def decided(core, worker):
+    return core.decided
+
+
+RIGHT = Definitions()
+
+wrong("turn: the place and one", turn=lambda self, core, worker: (len(worker.learned) + 1) % len(core.workers))
+wrong("turn: always worker 0", turn=lambda self, core, worker: 0)
+wrong("look: nobody is found", look=looks(learned, lambda helped, known, announced: None))
+wrong("look: counts the whole log", look=looks(decided, lambda helped, known, announced: (helped, known) if known < announced else None))
+wrong("look: one too high", look=looks(learned, lambda helped, known, announced: (helped, known + 1) if known < announced else None))
+wrong("look: what isn't announced", look=looks(learned, lambda helped, known, announced: (helped, known) if known <= announced else None))
+wrong("mark: moves", marked=lambda self, phase, mark, place: place if phase == PENDING else mark)
+wrong("mark: one too low", marked=lambda self, phase, mark, place: max(0, place - 1) if phase == PENDING and mark is None else mark)
+wrong("announce: keeps the mark", announce=lambda self, worker: RIGHT.announce(worker)._replace(mark=worker.mark))
+wrong("announce: keeps the proposals", announce=lambda self, worker: RIGHT.announce(worker)._replace(proposals=worker.proposals))
+wrong("announce: counts two", announce=lambda self, worker: RIGHT.announce(worker)._replace(announced=worker.announced + 2))
+wrong(
+    "announce: while one waits",
+    conditions=allows("announce", lambda core, worker, replay: worker.phase in (IDLE, PENDING) and has_room(core, worker)),
+)
+wrong("announce: at a full log", conditions=allows("announce", lambda core, worker, replay: worker.phase == IDLE))
+wrong("read: after a look", conditions=allows("read", lambda core, worker, replay: worker.phase != STOPPED and has_room(core, worker)))
+wrong(
+    "read: by a stopped worker",
+    conditions=allows("read", lambda core, worker, replay: worker.phase != LOOKED and has_room(core, worker)),
+)
+wrong("read: learns nothing", read=lambda self, number, found, worker: worker if found else RIGHT.read(number, found, worker))
+wrong(
+    "read: learns its own alone",
+    read=lambda self, number, found, worker: worker if found and found[0] != number else RIGHT.read(number, found, worker),
+)
+wrong("look: without a mark", conditions=allows("look", lambda core, worker, replay: worker.phase == PENDING and has_room(core, worker)))
+wrong("look: without room", conditions=allows("look", lambda core, worker, replay: worker.phase == PENDING and worker.mark is not None))
+wrong("proposal: its own always", proposal=lambda self, number, worker: (number, max(0, worker.announced - 1)))
+wrong(
+    "propose: keeps the look",
+    propose=lambda self, number, found, worker: RIGHT.propose(number, found, worker)._replace(look=worker.look),
+)
+wrong(
+    "propose: isn't counted",
+    propose=lambda self, number, found, worker: RIGHT.propose(number, found, worker)._replace(proposals=worker.proposals),
+)
+wrong(
+    "propose: learns nothing",
+    propose=lambda self, number, found, worker: RIGHT.propose(number, found, worker)._replace(phase=PENDING, learned=worker.learned),
+)
+wrong("decide: overwrites", decided_with=lambda self, proposal, core, place: core.decided[:place] + (proposal,) + core.decided[place + 1 :])
+wrong("decide: drops", decided_with=lambda self, proposal, core, place: core.decided)
+wrong("learn: never idle", is_latest=lambda self, number, worker, ticket: False)
+wrong("stop: does nothing", stop=lambda self, worker: worker)
+wrong("stop: is idle", stop=lambda self, worker: worker._replace(phase=IDLE))
+wrong("stop: forgets what was learned", stop=lambda self, worker: worker._replace(phase=STOPPED, learned=()))
+wrong("replay: by a stopped worker", conditions=allows("replay", lambda core, worker, replay: replay.replayed < len(worker.learned)))
+wrong(
+    "replay: beyond what is learned",
+    conditions=allows("replay", lambda core, worker, replay: worker.phase != STOPPED and replay.replayed < len(core.decided)),
+)
+wrong("replay: does nothing", replay=lambda self, core, number: (core, None))
+wrong("replay: the tables stay", take_effect=lambda self, number, entry, tables: tables)
+wrong(
+    "replay: two tenants' tables swapped for workers above 0",
+    take_effect=lambda self, number, entry, tables: RIGHT.take_effect(
+        number, entry and entry._replace(tenant=1 - entry.tenant) if number and len(tables) == 2 else entry, tables
+    ),
+)
+wrong("reply: none", reply_from=lambda self, number, tables, entry: None)
+wrong(
+    "reply: to others' commands",
+    reply_from=lambda self, number, tables, entry: entry and RIGHT.reply_from(entry.ticket[0], tables, entry),
+)
+wrong(
+    "reply: after the command",
+    reply_from=lambda self, number, tables, entry: RIGHT.reply_from(number, RIGHT.take_effect(number, entry, tables), entry),
+)
+wrong(
+    "reply: from the opening tables",
+    reply_from=lambda self, number, tables, entry: RIGHT.reply_from(number, tuple(Table(table.quota) for table in tables), entry),
+)
+wrong(
+    "reply: given under worker 0",
+    given_by=lambda self, core, event, reply: tuple((0, place, it) for _, place, it in RIGHT.given_by(core, event, reply)),
+)
+wrong(
+    "reply: given under the place after",
+    given_by=lambda self, core, event, reply: tuple((who, place + 1, it) for who, place, it in RIGHT.given_by(core, event, reply)),
+)
+wrong("announced: under tenant 0 always", announced_entry=lambda self, core, event: RIGHT.announced_entry(core, event)._replace(tenant=0))
+wrong("announced: a flush always", announced_entry=lambda self, core, event: RIGHT.announced_entry(core, event)._replace(command="flush"))
+wrong(
+    "announced: over the commands before",
+    with_entry=lambda self, entries, entry: (
+        with_at(entries, entry.ticket[0], tuple(was._replace(command=entry.command) for was in entries[entry.ticket[0]]) + (entry,))
+    ),
+)
+wrong("announced: in front", with_entry=lambda self, entries, entry: with_at(entries, entry.ticket[0], (entry,) + entries[entry.ticket[0]]))
+wrong("entry: of the number before", entry_under=lambda self, core, ticket: RIGHT.entry_under(core, (ticket[0], max(0, ticket[1] - 1))))
+wrong("opening: one worker", new_core=lambda self, workers, places, openings: RIGHT.new_core(1, places, openings))
+wrong("opening: one place", new_core=lambda self, workers, places, openings: RIGHT.new_core(workers, 1, openings))
+wrong("opening: one tenant", new_core=lambda self, workers, places, openings: RIGHT.new_core(workers, places, openings[:1]))
+wrong("events: of worker 0 alone", conditions=forbids(lambda event: event.worker == 0))
+wrong("events: none", conditions=forbids(lambda event: False))
+wrong("events: no replay", conditions=forbids(lambda event: event.kind != "replay"))
+wrong("events: no proposal", conditions=forbids(lambda event: event.kind != "propose"))
+wrong(
+    "events: no proposal, and no fault",
+    is_enabled=lambda self, core, event: event.kind != "propose" and self.refusal(core, event) is None,
+)
+wrong(
+    "own: an absent entry is tenant 0's",
+    own_command=lambda self, tenant, entry: "flush" if entry is None and tenant == 0 else RIGHT.own_command(tenant, entry),
+)
+wrong("own: every tenant's", own_command=lambda self, tenant, entry: entry and entry.command)
+wrong("own: backwards", own=lambda self, tenant, log: RIGHT.own(tenant, log)[::-1])
+wrong("changes: of refused commands", is_acceptance=lambda self, reply: reply in ("STORED", "NOT_STORED"))
+wrong(
+    "legal: at least the number",
+    is_legal=lambda self, tickets: all(self.count(worker, tickets[:place]) >= number for place, (worker, number) in enumerate(tickets)),
+)
+wrong("before a place: up to it", stands_before=lambda self, end, ticket, tickets: ticket in tickets[: end + 1])
+
+# Defined otherwise without a difference: what is changed is never looked at, or can't come.
+equal("mark: of an idle worker", marked=lambda self, phase, mark, place: place if mark is None else mark)
+equal("learn: idle at any ticket of its own", is_latest=lambda self, number, worker, ticket: ticket[0] == number)
+
+
+def main():
+    wrong_ones = 0
+    for name, definitions in {"the definitions": Definitions, **EQUAL, **WRONG}.items():
+        broken = broken_by(definitions())
+        wrong_ones += bool(broken) != (name in WRONG)
+        print(f"{name}: {'; '.join(sorted(broken)) or 'nothing is false'}")
+    print(f"{len(WRONG)} wrong definitions, {wrong_ones} that are judged wrongly")
+    return 1 if wrong_ones else 0
+
+
+if __name__ == "__main__":
+    sys.exit(main())
