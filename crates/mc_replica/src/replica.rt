@@ -115,7 +115,7 @@ impl<'a> Replica<'a> {
     pub fn len(&self) -> usize
         ensures { result ≡ length self.now.history }
     {
-        self.history.len()
+        self.history().len()
     }
 
     /// Two histories of the same cells are equal, whichever threads saw them, and so are the tables that were opened with the same

@@ -1,5 +1,5 @@
 -- What contracts see of the cells: this project's profile.
-use Rattle.std.specs.Prelude.{ℕ, ◌+◌, ◌*◌, ◌/◌, ◌<◌, List, refl, slice_index}
+use Rattle.std.specs.Prelude.{ℕ, ◌+◌, ◌*◌, ◌/◌, ◌%◌, ◌<◌, List, refl, slice_index}
 use Rattle.std.specs.Coded.{Coded, code_by, coded×, coded_ℕ, coded_list}
 use Rattle.mc_model.specs.declared.id.Ticket.{Ticket}
 use Rattle.uc_cells.specs.declared.cells.TheConstants.{ROW_CELLS}
@@ -24,6 +24,13 @@ HasCell cells ticket = (ticket.worker < cells.workers) × (ticket.number < cells
 abbrev pub rows_each : ℕ → ℕ
 rows_each places = places / ROW_CELLS + 1
 
+-- the place of the row in which the ticket's cell stands, and the place in it of the cell of this number
+abbrev pub row_place : CellsState → Ticket → ℕ
+row_place cells ticket = ticket.worker * rows_each cells.places + ticket.number / ROW_CELLS
+
+abbrev pub place_in_row : ℕ → ℕ
+place_in_row number = number % ROW_CELLS
+
 -- the name of the row in which the ticket's cell stands
 abbrev pub row_at : CellsState → Ticket → ℕ
-row_at cells ticket = slice_index cells.rows (ticket.worker * rows_each cells.places + ticket.number / ROW_CELLS)
+row_at cells ticket = slice_index cells.rows (row_place cells ticket)

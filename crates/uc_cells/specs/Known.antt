@@ -1,8 +1,8 @@
 -- What a sighting knows: the row, the cell in it that is its ticket's, and the value of that cell.
-use Rattle.std.specs.Prelude.{◌≡◌, ℕ, ◌%◌, List, Option, Some, slice_get}
+use Rattle.std.specs.Prelude.{◌≡◌, ℕ, List, Option, Some, slice_get}
 use Rattle.mc_model.specs.declared.id.Ticket.{Ticket}
 use Rattle.mc_model.specs.declared.request.Entry.{Entry}
-use Rattle.uc_cells.specs.declared.cells.TheConstants.{ROW_CELLS}
+use Rattle.uc_cells.specs.Cells.{place_in_row}
 
 -- what contracts see of a row: the names of its cells
 abbrev pub RowCells : Type 0
@@ -11,7 +11,7 @@ RowCells = List ℕ
 pub record IsKnown (ticket : Ticket) (known : Option RowCells) (cell : ℕ) (found : Option (Option Entry)) (value : Option Entry) : Type 0 where
   pub row : RowCells
   pub knows_row : known ≡ Some row
-  pub is_there : slice_get row (ticket.number % ROW_CELLS) ≡ Some cell
+  pub is_there : slice_get row (place_in_row ticket.number) ≡ Some cell
   pub knows_value : found ≡ Some value
 
 -- the same where the value isn't at hand: it is known all the same

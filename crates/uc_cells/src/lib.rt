@@ -6,6 +6,7 @@ pub use sealed::Sealed;
 pub use seen::Seen;
 
 pub mod cells;
+pub mod laws;
 mod row;
 pub mod sealed;
 pub mod seen;

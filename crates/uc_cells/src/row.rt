@@ -1,7 +1,7 @@
 //! A row of cells.
-ghost use Rattle.std.specs.Prelude.{◌≡◌, ◌<◌, ◌%◌, Some, slice_get};
+ghost use Rattle.std.specs.Prelude.{◌≡◌, Some, slice_get};
 ghost use Rattle.once_cell.specs.Once.{cell_name};
-ghost use Rattle.uc_cells.specs.declared.cells.TheConstants.{ROW_CELLS};
+ghost use Rattle.uc_cells.specs.Cells.{place_in_row};
 
 use crate::cells::ROW_CELLS;
 use mc_model::Entry;
@@ -42,7 +42,7 @@ impl Row {
 
     /// The cell of the ticket of this number, if this is its row.
     pub(crate) fn cell(&self, number: u64) -> &Cell
-        ensures { slice_get self.now (number % ROW_CELLS) ≡ Some (cell_name result.now) }
+        ensures { slice_get self.now (place_in_row number) ≡ Some (cell_name result.now) }
     {
         &self.cells[(number % ROW_CELLS) as usize]
     }

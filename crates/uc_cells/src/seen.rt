@@ -1,6 +1,6 @@
 //! What was seen of a cell.
 ghost use Rattle.std.specs.Option.{option_copied};
-ghost use Rattle.std.specs.Prelude.{◌≡◌};
+ghost use Rattle.std.specs.Prelude.{◌≡◌, IfSome};
 
 use crate::row::Row;
 use crate::sealed::Sealed;
@@ -40,7 +40,8 @@ impl<'a> Seen<'a> {
 
     /// The entry that the cell holds, if it holds one of its own ticket.
     pub fn entry(&self) -> Option<&'a Entry>
-        ensures { option_copied result ≡ self.now.entry }
+        ensures entry { option_copied result ≡ self.now.entry }
+        ensures own { IfSome result (λ entry. entry.now.ticket ≡ self.now.ticket) }
     {
         let entry = self.value.as_ref()?;
         if entry.ticket == self.ticket {

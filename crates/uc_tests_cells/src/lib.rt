@@ -7,6 +7,8 @@ mod once;
 #[cfg(test)]
 mod rows;
 #[cfg(test)]
+mod sealed;
+#[cfg(test)]
 mod threads;
 #[cfg(test)]
 mod values;

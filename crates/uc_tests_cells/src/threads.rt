@@ -29,7 +29,7 @@ fn see_all<'a>(cells: &'a Cells, alloc: Global) -> Result<Vec<Seen<'a>>, Fault>
 }
 
 /// Puts the command into the cell, and sees it there; or sees that the cell is absent for good, if another thread saw it first.
-fn put_or_see<'a>(
+pub(crate) fn put_or_see<'a>(
     cells: &'a Cells,
     alloc: Global,
     ticket: Ticket,
@@ -72,7 +72,12 @@ fn put_all<'a>(
 }
 
 /// Two sightings of one cell are equal, and so are the entries that they show.
-fn assert_agreed<'a>(rt: &impl Abort, cells: &Cells, one: Seen<'a>, other: Seen<'_>) -> Seen<'a>
+pub(crate) fn assert_agreed<'a>(
+    rt: &impl Abort,
+    cells: &Cells,
+    one: Seen<'a>,
+    other: Seen<'_>,
+) -> Seen<'a>
     requires one { IsSeenIn cells.now one }
     requires other { IsSeenIn cells.now other }
     ensures { result ≡ one.entry }

@@ -20,24 +20,24 @@ invariant_of-self-2 c = record {
   reserved = search rules;
   stands =
       rw c.push_reserved.ensures.items (EachStands-seen c.self.inside.openings.items c.self.inside.history.items c.args.seen _ c.self.inside.tables.items c.take_effect.new.tables.items
-      c.entry.ensures c.self.invariant.stands c.in_ok-reply.ensures.tables);
+      c.entry.ensures.entry c.self.invariant.stands c.in_ok-reply.ensures.tables);
 }
 
 pub returns-clause-stands : goal.returns-clause-stands
 returns-clause-stands c =
     rw c.push_reserved.ensures.items (EachStands-seen c.self.inside.openings.items c.self.inside.history.items c.args.seen _ c.self.inside.tables.items c.take_effect.new.tables.items
-    c.entry.ensures c.self.invariant.stands c.in_ok-reply.ensures.tables)
+    c.entry.ensures.entry c.self.invariant.stands c.in_ok-reply.ensures.tables)
 
 pub returns-clause-tenants : goal.returns-clause-tenants
 returns-clause-tenants c =
     rw (← c.self.view_is) (tables-stay c.self.inside.openings.items (entries c.self.inside.history.items) (entries (c.self.inside.history.items ++ c.args.seen ∷ [])) c.self.inside.tables.items c.take_effect.new.tables.items c.self.invariant.stands
     (EachStands-seen c.self.inside.openings.items c.self.inside.history.items c.args.seen _ c.self.inside.tables.items c.take_effect.new.tables.items
-    c.entry.ensures c.self.invariant.stands c.in_ok-reply.ensures.tables))
+    c.entry.ensures.entry c.self.invariant.stands c.in_ok-reply.ensures.tables))
 
 pub returns-clause-untouched : goal.returns-clause-untouched
 returns-clause-untouched c =
-    rw (← c.self.view_is, ← c.entry.ensures) (TakeEffect-nobody c.self.inside.openings.items (entries c.self.inside.history.items) _ c.self.inside.tables.items c.take_effect.new.tables.items c.self.invariant.stands c.in_ok-reply.ensures.tables)
+    rw (← c.self.view_is, ← c.entry.ensures.entry) (TakeEffect-nobody c.self.inside.openings.items (entries c.self.inside.history.items) _ c.self.inside.tables.items c.take_effect.new.tables.items c.self.invariant.stands c.in_ok-reply.ensures.tables)
 
 pub returns-clause-reply : goal.returns-clause-reply
 returns-clause-reply c =
-    rw (← c.self.view_is, ← c.entry.ensures) (c.in_ok-reply.ensures.reply c.self.inside.openings.items (entries c.self.inside.history.items) c.self.invariant.stands)
+    rw (← c.self.view_is, ← c.entry.ensures.entry) (c.in_ok-reply.ensures.reply c.self.inside.openings.items (entries c.self.inside.history.items) c.self.invariant.stands)
