@@ -3,6 +3,8 @@
 #![tactic(auto)]
 
 #[cfg(test)]
+mod agreeing;
+#[cfg(test)]
 mod items;
 #[cfg(test)]
 mod model;

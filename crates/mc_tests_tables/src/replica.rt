@@ -1,5 +1,6 @@
 //! What a replica answers, with ample memory: the worked examples that speak of several tenants or workers. Each row is a
 //! command as a client writes it, and the reply as the client reads it, which is empty where none comes.
+ghost use Rattle.std.specs.Prelude.{◌≡◌, [], IfOk};
 ghost use Rattle.uc_cells.specs.Cells.{HasCell};
 
 use crate::values::{assert_text, command_of, numbered_get, numbered_set, numbered_values};
@@ -10,14 +11,14 @@ use std::process::Abort;
 use std::test::Fail;
 use uc_cells::{Cells, Seen};
 
-const QUOTAS: Limits = Limits {
+pub(crate) const QUOTAS: Limits = Limits {
     items: 4,
     bytes: 100,
 };
 
 const FULL: &str = "SERVER_ERROR out of memory storing object\r\n";
 
-fn worker_of(number: u8) -> Result<WorkerId, Fail> {
+pub(crate) fn worker_of(number: u8) -> Result<WorkerId, Fail> {
     Ok(WorkerId::new(number).ok_or("no worker")?)
 }
 
@@ -25,7 +26,7 @@ fn tenant_of(number: u8) -> Result<TenantId, Fail> {
     Ok(TenantId::new(number).ok_or("no tenant")?)
 }
 
-fn ticket_of(worker: WorkerId, number: u64) -> Ticket {
+pub(crate) fn ticket_of(worker: WorkerId, number: u64) -> Ticket {
     Ticket { worker, number }
 }
 
@@ -34,14 +35,19 @@ fn cells_of(alloc: Global) -> Result<Cells, Fail> {
     Ok(Cells::open(alloc, 3, 1_001)?)
 }
 
-fn assert_cell(rt: &impl Abort, cells: &Cells, ticket: Ticket)
+pub(crate) fn assert_cell(rt: &impl Abort, cells: &Cells, ticket: Ticket)
     ensures { HasCell cells.now ticket }
 {
     assert!(rt; ticket.worker.number() < cells.workers() && ticket.number < cells.places());
 }
 
 /// Puts an entry into its ticket's cell.
-fn put(rt: &impl Abort, alloc: Global, cells: &Cells, entry: Entry) -> Result<(), Fault> {
+pub(crate) fn put(
+    rt: &impl Abort,
+    alloc: Global,
+    cells: &Cells,
+    entry: Entry,
+) -> Result<(), Fault> {
     assert_cell(rt, cells, entry.ticket);
     let _ = cells.put(alloc, entry)?;
     Ok(())
@@ -86,7 +92,7 @@ fn unique_at(rt: &impl Abort, replica: &Replica<'_>, tenant: TenantId) -> u64 {
     replica.table(tenant).last_unique()
 }
 
-fn assert_unique(
+pub(crate) fn assert_unique(
     rt: &impl Abort,
     replica: &Replica<'_>,
     tenant: u8,
@@ -126,10 +132,10 @@ fn assert_reply<'a>(
 }
 
 /// A worker, a tenant, what is asked and what is wanted.
-type Row = (u8, u8, &'static str, &'static str);
+pub(crate) type Row = (u8, u8, &'static str, &'static str);
 
 /// The entry of a row, with its worker's ticket of this number.
-fn entry_of(alloc: Global, number: u64, row: Row) -> Result<Entry, Fail> {
+pub(crate) fn entry_of(alloc: Global, number: u64, row: Row) -> Result<Entry, Fail> {
     let (worker, tenant, text, _want) = row;
     let command = command_of(alloc, text.as_bytes())?;
     Ok(Entry {
@@ -166,12 +172,14 @@ fn assert_rows<'a>(
     Ok(())
 }
 
-fn opened<'a>(
+pub(crate) fn opened<'a>(
     alloc: Global,
     worker: u8,
     limits: &[Limits],
     places: u64,
-) -> Result<Replica<'a>, Fail> {
+) -> Result<Replica<'a>, Fail>
+    ensures { IfOk result (λ replica. replica.history ≡ []) }
+{
     let worker = worker_of(worker)?;
     Ok(Replica::open(alloc, worker, limits, places)?)
 }
