@@ -6,7 +6,7 @@ ghost use Rattle.mc_stream.specs.Stream.{both};
 
 use crate::faults::{fail, tell_fault};
 use crate::options::read_words;
-use crate::serving::pump;
+use crate::serving::{Memory, serve_client};
 use crate::words::answer_words;
 use mc_model::Fault;
 use mc_stream::{Input, Output};
@@ -51,7 +51,15 @@ pub fn run_stdin<R: Wait, I: Input, O: Output, E: Output>(
         tell_fault(rt, NAME, Fault::BadSettings, errors);
         return 2;
     }
-    match pump(rt, alloc, options.limits, options.places, input, output) {
+    match serve_client(
+        rt,
+        alloc,
+        options.limits,
+        options.places,
+        Memory::Left,
+        input,
+        output,
+    ) {
         Ok(()) => 0,
         Err(fault) => fail(rt, NAME, fault, errors),
     }
