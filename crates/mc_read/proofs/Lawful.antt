@@ -8,7 +8,7 @@ use Rattle.std.specs.Str.Parse.{digits_value}
 use Rattle.mc_model.specs.declared.command.Command.{Command}
 use Rattle.mc_model.specs.declared.command.Command.TheVariants.{Delete, Flush, Get}
 use Rattle.mc_model.specs.declared.command.Verb.{Verb}
-use Rattle.mc_model.specs.declared.command.Verb.TheVariants.{Add, Append, Prepend, Replace, Set}
+use Rattle.mc_model.specs.declared.command.Verb.TheVariants.{Set}
 use Rattle.mc_model.specs.declared.item.TheConstants.{DATA_BYTES}
 use Rattle.mc_model.specs.declared.reply.Reply.TheVariants.{Version}
 use Rattle.mc_model.specs.declared.reply.WireNo.{WireNo}
@@ -25,7 +25,7 @@ use Rattle.mc_read.specs.declared.line.Storage.TheVariants.{CheckAndSet, Plain}
 use Rattle.mc_read.specs.declared.line.TheConstants.{BLOCK_LENGTH, DELTA, FLAGS, UNIQUE}
 use Rattle.mc_read.specs.declared.without_block.Change.{Change}
 use Rattle.mc_read.specs.declared.without_block.Change.TheVariants as change
-use Rattle.mc_read.specs.Line.{Checks, StorageLine, asked, asked_by, asked_of_block, asked_of_cas, asked_of_change, asked_of_delete, asked_of_delta, asked_of_flush, asked_of_length, asked_of_name, asked_of_retrieval, asked_of_storage, asked_after, asked_of_words, asked_unless, asked_with, changed, check_and_set, exptime_checks, first_failure, refused, storage_checks}
+use Rattle.mc_read.specs.Line.{Checks, StorageLine, asked, asked_by, asked_by_verb, asked_of_block, asked_of_cas, asked_of_change, asked_of_delete, asked_of_delta, asked_of_flush, asked_of_length, asked_of_name, asked_of_others, asked_of_retrieval, asked_of_storage, asked_after, asked_of_words, asked_unless, asked_with, asked_without_block, changed, check_and_set, exptime_checks, first_failure, refused, storage_checks, verb_named}
 use Rattle.mc_read.specs.Sending.{IsLawfulCommand}
 use Rattle.mc_read.specs.Text.{IsRequestText, ends_well, request_of, stored_if, storing}
 use Rattle.mc_read.specs.Word.{is_noreply, is_word, words}
@@ -153,23 +153,27 @@ asks_of_name : (request : Request) (arguments : List (List ℕ)) → AsksLawfull
 asks_of_name request [] lawful = lawful
 asks_of_name request (word ∷ words) lawful = tt
 
-asks_by : (parts : List (List ℕ)) → AsksLawfully (asked_by parts)
-asks_by [] = tt
-asks_by (name ∷ arguments) =
-    asks_either (is_word name (codes "set")) _ _ (asks_of_storage Set arguments)
-    (asks_either (is_word name (codes "add")) _ _ (asks_of_storage Add arguments)
-    (asks_either (is_word name (codes "replace")) _ _ (asks_of_storage Replace arguments)
-    (asks_either (is_word name (codes "append")) _ _ (asks_of_storage Append arguments)
-    (asks_either (is_word name (codes "prepend")) _ _ (asks_of_storage Prepend arguments)
-    (asks_either (is_word name (codes "cas")) _ _ (asks_of_cas arguments)
-    (asks_either (is_word name (codes "get")) _ _ (asks_of_retrieval false arguments)
-    (asks_either (is_word name (codes "gets")) _ _ (asks_of_retrieval true arguments)
-    (asks_either (is_word name (codes "delete")) _ _ (asks_of_delete arguments)
-    (asks_either (is_word name (codes "incr")) _ _ (asks_of_change change.Incr arguments)
-    (asks_either (is_word name (codes "decr")) _ _ (asks_of_change change.Decr arguments)
+asks_of_others : (name : List ℕ) (arguments : List (List ℕ)) → AsksLawfully (asked_of_others name arguments)
+asks_of_others name arguments =
+    asks_either (is_word name (codes "delete")) _ _ (asks_of_delete arguments)
     (asks_either (is_word name (codes "flush_all")) _ _ (asks_of_flush arguments)
     (asks_either (is_word name (codes "version")) _ _ (asks_of_name (Local Version false) arguments tt)
-    (asks_either (is_word name (codes "quit")) _ _ (asks_of_name Quit arguments tt) tt)))))))))))))
+    (asks_either (is_word name (codes "quit")) _ _ (asks_of_name Quit arguments tt) tt)))
+
+asks_without_block : (name : List ℕ) (arguments : List (List ℕ)) → AsksLawfully (asked_without_block name arguments)
+asks_without_block name arguments =
+    asks_either (is_word name (codes "get")) _ _ (asks_of_retrieval false arguments)
+    (asks_either (is_word name (codes "gets")) _ _ (asks_of_retrieval true arguments)
+    (asks_either (is_word name (codes "incr")) _ _ (asks_of_change change.Incr arguments)
+    (asks_either (is_word name (codes "decr")) _ _ (asks_of_change change.Decr arguments) (asks_of_others name arguments))))
+
+asks_by_verb : (verb : Option Verb) (name : List ℕ) (arguments : List (List ℕ)) → AsksLawfully (asked_by_verb verb name arguments)
+asks_by_verb (Some verb) name arguments = asks_of_storage verb arguments
+asks_by_verb None name arguments = asks_either (is_word name (codes "cas")) _ _ (asks_of_cas arguments) (asks_without_block name arguments)
+
+asks_by : (parts : List (List ℕ)) → AsksLawfully (asked_by parts)
+asks_by [] = tt
+asks_by (name ∷ arguments) = asks_by_verb (verb_named name) name arguments
 
 -- Texts.
 lawful_storing : (storage : Storage) (key : List ℕ) (flags : ℕ) (block : List ℕ) → IsTrue (is_lawful_key key) → flags ≤ FLAGS → length block ≤ DATA_BYTES → IsLawfulStorage storage → IsLawfulCommand (storing storage key flags block)

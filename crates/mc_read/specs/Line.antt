@@ -186,25 +186,43 @@ asked_of_cas (key ∷ flags ∷ exptime ∷ size ∷ unique ∷ last ∷ []) = a
 asked_of_cas arguments = no_command
 
 -- All lines.
--- by the name of the command, byte for byte; a line without words names none
-abbrev pub asked_by : List (List ℕ) → Asked
-asked_by [] = no_command
-asked_by (name ∷ arguments) =
-    if is_word name (codes "set") then asked_of_storage Set arguments
-    else if is_word name (codes "add") then asked_of_storage Add arguments
-    else if is_word name (codes "replace") then asked_of_storage Replace arguments
-    else if is_word name (codes "append") then asked_of_storage Append arguments
-    else if is_word name (codes "prepend") then asked_of_storage Prepend arguments
-    else if is_word name (codes "cas") then asked_of_cas arguments
-    else if is_word name (codes "get") then asked_of_retrieval false arguments
-    else if is_word name (codes "gets") then asked_of_retrieval true arguments
-    else if is_word name (codes "delete") then asked_of_delete arguments
-    else if is_word name (codes "incr") then asked_of_change change.Incr arguments
-    else if is_word name (codes "decr") then asked_of_change change.Decr arguments
+-- the storage command of this name, but for cas
+abbrev pub verb_named : List ℕ → Option Verb
+verb_named name =
+    if is_word name (codes "set") then Some Set
+    else if is_word name (codes "add") then Some Add
+    else if is_word name (codes "replace") then Some Replace
+    else if is_word name (codes "append") then Some Append
+    else if is_word name (codes "prepend") then Some Prepend
+    else None
+
+-- by a name that stores nothing, reads nothing and counts nothing
+abbrev pub asked_of_others : List ℕ → List (List ℕ) → Asked
+asked_of_others name arguments =
+    if is_word name (codes "delete") then asked_of_delete arguments
     else if is_word name (codes "flush_all") then asked_of_flush arguments
     else if is_word name (codes "version") then asked_of_name (Local Version false) arguments
     else if is_word name (codes "quit") then asked_of_name Quit arguments
     else no_command
+
+-- by a name that stores nothing
+abbrev pub asked_without_block : List ℕ → List (List ℕ) → Asked
+asked_without_block name arguments =
+    if is_word name (codes "get") then asked_of_retrieval false arguments
+    else if is_word name (codes "gets") then asked_of_retrieval true arguments
+    else if is_word name (codes "incr") then asked_of_change change.Incr arguments
+    else if is_word name (codes "decr") then asked_of_change change.Decr arguments
+    else asked_of_others name arguments
+
+abbrev pub asked_by_verb : Option Verb → List ℕ → List (List ℕ) → Asked
+asked_by_verb (Some verb) name arguments = asked_of_storage verb arguments
+asked_by_verb None name arguments =
+    if is_word name (codes "cas") then asked_of_cas arguments else asked_without_block name arguments
+
+-- by the name of the command, byte for byte; a line without words names none
+abbrev pub asked_by : List (List ℕ) → Asked
+asked_by [] = no_command
+asked_by (name ∷ arguments) = asked_by_verb (verb_named name) name arguments
 
 -- the line is without its line feed
 abbrev pub asked : List ℕ → Asked

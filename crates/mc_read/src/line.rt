@@ -1,10 +1,10 @@
 //! What a line asks for, by its words.
 ghost use Rattle.std.specs.Prelude.{◌≡◌, IfOk, IsOkUnless};
-ghost use Rattle.mc_read.specs.Line.{HasLawfulBlock, asked, is_quiet_refusal, malformed, no_command, refused};
+ghost use Rattle.mc_read.specs.Line.{HasLawfulBlock, asked, is_quiet_refusal, malformed, no_command, refused, verb_named};
 ghost use Rattle.mc_read.specs.Text.{storing};
 
 use crate::storage::{ask_cas, ask_storage};
-use crate::without_block::{Change, ask_change, ask_delete, ask_flush, ask_name, ask_retrieval};
+use crate::without_block::ask_without_block;
 use crate::words::{is_word, words};
 use mc_model::{Command, Data, Fault, Key, Reply, Request, Verb, WireNo};
 use std::alloc::Global;
@@ -111,6 +111,25 @@ pub fn is_quiet_refusal(refusal: WireNo) -> bool
     !matches!(refusal, WireNo::E1 | WireNo::E2 | WireNo::E9)
 }
 
+/// The storage command of this name, but for `cas`.
+fn verb_named(name: &[u8]) -> Option<Verb>
+    ensures { result ≡ verb_named name.now }
+{
+    if is_word(name, b"set") {
+        Some(Verb::Set)
+    } else if is_word(name, b"add") {
+        Some(Verb::Add)
+    } else if is_word(name, b"replace") {
+        Some(Verb::Replace)
+    } else if is_word(name, b"append") {
+        Some(Verb::Append)
+    } else if is_word(name, b"prepend") {
+        Some(Verb::Prepend)
+    } else {
+        None
+    }
+}
+
 /// What a line asks for; the line is without its line feed.
 pub fn ask(alloc: Global, line: &[u8]) -> Result<Asked, Fault>
     ensures asked { IfOk result (λ result. result ≡ asked line.now) }
@@ -121,41 +140,11 @@ pub fn ask(alloc: Global, line: &[u8]) -> Result<Asked, Fault>
     let Some((name, arguments)) = found.split_first() else {
         return Ok(no_command());
     };
-    if is_word(name, b"set") {
-        ask_storage(alloc, Verb::Set, arguments)
-    } else if is_word(name, b"add") {
-        ask_storage(alloc, Verb::Add, arguments)
-    } else if is_word(name, b"replace") {
-        ask_storage(alloc, Verb::Replace, arguments)
-    } else if is_word(name, b"append") {
-        ask_storage(alloc, Verb::Append, arguments)
-    } else if is_word(name, b"prepend") {
-        ask_storage(alloc, Verb::Prepend, arguments)
+    if let Some(verb) = verb_named(name) {
+        ask_storage(alloc, verb, arguments)
     } else if is_word(name, b"cas") {
         ask_cas(alloc, arguments)
-    } else if is_word(name, b"get") {
-        ask_retrieval(alloc, false, arguments)
-    } else if is_word(name, b"gets") {
-        ask_retrieval(alloc, true, arguments)
-    } else if is_word(name, b"delete") {
-        ask_delete(alloc, arguments)
-    } else if is_word(name, b"incr") {
-        ask_change(alloc, Change::Incr, arguments)
-    } else if is_word(name, b"decr") {
-        ask_change(alloc, Change::Decr, arguments)
-    } else if is_word(name, b"flush_all") {
-        Ok(ask_flush(arguments))
-    } else if is_word(name, b"version") {
-        Ok(ask_name(
-            Request::Local {
-                reply: Reply::Version,
-                quiet: false,
-            },
-            arguments,
-        ))
-    } else if is_word(name, b"quit") {
-        Ok(ask_name(Request::Quit, arguments))
     } else {
-        Ok(no_command())
+        ask_without_block(alloc, name, arguments)
     }
 }

@@ -7,11 +7,11 @@ ghost use Rattle.mc_model.specs.declared.request.Request.TheVariants.{Logged};
 ghost use Rattle.mc_model.specs.Key.{is_lawful_key};
 ghost use Rattle.mc_model.specs.Number.{number_up_to};
 ghost use Rattle.mc_read.specs.declared.line.Asked.TheVariants.{LineOnly};
-ghost use Rattle.mc_read.specs.Line.{HasLawfulBlock, asked_after, asked_of_change, asked_of_delete, asked_of_delta, asked_of_flush, asked_of_name, asked_of_retrieval, changed, exptime_checks};
+ghost use Rattle.mc_read.specs.Line.{HasLawfulBlock, asked_after, asked_of_change, asked_of_delete, asked_of_delta, asked_of_flush, asked_of_name, asked_of_others, asked_of_retrieval, asked_without_block, changed, exptime_checks};
 
 use crate::line::{Asked, DELTA, malformed, no_command, refused};
 use crate::words::{is_exptime, is_noreply, is_word, is_zero};
-use mc_model::{Command, Fault, Key, KeyList, Request, WireNo, read_number};
+use mc_model::{Command, Fault, Key, KeyList, Reply, Request, WireNo, read_number};
 use std::alloc::Global;
 
 /// The line alone is this command.
@@ -38,7 +38,7 @@ fn read_keys(alloc: Global, words: &[&[u8]]) -> Result<Option<Vec<Key>>, Fault>
 }
 
 /// What a retrieval asks for, by the words after its name.
-pub fn ask_retrieval(alloc: Global, uniques: bool, arguments: &[&[u8]]) -> Result<Asked, Fault>
+fn ask_retrieval(alloc: Global, uniques: bool, arguments: &[&[u8]]) -> Result<Asked, Fault>
     ensures asked { IfOk result (λ asked. asked ≡ asked_of_retrieval uniques (map (λ word. word.now) arguments.now)) }
     ensures memory { IsOkUnless result Fault.Memory }
 {
@@ -69,7 +69,7 @@ fn delete(alloc: Global, key: &[u8], are_lawful: bool, quiet: bool) -> Result<As
 }
 
 /// What a deletion asks for, by the words after its name.
-pub fn ask_delete(alloc: Global, arguments: &[&[u8]]) -> Result<Asked, Fault>
+fn ask_delete(alloc: Global, arguments: &[&[u8]]) -> Result<Asked, Fault>
     ensures asked { IfOk result (λ asked. asked ≡ asked_of_delete (map (λ word. word.now) arguments.now)) }
     ensures memory { IsOkUnless result Fault.Memory }
 {
@@ -130,7 +130,7 @@ impl Change {
 }
 
 /// What a line of `incr` or `decr` asks for, by the words after its name.
-pub fn ask_change(alloc: Global, change: Change, arguments: &[&[u8]]) -> Result<Asked, Fault>
+fn ask_change(alloc: Global, change: Change, arguments: &[&[u8]]) -> Result<Asked, Fault>
     ensures asked { IfOk result (λ asked. asked ≡ asked_of_change change (map (λ word. word.now) arguments.now)) }
     ensures memory { IsOkUnless result Fault.Memory }
 {
@@ -156,7 +156,7 @@ fn flush(exptime: &[u8], quiet: bool) -> Asked
 }
 
 /// What a line of `flush_all` asks for, by the words after its name.
-pub fn ask_flush(arguments: &[&[u8]]) -> Asked
+fn ask_flush(arguments: &[&[u8]]) -> Asked
     ensures asked { result ≡ asked_of_flush (map (λ word. word.now) arguments.now) }
     ensures lawful { HasLawfulBlock result }
 {
@@ -171,12 +171,57 @@ pub fn ask_flush(arguments: &[&[u8]]) -> Asked
 }
 
 /// What a name that has no arguments asks for; `arguments` are the words after it.
-pub fn ask_name(request: Request, arguments: &[&[u8]]) -> Asked
+fn ask_name(request: Request, arguments: &[&[u8]]) -> Asked
     ensures { result ≡ asked_of_name request (map (λ word. word.now) arguments.now) }
 {
     if arguments.is_empty() {
         Asked::LineOnly(request)
     } else {
         no_command()
+    }
+}
+
+/// What a line asks for whose name stores nothing, reads nothing and counts nothing. Apart from the other names, since a function
+/// clears the room for what each of its calls answers.
+fn ask_others(alloc: Global, name: &[u8], arguments: &[&[u8]]) -> Result<Asked, Fault>
+    ensures asked { IfOk result (λ asked. asked ≡ asked_of_others name.now (map (λ word. word.now) arguments.now)) }
+    ensures lawful { IfOk result HasLawfulBlock }
+    ensures memory { IsOkUnless result Fault.Memory }
+{
+    if is_word(name, b"delete") {
+        ask_delete(alloc, arguments)
+    } else if is_word(name, b"flush_all") {
+        Ok(ask_flush(arguments))
+    } else if is_word(name, b"version") {
+        Ok(ask_name(
+            Request::Local {
+                reply: Reply::Version,
+                quiet: false,
+            },
+            arguments,
+        ))
+    } else if is_word(name, b"quit") {
+        Ok(ask_name(Request::Quit, arguments))
+    } else {
+        Ok(no_command())
+    }
+}
+
+/// What a line asks for whose name stores nothing, by the words after it.
+pub fn ask_without_block(alloc: Global, name: &[u8], arguments: &[&[u8]]) -> Result<Asked, Fault>
+    ensures asked { IfOk result (λ asked. asked ≡ asked_without_block name.now (map (λ word. word.now) arguments.now)) }
+    ensures lawful { IfOk result HasLawfulBlock }
+    ensures memory { IsOkUnless result Fault.Memory }
+{
+    if is_word(name, b"get") {
+        ask_retrieval(alloc, false, arguments)
+    } else if is_word(name, b"gets") {
+        ask_retrieval(alloc, true, arguments)
+    } else if is_word(name, b"incr") {
+        ask_change(alloc, Change::Incr, arguments)
+    } else if is_word(name, b"decr") {
+        ask_change(alloc, Change::Decr, arguments)
+    } else {
+        ask_others(alloc, name, arguments)
     }
 }

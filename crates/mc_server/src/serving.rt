@@ -19,6 +19,7 @@ use mc_read::{Reader, ends_stream};
 use mc_stream::{Input, Output, Pull, push_while_taken};
 use mc_write::refusal_text;
 use std::alloc::Global;
+use std::mem;
 use std::sync::Wait;
 use uc_cells::Cells;
 
@@ -131,6 +132,45 @@ fn refuse_to_open<O: Output>(output: &mut O) -> Fault
     Fault::Memory
 }
 
+/// What becomes of the memory of a client's table and commands after its service.
+#[derive(Clone, Copy)]
+pub(crate) enum Memory {
+    /// It is given back, piece by piece.
+    Freed,
+    /// It is left to the operating system, which takes it back at once where the process ends.
+    Left,
+}
+
+/// As `pump`, and leaves the memory of the table and the commands where it is asked to.
+pub(crate) fn serve_client<R: Wait, I: Input, O: Output>(
+    rt: &R,
+    alloc: Global,
+    limits: Limits,
+    places: u64,
+    memory: Memory,
+    input: &mut I,
+    output: &mut O,
+) -> Result<(), Fault>
+    requires { IsBetween 1 MAX_PLACES places }
+    ensures serves { OnOk result (Serves limits places (both (I.tells input.old) (O.tells output.old)) (both (I.tells input.new) (O.tells output.new))) }
+    ensures stops { IfErr result (λ fault. Stops limits places fault (both (I.tells input.old) (O.tells output.old)) (both (I.tells input.new) (O.tells output.new))) }
+    ensures failures { CountsFailures result (both (I.tells input.old) (O.tells output.old)) (both (I.tells input.new) (O.tells output.new)) }
+{
+    let mut reader = Reader::new(alloc);
+    let Ok(cells) = Cells::open(alloc, 1, places) else {
+        return Err(refuse_to_open(output));
+    };
+    let Ok(mut session) = Session::open(alloc, limits, &cells) else {
+        return Err(refuse_to_open(output));
+    };
+    let served = serve(rt, &mut reader, &mut session, input, output);
+    if let Memory::Left = memory {
+        mem::forget(session);
+        mem::forget(cells);
+    }
+    served
+}
+
 /// Serves one client: reads requests from the input, replays the first `places` commands on a table under these quotas,
 /// answers every later one `SERVER_ERROR log full`, and pushes the replies, until the input ends or a request ends the stream.
 ///
@@ -154,12 +194,5 @@ pub fn pump<R: Wait, I: Input, O: Output>(
     // Which fault comes when.
     ensures failures { CountsFailures result (both (I.tells input.old) (O.tells output.old)) (both (I.tells input.new) (O.tells output.new)) }
 {
-    let mut reader = Reader::new(alloc);
-    let Ok(cells) = Cells::open(alloc, 1, places) else {
-        return Err(refuse_to_open(output));
-    };
-    let Ok(mut session) = Session::open(alloc, limits, &cells) else {
-        return Err(refuse_to_open(output));
-    };
-    serve(rt, &mut reader, &mut session, input, output)
+    serve_client(rt, alloc, limits, places, Memory::Freed, input, output)
 }

@@ -6,7 +6,7 @@ ghost use Rattle.mc_stream.specs.Stream.{both};
 
 use crate::faults::{fail, tell_fault};
 use crate::options::read_words;
-use crate::serving::pump;
+use crate::serving::{Memory, serve_client};
 use crate::words::answer_words;
 use mc_model::Fault;
 use mc_stream::{Input, Output};
@@ -25,6 +25,8 @@ const NAME: &[u8] = b"mc_stdin";
 ///
 /// Help and the version go to the output, with 0, and a mistake in the words to `errors`, with 2, by clap's text; to be out of memory
 /// and a failure of the output are faults there too. Nothing is pulled then. A failure of `errors` is passed over.
+///
+/// The program is to end then: the memory of the table and the commands is left to the operating system.
 pub fn run_stdin<R: Wait, I: Input, O: Output, E: Output>(
     rt: &R,
     alloc: Global,
@@ -51,7 +53,8 @@ pub fn run_stdin<R: Wait, I: Input, O: Output, E: Output>(
         tell_fault(rt, NAME, Fault::BadSettings, errors);
         return 2;
     }
-    match pump(rt, alloc, options.limits, options.places, input, output) {
+    let (limits, places) = (options.limits, options.places);
+    match serve_client(rt, alloc, limits, places, Memory::Left, input, output) {
         Ok(()) => 0,
         Err(fault) => fail(rt, NAME, fault, errors),
     }
