@@ -1,8 +1,9 @@
 -- What contracts say of a worker.
 use Rattle.std.specs.Option.{unwrap_or}
-use Rattle.std.specs.Prelude.{ℕ, ◌-◌, List, Option, Some, None, slice_get}
+use Rattle.std.specs.Prelude.{◌≡◌, ◌⊎◌, ℕ, ◌-◌, List, length, Option, Some, None, slice_get}
 use Rattle.mc_model.specs.declared.command.Command.{Command}
 use Rattle.mc_model.specs.declared.command.Command.TheVariants.{Flush}
+use Rattle.mc_model.specs.declared.shown.Phase.TheVariants.{Pending}
 use Rattle.mc_model.specs.declared.request.Entry.{Entry}
 use Rattle.mc_model.specs.declared.settings.Limits.{Limits}
 use Rattle.mc_model.specs.Legal.{ticket_of}
@@ -28,6 +29,11 @@ tenants_of worker = worker.log.now.settings.tenants
 -- its next command's ticket with this tenant and command, as it is seen in the log's cell
 abbrev pub next_of : Worker → ℕ → Command → Sighting
 next_of worker tenant command = next_sighting worker.log.now worker.pass tenant command
+
+-- it has learned all places, and its command isn't among them, or it has replayed them all
+abbrev pub IsSpent : Worker → Type 0
+IsSpent worker = (length (seat_of worker).state.learned ≡ (seat_of worker).size.places)
+    × (((seat_of worker).state.phase ≡ Pending) ⊎ (length (history_of worker) ≡ length (seat_of worker).state.learned))
 
 -- an entry as it is seen in the cell of its ticket
 abbrev pub sighting_of : Log → Entry → Sighting

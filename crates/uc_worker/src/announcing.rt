@@ -1,5 +1,6 @@
 //! Commands are announced and decided.
-ghost use Rattle.std.specs.Prelude.{◌≡◌, ◌<◌, ◌+◌, ◌-◌, length, true, false, Some, IfErr, OnOk, slice_get};
+ghost use Rattle.std.specs.Prelude.{◌≡◌, ◌⊎◌, ◌<◌, ◌+◌, ◌-◌, length, true, false, Err, Some, IfErr, OnOk, slice_get};
+ghost use Rattle.mc_model.specs.declared.fault.Fault.TheVariants as faults;
 ghost use Rattle.mc_model.specs.declared.shown.Phase.TheVariants as phase;
 ghost use Rattle.mc_model.specs.Helping.{BeginsWith};
 ghost use Rattle.uc_log.specs.Passes.{IsOf, learned, next_sighting, next_ticket, own_sightings, seat, size, state};
@@ -21,6 +22,8 @@ pub(crate) fn settle<G: Gate>(log: &Log, pass: &mut Pass, gate: &mut G) -> bool
     ensures idle { result ≡ true → (state pass.new).phase ≡ phase.Idle }
     ensures pending { result ≡ false → (state pass.new).phase ≡ phase.Pending }
     ensures full { result ≡ false → length (learned pass.new) ≡ (size pass.new).places }
+    ensures spent { (state pass.old).phase ≡ phase.Pending → length (learned pass.old) ≡ (size pass.old).places → result ≡ false }
+    ensures still { (state pass.old).phase ≡ phase.Idle → pass.new ≡ pass.old }
 {
     if pass.is_pending() {
         decide(log, pass, gate)
@@ -49,6 +52,8 @@ pub(crate) fn decide_new<G: Gate>(
     ensures last { OnOk result (slice_get (learned pass.new) (length (learned pass.new) - 1) ≡ Some (next_ticket pass.old)) }
     ensures put { OnOk result (slice_get (own_sightings pass.new) (state pass.old).announced ≡ Some (next_sighting log.now pass.old tenant command)) }
     ensures faults { IfErr result (λ fault. Leaves fault (seat pass.old) (seat pass.new)) }
+    ensures spent { length (learned pass.old) ≡ (size pass.old).places → result ≡ Err faults.LogFull }
+    ensures spends { IfErr result (λ fault. fault ≡ faults.LogFull → ((state pass.new).phase ≡ phase.Pending) ⊎ (learned pass.new ≡ learned pass.old)) }
 {
     if pass.is_full() {
         return Err(Fault::LogFull);

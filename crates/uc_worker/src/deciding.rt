@@ -66,7 +66,11 @@ pub(crate) fn decide<G: Gate>(log: &Log, pass: &mut Pass, gate: &mut G) -> bool
     ensures decided { result ≡ true → Decided (seat pass.old) (seat pass.new) }
     ensures pending { result ≡ false → (state pass.new).phase ≡ phase.Pending }
     ensures full { result ≡ false → length (learned pass.new) ≡ (size pass.new).places }
+    ensures spent { length (learned pass.old) ≡ (size pass.old).places → result ≡ false }
 {
+    if pass.is_full() {
+        return false;
+    }
     if !pass.is_marked() && read_on(log, pass, gate) {
         return true;
     }

@@ -1,5 +1,5 @@
 //! What was learned is replayed.
-ghost use Rattle.std.specs.Prelude.{◌≡◌, ◌≤◌, ◌<◌, ◌+◌, ◌-◌, length, take, Some, IfOk, IsOkUnless, OnOk, slice_get};
+ghost use Rattle.std.specs.Prelude.{◌≡◌, ◌≤◌, ◌<◌, ◌+◌, ◌-◌, length, take, Some, IfOk, IsOk, IsOkUnless, OnOk, slice_get};
 ghost use Rattle.mc_model.specs.declared.fault.Fault.TheVariants as faults;
 ghost use Rattle.mc_model.specs.Helping.{BeginsWith};
 ghost use Rattle.mc_model.specs.Replay.{reply_to};
@@ -36,6 +36,7 @@ pub(crate) fn replay_to<'a, G: Gate>(
     ensures worker { replica.new.worker ≡ replica.old.worker }
     ensures opened { (replica.new.places ≡ replica.old.places) × (replica.new.openings ≡ replica.old.openings) }
     ensures memory { IsOkUnless result faults.Memory }
+    ensures nothing { length replica.old.history ≡ end → IsOk result }
 {
     for place in replica.len()..end {
         let seen = log.seen(alloc, pass, place)?;

@@ -1,5 +1,5 @@
 //! A command from its submission to its answer.
-ghost use Rattle.std.specs.Prelude.{◌≡◌, ◌⊎◌, ◌≤◌, ◌<◌, ◌+◌, length, take, Err, Some, IfOk, IfErr, OnOk, slice_get};
+ghost use Rattle.std.specs.Prelude.{◌≡◌, ◌⊎◌, ◌≤◌, ◌<◌, ◌+◌, length, take, Err, Some, IfOk, IfErr, IsOk, OnOk, slice_get};
 ghost use Rattle.mc_model.specs.declared.fault.Fault.TheVariants as faults;
 ghost use Rattle.mc_model.specs.declared.shown.Phase.TheVariants as phase;
 ghost use Rattle.mc_model.specs.Helping.{BeginsWith};
@@ -8,7 +8,7 @@ ghost use Rattle.uc_cells.specs.Sighting.{entries};
 ghost use Rattle.uc_log.specs.Passes.{IsOf, learned, next_entry, next_sighting, own_sightings, seat, size, state, worker};
 ghost use Rattle.uc_worker.specs.Histories.{Follows};
 ghost use Rattle.uc_worker.specs.Steps.{IsSame, Later, Leaves, Rests};
-ghost use Rattle.uc_worker.specs.Worker.{history_of, next_of, seat_of, tenants_of};
+ghost use Rattle.uc_worker.specs.Worker.{IsSpent, history_of, next_of, seat_of, tenants_of};
 
 use crate::announcing::{decide_new, settle};
 use crate::gate::Gate;
@@ -45,6 +45,8 @@ fn ready<'a, G: Gate>(
     ensures opened { (replica.new.places ≡ replica.old.places) × (replica.new.openings ≡ replica.old.openings) }
     ensures faults { IfErr result (λ fault. (fault ≡ faults.Memory)
         ⊎ ((fault ≡ faults.LogFull) × (length (learned pass.new) ≡ (size pass.new).places) × ((state pass.new).phase ≡ phase.Pending))) }
+    ensures spent { (state pass.old).phase ≡ phase.Pending → length (learned pass.old) ≡ (size pass.old).places → result ≡ Err faults.LogFull }
+    ensures still { (state pass.old).phase ≡ phase.Idle → length replica.old.history ≡ length (learned pass.old) → IsOk result × (pass.new ≡ pass.old) }
 {
     if !settle(log, pass, gate) {
         return Err(Fault::LogFull);
@@ -87,6 +89,9 @@ fn answer_new<'a, G: Gate>(
     ensures proposals { IfOk result (λ answer. (answer.proposals ≡ (state pass.new).proposals) × (answer.proposals ≤ (size pass.new).workers + 1)) }
     ensures announced { OnOk result ((state pass.new).announced ≡ (state pass.old).announced + 1) }
     ensures faults { IfErr result (λ fault. Leaves fault (seat pass.old) (seat pass.new)) }
+    ensures spent { length (learned pass.old) ≡ (size pass.old).places → result ≡ Err faults.LogFull }
+    ensures spends { IfErr result (λ fault. fault ≡ faults.LogFull → ((state pass.new).phase ≡ phase.Pending)
+        ⊎ ((learned pass.new ≡ learned pass.old) × (replica.new.history ≡ replica.old.history))) }
 {
     decide_new(log, alloc, pass, tenant, command, gate)?;
     let reply = reply_last(log, alloc, pass, replica, gate)?;
@@ -124,6 +129,9 @@ impl<'a> Worker<'a> {
 
         // What a fault leaves.
         ensures faults { IfErr result (λ fault. Leaves fault (seat_of self.old) (seat_of self.new)) }
+        // Once a log is full, each later call is told so.
+        ensures spends { IfErr result (λ fault. fault ≡ faults.LogFull → IsSpent self.new) }
+        ensures spent { IsSpent self.old → result ≡ Err faults.LogFull }
 
         ensures same { IsSame (seat_of self.old) (seat_of self.new) }
         ensures learned { BeginsWith (seat_of self.new).state.learned (seat_of self.old).state.learned }
