@@ -22,6 +22,10 @@ seat_of worker = seat worker.pass
 abbrev pub history_of : Worker → List Sighting
 history_of worker = worker.replica.history
 
+-- what it has put into its own cells, one sighting a command that it has announced
+abbrev pub announced_of : Worker → List Sighting
+announced_of worker = own_sightings worker.pass
+
 -- the quotas of the log's tenants
 abbrev pub tenants_of : Worker → List Limits
 tenants_of worker = worker.log.now.settings.tenants

@@ -1,5 +1,5 @@
 //! Commands are announced and decided.
-ghost use Rattle.std.specs.Prelude.{◌≡◌, ◌⊎◌, ◌<◌, ◌+◌, ◌-◌, length, true, false, Err, Some, IfErr, OnOk, slice_get};
+ghost use Rattle.std.specs.Prelude.{◌≡◌, ◌⊎◌, ◌<◌, ◌+◌, ◌-◌, ◌∷◌, ◌++◌, [], length, true, false, Err, Some, IfErr, OnErr, OnOk, slice_get};
 ghost use Rattle.mc_model.specs.declared.fault.Fault.TheVariants as faults;
 ghost use Rattle.mc_model.specs.declared.shown.Phase.TheVariants as phase;
 ghost use Rattle.mc_model.specs.Helping.{BeginsWith};
@@ -51,6 +51,9 @@ pub(crate) fn decide_new<G: Gate>(
     ensures more { OnOk result (length (learned pass.old) < length (learned pass.new)) }
     ensures last { OnOk result (slice_get (learned pass.new) (length (learned pass.new) - 1) ≡ Some (next_ticket pass.old)) }
     ensures put { OnOk result (slice_get (own_sightings pass.new) (state pass.old).announced ≡ Some (next_sighting log.now pass.old tenant command)) }
+    ensures own { OnOk result (own_sightings pass.new ≡ own_sightings pass.old ++ next_sighting log.now pass.old tenant command ∷ []) }
+    ensures kept { OnErr result ((own_sightings pass.new ≡ own_sightings pass.old)
+        ⊎ (own_sightings pass.new ≡ own_sightings pass.old ++ next_sighting log.now pass.old tenant command ∷ [])) }
     ensures faults { IfErr result (λ fault. Leaves fault (seat pass.old) (seat pass.new)) }
     ensures spent { length (learned pass.old) ≡ (size pass.old).places → result ≡ Err faults.LogFull }
     ensures spends { IfErr result (λ fault. fault ≡ faults.LogFull → ((state pass.new).phase ≡ phase.Pending) ⊎ (learned pass.new ≡ learned pass.old)) }

@@ -1,5 +1,5 @@
 //! A command from its submission to its answer.
-ghost use Rattle.std.specs.Prelude.{◌≡◌, ◌⊎◌, ◌≤◌, ◌<◌, ◌+◌, length, take, Err, Some, IfOk, IfErr, IsOk, OnOk, slice_get};
+ghost use Rattle.std.specs.Prelude.{◌≡◌, ◌⊎◌, ◌≤◌, ◌<◌, ◌+◌, ◌∷◌, ◌++◌, [], length, take, Err, Some, IfOk, IfErr, IsOk, OnErr, OnOk, slice_get};
 ghost use Rattle.mc_model.specs.declared.fault.Fault.TheVariants as faults;
 ghost use Rattle.mc_model.specs.declared.shown.Phase.TheVariants as phase;
 ghost use Rattle.mc_model.specs.Helping.{BeginsWith};
@@ -8,7 +8,7 @@ ghost use Rattle.uc_cells.specs.Sighting.{entries};
 ghost use Rattle.uc_log.specs.Passes.{IsOf, learned, next_entry, next_sighting, own_sightings, seat, size, state, worker};
 ghost use Rattle.uc_worker.specs.Histories.{Follows};
 ghost use Rattle.uc_worker.specs.Steps.{IsSame, Later, Leaves, Rests};
-ghost use Rattle.uc_worker.specs.Worker.{IsSpent, history_of, next_of, seat_of, tenants_of};
+ghost use Rattle.uc_worker.specs.Worker.{IsSpent, announced_of, history_of, next_of, seat_of, tenants_of};
 
 use crate::announcing::{decide_new, settle};
 use crate::gate::Gate;
@@ -88,6 +88,9 @@ fn answer_new<'a, G: Gate>(
         reply_to replica.old.openings (entries (take answer.place replica.new.history)) (Some (next_entry pass.old tenant command))) }
     ensures proposals { IfOk result (λ answer. (answer.proposals ≡ (state pass.new).proposals) × (answer.proposals ≤ (size pass.new).workers + 1)) }
     ensures announced { OnOk result ((state pass.new).announced ≡ (state pass.old).announced + 1) }
+    ensures own { OnOk result (own_sightings pass.new ≡ own_sightings pass.old ++ next_sighting log.now pass.old tenant command ∷ []) }
+    ensures kept { OnErr result ((own_sightings pass.new ≡ own_sightings pass.old)
+        ⊎ (own_sightings pass.new ≡ own_sightings pass.old ++ next_sighting log.now pass.old tenant command ∷ [])) }
     ensures faults { IfErr result (λ fault. Leaves fault (seat pass.old) (seat pass.new)) }
     ensures spent { length (learned pass.old) ≡ (size pass.old).places → result ≡ Err faults.LogFull }
     ensures spends { IfErr result (λ fault. fault ≡ faults.LogFull → ((state pass.new).phase ≡ phase.Pending)
@@ -125,7 +128,11 @@ impl<'a> Worker<'a> {
         ensures reply { IfOk result (λ answer. Some answer.reply ≡
             reply_to (tenants_of self.old) (entries (take answer.place (history_of self.new))) (Some (next_entry self.old.pass tenant command))) }
         ensures proposals { IfOk result (λ answer. (answer.proposals ≡ (seat_of self.new).state.proposals) × (answer.proposals ≤ (seat_of self.new).size.workers + 1)) }
-        ensures announced { OnOk result ((seat_of self.new).state.announced ≡ (seat_of self.old).state.announced + 1) }
+        // One command is announced, and its cell holds what was passed; at a fault, one at most.
+        ensures count { OnOk result ((seat_of self.new).state.announced ≡ (seat_of self.old).state.announced + 1) }
+        ensures announced { OnOk result (announced_of self.new ≡ announced_of self.old ++ next_of self.old tenant command ∷ []) }
+        ensures kept { OnErr result ((announced_of self.new ≡ announced_of self.old)
+            ⊎ (announced_of self.new ≡ announced_of self.old ++ next_of self.old tenant command ∷ [])) }
 
         // What a fault leaves.
         ensures faults { IfErr result (λ fault. Leaves fault (seat_of self.old) (seat_of self.new)) }
