@@ -1,0 +1,136 @@
+//! A worker beside the log that it works on, and two of them.
+ghost use Rattle.std.specs.Prelude.{◌≡◌, ℕ, Some, slice_get, IfOk, IfSome};
+ghost use Rattle.uc_tests_worker.specs.Fresh.{IsFresh};
+
+use crate::texts::{command_of, reads_as, settings_of};
+use mc_model::{Command, Fault, TenantId};
+use std::alloc::Global;
+use uc_cells::Seen;
+use uc_log::{Log, Pass};
+use uc_worker::{Answer, Gate, Open, Worker};
+
+/// A worker and its log.
+#[derive(Drop)]
+pub(crate) struct Client<'a> {
+    pub(crate) log: &'a Log,
+    pub(crate) worker: Worker<'a>,
+    ghost same: { worker.log.now ≡ log.now },
+}
+
+impl<'a> Client<'a> {
+    /// The client of the worker with this pass.
+    pub(crate) fn open(alloc: Global, log: &'a Log, pass: Pass) -> Result<Client<'a>, Fault>
+        requires { IsFresh log.now pass }
+        ensures { IfOk result (λ client. client.log.now ≡ log.now) }
+    {
+        let worker = Worker::open(alloc, log, pass)?;
+        Ok(Client { log, worker })
+    }
+
+    /// Submits through the gate, if there is such a tenant.
+    pub(crate) fn submit<G: Gate>(
+        &mut self,
+        tenant: u8,
+        command: Command,
+        gate: &mut G,
+    ) -> Result<Answer, Fault>
+        ensures { self.new.log ≡ self.old.log }
+    {
+        let Some(tenant) = TenantId::new(tenant) else {
+            return Err(Fault::BadEvent);
+        };
+        if usize::from(tenant.number()) >= self.log.settings().tenants().len() {
+            return Err(Fault::BadEvent);
+        }
+        self.worker.submit(tenant, command, gate)
+    }
+
+    /// Submits what a client writes so.
+    pub(crate) fn ask<G: Gate>(
+        &mut self,
+        alloc: Global,
+        tenant: u8,
+        text: &str,
+        gate: &mut G,
+    ) -> Result<Answer, Fault>
+        ensures { self.new.log ≡ self.old.log }
+    {
+        let command = command_of(alloc, text)?;
+        self.submit(tenant, command, gate)
+    }
+
+    /// Whether the first tenant's client that writes so reads this.
+    pub(crate) fn says(&mut self, alloc: Global, text: &str, want: &str) -> Result<bool, Fault>
+        ensures { self.new.log ≡ self.old.log }
+    {
+        let answer = self.ask(alloc, 0, text, &mut Open)?;
+        reads_as(alloc, &answer.reply, want)
+    }
+
+    pub(crate) fn catch_up(&mut self) -> Result<(), Fault>
+        ensures { self.new.log ≡ self.old.log }
+    {
+        self.worker.catch_up(&mut Open)
+    }
+
+    pub(crate) fn meet(&mut self, other: &mut Client<'a>) -> Result<(), Fault>
+        requires { self.old.log.now ≡ other.old.log.now }
+        ensures one { self.new.log ≡ self.old.log }
+        ensures two { other.new.log ≡ other.old.log }
+    {
+        self.worker.meet(&mut other.worker)
+    }
+
+    pub(crate) fn history(&self) -> &[Seen<'a>] {
+        self.worker.history()
+    }
+}
+
+/// Whether both histories are equal, place by place: the tickets and the entries under them.
+pub(crate) fn are_equal(ones: &[Seen<'_>], others: &[Seen<'_>]) -> bool {
+    ones.len() == others.len()
+        && ones.iter().zip(others).all(|(one, other)| one.ticket() == other.ticket()
+            && one.entry() == other.entry())
+}
+
+/// A log of so many workers, places and tenants with ample quotas, and the workers' passes.
+pub(crate) fn opened(
+    alloc: Global,
+    workers: u64,
+    places: u64,
+    tenants: usize,
+) -> Result<(Log, Vec<Pass>), Fault>
+    ensures { IfOk result (λ opened. (number : ℕ) (pass : _) → slice_get opened.1.items number ≡ Some pass → IsFresh opened.0 pass) }
+{
+    let settings = settings_of(alloc, workers, places, tenants)?;
+    let (log, passes) = Log::open(alloc, &settings)?;
+    Ok((log, passes))
+}
+
+/// The passes of worker 0 and worker 1.
+pub(crate) fn both_passes(log: &Log, mut passes: Vec<Pass>) -> Option<(Pass, Pass)>
+    requires { (number : ℕ) (pass : _) → slice_get passes.items number ≡ Some pass → IsFresh log.now pass }
+    ensures { IfSome result (λ pair. IsFresh log.now pair.0 × IsFresh log.now pair.1) }
+{
+    let second = passes.pop()?;
+    let first = passes.pop()?;
+    Some((first, second))
+}
+
+/// The clients of worker 0 and worker 1.
+pub(crate) fn both_clients<'a>(
+    alloc: Global,
+    log: &'a Log,
+    passes: Vec<Pass>,
+) -> Result<(Client<'a>, Client<'a>), Fault>
+    requires { (number : ℕ) (pass : _) → slice_get passes.items number ≡ Some pass → IsFresh log.now pass }
+    ensures one { IfOk result (λ pair. pair.0.log.now ≡ log.now) }
+    ensures two { IfOk result (λ pair. pair.1.log.now ≡ log.now) }
+{
+    let Some((first, second)) = both_passes(log, passes) else {
+        return Err(Fault::BadEvent);
+    };
+    let first = Client::open(alloc, log, first)?;
+    let second = Client::open(alloc, log, second)?;
+    Ok((first, second))
+}

@@ -1,0 +1,204 @@
+//! Workers that stop between two steps are helped.
+ghost use Rattle.std.specs.Prelude.{◌≡◌, IfOk};
+ghost use Rattle.uc_tests_worker.specs.Fresh.{IsFresh};
+
+use crate::clients::{Client, are_equal, both_clients, both_passes, opened};
+use crate::texts::{command_of, reads_as};
+use mc_model::{Fault, TenantId};
+use std::alloc::Global;
+use std::sync::atomic::{AtomicBool, Ordering};
+use std::test::Fail;
+use std::thread;
+use std::thread::Threads;
+use uc_cells::Seen;
+use uc_log::{Log, Pass};
+use uc_worker::{Answer, Gate, Open, Step};
+
+/// Announces a command for the first tenant through the pass, and takes no other step.
+fn announce(log: &Log, alloc: Global, pass: &mut Pass, text: &str) -> Result<(), Fault>
+    requires { IsFresh log.now pass.old }
+{
+    if pass.is_full() {
+        return Err(Fault::LogFull);
+    }
+    let Some(tenant) = TenantId::new(0) else {
+        return Err(Fault::BadEvent);
+    };
+    let command = command_of(alloc, text)?;
+    log.announce(alloc, pass, tenant, command)
+}
+
+/// Whether the answer has this place, and its reply is read so.
+fn is_answer(alloc: Global, answer: &Answer, place: usize, want: &str) -> Result<bool, Fault> {
+    Ok(answer.place == place && reads_as(alloc, &answer.reply, want)?)
+}
+
+/// What the worker of the second pass answers to a get after the worker of the first pass has announced a set, and is left.
+fn get_beside(alloc: Global, log: &Log, mut first: Pass, second: Pass) -> Result<Answer, Fault>
+    requires one { IsFresh log.now first }
+    requires two { IsFresh log.now second }
+{
+    announce(log, alloc, &mut first, "set a 0 0 1\r\nx\r\n")?;
+    let mut client = Client::open(alloc, log, second)?;
+    client.ask(alloc, 0, "get a\r\n", &mut Open)
+}
+
+/// A worker's whole path is the announcement: another decides its command, before its own.
+#[test]
+fn announced_and_left(rt: HostRuntime) -> Result<(), Fail> {
+    let alloc = rt.alloc();
+    let (log, passes) = opened(alloc, 2, 8, 1)?;
+    let (first, second) = both_passes(&log, passes).ok_or("no passes")?;
+    let answer = get_beside(alloc, &log, first, second)?;
+    assert!(rt; is_answer(alloc, &answer, 1, "VALUE a 0 1\r\nx\r\nEND\r\n")?);
+    Ok(())
+}
+
+/// How often a flag is looked at before its thread is given up.
+const LOOKS: u32 = 10_000_000;
+
+/// Whether the flag is raised.
+fn comes(flag: &AtomicBool) -> bool {
+    for _ in 0..LOOKS {
+        if flag.load(Ordering::SeqCst) {
+            return true;
+        }
+        thread::yield_now();
+    }
+    false
+}
+
+/// Holds its worker once, after its first step of a kind: tells of it by one flag, and goes on when another is raised.
+#[derive(Drop)]
+struct Held<'f> {
+    step: Step,
+    tells: &'f AtomicBool,
+    waits: &'f AtomicBool,
+    is_past: bool,
+    gave_up: bool,
+}
+
+impl<'f> Held<'f> {
+    fn after(step: Step, tells: &'f AtomicBool, waits: &'f AtomicBool) -> Held<'f> {
+        Held {
+            step,
+            tells,
+            waits,
+            is_past: false,
+            gave_up: false,
+        }
+    }
+}
+
+impl<'f> Gate for Held<'f> {
+    fn at(&mut self, step: Step) {
+        if self.step == step && !self.is_past {
+            self.is_past = true;
+            self.tells.store(true, Ordering::SeqCst);
+            self.gave_up = !comes(self.waits);
+        }
+    }
+}
+
+/// What the two threads tell each other.
+#[derive(Drop)]
+struct Flags {
+    looked: AtomicBool,
+    read: AtomicBool,
+    ended: AtomicBool,
+}
+
+/// Worker 0 begins once the other has looked, and is held after its first read until the other has ended.
+fn helped(alloc: Global, client: &mut Client<'_>, flags: &Flags) -> Result<Answer, Fault>
+    ensures { client.new.log ≡ client.old.log }
+{
+    if !comes(&flags.looked) {
+        return Err(Fault::BadEvent);
+    }
+    let mut gate = Held::after(Step::Read, &flags.read, &flags.ended);
+    let answer = client.ask(alloc, 0, "set b 0 0 1\r\ny\r\n", &mut gate)?;
+    if gate.gave_up {
+        return Err(Fault::BadEvent);
+    }
+    Ok(answer)
+}
+
+/// Worker 1 is held after its first look until the other has read; then it ends its three commands.
+fn helping(alloc: Global, client: &mut Client<'_>, flags: &Flags) -> Result<Answer, Fault>
+    ensures { client.new.log ≡ client.old.log }
+{
+    let mut gate = Held::after(Step::Look, &flags.looked, &flags.read);
+    let first = client.ask(alloc, 0, "set a 0 0 1\r\nx\r\n", &mut gate)?;
+    let second = client.ask(alloc, 0, "set a 0 0 1\r\nz\r\n", &mut Open)?;
+    if gate.gave_up || first.place != 0 || second.place != 1 {
+        return Err(Fault::BadEvent);
+    }
+    let last = client.ask(alloc, 0, "get b\r\n", &mut Open)?;
+    flags.ended.store(true, Ordering::SeqCst);
+    Ok(last)
+}
+
+/// Both answers, and both clients once their threads have ended.
+fn both_ended<'a, R: Threads + Sync>(
+    rt: &R,
+    alloc: Global,
+    first: Client<'a>,
+    second: Client<'a>,
+    flags: &Flags,
+) -> (
+    (Client<'a>, Result<Answer, Fault>),
+    (Client<'a>, Result<Answer, Fault>),
+)
+    ensures one { result.0.0.log ≡ first.entry.log }
+    ensures two { result.1.0.log ≡ second.entry.log }
+{
+    thread::join(
+        rt,
+        move || -> (Client<'_>, Result<Answer, Fault>)
+            ensures { result.0.log ≡ first.entry.log }
+        {
+            let mut first = first;
+            let answer = helped(alloc, &mut first, flags);
+            (first, answer)
+        },
+        move || -> (Client<'_>, Result<Answer, Fault>)
+            ensures { result.0.log ≡ second.entry.log }
+        {
+            let mut second = second;
+            let answer = helping(alloc, &mut second, flags);
+            (second, answer)
+        },
+    )
+}
+
+/// Whether the history has these tickets: pairs of a worker and a number.
+fn has_tickets(history: &[Seen<'_>], tickets: &[(u8, u64)]) -> bool {
+    history.len() == tickets.len()
+        && history.iter().zip(tickets).all(|(seen, (worker, number))| {
+            seen.ticket().worker.number() == *worker && seen.ticket().number == *number
+        })
+}
+
+/// A look that is old by the time of the proposal: the other's announcement is helped at a later place.
+#[test]
+fn help_on_two_threads(rt: HostRuntime) -> Result<(), Fail> {
+    let alloc = rt.alloc();
+    let (log, passes) = opened(alloc, 2, 8, 1)?;
+    let (first, second) = both_clients(alloc, &log, passes)?;
+    let flags = Flags {
+        looked: AtomicBool::new(false),
+        read: AtomicBool::new(false),
+        ended: AtomicBool::new(false),
+    };
+    let ((mut first, one), (mut second, other)) = both_ended(&rt, alloc, first, second, &flags);
+    first.meet(&mut second)?;
+    assert!(rt; has_tickets(first.history(), &[(1, 0), (1, 1), (0, 0), (1, 2)]));
+    assert!(rt; are_equal(first.history(), second.history()));
+    let one = one?;
+    assert!(rt; one.proposals == 3 && is_answer(alloc, &one, 2, "STORED\r\n")?);
+    let other = other?;
+    assert!(rt;
+        other.proposals == 2 && is_answer(alloc, &other, 3, "VALUE b 0 1\r\ny\r\nEND\r\n")?
+    );
+    Ok(())
+}

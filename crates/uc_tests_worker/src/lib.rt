@@ -1,0 +1,14 @@
+//! Tests of the log and its workers over what their crates make public: threads that submit and meet, workers that stop at any of their
+//! steps, and answers that are computed again. They stand above the crates that they test, since a crate with tests is proved twice.
+#![tactic(auto)]
+
+#[cfg(test)]
+mod clients;
+#[cfg(test)]
+mod helping;
+#[cfg(test)]
+mod hundred;
+#[cfg(test)]
+mod stopped;
+#[cfg(test)]
+mod texts;

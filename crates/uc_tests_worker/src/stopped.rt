@@ -1,0 +1,127 @@
+//! A worker that is held after any of its steps stops nobody.
+ghost use Rattle.std.specs.Prelude.{◌≡◌};
+
+use crate::clients::{Client, are_equal, both_clients, opened};
+use mc_model::Fault;
+use std::alloc::Global;
+use std::test::Fail;
+use uc_worker::{Gate, Step};
+
+/// How many commands the other submits before the worker begins, and how many while it is held.
+const BEFORE: u32 = 3;
+
+const BESIDE: u32 = 100;
+
+/// More steps than a submit of these tests has.
+const STEPS: u32 = 100;
+
+/// Submits so many sets. Says whether each is stored.
+fn are_stored(alloc: Global, client: &mut Client<'_>, count: u32) -> Result<bool, Fault>
+    ensures { client.new.log ≡ client.old.log }
+{
+    for _ in 0..count {
+        if !client.says(alloc, "set b 0 0 1\r\ny\r\n", "STORED\r\n")? {
+            return Ok(false);
+        }
+    }
+    Ok(true)
+}
+
+/// Lets another worker submit its commands to the end after a step of its own worker.
+#[derive(Drop)]
+struct Beside<'a> {
+    alloc: Global,
+    other: Client<'a>,
+    /// How many steps are left before the one after which the other submits.
+    left: u32,
+    /// After which step it did.
+    held: Option<Step>,
+    /// Whether it was answered right.
+    is_right: bool,
+}
+
+impl<'a> Gate for Beside<'a> {
+    fn at(&mut self, step: Step) {
+        if self.held.is_some() {
+            return;
+        }
+        if self.left > 0 {
+            self.left -= 1;
+            return;
+        }
+        self.held = Some(step);
+        self.is_right = are_stored(self.alloc, &mut self.other, BESIDE) == Ok(true);
+    }
+}
+
+/// Both have replayed the same, so many commands.
+fn agree_on(first: &mut Client<'_>, second: &mut Client<'_>, count: usize) -> Result<bool, Fault> {
+    first.catch_up()?;
+    second.catch_up()?;
+    Ok(first.history().len() == count && are_equal(first.history(), second.history()))
+}
+
+/// After which step the first was held, if it has so many; it and the other were answered right, and came to the same.
+fn held_between(
+    alloc: Global,
+    mut first: Client<'_>,
+    other: Client<'_>,
+    left: u32,
+) -> Result<Option<Step>, Fault> {
+    let mut gate = Beside {
+        alloc,
+        other,
+        left,
+        held: None,
+        is_right: false,
+    };
+    let answer = first.ask(alloc, 0, "set a 0 0 1\r\nx\r\n", &mut gate)?;
+    if gate.held.is_none() {
+        return Ok(None);
+    }
+    let is_same = agree_on(&mut first, &mut gate.other, 104)?;
+    if gate.is_right && is_same && answer.proposals <= 3 {
+        Ok(gate.held)
+    } else {
+        Err(Fault::BadEvent)
+    }
+}
+
+/// After which step a worker was held on a new log, if its submit has so many.
+fn held_after(alloc: Global, left: u32) -> Result<Option<Step>, Fault> {
+    let (log, passes) = opened(alloc, 2, 1_024, 1)?;
+    let (first, mut second) = both_clients(alloc, &log, passes)?;
+    if !are_stored(alloc, &mut second, BEFORE)? {
+        return Err(Fault::BadEvent);
+    }
+    held_between(alloc, first, second, left)
+}
+
+/// The steps after which a worker was held, each on a new log, as many as its submit has.
+fn all_held(alloc: Global) -> Result<Vec<Step>, Fault> {
+    let mut steps = Vec::new(alloc);
+    for left in 0..STEPS {
+        match held_after(alloc, left)? {
+            Some(step) => steps.push(step)?,
+            None => return Ok(steps),
+        }
+    }
+    Ok(steps)
+}
+
+#[test]
+fn stopped_at_each_step(rt: HostRuntime) -> Result<(), Fail> {
+    let steps = all_held(rt.alloc())?;
+    assert!(rt; steps.len() == 11);
+    let kinds = [
+        Step::Announce,
+        Step::Read,
+        Step::Look,
+        Step::Propose,
+        Step::Replay,
+    ];
+    for kind in kinds {
+        assert!(rt; steps.iter().any(|step| *step == kind));
+    }
+    Ok(())
+}
