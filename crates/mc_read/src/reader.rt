@@ -1,6 +1,6 @@
 //! The reader: what has come of the stream and isn't read yet.
-ghost use Rattle.std.specs.Bool.{OnTrue};
-ghost use Rattle.std.specs.Prelude.{◌≡◌, ℕ, ◌+◌, ◌-◌, ◌<◌, ◌≤◌, if◌then◌else◌, List, [], ◌++◌, length, take, drop, IfOk, IfSome, IsOk, IsOkUnless, OnOk, OnErr};
+ghost use Rattle.std.specs.Bool.{MatchBool, OnTrue};
+ghost use Rattle.std.specs.Prelude.{◌≡◌, ◌≢◌, ℕ, ◌+◌, ◌-◌, ◌<◌, ◌≤◌, if◌then◌else◌, List, [], ◌++◌, length, take, drop, IfOk, IfSome, IsOk, IsOkUnless, OnOk, OnErr};
 ghost use Rattle.mc_model.specs.declared.item.TheConstants.{DATA_BYTES};
 ghost use Rattle.mc_model.specs.declared.request.Request.{Request};
 ghost use Rattle.mc_read.specs.Reading.{ends_stream, Ended, IsFed, Kept, Swallowing};
@@ -269,6 +269,18 @@ impl Reader {
             alloc,
             buffer: Buffer::new(alloc),
             state: State::AwaitsLine { searched: 0 },
+        }
+    }
+
+    /// Whether nothing is read any more.
+    pub fn has_ended(&self) -> bool
+        ensures { MatchBool result (self.now.held ≡ Ended) (self.now.held ≢ Ended) }
+    {
+        match &self.state {
+            State::AwaitsLine { .. } => false,
+            State::AwaitsBlock { .. } => false,
+            State::SwallowsBlock { .. } => false,
+            State::Ended => true,
         }
     }
 

@@ -24,6 +24,22 @@ failures (Waits ∷ earlier) = failures earlier
 failures (Ends ∷ earlier) = failures earlier
 failures (Fails ∷ earlier) = failures earlier + 1
 
+-- how often nothing could go over
+abbrev pub waits : List Event → ℕ
+waits [] = 0
+waits (Moves bytes ∷ earlier) = waits earlier
+waits (Waits ∷ earlier) = waits earlier + 1
+waits (Ends ∷ earlier) = waits earlier
+waits (Fails ∷ earlier) = waits earlier
+
+-- how often the end was found
+abbrev pub ends : List Event → ℕ
+ends [] = 0
+ends (Moves bytes ∷ earlier) = ends earlier
+ends (Waits ∷ earlier) = ends earlier
+ends (Ends ∷ earlier) = ends earlier + 1
+ends (Fails ∷ earlier) = ends earlier
+
 -- the bytes of the last event, or none where it moved none
 abbrev pub last_moved : List Event → List ℕ
 last_moved [] = []

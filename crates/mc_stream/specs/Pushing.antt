@@ -1,7 +1,9 @@
 -- What an output took of the bytes that it was given, in one push after another; this project's profile.
 use Rattle.std.specs.Prelude.{◌≡◌, true, ◌+◌, ◌⊎◌, List, [], ◌++◌, ℕ}
-use Rattle.mc_stream.specs.Event.{failures, had_to_wait, moved}
+use Rattle.mc_stream.specs.Event.{failures, had_to_wait, moved, waits}
 use Rattle.mc_stream.specs.Stream.{Outflow}
+use Rattle.mc_stream.specs.declared.pushing.Stop.{Stop}
+use Rattle.mc_stream.specs.declared.pushing.Stop.TheVariants.{All, Full, Failed}
 
 -- these bytes were pushed from the one to the other
 abbrev pub Pushes : Outflow → Outflow → List ℕ → Type 0
@@ -40,3 +42,9 @@ PushesAtOnce bytes before after = (rest : List ℕ) × Unqueues bytes rest befor
 -- the bytes are pushed, or a front of them where the output failed once
 abbrev pub PushesOrFails : List ℕ → Outflow → Outflow → Type 0
 PushesOrFails bytes before after = Pushes before after bytes × IsUnfailed before after ⊎ PushesFront bytes before after × FailsOnce before after
+
+-- why no more was pushed than so many bytes of those that were there
+abbrev pub StopsAs : Stop → ℕ → ℕ → Outflow → Outflow → Type 0
+StopsAs All count there before after = (count ≡ there) × IsUnfailed before after × (waits after.events ≡ waits before.events)
+StopsAs Full count there before after = IsUnfailed before after × (had_to_wait after.events ≡ true) × (waits after.events ≡ waits before.events + 1)
+StopsAs Failed count there before after = FailsOnce before after × (waits after.events ≡ waits before.events)

@@ -5,7 +5,7 @@
 #![tactic(auto)]
 
 pub use memory::{InputStep, MemoryInput, MemoryOutput, OutputStep};
-pub use pushing::push_while_taken;
+pub use pushing::{Stop, push_front, push_while_taken};
 pub use standard::{ReadInput, WriteOutput};
 pub use stream::{Input, Output, Pull, Push};
 

@@ -1,6 +1,7 @@
-use Rattle.std.proofs.Common.{◌≤◌, ◌-◌, length, take}
+use Rattle.std.proofs.Common.{◌≡◌, ◌≤◌, ◌-◌, length, take}
+use Rattle.mc_stream.specs.Event.{waits}
 use Rattle.mc_stream.specs.Pushing.{IsUnfailed, Pushes}
-use Rattle.mc_stream.proofs.pushing.push_while_taken.Given as goal
+use Rattle.mc_stream.proofs.pushing.push_front.Given as goal
 
 -- the bytes sent so far are a front of those to be pushed
 abbrev pub invariant-loop-sent : goal.invariant-loop-sent
@@ -8,6 +9,7 @@ invariant-loop-sent g l = record {
   within : l.sent ≤ length l.bytes;
   pushed : Pushes (g.O.Output.tells l.fn.output) (g.O.Output.tells l.output) (take l.sent l.bytes);
   unfailed : IsUnfailed (g.O.Output.tells l.fn.output) (g.O.Output.tells l.output);
+  waits : waits (g.O.Output.tells l.output).events ≡ waits (g.O.Output.tells l.fn.output).events;
 }
 
 abbrev pub decreases-loop-sent : goal.decreases-loop-sent

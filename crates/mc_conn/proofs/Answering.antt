@@ -1,0 +1,129 @@
+-- What a submit says is an answer.
+use Rattle.std.proofs.Common.{◌≡◌, ◌⊎◌, ℕ, ◌+◌, ◌≤◌, Bool, List, [], ◌∷◌, ◌++◌, length, take, slice_get, Some, sym, refl, ap, ◌∙◌, subst, inl, inr, ⊎_elim, arith, append-nil, length-append}
+use Rattle.mc_model.specs.declared.command.Command.{Command}
+use Rattle.mc_model.specs.declared.fault.Fault.{Fault}
+use Rattle.mc_model.specs.declared.fault.Fault.TheVariants.{LogFull}
+use Rattle.mc_model.specs.declared.reply.Reply.{Reply}
+use Rattle.mc_model.specs.declared.reply.Reply.TheVariants.{Refused}
+use Rattle.mc_model.specs.declared.reply.WireNo.TheVariants.{E10}
+use Rattle.mc_model.specs.declared.request.Request.{Request}
+use Rattle.mc_model.specs.declared.request.Request.TheVariants.{Local, Logged, Quit, TooLong}
+use Rattle.mc_model.specs.Helping.{BeginsWith}
+use Rattle.mc_model.specs.Replay.{reply_to}
+use Rattle.uc_cells.specs.Sighting.{Sighting, entries}
+use Rattle.uc_log.specs.Passes.{next_entry}
+use Rattle.uc_worker.specs.declared.worker.Worker.{Worker}
+use Rattle.uc_worker.specs.Steps.{IsSame, Leaves}
+use Rattle.uc_worker.specs.Worker.{announced_of, history_of, next_of, seat_of, tenants_of}
+use Rattle.uc_worker.proofs.Lists.{begins_length, begins_pushed, begins_same, begins_self, last_at}
+use Rattle.mc_conn.specs.Onward.{IsOnward, own_entry, own_sighting}
+use Rattle.mc_conn.specs.Owed.{answered, mark_of}
+use Rattle.mc_conn.specs.Parts.{Answers, MayAnnounce, MayAnnounceFor, Responds}
+use Rattle.mc_conn.proofs.Counts.{not_yet}
+use Rattle.mc_conn.proofs.Owings.{same_entry, same_sighting}
+
+module _ (old new : Worker) (tenant : ℕ) (command : Command) (on : IsOnward old new) where
+  number : ℕ
+  number = length (announced_of old)
+
+  -- the next command's number is how many were announced
+  next_is : next_of old tenant command ≡ own_sighting old number tenant command
+  unfolding number
+  next_is = λ i. own_sighting old (sym old.pass.count i) tenant command
+
+  next_now : next_of old tenant command ≡ own_sighting new number tenant command
+  next_now = next_is ∙ same_sighting old new on number tenant command
+
+  announced_at : announced_of new ≡ announced_of old ++ next_of old tenant command ∷ [] → slice_get (announced_of new) number ≡ Some (own_sighting new number tenant command)
+  unfolding number
+  announced_at more = ap (λ (list : List Sighting). slice_get list number) more ∙ (last_at (announced_of old) _ ∙ ap (λ (seen : Sighting). Some seen) next_now)
+
+  one_more : announced_of new ≡ announced_of old ++ next_of old tenant command ∷ [] → length (announced_of new) ≡ number + 1
+  unfolding number
+  one_more more = ap (λ (list : List Sighting). length list) more ∙ length-append (announced_of old) (next_of old tenant command ∷ [])
+
+  pub placed_answers : (place : ℕ) (reply : Reply) → length (history_of old) ≤ place → length (history_of new) ≡ place + 1 →
+      slice_get (history_of new) place ≡ Some (next_of old tenant command) →
+      Some reply ≡ reply_to (tenants_of old) (entries (take place (history_of new))) (Some (next_entry old.pass tenant command)) →
+      announced_of new ≡ announced_of old ++ next_of old tenant command ∷ [] → Answers old new tenant command reply
+  unfolding number
+  placed_answers place reply later last stands replies more = record {
+    next = record { number = number + 1; place = place + 1 };
+    is = inl (record {
+      place = place;
+      not_before = later;
+      announced = announced_at more;
+      stands = stands ∙ ap (λ (seen : Sighting). Some seen) next_now;
+      reply_is = replies ∙ (λ i. reply_to (sym on.log i).now.settings.tenants (entries (take place (history_of new))) (Some (entry_is i)));
+      next = refl;
+    });
+    number = one_more more;
+    place = omega (arith, last);
+  }
+    where
+      entry_is : next_entry old.pass tenant command ≡ own_entry new (length (announced_of old)) tenant command
+      entry_is = (λ i. own_entry old (sym old.pass.count i) tenant command) ∙ same_entry old new on (length (announced_of old)) tenant command
+
+  pub may_announce : (announced_of new ≡ announced_of old) ⊎ (announced_of new ≡ announced_of old ++ next_of old tenant command ∷ []) → MayAnnounce old new tenant command
+  unfolding number
+  may_announce kept = ⊎_elim inl (λ more. inr (more ∙ ap (λ (seen : Sighting). announced_of old ++ seen ∷ []) next_is)) kept
+
+  pub full_answers : (announced_of new ≡ announced_of old) ⊎ (announced_of new ≡ announced_of old ++ next_of old tenant command ∷ []) →
+      (fault : Fault) → fault ≡ LogFull → Leaves fault (seat_of old) (seat_of new) → Answers old new tenant command (Refused E10)
+  unfolding number
+  full_answers kept fault is leaves =
+      let full = leaves.full is in
+      ⊎_elim
+      (λ (none : announced_of new ≡ announced_of old). record {
+        next = mark_of old;
+        is = inr (record { full = full; reply_is = refl; next = inl refl });
+        number = ap (λ (list : List Sighting). length list) none;
+        place = begins_length _ _ on.history;
+      })
+      (λ (more : announced_of new ≡ announced_of old ++ next_of old tenant command ∷ []).
+      let count : (seat_of new).state.announced ≡ number + 1 = sym new.pass.count ∙ one_more more in
+      let grown : (seat_of new).state.announced ≡ (seat_of old).state.announced + 1 = count ∙ ap (λ n. n + 1) old.pass.count in
+      record {
+        next = record { number = number + 1; place = length (history_of old) };
+        is = inr (record {
+          full = full;
+          reply_is = refl;
+          next = inr (
+            record {
+              announced = announced_at more;
+              nowhere = not_yet (seat_of new).size (seat_of new).worker number (seat_of new).state new.pass.desk.law (leaves.waits is grown) count;
+            },
+            refl,
+          );
+        });
+        number = one_more more;
+        place = begins_length _ _ on.history;
+      })
+      kept
+
+
+-- the command of a request that met a fault may be announced
+pub for_logged : (old new : Worker) (tenant : ℕ) (request : Request) (command : Command) (quiet : Bool) → request ≡ Logged command quiet → MayAnnounce old new tenant command →
+    MayAnnounceFor old new tenant request
+for_logged old new tenant request command quiet is may = subst (MayAnnounceFor old new tenant) (sym is) may
+
+-- what a reply owes
+pub responds_reply : (old new : Worker) (tenant : ℕ) (command : Command) (quiet : Bool) (reply : Reply) (before after : List ℕ) → Answers old new tenant command reply →
+    after ≡ before ++ answered quiet reply → Responds old new tenant (Logged command quiet) before after
+responds_reply old new tenant command quiet reply before after answers queued = record {
+  bytes = answered quiet reply;
+  queued = queued;
+  owes = (reply, answers.next, [], answers.is, sym (append-nil (answered quiet reply)), (refl, answers.number, answers.place));
+}
+
+-- the worker goes on, whatever a submit answers
+module _ (old new : Worker) (tenant : ℕ) (command : Command) (log : new.log ≡ old.log) (same : IsSame (seat_of old) (seat_of new))
+    (history : BeginsWith (history_of new) (history_of old)) (learned : BeginsWith (seat_of new).state.learned (seat_of old).state.learned) where
+  pub goes_on : (announced_of new ≡ announced_of old) ⊎ (announced_of new ≡ announced_of old ++ next_of old tenant command ∷ []) → IsOnward old new
+  goes_on kept = record {
+    log = log;
+    same = same;
+    history = history;
+    announced = ⊎_elim (begins_same (announced_of new) (announced_of old)) (λ more. begins_pushed (announced_of new) (announced_of old) (announced_of old) _ more (begins_self (announced_of old))) kept;
+    learned = learned;
+  }

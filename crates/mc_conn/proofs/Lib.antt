@@ -1,0 +1,9 @@
+pub mod Lists
+pub mod Counts
+pub mod Owings
+pub mod Answering
+pub mod Readings
+pub mod Takings
+pub mod Breakings
+pub mod Outcomes
+pub mod Endings

@@ -1,0 +1,172 @@
+-- What is owed stays owed while the worker goes on, and adds up.
+use Rattle.std.proofs.Common.{◌≡◌, ◌≢◌, ◌⊎◌, ℕ, ◌+◌, ◌≤◌, List, [], ◌∷◌, ◌++◌, length, take, slice_get, Some, sym, refl, ap, ◌∙◌, subst, inl, inr, ⊎_elim, arith, append_assoc, append-nil, length-append}
+use Rattle.mc_model.specs.declared.command.Command.{Command}
+use Rattle.mc_model.specs.declared.id.Ticket.{Ticket}
+use Rattle.mc_model.specs.declared.reply.Reply.{Reply}
+use Rattle.mc_model.specs.declared.reply.Reply.TheVariants.{Refused}
+use Rattle.mc_model.specs.declared.reply.WireNo.TheVariants.{E5}
+use Rattle.mc_model.specs.declared.request.Request.{Request}
+use Rattle.mc_model.specs.declared.request.Request.TheVariants.{Local, Logged, Quit, TooLong}
+use Rattle.mc_model.specs.Helping.{BeginsWith}
+use Rattle.mc_model.specs.Legal.{ticket_of}
+use Rattle.mc_model.specs.Replay.{reply_to}
+use Rattle.mc_write.specs.Text.{text}
+use Rattle.uc_cells.specs.Sighting.{Sighting, entries}
+use Rattle.uc_worker.specs.declared.worker.Worker.{Worker}
+use Rattle.uc_worker.specs.Worker.{announced_of, history_of, seat_of, sighting_of, tenants_of}
+use Rattle.uc_worker.proofs.Lists.{at_longer, begins_length, begins_self, begins_through, begins_whole}
+use Rattle.mc_conn.specs.Onward.{IsFull, IsOnward, own_entry, own_sighting}
+use Rattle.mc_conn.specs.Owed.{IsAnswered, IsLeftOut, IsPlaced, IsTurnedAway, Mark, Owes, answered, mark_of}
+use Rattle.mc_conn.proofs.Lists.{take_longer}
+
+pub onward_self : (worker : Worker) → IsOnward worker worker
+onward_self worker = record {
+  log = refl;
+  same = (refl, refl);
+  history = begins_self (history_of worker);
+  announced = begins_self (announced_of worker);
+  learned = begins_self (seat_of worker).state.learned;
+}
+
+pub onward_trans : (first second third : Worker) → IsOnward first second → IsOnward second third → IsOnward first third
+onward_trans first second third one two = record {
+  log = two.log ∙ one.log;
+  same = (two.same.0 ∙ one.same.0, two.same.1 ∙ one.same.1);
+  history = begins_through _ _ _ two.history one.history;
+  announced = begins_through _ _ _ two.announced one.announced;
+  learned = begins_through _ _ _ two.learned one.learned;
+}
+
+stays_at : (old new : List Sighting) (place : ℕ) (seen : Sighting) → BeginsWith new old → slice_get old place ≡ Some seen → slice_get new place ≡ Some seen
+stays_at old new place seen begins at = ap (λ (list : List Sighting). slice_get list place) begins.1 ∙ at_longer old begins.0 place seen at
+
+module _ (old new : Worker) (on : IsOnward old new) where
+  pub same_entry : (number tenant : ℕ) (command : Command) → own_entry old number tenant command ≡ own_entry new number tenant command
+  same_entry number tenant command = ap (λ worker. record { ticket = ticket_of worker number; tenant = tenant; command = command }) (sym on.same.1)
+
+  pub same_sighting : (number tenant : ℕ) (command : Command) → own_sighting old number tenant command ≡ own_sighting new number tenant command
+  same_sighting number tenant command = λ i. sighting_of (sym on.log i).now (same_entry number tenant command i)
+
+  -- a full log stays as it is
+  full_same : IsFull old → (seat_of new).state.learned ≡ (seat_of old).state.learned
+  full_same full =
+      let few = new.pass.desk.law.few in
+      let places = ap (λ size. size.places) on.same.0 in
+      let longer = begins_length _ _ on.learned in
+      sym (begins_whole (seat_of new).state.learned (seat_of old).state.learned on.learned (omega arith))
+
+  grows_at : (number tenant place : ℕ) (command : Command) (list longer : List Sighting) → BeginsWith longer list →
+      slice_get list place ≡ Some (own_sighting old number tenant command) → slice_get longer place ≡ Some (own_sighting new number tenant command)
+  grows_at number tenant place command list longer begins at =
+      stays_at list longer place _ begins at ∙ ap (λ (seen : Sighting). Some seen) (same_sighting number tenant command)
+
+  placed_grows : (tenant : ℕ) (from : Mark) (command : Command) (reply : Reply) (to : Mark) → IsPlaced old tenant from command reply to → IsPlaced new tenant from command reply to
+  placed_grows tenant from command reply to is = record {
+    place = is.place;
+    not_before = is.not_before;
+    announced = grows_at from.number tenant from.number command (announced_of old) (announced_of new) on.announced is.announced;
+    stands = grows_at from.number tenant is.place command (history_of old) (history_of new) on.history is.stands;
+    reply_is =
+        let front : take is.place (history_of new) ≡ take is.place (history_of old) =
+            ap (λ (list : List Sighting). take is.place list) on.history.1 ∙ take_longer (history_of old) on.history.0 is.place _ is.stands
+        in
+        is.reply_is ∙ (λ i. reply_to (sym on.log i).now.settings.tenants (entries (sym front i)) (Some (same_entry from.number tenant command i)));
+    next = is.next;
+  }
+
+  left_out_grows : (tenant : ℕ) (from : Mark) (command : Command) → IsFull old → IsLeftOut old tenant from command → IsLeftOut new tenant from command
+  left_out_grows tenant from command full is = record {
+    announced = grows_at from.number tenant from.number command (announced_of old) (announced_of new) on.announced is.announced;
+    nowhere = λ place at. is.nowhere place
+        (ap (λ (list : List Ticket). slice_get list place) (sym (full_same full)) ∙ (at ∙ ap (λ worker. Some (ticket_of worker from.number)) on.same.1));
+  }
+
+  full_grows : IsFull old → IsFull new
+  full_grows full = ap (λ (list : List Ticket). length list) (full_same full) ∙ (full ∙ sym (ap (λ size. size.places) on.same.0))
+
+  away_grows : (tenant : ℕ) (from : Mark) (command : Command) (reply : Reply) (to : Mark) → IsTurnedAway old tenant from command reply to → IsTurnedAway new tenant from command reply to
+  away_grows tenant from command reply to is = record {
+    full = full_grows is.full;
+    reply_is = is.reply_is;
+    next = ⊎_elim inl (λ left. inr (left_out_grows tenant from command is.full left.0, left.1)) is.next;
+  }
+
+  answered_grows : (tenant : ℕ) (from : Mark) (command : Command) (reply : Reply) (to : Mark) → IsAnswered old tenant from command reply to → IsAnswered new tenant from command reply to
+  answered_grows tenant from command reply to is =
+      ⊎_elim (λ placed. inl (placed_grows tenant from command reply to placed)) (λ away. inr (away_grows tenant from command reply to away)) is
+
+  -- the worker goes on
+  pub owes_grow : (tenant : ℕ) (from : Mark) (requests : List Request) (bytes : List ℕ) (to : Mark) → Owes old tenant from requests bytes to → Owes new tenant from requests bytes to
+  owes_grow tenant from [] bytes to owes = owes
+  owes_grow tenant from (Logged command quiet ∷ requests) bytes to (reply, next, rest, is, are, more) =
+      (reply, next, rest, answered_grows tenant from command reply next is, are, owes_grow tenant next requests rest to more)
+  owes_grow tenant from (Local reply quiet ∷ requests) bytes to (rest, are, more) = (rest, are, owes_grow tenant from requests rest to more)
+  owes_grow tenant from (Quit ∷ requests) bytes to more = owes_grow tenant from requests bytes to more
+  owes_grow tenant from (TooLong ∷ requests) bytes to (rest, are, more) = (rest, are, owes_grow tenant from requests rest to more)
+
+module _ (worker : Worker) (tenant : ℕ) where
+  left_out_at : (low from : Mark) (command : Command) → from.number ≡ low.number → IsLeftOut worker tenant from command → IsLeftOut worker tenant low command
+  left_out_at low from command same is = record {
+    announced = subst (λ number. slice_get (announced_of worker) number ≡ Some (own_sighting worker number tenant command)) same is.announced;
+    nowhere = subst (λ number. (place : ℕ) → slice_get (seat_of worker).state.learned place ≢ Some (ticket_of (seat_of worker).worker number)) same is.nowhere;
+  }
+
+  -- one answer after an earlier mark
+  answered_lower : (low from : Mark) (command : Command) (reply : Reply) (to : Mark) → from.number ≡ low.number → low.place ≤ from.place → IsAnswered worker tenant from command reply to →
+      (next : Mark) × IsAnswered worker tenant low command reply next × (to.number ≡ next.number) × (next.place ≤ to.place)
+  answered_lower low from command reply to same before is =
+      ⊎_elim
+      (λ (placed : IsPlaced worker tenant from command reply to). (
+        record { number = low.number + 1; place = placed.place + 1 },
+        inl (record {
+          place = placed.place;
+          not_before = omega (arith, before, placed.not_before);
+          announced = subst (λ number. slice_get (announced_of worker) number ≡ Some (own_sighting worker number tenant command)) same placed.announced;
+          stands = subst (λ number. slice_get (history_of worker) placed.place ≡ Some (own_sighting worker number tenant command)) same placed.stands;
+          reply_is = subst (λ number. Some reply ≡ reply_to (tenants_of worker) (entries (take placed.place (history_of worker))) (Some (own_entry worker number tenant command))) same placed.reply_is;
+          next = refl;
+        }),
+        ap (λ (mark : Mark). mark.number) placed.next ∙ ap (λ n. n + 1) same,
+        omega (arith, ap (λ (mark : Mark). mark.place) placed.next),
+      ))
+      (λ (away : IsTurnedAway worker tenant from command reply to). ⊎_elim
+      (λ (stays : to ≡ from). (
+        low,
+        inr (record { full = away.full; reply_is = away.reply_is; next = inl refl }),
+        ap (λ (mark : Mark). mark.number) stays ∙ same,
+        omega (arith, before, ap (λ (mark : Mark). mark.place) stays),
+      ))
+      (λ (left : IsLeftOut worker tenant from command × (to ≡ record { number = from.number + 1; place = from.place })). (
+        record { number = low.number + 1; place = low.place },
+        inr (record { full = away.full; reply_is = away.reply_is; next = inr (left_out_at low from command same left.0, refl) }),
+        ap (λ (mark : Mark). mark.number) left.1 ∙ ap (λ n. n + 1) same,
+        omega (arith, before, ap (λ (mark : Mark). mark.place) left.1),
+      ))
+      away.next)
+      is
+
+  owes_lower : (low from : Mark) (requests : List Request) (bytes : List ℕ) (to : Mark) → from.number ≡ low.number → low.place ≤ from.place → Owes worker tenant from requests bytes to →
+      Owes worker tenant low requests bytes to
+  owes_lower low from [] bytes to same before owes = (owes.0, owes.1 ∙ same, omega (arith, before, owes.2))
+  owes_lower low from (Logged command quiet ∷ requests) bytes to same before (reply, next, rest, is, are, more) =
+      let lower = answered_lower low from command reply next same before is in
+      (reply, lower.0, rest, lower.1, are, owes_lower lower.0 next requests rest to lower.2 lower.3 more)
+  owes_lower low from (Local reply quiet ∷ requests) bytes to same before (rest, are, more) = (rest, are, owes_lower low from requests rest to same before more)
+  owes_lower low from (Quit ∷ requests) bytes to same before more = owes_lower low from requests bytes to same before more
+  owes_lower low from (TooLong ∷ requests) bytes to same before (rest, are, more) = (rest, are, owes_lower low from requests rest to same before more)
+
+  -- one part after another
+  pub owes_append : (from : Mark) (first second : List Request) (bytes more : List ℕ) (between to : Mark) → Owes worker tenant from first bytes between →
+      Owes worker tenant between second more to → Owes worker tenant from (first ++ second) (bytes ++ more) to
+  owes_append from [] second bytes more between to owes later =
+      subst (λ both. Owes worker tenant from second both to) (ap (λ none. none ++ more) (sym owes.0)) (owes_lower from between second more to owes.1 owes.2 later)
+  owes_append from (Logged command quiet ∷ first) second bytes more between to (reply, next, rest, is, are, then) later =
+      (reply, next, rest ++ more, is, ap (λ some. some ++ more) are ∙ append_assoc (answered quiet reply) rest more, owes_append next first second rest more between to then later)
+  owes_append from (Local reply quiet ∷ first) second bytes more between to (rest, are, then) later =
+      (rest ++ more, ap (λ some. some ++ more) are ∙ append_assoc (answered quiet reply) rest more, owes_append from first second rest more between to then later)
+  owes_append from (Quit ∷ first) second bytes more between to then later = owes_append from first second bytes more between to then later
+  owes_append from (TooLong ∷ first) second bytes more between to (rest, are, then) later =
+      (rest ++ more, ap (λ some. some ++ more) are ∙ append_assoc (text (Refused E5)) rest more, owes_append from first second rest more between to then later)
+
+  pub owes_nothing : Owes worker tenant (mark_of worker) [] [] (mark_of worker)
+  owes_nothing = (refl, refl, omega arith)

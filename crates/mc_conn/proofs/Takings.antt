@@ -1,0 +1,248 @@
+-- The parts of a turn, one after another.
+use Rattle.std.proofs.Common.{◌≡◌, ◌⊎◌, ℕ, ◌+◌, ◌≤◌, ◌<◌, ◌||◌, Bool, true, false, zero, suc, List, [], ◌∷◌, ◌++◌, length, take, drop, None, sym, refl, ap, ◌∙◌, subst, inl, inr, ⊎_elim, arith, append_assoc, append-nil, length-append}
+use Rattle.std.specs.Bool.{MatchBool, nat_lt}
+use Rattle.std.proofs.lemmas.Bool.{lt-ltb}
+use Rattle.std.proofs.lemmas.List.{length-take-le, take-append-drop}
+use Rattle.std.specs.Io.KnownBytes.{Consumes, IsAtEnd}
+use Rattle.std.proofs.KnownBytes.{Consumes-nil, Consumes-trans}
+use Rattle.mc_model.specs.declared.request.Request.{Request}
+use Rattle.mc_read.specs.Reading.{IsFed}
+use Rattle.mc_stream.specs.Event.{ends, failures, has_ended, moved, waits}
+use Rattle.mc_stream.specs.Pushing.{IsUnfailed, Pushes}
+use Rattle.mc_stream.specs.Stream.{Inflow, Outflow, Streams, both}
+use Rattle.uc_worker.specs.declared.worker.Worker.{Worker}
+use Rattle.mc_conn.specs.declared.conn.Conn.{Conn}
+use Rattle.mc_conn.specs.Held.{HoldsOn, IsRead}
+use Rattle.mc_conn.specs.Onward.{IsOnward}
+use Rattle.mc_conn.specs.Owed.{Owes, mark_of}
+use Rattle.mc_conn.specs.Parts.{Does, Responds}
+use Rattle.mc_conn.specs.Turn.{NeitherFails, RemembersTheEnd, Scene, Takes, amount, holding_of, queue_of, scene}
+use Rattle.mc_conn.proofs.Lists.{appended_twice, joined}
+use Rattle.mc_conn.proofs.Owings.{onward_self, onward_trans, owes_append, owes_grow, owes_nothing}
+use Rattle.mc_conn.proofs.Readings.{read_fed_at, read_refl, read_trans}
+
+-- the end is remembered through two parts
+abbrev Remembers : Bool → Inflow → Bool → Inflow → Type 0
+Remembers was before is after =
+    MatchBool is ((was ≡ true) × (after ≡ before) ⊎ (has_ended after.events ≡ true) × IsAtEnd after.left) ((was ≡ false) × (ends after.events ≡ ends before.events))
+
+remembers_self : (is : Bool) (input : Inflow) → Remembers is input is input
+remembers_self true input = inl (refl, refl)
+remembers_self false input = (refl, refl)
+
+remembers_trans : (first second third : Bool) (one two three : Inflow) → Remembers first one second two → Remembers second two third three → Remembers first one third three
+remembers_trans first true true one two three begun ended =
+    ⊎_elim
+    (λ (same : (true ≡ true) × (three ≡ two)). ⊎_elim
+    (λ (still : (first ≡ true) × (two ≡ one)). inl (still.0, same.1 ∙ still.1))
+    (λ (now : (has_ended two.events ≡ true) × IsAtEnd two.left). inr (subst (λ (input : Inflow). (has_ended input.events ≡ true) × IsAtEnd input.left) (sym same.1) now))
+    begun)
+    inr
+    ended
+remembers_trans first false true one two three begun ended = ⊎_elim (λ (never : (false ≡ true) × (three ≡ two)). let no : false ≡ true = never.0 in cc) inr ended
+remembers_trans first true false one two three begun ended = let no : true ≡ false = ended.0 in cc
+remembers_trans first false false one two three begun ended = (begun.0, ended.1 ∙ begun.1)
+
+pub end_same : (old new : Conn) (worker other : Worker) (input : Inflow) (one two : Outflow) → new.has_ended ≡ old.has_ended →
+    RemembersTheEnd (scene old worker (both input one)) (scene new other (both input two))
+end_same old new worker other input one two same = subst (λ is. Remembers old.has_ended input is input) (sym same) (remembers_self old.has_ended input)
+
+-- what isn't the end leaves the input open
+pub remembers_open : (is : Bool) (before after : Inflow) → is ≡ false → ends after.events ≡ ends before.events → Remembers is before is after
+remembers_open true before after going same = let no : true ≡ false = going in cc
+remembers_open false before after going same = (refl, same)
+
+unfailed_trans : (first second third : Streams) → NeitherFails first second → NeitherFails second third → NeitherFails first third
+unfailed_trans first second third one two = (two.0 ∙ one.0, two.1 ∙ one.1)
+
+-- a part that does nothing
+pub takes_self : (a : Scene) → Takes a a
+takes_self a = record {
+  came = [];
+  requests = [];
+  owed = [];
+  sent = [];
+  pulled = sym (append-nil (moved a.streams.input.events));
+  consumed = Consumes-nil a.streams.input.left;
+  pushed = sym (append-nil (moved a.streams.output.events));
+  reads = read_refl (holding_of a.conn);
+  tenant = refl;
+  onward = onward_self a.worker;
+  owes = owes_nothing a.worker a.conn.tenant;
+  bytes = sym (append-nil (queue_of a.conn));
+  unfailed = (refl, refl);
+  waited = omega arith;
+  end = remembers_self a.conn.has_ended a.streams.input;
+}
+
+pub takes_trans : (a b c : Scene) → Takes a b → Takes b c → Takes a c
+takes_trans a b c one two = record {
+  came = one.came ++ two.came;
+  requests = one.requests ++ two.requests;
+  owed = one.owed ++ two.owed;
+  sent = one.sent ++ two.sent;
+  pulled = appended_twice _ _ _ one.came two.came one.pulled two.pulled;
+  consumed = Consumes-trans _ _ _ _ _ one.consumed two.consumed;
+  pushed = appended_twice _ _ _ one.sent two.sent one.pushed two.pushed;
+  reads = read_trans (holding_of a.conn) (holding_of b.conn) (holding_of c.conn) one.came two.came one.requests two.requests one.reads two.reads;
+  tenant = two.tenant ∙ one.tenant;
+  onward = onward_trans _ _ _ one.onward two.onward;
+  owes =
+      owes_append c.worker a.conn.tenant (mark_of a.worker) one.requests two.requests one.owed two.owed (mark_of b.worker) (mark_of c.worker)
+      (owes_grow b.worker c.worker two.onward a.conn.tenant (mark_of a.worker) one.requests one.owed (mark_of b.worker) one.owes)
+      (subst (λ tenant. Owes c.worker tenant (mark_of b.worker) two.requests two.owed (mark_of c.worker)) one.tenant two.owes);
+  bytes = joined one.sent two.sent (queue_of a.conn) (queue_of b.conn) (queue_of c.conn) one.owed two.owed one.bytes two.bytes;
+  unfailed = unfailed_trans a.streams b.streams c.streams one.unfailed two.unfailed;
+  waited = omega (arith, one.waited, two.waited);
+  end = remembers_trans a.conn.has_ended b.conn.has_ended c.conn.has_ended a.streams.input b.streams.input c.streams.input one.end two.end;
+}
+
+amount_trans : (a b c : Scene) (one : Takes a b) (two : Takes b c) → amount (takes_trans a b c one two) ≡ amount one + amount two
+unfolding takes_trans
+amount_trans a b c one two = omega (arith, length-append one.came two.came, length-append one.requests two.requests, length-append one.sent two.sent)
+
+did_or : (x y : Bool) (m n k : ℕ) → k ≡ m + n → MatchBool x (0 < m) (m ≡ 0) → MatchBool y (0 < n) (n ≡ 0) → MatchBool (x || y) (0 < k) (k ≡ 0)
+did_or true y m n k sum p q = omega (arith, sum, p)
+did_or false true m n k sum p q = omega (arith, sum, q)
+did_or false false m n k sum p q = omega (arith, sum, p, q)
+
+pub does_trans : (a b c : Scene) (x y : Bool) → Does a b x → Does b c y → Does a c (x || y)
+does_trans a b c x y one two = record {
+  takes = takes_trans a b c one.takes two.takes;
+  did_is = did_or x y (amount one.takes) (amount two.takes) (amount (takes_trans a b c one.takes two.takes)) (amount_trans a b c one.takes two.takes) one.did_is two.did_is;
+}
+
+pub does_nothing : (a : Scene) → Does a a false
+unfolding takes_self
+does_nothing a = record { takes = takes_self a; did_is = refl }
+
+-- a part of which it is known whether it did something
+or_true : (x : Bool) → (x || true) ≡ true
+or_true true = refl
+or_true false = refl
+
+or_none : (x : Bool) → (x || false) ≡ x
+or_none true = refl
+or_none false = refl
+
+pub did_then : (a b c : Scene) (x y : Bool) → y ≡ true → Does a b x → Does b c y → Does a c true
+did_then a b c x y is one two = subst (Does a c) (ap (λ did. x || did) is ∙ or_true x) (does_trans a b c x y one two)
+
+pub did_not : (a b c : Scene) (x y : Bool) → y ≡ false → Does a b x → Does b c y → Does a c x
+did_not a b c x y is one two = subst (Does a c) (ap (λ did. x || did) is ∙ or_none x) (does_trans a b c x y one two)
+
+-- what the second part sent is sent in all
+pub sent_last : (a b c : Scene) (x y : Bool) (one : Does a b x) (two : Does b c y) → length two.takes.sent ≤ length (does_trans a b c x y one two).takes.sent
+unfolding does_trans takes_trans
+sent_last a b c x y one two = omega (arith, length-append one.takes.sent two.takes.sent)
+
+did_some : (count n : ℕ) → n ≡ count → MatchBool (nat_lt 0 count) (0 < n) (n ≡ 0)
+did_some zero n same = same
+did_some (suc count) n same = let some : 0 < n = omega (arith, same) in subst (λ did. MatchBool did (0 < n) (n ≡ 0)) (sym (lt-ltb 0 (suc count) (omega arith))) some
+
+-- a front of the queue is pushed
+module _ (old new : Conn) (worker : Worker) (input : Inflow) (before after : Outflow) (count : ℕ) (same : holding_of new ≡ holding_of old) (tenant : new.tenant ≡ old.tenant)
+    (ended : new.has_ended ≡ old.has_ended) (few : count ≤ length (queue_of old)) (left : queue_of new ≡ drop count (queue_of old))
+    (went : Pushes before after (take count (queue_of old))) (waited : waits before.events ≤ waits after.events) (unfailed : IsUnfailed before after) where
+  takes_pushed : Takes (scene old worker (both input before)) (scene new worker (both input after))
+  takes_pushed = record {
+    came = [];
+    requests = [];
+    owed = [];
+    sent = take count (queue_of old);
+    pulled = sym (append-nil (moved input.events));
+    consumed = Consumes-nil input.left;
+    pushed = went;
+    reads = subst (λ holding. IsRead (holding_of old) [] [] holding) (sym same) (read_refl (holding_of old));
+    tenant = tenant;
+    onward = onward_self worker;
+    owes = owes_nothing worker old.tenant;
+    bytes = ap (λ rest. take count (queue_of old) ++ rest) left ∙ (take-append-drop count (queue_of old) ∙ sym (append-nil (queue_of old)));
+    unfailed = (refl, unfailed);
+    waited = waited;
+    end = end_same old new worker worker input before after ended;
+  }
+
+  pub does_pushed : Does (scene old worker (both input before)) (scene new worker (both input after)) (nat_lt 0 count)
+  unfolding takes_pushed
+  does_pushed = let taken = length-take-le count (queue_of old) few in record { takes = takes_pushed; did_is = did_some count (amount takes_pushed) (omega (arith, taken)) }
+
+-- the reader looks for a request
+pub does_looked : (old new : Conn) (worker : Worker) (streams : Streams) → IsRead (holding_of old) [] [] (holding_of new) → new.tenant ≡ old.tenant → new.has_ended ≡ old.has_ended →
+    queue_of new ≡ queue_of old → Does (scene old worker streams) (scene new worker streams) false
+does_looked old new worker streams read tenant ended queue = record {
+  takes = record {
+    came = [];
+    requests = [];
+    owed = [];
+    sent = [];
+    pulled = sym (append-nil (moved streams.input.events));
+    consumed = Consumes-nil streams.input.left;
+    pushed = sym (append-nil (moved streams.output.events));
+    reads = read;
+    tenant = tenant;
+    onward = onward_self worker;
+    owes = owes_nothing worker old.tenant;
+    bytes = queue ∙ sym (append-nil (queue_of old));
+    unfailed = (refl, refl);
+    waited = omega arith;
+    end = end_same old new worker worker streams.input streams.output streams.output ended;
+  };
+  did_is = refl;
+}
+
+-- a request is taken
+pub does_responded : (old new : Conn) (worker later : Worker) (streams : Streams) (request : Request) → IsRead (holding_of old) [] (request ∷ []) (holding_of new) → new.tenant ≡ old.tenant →
+    new.has_ended ≡ old.has_ended → IsOnward worker later → Responds worker later old.tenant request (queue_of old) (queue_of new) →
+    Does (scene old worker streams) (scene new later streams) true
+does_responded old new worker later streams request read tenant ended on responds = record {
+  takes = record {
+    came = [];
+    requests = request ∷ [];
+    owed = responds.bytes;
+    sent = [];
+    pulled = sym (append-nil (moved streams.input.events));
+    consumed = Consumes-nil streams.input.left;
+    pushed = sym (append-nil (moved streams.output.events));
+    reads = read;
+    tenant = tenant;
+    onward = on;
+    owes = responds.owes;
+    bytes = responds.queued;
+    unfailed = (refl, refl);
+    waited = omega arith;
+    end = end_same old new worker later streams.input streams.output streams.output ended;
+  };
+  did_is = omega arith;
+}
+
+-- a piece came, or none
+module _ (old new : Conn) (worker : Worker) (before after : Inflow) (output : Outflow) (piece : List ℕ) (read : IsRead (holding_of old) piece [] (holding_of new)) (tenant : new.tenant ≡ old.tenant)
+    (queue : queue_of new ≡ queue_of old) (pulled : moved after.events ≡ moved before.events ++ piece) (consumed : Consumes before.left after.left piece)
+    (unfailed : failures after.events ≡ failures before.events) (end : Remembers old.has_ended before new.has_ended after) where
+  takes_fed : Takes (scene old worker (both before output)) (scene new worker (both after output))
+  takes_fed = record {
+    came = piece;
+    requests = [];
+    owed = [];
+    sent = [];
+    pulled = pulled;
+    consumed = consumed;
+    pushed = sym (append-nil (moved output.events));
+    reads = read;
+    tenant = tenant;
+    onward = onward_self worker;
+    owes = owes_nothing worker old.tenant;
+    bytes = queue ∙ sym (append-nil (queue_of old));
+    unfailed = (unfailed, refl);
+    waited = omega arith;
+    end = end;
+  }
+
+  pub does_fed : 0 < length piece → Does (scene old worker (both before output)) (scene new worker (both after output)) true
+  unfolding takes_fed
+  does_fed some = record { takes = takes_fed; did_is = omega (arith, some) }
+
+  pub does_waited : piece ≡ [] → Does (scene old worker (both before output)) (scene new worker (both after output)) false
+  unfolding takes_fed
+  does_waited none = record { takes = takes_fed; did_is = omega (arith, ap length none) }

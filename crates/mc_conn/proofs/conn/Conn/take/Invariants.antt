@@ -1,0 +1,17 @@
+use Rattle.mc_stream.specs.Stream.{Streams}
+use Rattle.mc_conn.specs.Onward.{IsOnward}
+use Rattle.mc_conn.specs.Parts.{Does, IsSameBeside}
+use Rattle.mc_conn.specs.Turn.{holding_of, scene}
+use Rattle.mc_conn.proofs.Readings.{requests_held}
+use Rattle.mc_conn.proofs.conn.Conn.take.Given as goal
+
+-- what was taken so far is a part of the turn
+abbrev pub invariant-loop-did : goal.invariant-loop-did
+invariant-loop-did g l = record {
+  does : (streams : Streams) → Does (scene l.fn.self l.fn.worker streams) (scene l.self l.worker streams) l.did;
+  same : IsSameBeside l.fn.self l.self;
+  onward : IsOnward l.fn.worker l.worker;
+}
+
+abbrev pub decreases-loop-did : goal.decreases-loop-did
+decreases-loop-did g l = requests_held (holding_of l.self)

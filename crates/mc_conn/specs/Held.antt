@@ -1,0 +1,31 @@
+-- What a connection reads as: the request that waits in it, if one does, and then what its reader holds. After memcached's
+-- doc/protocol.txt, "Protocol": a connection is a stream of request texts, one after another.
+use Rattle.std.specs.Prelude.{◌≡◌, ◌↔◌, ℕ, List, ◌++◌, Option, Some, None}
+use Rattle.mc_model.specs.declared.request.Request.{Request}
+use Rattle.mc_read.specs.Reading.{GoesOn, HasNone, Held, ReadsOn}
+
+-- a request that was read and not taken yet, and what the reader holds behind it
+pub record Holding : Type 0 where
+  pub waiting : Option Request
+  pub held : Held
+
+-- the requests are the one that waits, and others of which P holds
+abbrev pub Waits : Option Request → (List Request → Type 0) → List Request → Type 0
+Waits None P = P
+Waits (Some request) P = GoesOn request P
+
+-- the requests that what is held, followed by more bytes, reads as
+abbrev pub HoldsOn : Holding → List ℕ → List Request → Type 0
+HoldsOn holding more = Waits holding.waiting (ReadsOn holding.held more)
+
+-- all the requests are these, and then others of which P holds
+abbrev pub Follow : List Request → (List Request → Type 0) → List Request → Type 0
+Follow requests P all = (others : List Request) × (all ≡ requests ++ others) × P others
+
+-- whatever follows, what was held before and the bytes that came read as the requests, and then as what is held after
+abbrev pub IsRead : Holding → List ℕ → List Request → Holding → Type 0
+IsRead before came requests after = (more : List ℕ) (all : List Request) → HoldsOn before (came ++ more) all ↔ Follow requests (HoldsOn after more) all
+
+-- no whole request is held
+abbrev pub HoldsNone : Holding → Type 0
+HoldsNone holding = (holding.waiting ≡ None) × HasNone holding.held

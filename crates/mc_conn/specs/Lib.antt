@@ -1,0 +1,6 @@
+pub mod Onward
+pub mod Owed
+pub mod Held
+pub mod Turn
+pub mod Ending
+pub mod Parts

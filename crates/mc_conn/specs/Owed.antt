@@ -1,0 +1,65 @@
+-- The bytes that a connection is owed for its requests, one after another, over the history of the worker that took them. After
+-- memcached's doc/protocol.txt, "Commands" and "Storage commands": each request is answered, in order, but for those that say noreply.
+-- That a command is answered at its place in a log which many share is Herlihy's construction (Wait-Free Synchronization, TOPLAS 1991).
+use Rattle.std.specs.Prelude.{◌≡◌, ◌≢◌, ◌⊎◌, ℕ, ◌+◌, ◌≤◌, Bool, if◌then◌else◌, List, [], ◌∷◌, ◌++◌, length, take, Some, slice_get}
+use Rattle.mc_model.specs.declared.command.Command.{Command}
+use Rattle.mc_model.specs.declared.reply.Reply.{Reply}
+use Rattle.mc_model.specs.declared.reply.Reply.TheVariants.{Refused}
+use Rattle.mc_model.specs.declared.reply.WireNo.TheVariants.{E5, E10}
+use Rattle.mc_model.specs.declared.request.Request.{Request}
+use Rattle.mc_model.specs.declared.request.Request.TheVariants.{Local, Logged, Quit, TooLong}
+use Rattle.mc_model.specs.Legal.{ticket_of}
+use Rattle.mc_model.specs.Replay.{reply_to}
+use Rattle.mc_write.specs.Text.{text}
+use Rattle.uc_cells.specs.Sighting.{entries}
+use Rattle.uc_worker.specs.declared.worker.Worker.{Worker}
+use Rattle.uc_worker.specs.Worker.{announced_of, history_of, seat_of, tenants_of}
+use Rattle.mc_conn.specs.Onward.{IsFull, own_entry, own_sighting}
+
+-- the text of a reply, or nothing where the request is quiet
+abbrev pub answered : Bool → Reply → List ℕ
+answered quiet reply = if quiet then [] else text reply
+
+-- How far a worker is: the number of its next command, and its next place.
+pub record Mark : Type 0 where
+  pub number : ℕ
+  pub place : ℕ
+
+abbrev pub mark_of : Worker → Mark
+mark_of worker = record { number = length (announced_of worker); place = length (history_of worker) }
+
+-- The tenant's command was announced under the next number, stands at a place of the history that isn't before the mark, and the reply
+-- is the answer after that tenant's own commands before that place.
+pub record IsPlaced (worker : Worker) (tenant : ℕ) (from : Mark) (command : Command) (reply : Reply) (to : Mark) : Type 0 where
+  pub place : ℕ
+  pub not_before : from.place ≤ place
+  pub announced : slice_get (announced_of worker) from.number ≡ Some (own_sighting worker from.number tenant command)
+  pub stands : slice_get (history_of worker) place ≡ Some (own_sighting worker from.number tenant command)
+  pub reply_is : Some reply ≡ reply_to (tenants_of worker) (entries (take place (history_of worker))) (Some (own_entry worker from.number tenant command))
+  pub next : to ≡ record { number = from.number + 1; place = place + 1 }
+
+-- the command was announced under the next number, and its ticket stands nowhere in the log
+pub record IsLeftOut (worker : Worker) (tenant : ℕ) (from : Mark) (command : Command) : Type 0 where
+  pub announced : slice_get (announced_of worker) from.number ≡ Some (own_sighting worker from.number tenant command)
+  pub nowhere : (place : ℕ) → slice_get (seat_of worker).state.learned place ≢ Some (ticket_of (seat_of worker).worker from.number)
+
+-- All places are learned, the reply says that the log is full, and the command wasn't announced, or is left out.
+pub record IsTurnedAway (worker : Worker) (tenant : ℕ) (from : Mark) (command : Command) (reply : Reply) (to : Mark) : Type 0 where
+  pub full : IsFull worker
+  pub reply_is : reply ≡ Refused E10
+  pub next : (to ≡ from) ⊎ IsLeftOut worker tenant from command × (to ≡ record { number = from.number + 1; place = from.place })
+
+abbrev pub IsAnswered : Worker → ℕ → Mark → Command → Reply → Mark → Type 0
+IsAnswered worker tenant from command reply to = IsPlaced worker tenant from command reply to ⊎ IsTurnedAway worker tenant from command reply to
+
+-- what the tenant is owed for requests that this worker took from the one mark on, and how far the worker is then
+abbrev pub Owes : Worker → ℕ → Mark → List Request → List ℕ → Mark → Type 0
+Owes worker tenant from [] bytes to = (bytes ≡ []) × (to.number ≡ from.number) × (from.place ≤ to.place)
+Owes worker tenant from (Logged command quiet ∷ requests) bytes to =
+    (reply : Reply) × (next : Mark) × (rest : List ℕ)
+    × IsAnswered worker tenant from command reply next × (bytes ≡ answered quiet reply ++ rest) × Owes worker tenant next requests rest to
+Owes worker tenant from (Local reply quiet ∷ requests) bytes to =
+    (rest : List ℕ) × (bytes ≡ answered quiet reply ++ rest) × Owes worker tenant from requests rest to
+Owes worker tenant from (Quit ∷ requests) bytes to = Owes worker tenant from requests bytes to
+Owes worker tenant from (TooLong ∷ requests) bytes to =
+    (rest : List ℕ) × (bytes ≡ text (Refused E5) ++ rest) × Owes worker tenant from requests rest to

@@ -1,0 +1,64 @@
+-- What a turn of a connection does: bytes come, requests are taken, and bytes are sent; this project's profile.
+use Rattle.std.specs.Bool.{MatchBool}
+use Rattle.std.specs.Io.KnownBytes.{Consumes, IsAtEnd}
+use Rattle.std.specs.Prelude.{◌≡◌, ◌⊎◌, ℕ, ◌+◌, ◌≤◌, true, false, List, ◌++◌, length}
+use Rattle.mc_model.specs.declared.request.Request.{Request}
+use Rattle.mc_stream.specs.Event.{ends, failures, has_ended, moved, waits}
+use Rattle.mc_stream.specs.Pushing.{IsUnfailed, Pushes}
+use Rattle.mc_stream.specs.Stream.{Streams}
+use Rattle.uc_worker.specs.declared.worker.Worker.{Worker}
+use Rattle.mc_conn.specs.declared.conn.Conn.{Conn}
+use Rattle.mc_conn.specs.Held.{Holding, IsRead}
+use Rattle.mc_conn.specs.Onward.{IsOnward}
+use Rattle.mc_conn.specs.Owed.{Owes, mark_of}
+
+-- all that a turn sees: the connection, the worker, and what the input and the output tell
+pub record Scene : Type 0 where
+  pub conn : Conn
+  pub worker : Worker
+  pub streams : Streams
+
+abbrev pub scene : Conn → Worker → Streams → Scene
+scene conn worker streams = record { conn = conn; worker = worker; streams = streams }
+
+-- what the connection holds of what came
+abbrev pub holding_of : Conn → Holding
+holding_of conn = record { waiting = conn.waiting; held = conn.reader.held }
+
+-- the bytes that are to be pushed
+abbrev pub queue_of : Conn → List ℕ
+queue_of conn = conn.queue.items
+
+-- neither the input nor the output failed
+abbrev pub NeitherFails : Streams → Streams → Type 0
+NeitherFails before after = (failures after.input.events ≡ failures before.input.events) × IsUnfailed before.output after.output
+
+-- the end of the input is remembered once it is found, and then nothing more is pulled
+abbrev pub RemembersTheEnd : Scene → Scene → Type 0
+RemembersTheEnd before after =
+    MatchBool after.conn.has_ended
+    ((before.conn.has_ended ≡ true) × (after.streams.input ≡ before.streams.input) ⊎ (has_ended after.streams.input.events ≡ true) × IsAtEnd after.streams.input.left)
+    ((before.conn.has_ended ≡ false) × (ends after.streams.input.events ≡ ends before.streams.input.events))
+
+-- Bytes came, and read as requests, which were taken; what was sent and what is queued then is what was queued and what is owed for these
+-- requests; each was taken for the connection's tenant, from the worker's mark before to its mark after.
+pub record Takes (before after : Scene) : Type 0 where
+  pub came : List ℕ
+  pub requests : List Request
+  pub owed : List ℕ
+  pub sent : List ℕ
+  pub pulled : moved after.streams.input.events ≡ moved before.streams.input.events ++ came
+  pub consumed : Consumes before.streams.input.left after.streams.input.left came
+  pub pushed : Pushes before.streams.output after.streams.output sent
+  pub reads : IsRead (holding_of before.conn) came requests (holding_of after.conn)
+  pub tenant : after.conn.tenant ≡ before.conn.tenant
+  pub onward : IsOnward before.worker after.worker
+  pub owes : Owes after.worker before.conn.tenant (mark_of before.worker) requests owed (mark_of after.worker)
+  pub bytes : sent ++ queue_of after.conn ≡ queue_of before.conn ++ owed
+  pub unfailed : NeitherFails before.streams after.streams
+  pub waited : waits before.streams.output.events ≤ waits after.streams.output.events
+  pub end : RemembersTheEnd before after
+
+-- how much was done: bytes that came, requests that were taken, and bytes that were sent
+abbrev pub amount : {before after : Scene} → Takes before after → ℕ
+amount takes = length takes.came + length takes.requests + length takes.sent

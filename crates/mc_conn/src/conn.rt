@@ -1,0 +1,59 @@
+//! A connection.
+ghost use Rattle.std.specs.Prelude.{◌≡◌, [], false, None};
+ghost use Rattle.mc_read.specs.Reading.{Kept};
+ghost use Rattle.mc_conn.specs.Turn.{holding_of, queue_of};
+
+use mc_model::{Request, TenantId};
+use mc_read::Reader;
+use std::alloc::Global;
+
+/// How many bytes may be queued when a request is taken.
+pub const QUEUE_BYTES: usize = 1_048_576;
+
+/// How many bytes a pull asks for.
+pub const PULL_BYTES: usize = 16_384;
+
+/// One connection of a tenant: what came and isn't taken yet, and the replies that aren't sent yet.
+#[derive(Drop)]
+pub struct Conn {
+    pub(crate) tenant: TenantId,
+    pub(crate) reader: Reader,
+    /// The next request, once it is read and until it is taken.
+    pub(crate) waiting: Option<Request>,
+    /// Reply bytes that are to be pushed.
+    pub(crate) queue: Vec<u8>,
+    /// The input has ended.
+    pub(crate) has_ended: bool,
+    /// A fault has closed the connection.
+    pub(crate) is_closed: bool,
+}
+
+/// How a turn ended.
+#[derive(Clone, Copy, Debug, PartialEq, Eq)]
+pub enum State {
+    /// Nothing is left to be done: nothing more is read, no whole request is held, and nothing is queued.
+    Closed,
+    /// Nothing could be done.
+    Idle,
+    /// Bytes came or went, or requests were taken.
+    Busy,
+}
+
+impl Conn {
+    /// A connection of this tenant on which nothing has come. Needs no memory.
+    pub fn new(alloc: Global, tenant: TenantId) -> Conn
+        ensures tenant { result.tenant ≡ tenant }
+        ensures holding { holding_of result ≡ record { waiting = None; held = Kept [] } }
+        ensures queue { queue_of result ≡ [] }
+        ensures open { (result.has_ended ≡ false) × (result.is_closed ≡ false) }
+    {
+        Conn {
+            tenant,
+            reader: Reader::new(alloc),
+            waiting: None,
+            queue: Vec::new(alloc),
+            has_ended: false,
+            is_closed: false,
+        }
+    }
+}

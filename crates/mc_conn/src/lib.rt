@@ -1,0 +1,14 @@
+//! The connection engine: what comes in on one connection is read as requests, these are submitted by a worker of a shared log, and
+//! their replies go out, turn by turn. `specs/Owed.antt` says which bytes a connection is owed for its requests, `specs/Turn.antt` what
+//! a turn does, and `specs/Ending.antt` how it ends.
+#![tactic(auto)]
+
+pub use conn::{Conn, PULL_BYTES, QUEUE_BYTES, State};
+pub use mc_stream::{Input, Output, Pull, Push};
+
+pub mod conn;
+mod pulling;
+mod responding;
+mod sending;
+mod taking;
+mod turning;

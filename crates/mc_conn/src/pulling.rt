@@ -1,0 +1,76 @@
+//! Bytes are pulled.
+ghost use Rattle.std.specs.Prelude.{◌≡◌, ◌≢◌, ◌⊎◌, ◌+◌, ◌<◌, ◌∷◌, [], true, false, length, None, IfOk, IfErr, OnOk};
+ghost use Rattle.mc_stream.specs.Event.{Event, waits};
+ghost use Rattle.mc_stream.specs.Stream.{Outflow, both};
+ghost use Rattle.uc_worker.specs.declared.worker.Worker.{Worker};
+ghost use Rattle.uc_worker.specs.Worker.{tenants_of};
+ghost use Rattle.mc_conn.specs.declared.conn.TheConstants.{QUEUE_BYTES};
+ghost use Rattle.mc_conn.specs.Ending.{Breaks, PullsLate};
+ghost use Rattle.mc_conn.specs.Parts.{Does, IsHeldBehind, IsPullFault, IsSameBeside};
+ghost use Rattle.mc_conn.specs.Turn.{queue_of, scene};
+
+use crate::conn::{Conn, PULL_BYTES, QUEUE_BYTES};
+use mc_model::Fault;
+use mc_stream::{Input, Output, Pull};
+use uc_worker::{Gate, Worker};
+
+impl Conn {
+    /// Pulls once. Says whether bytes came.
+    fn pull<I: Input>(&mut self, input: &mut I, buffer: &mut [u8; PULL_BYTES]) -> Result<bool, Fault>
+        requires waiting { self.old.waiting ≡ None }
+        requires going { self.old.has_ended ≡ false }
+        ensures does { IfOk result (λ did. (worker : Worker) (output : Outflow) →
+            Does (scene self.old worker (both (I.tells input.old) output)) (scene self.new worker (both (I.tells input.new) output)) did) }
+        ensures stuck { IfOk result (λ did. did ≡ false →
+            (waits (I.tells input.new).events ≡ waits (I.tells input.old).events + 1) ⊎ (self.new.has_ended ≡ true)) }
+        ensures once { (event : Event) × ((I.tells input.new).events ≡ event ∷ (I.tells input.old).events) }
+        ensures tenant { self.new.tenant ≡ self.old.tenant }
+        ensures is_closed { self.new.is_closed ≡ self.old.is_closed }
+        ensures faults { IfErr result IsPullFault }
+        ensures breaks { IfErr result (λ fault. (worker : Worker) (output : Outflow) →
+            Breaks fault (scene self.old worker (both (I.tells input.old) output)) (scene self.new worker (both (I.tells input.new) output))) }
+    {
+        match input.pull(buffer) {
+            Pull::Bytes(count) => {
+                self.reader.feed(&buffer[..count])?;
+                Ok(true)
+            }
+            Pull::Empty => Ok(false),
+            Pull::Ended => {
+                self.has_ended = true;
+                Ok(false)
+            }
+            Pull::Failed => Err(Fault::Input),
+        }
+    }
+    /// Pulls, where no whole request is held, the queue isn't too long and the input hasn't ended, and takes requests again. Replies that
+    /// are queued are pushed before, since an input may wait for its next bytes. Says whether anything was done.
+    pub(crate) fn pull_and_take<I: Input, O: Output, G: Gate>(
+        &mut self,
+        worker: &mut Worker<'_>,
+        input: &mut I,
+        output: &mut O,
+        gate: &mut G,
+        buffer: &mut [u8; PULL_BYTES],
+    ) -> Result<bool, Fault>
+        requires tenant { self.old.tenant < length (tenants_of worker.old) }
+        requires held { IsHeldBehind self.old }
+        ensures does { IfOk result (λ did. Does (scene self.old worker.old (both (I.tells input.old) (O.tells output.old)))
+            (scene self.new worker.new (both (I.tells input.new) (O.tells output.new))) did) }
+        ensures held { OnOk result (IsHeldBehind self.new) }
+        ensures stuck { IfOk result (λ did. did ≡ false → (waits (I.tells input.new).events ≡ waits (I.tells input.old).events + 1)
+            ⊎ (self.new.has_ended ≡ true) ⊎ (QUEUE_BYTES < length (queue_of self.new))) }
+        ensures late { OnOk result (PullsLate (scene self.old worker.old (both (I.tells input.old) (O.tells output.old)))
+            (scene self.new worker.new (both (I.tells input.new) (O.tells output.new)))) }
+        ensures breaks { IfErr result (λ fault. Breaks fault (scene self.old worker.old (both (I.tells input.old) (O.tells output.old)))
+            (scene self.new worker.new (both (I.tells input.new) (O.tells output.new)))) }
+    {
+        if self.waiting.is_some() | (self.queue.len() > QUEUE_BYTES) | self.has_ended {
+            return Ok(false);
+        }
+        let pushed = self.push(output)?;
+        let pulled = self.pull(input, buffer)?;
+        let taken = self.take(worker, gate)?;
+        Ok(pushed | pulled | taken)
+    }
+}

@@ -1,0 +1,57 @@
+//! What is queued is pushed.
+ghost use Rattle.std.specs.Prelude.{◌≡◌, ◌⊎◌, ◌+◌, ◌≤◌, [], length, take, drop, IfOk, IfErr, IsOkUnless, OnOk};
+ghost use Rattle.mc_model.specs.declared.fault.Fault.TheVariants as faults;
+ghost use Rattle.mc_stream.specs.Event.{waits};
+ghost use Rattle.mc_stream.specs.Pushing.{Pushes, StopsAs};
+ghost use Rattle.mc_stream.specs.Stream.{Inflow, both};
+ghost use Rattle.uc_worker.specs.declared.worker.Worker.{Worker};
+ghost use Rattle.mc_conn.specs.Ending.{Breaks};
+ghost use Rattle.mc_conn.specs.Parts.{Does, IsSameBeside};
+ghost use Rattle.mc_conn.specs.Turn.{holding_of, queue_of, scene};
+
+use crate::conn::Conn;
+use mc_model::Fault;
+use mc_stream::{Output, Stop, push_front};
+
+/// Takes bytes off the front.
+fn drop_front(queue: &mut Vec<u8>, count: usize)
+    requires { count ≤ length queue.old.items }
+    ensures { queue.new.items ≡ drop count queue.old.items }
+{
+    let left = queue.len() - count;
+    queue.copy_within(count.., 0);
+    queue.truncate(left);
+}
+
+/// Pushes what is queued while the output takes it, and drops what was taken. Gives how many bytes were, and why no more.
+fn push_queue<O: Output>(queue: &mut Vec<u8>, output: &mut O) -> (usize, Stop)
+    ensures within { result.0 ≤ length queue.old.items }
+    ensures pushed { Pushes (O.tells output.old) (O.tells output.new) (take result.0 queue.old.items) }
+    ensures left { queue.new.items ≡ drop result.0 queue.old.items }
+    ensures stop { StopsAs result.1 result.0 (length queue.old.items) (O.tells output.old) (O.tells output.new) }
+{
+    let (count, stop) = push_front(queue, output);
+    drop_front(queue, count);
+    (count, stop)
+}
+
+impl Conn {
+    /// Pushes what is queued, until all is taken or the output takes no more. Says whether any was.
+    pub(crate) fn push<O: Output>(&mut self, output: &mut O) -> Result<bool, Fault>
+        ensures does { IfOk result (λ did. (worker : Worker) (input : Inflow) →
+            Does (scene self.old worker (both input (O.tells output.old))) (scene self.new worker (both input (O.tells output.new))) did) }
+        ensures left { OnOk result ((queue_of self.new ≡ []) ⊎ (waits (O.tells output.new).events ≡ waits (O.tells output.old).events + 1)) }
+        ensures same { IsSameBeside self.old self.new }
+        ensures holding { holding_of self.new ≡ holding_of self.old }
+        ensures fault { IsOkUnless result faults.Output }
+        ensures breaks { IfErr result (λ fault. (worker : Worker) (input : Inflow) →
+            Breaks fault (scene self.old worker (both input (O.tells output.old))) (scene self.new worker (both input (O.tells output.new)))) }
+    {
+        let (count, stop) = push_queue(&mut self.queue, output);
+        match stop {
+            Stop::All => Ok(count > 0),
+            Stop::Full => Ok(count > 0),
+            Stop::Failed => Err(Fault::Output),
+        }
+    }
+}

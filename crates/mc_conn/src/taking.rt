@@ -1,0 +1,89 @@
+//! Requests are read and taken.
+ghost use Rattle.std.specs.Bool.{MatchBool};
+ghost use Rattle.std.specs.Prelude.{◌≡◌, ◌≢◌, ◌⊎◌, ◌<◌, ◌∷◌, [], true, false, length, None, IfOk, IfErr, IsOkUnless, OnOk, OnErr};
+ghost use Rattle.mc_model.specs.declared.fault.Fault.TheVariants as faults;
+ghost use Rattle.mc_model.specs.declared.request.Request.{Request};
+ghost use Rattle.mc_stream.specs.Stream.{Streams};
+ghost use Rattle.uc_worker.specs.Worker.{tenants_of};
+ghost use Rattle.mc_conn.specs.Ending.{Breaks};
+ghost use Rattle.mc_conn.specs.Held.{HoldsNone, IsRead};
+ghost use Rattle.mc_conn.specs.Onward.{IsOnward};
+ghost use Rattle.mc_conn.specs.Parts.{Does, IsHeldBehind, IsSameBeside, IsTakeFault};
+ghost use Rattle.mc_conn.specs.Turn.{holding_of, queue_of, scene};
+
+use crate::conn::{Conn, QUEUE_BYTES};
+use crate::responding::respond;
+use mc_model::Fault;
+use uc_worker::{Gate, Worker};
+
+impl Conn {
+    /// Reads the next request, where none waits.
+    fn look(&mut self) -> Result<(), Fault>
+        ensures read { OnOk result (IsRead (holding_of self.old) [] [] (holding_of self.new)) }
+        ensures found { OnOk result (HoldsNone (holding_of self.new) ⊎ (self.new.waiting ≢ None)) }
+        ensures same { IsSameBeside self.old self.new }
+        ensures queue { queue_of self.new ≡ queue_of self.old }
+        ensures memory { IsOkUnless result faults.Memory }
+    {
+        if self.waiting.is_none() {
+            self.waiting = self.reader.next()?;
+        }
+        Ok(())
+    }
+
+    /// Takes the request that waits. Says whether one did.
+    fn answer_waiting<G: Gate>(&mut self, worker: &mut Worker<'_>, gate: &mut G) -> Result<bool, Fault>
+        requires tenant { self.old.tenant < length (tenants_of worker.old) }
+        ensures does { IfOk result (λ did. (streams : Streams) → Does (scene self.old worker.old streams) (scene self.new worker.new streams) did) }
+        ensures read { IfOk result (λ did. MatchBool did
+            ((request : Request) × IsRead (holding_of self.old) [] (request ∷ []) (holding_of self.new)) (self.old.waiting ≡ None)) }
+        ensures still { IfOk result (λ did. did ≡ false → self.new ≡ self.old) }
+        ensures same { IsSameBeside self.old self.new }
+        ensures onward { IsOnward worker.old worker.new }
+        ensures faults { IfErr result IsTakeFault }
+        ensures breaks { IfErr result (λ fault. (streams : Streams) → Breaks fault (scene self.old worker.old streams) (scene self.new worker.new streams)) }
+    {
+        match self.waiting.take() {
+            Some(request) => {
+                respond(self.tenant, request, &mut self.queue, worker, gate)?;
+                Ok(true)
+            }
+            None => Ok(false),
+        }
+    }
+
+    /// Takes a request, where one is held and the queue isn't too long. Says whether it did.
+    fn take_one<G: Gate>(&mut self, worker: &mut Worker<'_>, gate: &mut G) -> Result<bool, Fault>
+        requires tenant { self.old.tenant < length (tenants_of worker.old) }
+        ensures does { IfOk result (λ did. (streams : Streams) → Does (scene self.old worker.old streams) (scene self.new worker.new streams) did) }
+        ensures fewer { IfOk result (λ did. did ≡ true → (request : Request) × IsRead (holding_of self.old) [] (request ∷ []) (holding_of self.new)) }
+        ensures held { IfOk result (λ did. did ≡ false → IsHeldBehind self.new) }
+        ensures same { IsSameBeside self.old self.new }
+        ensures onward { IsOnward worker.old worker.new }
+        ensures faults { IfErr result IsTakeFault }
+        ensures breaks { IfErr result (λ fault. (streams : Streams) → Breaks fault (scene self.old worker.old streams) (scene self.new worker.new streams)) }
+    {
+        self.look()?;
+        if self.queue.len() > QUEUE_BYTES {
+            return Ok(false);
+        }
+        self.answer_waiting(worker, gate)
+    }
+
+    /// Takes requests while the queue isn't too long. Says whether any was taken.
+    pub(crate) fn take<G: Gate>(&mut self, worker: &mut Worker<'_>, gate: &mut G) -> Result<bool, Fault>
+        requires tenant { self.old.tenant < length (tenants_of worker.old) }
+        ensures does { IfOk result (λ did. (streams : Streams) → Does (scene self.old worker.old streams) (scene self.new worker.new streams) did) }
+        ensures held { OnOk result (IsHeldBehind self.new) }
+        ensures same { IsSameBeside self.old self.new }
+        ensures onward { IsOnward worker.old worker.new }
+        ensures faults { IfErr result IsTakeFault }
+        ensures breaks { IfErr result (λ fault. (streams : Streams) → Breaks fault (scene self.old worker.old streams) (scene self.new worker.new streams)) }
+    {
+        let mut did = false;
+        while self.take_one(worker, gate)? {
+            did = true;
+        }
+        Ok(did)
+    }
+}

@@ -1,0 +1,111 @@
+//! A turn of a connection.
+ghost use Rattle.std.specs.Prelude.{◌≡◌, ◌<◌, ◌++◌, true, false, length, Ok, IfOk, IfErr, OnErr};
+ghost use Rattle.mc_stream.specs.Pushing.{PushesAtOnce};
+ghost use Rattle.mc_stream.specs.Stream.{both};
+ghost use Rattle.mc_model.specs.declared.reply.Reply.TheVariants.{Refused};
+ghost use Rattle.mc_model.specs.declared.reply.WireNo.TheVariants.{E11};
+ghost use Rattle.mc_write.specs.Text.{text};
+ghost use Rattle.uc_worker.specs.Worker.{tenants_of};
+ghost use Rattle.mc_conn.specs.Ending.{Breaks, Stops, Turns};
+ghost use Rattle.mc_conn.specs.Parts.{IsTold, StateIs};
+ghost use Rattle.mc_conn.specs.Turn.{queue_of, scene};
+
+use crate::conn::{Conn, PULL_BYTES, State};
+use mc_model::{Fault, WireNo};
+use mc_stream::{Input, Output, push_while_taken};
+use mc_write::refusal_text;
+use uc_worker::{Gate, Worker};
+
+/// Tells the client that memory ran out, after the replies that are queued, as far as the output takes it at once.
+fn tell_starved<O: Output>(queue: &[u8], output: &mut O)
+    ensures { PushesAtOnce (queue.now ++ text (Refused E11)) (O.tells output.old) (O.tells output.new) }
+{
+    if push_while_taken(queue, output) {
+        push_while_taken(refusal_text(WireNo::E11), output);
+    }
+}
+
+impl Conn {
+    /// The state after a turn that did something or nothing.
+    fn state(&self, did: bool) -> State
+        ensures { StateIs self.now did result }
+    {
+        let ended = self.has_ended || self.reader.has_ended();
+        if ended && self.waiting.is_none() && self.queue.is_empty() {
+            State::Closed
+        } else if did {
+            State::Busy
+        } else {
+            State::Idle
+        }
+    }
+
+    /// A turn, as `turn`, which tells nothing of a fault.
+    fn go_round<I: Input, O: Output, G: Gate>(
+        &mut self,
+        worker: &mut Worker<'_>,
+        input: &mut I,
+        output: &mut O,
+        gate: &mut G,
+        buffer: &mut [u8; PULL_BYTES],
+    ) -> Result<State, Fault>
+        requires tenant { self.old.tenant < length (tenants_of worker.old) }
+        ensures turns { IfOk result (λ state. Turns (scene self.old worker.old (both (I.tells input.old) (O.tells output.old)))
+            (scene self.new worker.new (both (I.tells input.new) (O.tells output.new))) state) }
+        ensures breaks { IfErr result (λ fault. Breaks fault (scene self.old worker.old (both (I.tells input.old) (O.tells output.old)))
+            (scene self.new worker.new (both (I.tells input.new) (O.tells output.new)))) }
+    {
+        let first = self.push(output)?;
+        let taken = self.take(worker, gate)?;
+        let pulled = self.pull_and_take(worker, input, output, gate, buffer)?;
+        let last = self.push(output)?;
+        Ok(self.state(first | taken | pulled | last))
+    }
+
+    /// Closes the connection for good. Where memory ran out, the client is told.
+    fn close<O: Output>(&mut self, fault: Fault, output: &mut O)
+        ensures closed { self.new.is_closed ≡ true }
+        ensures tenant { self.new.tenant ≡ self.old.tenant }
+        ensures queue { queue_of self.new ≡ queue_of self.old }
+        ensures told { IsTold fault (queue_of self.old) (O.tells output.old) (O.tells output.new) }
+    {
+        self.is_closed = true;
+        if fault == Fault::Memory {
+            tell_starved(&self.queue, output);
+        }
+    }
+
+    /// A turn: what is queued is pushed; while no more than `QUEUE_BYTES` are queued, whole requests are taken; where none is held then,
+    /// bytes are pulled once, into the buffer, which is the caller's to use again, and requests taken as before; and their replies are
+    /// pushed. A full log is a reply. Every other fault closes the connection for good, and later turns answer `Closed` and do nothing:
+    /// want of memory (`Memory`), which the client is told as far as the output takes it at once, a cell that holds another value
+    /// (`Taken`), and a failure of the input or the output (`Input`, `Output`).
+    pub fn turn<I: Input, O: Output, G: Gate>(
+        &mut self,
+        worker: &mut Worker<'_>,
+        input: &mut I,
+        output: &mut O,
+        gate: &mut G,
+        buffer: &mut [u8; PULL_BYTES],
+    ) -> Result<State, Fault>
+        requires tenant { self.old.tenant < length (tenants_of worker.old) }
+        ensures turns { self.old.is_closed ≡ false → IfOk result (λ state. Turns (scene self.old worker.old (both (I.tells input.old) (O.tells output.old)))
+            (scene self.new worker.new (both (I.tells input.new) (O.tells output.new))) state) }
+        ensures stops { IfErr result (λ fault. Stops fault (scene self.old worker.old (both (I.tells input.old) (O.tells output.old)))
+            (scene self.new worker.new (both (I.tells input.new) (O.tells output.new)))) }
+        ensures shut { OnErr result (self.new.is_closed ≡ true) }
+        ensures closed { self.old.is_closed ≡ true → (result ≡ Ok State.Closed) × (self.new ≡ self.old) × (worker.new ≡ worker.old)
+            × (input.new ≡ input.old) × (output.new ≡ output.old) }
+    {
+        if self.is_closed {
+            return Ok(State::Closed);
+        }
+        match self.go_round(worker, input, output, gate, buffer) {
+            Ok(state) => Ok(state),
+            Err(fault) => {
+                self.close(fault, output);
+                Err(fault)
+            }
+        }
+    }
+}
