@@ -43,6 +43,7 @@ bench: kit
 	@bench/reader.sh
 	@bench/cells.sh
 	@bench/places.sh
+	@bench/worker.sh
 	@python3 bench/schedule.py
 
 # A clear word where the kit is missing, in place of the shell's.

@@ -5,6 +5,8 @@
 #include <stdio.h>
 #include <stdlib.h>
 #include <string.h>
+#include <sys/syscall.h>
+#include <unistd.h>
 
 static long allocations, allocated, copies, copied;
 
@@ -58,4 +60,11 @@ void *memcpy(void *to, const void *from, size_t bytes) { return memmove(to, from
 
 __attribute__((destructor)) static void tell(void) {
     fprintf(stderr, "%ld %ld %ld %ld", allocations, allocated, copies, copied);
+}
+
+/* A program with threads ends by this, which runs no destructor. */
+void _exit(int status) {
+    tell();
+    syscall(SYS_exit_group, status);
+    __builtin_unreachable();
 }

@@ -1,0 +1,350 @@
+//! Measures submits: workers of a shared log, each in a thread of its own, submit gets and sets; or the same commands are applied to plain
+//! tables, or are made alone. Prints what was answered, and with `--time` also what depends on the machine: nanoseconds, and the steps.
+#![tactic(auto)]
+
+ghost use Rattle.std.specs.Prelude.{◌≡◌, ℕ, Some, slice_get};
+ghost use Rattle.uc_log.specs.Passes.{IsNew};
+
+use mc_items::Items;
+use mc_items::tables::tables_of;
+use mc_model::settings::{MAX_BYTES, MAX_ITEMS};
+use mc_model::{Command, Fault, Limits, Reply, Request, Settings, TenantId};
+use mc_read::Reader;
+use std::alloc::Global;
+use std::rt::Clock;
+use std::thread::{Threads, map_vec};
+use std::time::Duration;
+use std::{env, io, mem};
+use uc_log::{Log, Pass};
+use uc_worker::{Gate, Open, Step, Worker};
+
+/// Into how many parts a worker's commands are cut, each timed by itself.
+const PARTS: usize = 10;
+
+/// What is done with the commands: they are made alone, applied to plain tables, or submitted to a log.
+#[derive(Clone, Copy)]
+enum Task {
+    Make,
+    Apply,
+    Submit,
+}
+
+/// What is measured, by the words of the command line.
+#[derive(Drop)]
+struct Load {
+    task: Task,
+    timed: bool,
+    /// How many workers submit, each in a thread of its own.
+    workers: u64,
+    /// How many workers of the log do nothing.
+    idle: u64,
+    tenants: u64,
+    /// How many keys all tenants have together. Each is set before the commands that are measured.
+    keys: u64,
+    /// How many places the log has.
+    places: u64,
+    /// How many commands all workers have together.
+    commands: u64,
+    /// How many of a hundred commands are sets. The others are gets.
+    sets: u64,
+}
+
+impl Load {
+    /// Does what a word of the command line says; none where it says nothing.
+    fn hear(&mut self, word: &str) -> Option<()> {
+        let Some((name, number)) = word.split_once('=') else {
+            match word {
+                "--time" => self.timed = true,
+                "--make" => self.task = Task::Make,
+                "--apply" => self.task = Task::Apply,
+                _ => return None,
+            }
+            return Some(());
+        };
+        let field = match name {
+            "--workers" => &mut self.workers,
+            "--idle" => &mut self.idle,
+            "--tenants" => &mut self.tenants,
+            "--keys" => &mut self.keys,
+            "--places" => &mut self.places,
+            "--commands" => &mut self.commands,
+            "--sets" => &mut self.sets,
+            _ => return None,
+        };
+        *field = number.parse().ok()?;
+        Some(())
+    }
+
+    fn settings(&self, alloc: Global) -> Result<Settings, Fault> {
+        let mut quotas = Vec::new(alloc);
+        for _ in 0..self.tenants {
+            quotas.push(Limits {
+                items: MAX_ITEMS,
+                bytes: MAX_BYTES,
+            })?;
+        }
+        let workers = self.workers.saturating_add(self.idle);
+        Settings::check(workers, self.places, quotas)
+    }
+
+    /// A set of the key of this number, or a get of it. The keys are dealt out to the tenants.
+    fn ask(&self, alloc: Global, number: u64, is_set: bool) -> Result<Ask, Fault> {
+        let tenant = u8::try_from(number % self.tenants.max(1)).map_err(|_| Fault::BadSettings)?;
+        let tenant = TenantId::new(tenant).ok_or(Fault::BadSettings)?;
+        let text = if is_set {
+            format!(in alloc; "set key-{number} 0 0 100\r\n{number:0>100}\r\n")?
+        } else {
+            format!(in alloc; "get key-{number}\r\n")?
+        };
+        let command = command_of(alloc, text.as_str())?;
+        Ok(Ask { tenant, command })
+    }
+
+    /// The commands of one worker, in parts.
+    fn parts(&self, alloc: Global, worker: u64) -> Result<Vec<Vec<Ask>>, Fault> {
+        let each = self.commands / self.workers.max(1) / PARTS as u64;
+        let mut number = worker << 32;
+        let mut parts = Vec::new(alloc);
+        for _ in 0..PARTS {
+            let mut part = Vec::new(alloc);
+            for _ in 0..each {
+                number = number.wrapping_add(1);
+                let chance = scrambled(number);
+                let is_set = (chance >> 32) % 100 < self.sets;
+                part.push(self.ask(alloc, chance % self.keys.max(1), is_set)?)?;
+            }
+            parts.push(part)?;
+        }
+        Ok(parts)
+    }
+}
+
+/// A number in no order for each number, the same in each run: two rounds of shifts and products, as in SplitMix64.
+fn scrambled(number: u64) -> u64 {
+    let mixed = number.wrapping_mul(0x9E37_79B9_7F4A_7C15);
+    let mixed = (mixed ^ (mixed >> 30)).wrapping_mul(0xBF58_476D_1CE4_E5B9);
+    mixed ^ (mixed >> 27)
+}
+
+/// A command, and for which tenant.
+#[derive(Drop)]
+struct Ask {
+    tenant: TenantId,
+    command: Command,
+}
+
+/// The command that a client writes so.
+fn command_of(alloc: Global, text: &str) -> Result<Command, Fault> {
+    let mut reader = Reader::new(alloc);
+    reader.feed(text.as_bytes())?;
+    match reader.next()? {
+        Some(Request::Logged { command, .. }) => Ok(command),
+        _ => Err(Fault::BadSettings),
+    }
+}
+
+/// How many steps a worker took: announcements, reads, looks, proposals and replays.
+#[derive(Clone, Copy, Debug, Default)]
+struct Steps([u64; 5]);
+
+impl Gate for Steps {
+    fn at(&mut self, step: Step) {
+        if let Some(count) = self.0.get_mut(step as usize) {
+            *count = count.saturating_add(1);
+        }
+    }
+}
+
+/// What became of a worker's commands.
+#[derive(Clone, Copy, Debug, Default)]
+struct Work {
+    answered: u64,
+    stored: u64,
+    /// The most proposals that were made for one command.
+    most: u64,
+    steps: Steps,
+    /// What the clock showed before the first part and after each, in nanoseconds.
+    times: [u64; PARTS + 1],
+}
+
+/// What the clock shows, in nanoseconds; zero where it can't be read.
+fn now(clock: &impl Clock) -> u64 {
+    let time = clock.monotonic().unwrap_or(Duration::ZERO);
+    u64::try_from(time.as_nanos()).unwrap_or(u64::MAX)
+}
+
+/// What answers commands.
+trait Server {
+    /// The reply to a command, and how many proposals were made for it.
+    fn serve(&mut self, ask: Ask, steps: &mut Steps) -> Result<(Reply, u64), Fault>;
+}
+
+/// Nothing is done with a command.
+impl Server for () {
+    fn serve(&mut self, ask: Ask, _steps: &mut Steps) -> Result<(Reply, u64), Fault> {
+        mem::forget(ask);
+        Ok((Reply::Ok, 0))
+    }
+}
+
+/// Tables without a log. The memory of a command is left, as a log keeps it.
+impl Server for Vec<Items> {
+    fn serve(&mut self, ask: Ask, _steps: &mut Steps) -> Result<(Reply, u64), Fault> {
+        let place = usize::from(ask.tenant.number());
+        let table = self.get_mut(place).ok_or(Fault::BadSettings)?;
+        if table.last_unique() == u64::MAX {
+            return Err(Fault::LogFull);
+        }
+        let reply = table.apply(&ask.command)?;
+        mem::forget(ask);
+        Ok((reply, 0))
+    }
+}
+
+/// A worker and its log.
+#[derive(Drop)]
+struct Client<'a> {
+    log: &'a Log,
+    worker: Worker<'a>,
+    ghost same: { worker.log.now ≡ log.now },
+}
+
+impl<'a> Server for Client<'a> {
+    fn serve(&mut self, ask: Ask, steps: &mut Steps) -> Result<(Reply, u64), Fault> {
+        let Ask { tenant, command } = ask;
+        if usize::from(tenant.number()) >= self.log.settings().tenants().len() {
+            return Err(Fault::BadSettings);
+        }
+        let answer = self.worker.submit(tenant, command, steps)?;
+        Ok((answer.reply, answer.proposals))
+    }
+}
+
+/// Sets each key.
+fn fill<S: Server>(alloc: Global, server: &mut S, load: &Load) -> Result<(), Fault> {
+    for number in 0..load.keys {
+        server.serve(load.ask(alloc, number, true)?, &mut Steps::default())?;
+    }
+    Ok(())
+}
+
+/// Has the commands answered, and times each part of them.
+fn serve_all<R: Clock, S: Server>(
+    rt: &R,
+    server: &mut S,
+    parts: Vec<Vec<Ask>>,
+) -> Result<Work, Fault> {
+    let mut work = Work::default();
+    let mut times = [now(rt); PARTS + 1];
+    for (time, part) in times.iter_mut().skip(1).zip(parts) {
+        for ask in part {
+            let (reply, proposals) = server.serve(ask, &mut work.steps)?;
+            let stored = u64::from(reply == Reply::Stored);
+            work.answered = work.answered.saturating_add(1);
+            work.stored = work.stored.saturating_add(stored);
+            work.most = work.most.max(proposals);
+        }
+        *time = now(rt);
+    }
+    work.times = times;
+    Ok(work)
+}
+
+/// A client with its commands.
+type Job<'a> = (Client<'a>, Vec<Vec<Ask>>);
+
+/// The jobs of the last of these passes. The first client has set each key, and all have caught up.
+fn jobs_of<'a>(
+    alloc: Global,
+    log: &'a Log,
+    mut passes: Vec<Pass>,
+    load: &Load,
+) -> Result<Vec<Job<'a>>, Fault>
+    requires { (number : ℕ) (pass : _) → slice_get passes.items number ≡ Some pass → IsNew log.now number pass }
+{
+    let mut jobs = Vec::new(alloc);
+    for number in 0..load.workers {
+        let Some(pass) = passes.pop() else {
+            break;
+        };
+        let worker = Worker::open(alloc, log, pass)?;
+        let mut client = Client { log, worker };
+        if number == 0 {
+            fill(alloc, &mut client, load)?;
+        }
+        client.worker.catch_up(&mut Open)?;
+        jobs.push((client, load.parts(alloc, number)?))?;
+    }
+    Ok(jobs)
+}
+
+/// The workers of a new log submit the commands. What they leave is the operating system's, so that its end costs nothing.
+fn submit<R: Clock + Threads + Sync>(
+    rt: &R,
+    alloc: Global,
+    load: &Load,
+) -> Result<Vec<Work>, Fault> {
+    let (log, passes) = Log::open(alloc, &load.settings(alloc)?)?;
+    let jobs = jobs_of(alloc, &log, passes, load)?;
+    let serve = |job: Job<'_>| -> Result<Work, Fault> {
+        let (mut client, parts) = job;
+        let work = serve_all(rt, &mut client, parts);
+        mem::forget(client);
+        work
+    };
+    let works = map_vec(rt, jobs, &serve)?;
+    mem::forget(log);
+    works.into_iter().collect(alloc)?
+}
+
+/// The first worker's commands are given to a server without a log.
+fn serve_alone<R: Clock, S: Server + Drop>(
+    rt: &R,
+    alloc: Global,
+    load: &Load,
+    mut server: S,
+) -> Result<Vec<Work>, Fault> {
+    fill(alloc, &mut server, load)?;
+    let parts = load.parts(alloc, 0)?;
+    let work = serve_all(rt, &mut server, parts)?;
+    mem::forget(server);
+    Ok(vec![in alloc; work]?)
+}
+
+/// Does what the load says.
+fn run<R: Clock + Threads + Sync>(rt: &R, alloc: Global, load: &Load) -> Result<Vec<Work>, Fault> {
+    match load.task {
+        Task::Make => serve_alone(rt, alloc, load, ()),
+        Task::Apply => {
+            let tables = tables_of(alloc, load.settings(alloc)?.tenants())?;
+            serve_alone(rt, alloc, load, tables)
+        }
+        Task::Submit => submit(rt, alloc, load),
+    }
+}
+
+fn main(rt: HostRuntime) -> io::Result<()> {
+    let mut load = Load {
+        task: Task::Submit,
+        timed: false,
+        workers: 2,
+        idle: 0,
+        tenants: 1,
+        keys: 1_000,
+        places: 100_000,
+        commands: 10_000,
+        sets: 5,
+    };
+    for word in env::args(&rt)?.skip(1) {
+        load.hear(word.as_str()).ok_or(io::ErrorKind::InvalidInput)?;
+    }
+    let works = run(&rt, rt.alloc(), &load);
+    for work in &works.map_err(|_| io::ErrorKind::Other)? {
+        let (answered, stored) = (work.answered, work.stored);
+        println!(rt; "{answered} answered, {stored} stored")?;
+        if load.timed {
+            println!(rt; "{work:?}")?;
+        }
+    }
+    Ok(())
+}
