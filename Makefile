@@ -6,7 +6,7 @@ help:
 	@echo 'make schedule proves, builds and runs mc_schedule on an example, with a picture'
 	@echo 'make test     the gate: every proof from nothing, the telling edits, the tests, the programs on their worked rows'
 	@echo 'make edits    tries all edits that must be refused; make edits CRATES="mc_items mc_read" those of some crates'
-	@echo 'make memory   runs the programs with each allocation refused in turn, mc_stdin with less and less memory too, and looks at what they answer'
+	@echo 'make memory   runs the programs, and the tests of the cells, with each allocation refused in turn, mc_stdin with less and less memory too, and looks at what they answer'
 	@echo 'make model    compares mc_schedule with an independent model on lists made at random'
 	@echo 'make bench    measures the built programs; the figures of docs/BENCHMARKS.md come from it'
 
@@ -31,6 +31,7 @@ memory: kit
 	@tests/memory.sh
 	@python3 tests/allocations.py
 	@python3 tests/schedule_allocations.py
+	@python3 tests/cell_allocations.py
 
 model: kit
 	@tools/prove.sh mc_schedule >&2

@@ -1,5 +1,5 @@
 //! What is true of any cells.
-ghost use Rattle.std.specs.Prelude.{◌≡◌, Some, IfOk};
+ghost use Rattle.std.specs.Prelude.{◌≡◌, ◌⊎◌, Some, IfOk, IfErr};
 ghost use Rattle.mc_model.specs.declared.id.Ticket.{Ticket};
 ghost use Rattle.uc_cells.specs.Cells.{HasCell, place_in_row, row_at, row_place};
 ghost use Rattle.uc_cells.specs.Sighting.{sighting};
@@ -17,10 +17,12 @@ pub fn each_ticket_has_its_own_cell(cells: &Cells)
     let _ = cells;
 }
 
-/// What was put is what is seen: no sighting of the cell misses it.
+/// What was put is what is seen: no sighting of the cell misses it. Where the cell holds another value: `Taken`; where memory runs out:
+/// `Memory`.
 pub fn what_was_put_is_seen(cells: &Cells, alloc: Global, entry: Entry) -> Result<Seen<'_>, Fault>
     requires { HasCell cells.now entry.ticket }
-    ensures { IfOk result (λ seen. seen ≡ sighting entry.ticket (Some entry) (row_at cells.now entry.ticket)) }
+    ensures put { IfOk result (λ seen. seen ≡ sighting entry.ticket (Some entry) (row_at cells.now entry.ticket)) }
+    ensures faults { IfErr result (λ fault. (fault ≡ Fault.Memory) ⊎ (fault ≡ Fault.Taken)) }
 {
     let ticket = entry.ticket;
     let Ticket { worker, number } = ticket;

@@ -61,6 +61,8 @@ impl Log {
         requires room { HasRoom (size pass.old) (state pass.old) }
         ensures of { IsOf self.now pass.new }
         ensures made { Makes (desk pass.old) (desk pass.new) (reads (worker pass.old)) (read (worker pass.old) result (state pass.old)) }
+        // What is given is what stands at the next place.
+        ensures stands { slice_get (last_of (desk pass.new)).decided (length (learned pass.old)) ≡ result }
         // What the pass was told of that place is what it finds.
         ensures told { (x : ticket.Ticket) → slice_get (seat pass.old).told (length (learned pass.old)) ≡ Some x → result ≡ Some x }
         ensures own { own_sightings pass.new ≡ own_sightings pass.old }
@@ -92,6 +94,8 @@ impl Log {
         requires looked { (state pass.old).phase ≡ phase.Looked }
         ensures of { IsOf self.now pass.new }
         ensures made { Makes (desk pass.old) (desk pass.new) (proposes (worker pass.old)) (propose (worker pass.old) (Some result) (state pass.old)) }
+        // What is given is what stands at the next place.
+        ensures stands { slice_get (last_of (desk pass.new)).decided (length (learned pass.old)) ≡ Some result }
         ensures own { own_sightings pass.new ≡ own_sightings pass.old }
     {
         // Its parts, since a ticket that is passed twice gets no proof.

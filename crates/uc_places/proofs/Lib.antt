@@ -6,3 +6,4 @@ pub mod SeatLaws
 pub mod Closing
 pub mod Mirroring
 pub mod Spelled
+pub mod OwnEvents

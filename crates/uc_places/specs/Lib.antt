@@ -6,3 +6,4 @@ pub mod Desk
 pub mod Calls
 pub mod Seats
 pub mod End
+pub mod OneRun

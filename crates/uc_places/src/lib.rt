@@ -5,6 +5,7 @@
 pub mod asking;
 pub mod desk;
 pub mod events;
+pub mod laws;
 pub mod rule;
 pub mod seats;
 pub mod steps;
