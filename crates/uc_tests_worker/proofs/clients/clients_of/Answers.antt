@@ -1,6 +1,6 @@
 -- The next pass was never used, and its client is of the log.
 use Rattle.std.proofs.Common.{◌≡◌, ℕ, List, Some, All, slice_get, subst, rules}
-use Rattle.std.proofs.lemmas.List.Elements.{All-head, All-nil, All-push, All-rest}
+use Rattle.std.proofs.lemmas.List.Elements.{All-head, All-push, All-rest}
 use Rattle.std.proofs.lemmas.Option.{slice_get-get_or}
 use Rattle.uc_tests_worker.specs.declared.clients.Client.{Client}
 use Rattle.uc_tests_worker.specs.Fresh.{IsFresh}
