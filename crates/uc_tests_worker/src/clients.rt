@@ -1,9 +1,10 @@
-//! A worker beside the log that it works on, and two of them.
-ghost use Rattle.std.specs.Prelude.{◌≡◌, ℕ, Some, slice_get, IfOk, IfSome};
+//! A worker beside the log that it works on, and several of them.
+ghost use Rattle.std.specs.Prelude.{◌≡◌, ℕ, Some, slice_get, All, IfOk, IfSome};
 ghost use Rattle.uc_tests_worker.specs.Fresh.{IsFresh};
 
 use crate::texts::{command_of, reads_as, settings_of};
-use mc_model::{Command, Fault, TenantId};
+use mc_items::Items;
+use mc_model::{Command, Fault, Limits, TenantId};
 use std::alloc::Global;
 use uc_cells::Seen;
 use uc_log::{Log, Pass};
@@ -81,9 +82,37 @@ impl<'a> Client<'a> {
         self.worker.meet(&mut other.worker)
     }
 
+    /// The worker's number.
+    pub(crate) fn number(&self) -> u8 {
+        self.worker.worker().number()
+    }
+
     pub(crate) fn history(&self) -> &[Seen<'a>] {
         self.worker.history()
     }
+
+    /// The tenant's table, if there is such a tenant.
+    pub(crate) fn table(&self, tenant: TenantId) -> Option<&Items> {
+        if usize::from(tenant.number()) < self.log.settings().tenants().len() {
+            Some(self.worker.table(tenant))
+        } else {
+            None
+        }
+    }
+
+    pub(crate) fn is_full(&self) -> bool {
+        self.worker.is_full()
+    }
+}
+
+/// Whether the answer has this place, and its reply is read so.
+pub(crate) fn is_answer(
+    alloc: Global,
+    answer: &Answer,
+    place: usize,
+    want: &str,
+) -> Result<bool, Fault> {
+    Ok(answer.place == place && reads_as(alloc, &answer.reply, want)?)
 }
 
 /// Whether both histories are equal, place by place: the tickets and the entries under them.
@@ -93,16 +122,24 @@ pub(crate) fn are_equal(ones: &[Seen<'_>], others: &[Seen<'_>]) -> bool {
             && one.entry() == other.entry())
 }
 
-/// A log of so many workers, places and tenants with ample quotas, and the workers' passes.
+/// Whether the history has these tickets: pairs of a worker and a number.
+pub(crate) fn has_tickets(history: &[Seen<'_>], tickets: &[(u8, u64)]) -> bool {
+    history.len() == tickets.len()
+        && history.iter().zip(tickets).all(|(seen, (worker, number))| {
+            seen.ticket().worker.number() == *worker && seen.ticket().number == *number
+        })
+}
+
+/// A log of so many workers and places, and of tenants with these quotas; and the workers' passes.
 pub(crate) fn opened(
     alloc: Global,
     workers: u64,
     places: u64,
-    tenants: usize,
+    quotas: &[Limits],
 ) -> Result<(Log, Vec<Pass>), Fault>
     ensures { IfOk result (λ opened. (number : ℕ) (pass : _) → slice_get opened.1.items number ≡ Some pass → IsFresh opened.0 pass) }
 {
-    let settings = settings_of(alloc, workers, places, tenants)?;
+    let settings = settings_of(alloc, workers, places, quotas)?;
     let (log, passes) = Log::open(alloc, &settings)?;
     Ok((log, passes))
 }
@@ -133,4 +170,20 @@ pub(crate) fn both_clients<'a>(
     let first = Client::open(alloc, log, first)?;
     let second = Client::open(alloc, log, second)?;
     Ok((first, second))
+}
+
+/// The clients of all workers, by their numbers.
+pub(crate) fn clients_of<'a>(
+    alloc: Global,
+    log: &'a Log,
+    passes: Vec<Pass>,
+) -> Result<Vec<Client<'a>>, Fault>
+    requires { (number : ℕ) (pass : _) → slice_get passes.items number ≡ Some pass → IsFresh log.now pass }
+    ensures { IfOk result (λ clients. All (λ client. client.log.now ≡ log.now) clients.items) }
+{
+    let mut clients = Vec::new(alloc);
+    for pass in passes {
+        clients.push(Client::open(alloc, log, pass)?)?;
+    }
+    Ok(clients)
 }

@@ -2,15 +2,17 @@
 ghost use Rattle.std.specs.Prelude.{◌≡◌, IfOk};
 ghost use Rattle.uc_tests_worker.specs.Fresh.{IsFresh};
 
-use crate::clients::{Client, are_equal, both_clients, both_passes, opened};
-use crate::texts::{command_of, reads_as};
+use crate::clients::{
+    Client, are_equal, both_clients, both_passes, has_tickets, is_answer, opened,
+};
+use crate::flags::comes;
+use crate::texts::{QUOTAS, command_of};
 use mc_model::{Fault, TenantId};
 use std::alloc::Global;
 use std::sync::atomic::{AtomicBool, Ordering};
 use std::test::Fail;
 use std::thread;
 use std::thread::Threads;
-use uc_cells::Seen;
 use uc_log::{Log, Pass};
 use uc_worker::{Answer, Gate, Open, Step};
 
@@ -28,11 +30,6 @@ fn announce(log: &Log, alloc: Global, pass: &mut Pass, text: &str) -> Result<(),
     log.announce(alloc, pass, tenant, command)
 }
 
-/// Whether the answer has this place, and its reply is read so.
-fn is_answer(alloc: Global, answer: &Answer, place: usize, want: &str) -> Result<bool, Fault> {
-    Ok(answer.place == place && reads_as(alloc, &answer.reply, want)?)
-}
-
 /// What the worker of the second pass answers to a get after the worker of the first pass has announced a set, and is left.
 fn get_beside(alloc: Global, log: &Log, mut first: Pass, second: Pass) -> Result<Answer, Fault>
     requires one { IsFresh log.now first }
@@ -47,25 +44,11 @@ fn get_beside(alloc: Global, log: &Log, mut first: Pass, second: Pass) -> Result
 #[test]
 fn announced_and_left(rt: HostRuntime) -> Result<(), Fail> {
     let alloc = rt.alloc();
-    let (log, passes) = opened(alloc, 2, 8, 1)?;
+    let (log, passes) = opened(alloc, 2, 8, &[QUOTAS])?;
     let (first, second) = both_passes(&log, passes).ok_or("no passes")?;
     let answer = get_beside(alloc, &log, first, second)?;
     assert!(rt; is_answer(alloc, &answer, 1, "VALUE a 0 1\r\nx\r\nEND\r\n")?);
     Ok(())
-}
-
-/// How often a flag is looked at before its thread is given up.
-const LOOKS: u32 = 10_000_000;
-
-/// Whether the flag is raised.
-fn comes(flag: &AtomicBool) -> bool {
-    for _ in 0..LOOKS {
-        if flag.load(Ordering::SeqCst) {
-            return true;
-        }
-        thread::yield_now();
-    }
-    false
 }
 
 /// Holds its worker once, after its first step of a kind: tells of it by one flag, and goes on when another is raised.
@@ -171,19 +154,11 @@ fn both_ended<'a, R: Threads + Sync>(
     )
 }
 
-/// Whether the history has these tickets: pairs of a worker and a number.
-fn has_tickets(history: &[Seen<'_>], tickets: &[(u8, u64)]) -> bool {
-    history.len() == tickets.len()
-        && history.iter().zip(tickets).all(|(seen, (worker, number))| {
-            seen.ticket().worker.number() == *worker && seen.ticket().number == *number
-        })
-}
-
 /// A look that is old by the time of the proposal: the other's announcement is helped at a later place.
 #[test]
 fn help_on_two_threads(rt: HostRuntime) -> Result<(), Fail> {
     let alloc = rt.alloc();
-    let (log, passes) = opened(alloc, 2, 8, 1)?;
+    let (log, passes) = opened(alloc, 2, 8, &[QUOTAS])?;
     let (first, second) = both_clients(alloc, &log, passes)?;
     let flags = Flags {
         looked: AtomicBool::new(false),

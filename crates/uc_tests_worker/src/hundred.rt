@@ -2,7 +2,7 @@
 ghost use Rattle.std.specs.Prelude.{◌≡◌, IfOk};
 
 use crate::clients::{Client, are_equal, both_clients, opened};
-use crate::texts::command_of;
+use crate::texts::{QUOTAS, command_of};
 use mc_model::Fault;
 use std::alloc::Global;
 use std::test::Fail;
@@ -151,7 +151,7 @@ fn stand_in_order(
 #[test]
 fn two_threads_hundred_commands(rt: HostRuntime) -> Result<(), Fail> {
     let alloc = rt.alloc();
-    let (log, passes) = opened(alloc, 2, 1_024, 1)?;
+    let (log, passes) = opened(alloc, 2, 1_024, &[QUOTAS])?;
     let (first, second) = both_clients(alloc, &log, passes)?;
     let (mut first, mut second) = worked_both(&rt, alloc, first, second)?;
     first.catch_up()?;

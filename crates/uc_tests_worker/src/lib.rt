@@ -3,11 +3,27 @@
 #![tactic(auto)]
 
 #[cfg(test)]
+mod answers;
+#[cfg(test)]
+mod asking;
+#[cfg(test)]
 mod clients;
+#[cfg(test)]
+mod flags;
+#[cfg(test)]
+mod four;
+#[cfg(test)]
+mod full;
 #[cfg(test)]
 mod helping;
 #[cfg(test)]
 mod hundred;
+#[cfg(test)]
+mod meeting;
+#[cfg(test)]
+mod recomputing;
+#[cfg(test)]
+mod standing;
 #[cfg(test)]
 mod stopped;
 #[cfg(test)]

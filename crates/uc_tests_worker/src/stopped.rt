@@ -2,6 +2,7 @@
 ghost use Rattle.std.specs.Prelude.{◌≡◌};
 
 use crate::clients::{Client, are_equal, both_clients, opened};
+use crate::texts::QUOTAS;
 use mc_model::Fault;
 use std::alloc::Global;
 use std::test::Fail;
@@ -89,7 +90,7 @@ fn held_between(
 
 /// After which step a worker was held on a new log, if its submit has so many.
 fn held_after(alloc: Global, left: u32) -> Result<Option<Step>, Fault> {
-    let (log, passes) = opened(alloc, 2, 1_024, 1)?;
+    let (log, passes) = opened(alloc, 2, 1_024, &[QUOTAS])?;
     let (first, mut second) = both_clients(alloc, &log, passes)?;
     if !are_stored(alloc, &mut second, BEFORE)? {
         return Err(Fault::BadEvent);

@@ -4,8 +4,8 @@ use mc_read::Reader;
 use mc_write::write_reply;
 use std::alloc::Global;
 
-/// Enough for all that the tests store.
-const QUOTAS: Limits = Limits {
+/// Enough for all that most tests store.
+pub(crate) const QUOTAS: Limits = Limits {
     items: 100,
     bytes: 100_000,
 };
@@ -31,16 +31,13 @@ pub(crate) fn reads_as(alloc: Global, reply: &Reply, want: &str) -> Result<bool,
     Ok(text.as_slice() == want.as_bytes())
 }
 
-/// Settings of so many workers, places and tenants, each with ample quotas.
+/// Settings of so many workers and places, and of tenants with these quotas.
 pub(crate) fn settings_of(
     alloc: Global,
     workers: u64,
     places: u64,
-    tenants: usize,
+    quotas: &[Limits],
 ) -> Result<Settings, Fault> {
-    let mut quotas = Vec::new(alloc);
-    for _ in 0..tenants {
-        quotas.push(QUOTAS)?;
-    }
+    let quotas = Vec::from_slice(alloc, quotas)?;
     Settings::check(workers, places, quotas)
 }

@@ -1,0 +1,102 @@
+//! A full log takes no more commands, and says so however often it is asked.
+ghost use Rattle.std.specs.Prelude.{◌≡◌};
+
+use crate::clients::{Client, are_equal, both_clients, has_tickets, opened};
+use crate::texts::QUOTAS;
+use mc_model::Fault;
+use std::alloc::Global;
+use std::test::Fail;
+use uc_worker::Open;
+
+/// By turns, what the first worker asks and what it is answered, and then what the second is answered to a get.
+const ROUNDS: [(&str, &str, &str); 2] = [
+    (
+        "set a 0 0 1\r\nx\r\n",
+        "STORED\r\n",
+        "VALUE a 0 1\r\nx\r\nEND\r\n",
+    ),
+    ("delete a\r\n", "DELETED\r\n", "END\r\n"),
+];
+
+/// Where these commands stand: the log's four places.
+const TICKETS: [(u8, u64); 4] = [(0, 0), (1, 0), (0, 1), (1, 1)];
+
+/// How often each worker asks for more.
+const AGAIN: u32 = 100;
+
+/// Whether the rounds are answered so.
+fn are_answered(
+    alloc: Global,
+    first: &mut Client<'_>,
+    second: &mut Client<'_>,
+) -> Result<bool, Fault>
+    ensures one { first.new.log ≡ first.old.log }
+    ensures two { second.new.log ≡ second.old.log }
+{
+    for (text, want, value) in ROUNDS {
+        if !first.says(alloc, text, want)? {
+            return Ok(false);
+        }
+        if !second.says(alloc, "get a\r\n", value)? {
+            return Ok(false);
+        }
+    }
+    Ok(true)
+}
+
+/// Whether the worker is told that the log is full.
+fn is_refused(alloc: Global, client: &mut Client<'_>, text: &str) -> Result<bool, Fault>
+    ensures { client.new.log ≡ client.old.log }
+{
+    match client.ask(alloc, 0, text, &mut Open) {
+        Err(Fault::LogFull) => Ok(true),
+        Err(fault) => Err(fault),
+        Ok(_) => Ok(false),
+    }
+}
+
+/// Whether the worker is told so each time, and keeps this history.
+fn stays_full(alloc: Global, client: &mut Client<'_>, tickets: &[(u8, u64)]) -> Result<bool, Fault>
+    ensures { client.new.log ≡ client.old.log }
+{
+    for _ in 0..AGAIN {
+        if !is_refused(alloc, client, "set c 0 0 1\r\nz\r\n")? {
+            return Ok(false);
+        }
+    }
+    Ok(client.is_full() && has_tickets(client.history(), tickets))
+}
+
+/// Whether both workers are told so each time. The first keeps this history, and the second that of all places.
+fn both_stay_full(
+    alloc: Global,
+    first: &mut Client<'_>,
+    second: &mut Client<'_>,
+    tickets: &[(u8, u64)],
+) -> Result<bool, Fault>
+    ensures one { first.new.log ≡ first.old.log }
+    ensures two { second.new.log ≡ second.old.log }
+{
+    if !stays_full(alloc, first, tickets)? {
+        return Ok(false);
+    }
+    stays_full(alloc, second, &TICKETS)
+}
+
+/// The first worker hasn't learned the last place when it asks for more, so its command waits for good. It replays that place as it
+/// catches up.
+#[test]
+fn a_full_log_says_so_again_and_again(rt: HostRuntime) -> Result<(), Fail> {
+    let alloc = rt.alloc();
+    let (log, passes) = opened(alloc, 2, 4, &[QUOTAS])?;
+    let (mut first, mut second) = both_clients(alloc, &log, passes)?;
+    assert!(rt; are_answered(alloc, &mut first, &mut second)?);
+    assert!(rt; !first.is_full() && second.is_full());
+    assert!(rt; both_stay_full(alloc, &mut first, &mut second, &TICKETS[..3])?);
+    first.catch_up()?;
+    assert!(rt; both_stay_full(alloc, &mut first, &mut second, &TICKETS)?);
+    first.meet(&mut second)?;
+    assert!(rt; both_stay_full(alloc, &mut first, &mut second, &TICKETS)?);
+    assert!(rt; are_equal(first.history(), second.history()));
+    Ok(())
+}

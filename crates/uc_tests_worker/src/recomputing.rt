@@ -1,0 +1,153 @@
+//! What a log answers, computed again from its history by code that isn't the worker's: one plain table a tenant, place by place.
+
+use crate::asking::Asked;
+use crate::clients::Client;
+use crate::meeting::Ended;
+use crate::texts::command_of;
+use mc_items::Items;
+use mc_model::{Command, Entry, Fault, Key, Limits, Reply, TenantId, Ticket};
+use std::alloc::Global;
+use uc_cells::Seen;
+
+fn applied(items: &mut Items, command: &Command) -> Result<Reply, Fault> {
+    if items.last_unique() == u64::MAX {
+        return Err(Fault::BadEvent);
+    }
+    items.apply(command)
+}
+
+/// The reply to the entry on its tenant's table.
+fn reply_to(tables: &mut [Items], entry: &Entry) -> Result<Reply, Fault> {
+    match tables.get_mut(usize::from(entry.tenant.number())) {
+        Some(items) => applied(items, &entry.command),
+        None => Err(Fault::BadEvent),
+    }
+}
+
+/// Whether the entry is what was asked for, and this is its answer.
+fn is_answer_to(
+    alloc: Global,
+    asked: &Asked,
+    entry: &Entry,
+    place: usize,
+    reply: &Reply,
+) -> Result<bool, Fault> {
+    let command = command_of(alloc, asked.text.as_str())?;
+    Ok(
+        entry.tenant.number() == asked.tenant
+            && entry.command == command
+            && asked.answer.place == place
+            && asked.answer.reply == *reply,
+    )
+}
+
+/// What the ticket's worker asked for under its number.
+fn asked_under<'e>(ended: &'e [Ended<'_>], ticket: Ticket) -> Option<&'e Asked> {
+    let Ticket { worker, number } = ticket;
+    let asked = ended
+        .get(usize::from(worker.number()))?
+        .asked
+        .as_ref()
+        .ok()?;
+    asked.get(number as usize)
+}
+
+/// Whether what was seen at the place was asked for, and is answered by the tables as it was then.
+fn is_right_at(
+    alloc: Global,
+    tables: &mut [Items],
+    ended: &[Ended<'_>],
+    place: usize,
+    seen: &Seen<'_>,
+) -> Result<bool, Fault> {
+    let Some(entry) = seen.entry() else {
+        return Ok(false);
+    };
+    let Some(asked) = asked_under(ended, seen.ticket()) else {
+        return Ok(false);
+    };
+    let reply = reply_to(tables, entry)?;
+    is_answer_to(alloc, asked, entry, place, &reply)
+}
+
+/// The tables after the history, if each of its places is answered as it was.
+fn tables_after(
+    alloc: Global,
+    quotas: &[Limits],
+    ended: &[Ended<'_>],
+    history: &[Seen<'_>],
+) -> Result<Vec<Items>, Fault> {
+    let mut tables = mc_items::tables::tables_of(alloc, quotas)?;
+    for (place, seen) in history.iter().enumerate() {
+        if !is_right_at(alloc, &mut tables, ended, place, seen)? {
+            return Err(Fault::BadEvent);
+        }
+    }
+    Ok(tables)
+}
+
+/// Whether both hold the same under the key of this name.
+fn holds_alike(alloc: Global, one: &Items, other: &Items, name: &str) -> Result<bool, Fault> {
+    Ok(match Key::new(alloc, name.as_bytes())? {
+        Some(key) => one.get(&key) == other.get(&key),
+        None => false,
+    })
+}
+
+/// Whether both tables are alike, of the keys that the tests use.
+fn are_alike(alloc: Global, one: &Items, other: &Items) -> Result<bool, Fault> {
+    for name in ["a", "b", "n"] {
+        if !holds_alike(alloc, one, other, name)? {
+            return Ok(false);
+        }
+    }
+    Ok(
+        one.last_unique() == other.last_unique()
+            && one.used() == other.used()
+            && one.count() == other.count(),
+    )
+}
+
+/// Whether the client's table of this tenant is like this one.
+fn has_table(
+    alloc: Global,
+    client: &Client<'_>,
+    tenant: TenantId,
+    items: &Items,
+) -> Result<bool, Fault> {
+    match client.table(tenant) {
+        Some(table) => are_alike(alloc, table, items),
+        None => Ok(false),
+    }
+}
+
+/// The tenant of this number, if there can be one.
+fn tenant_of(number: usize) -> Option<TenantId> {
+    TenantId::new(u8::try_from(number).ok()?)
+}
+
+/// Whether the client's tables are like these, tenant by tenant.
+fn has_tables(alloc: Global, client: &Client<'_>, tables: &[Items]) -> Result<bool, Fault> {
+    for (number, items) in tables.iter().enumerate() {
+        let Some(tenant) = tenant_of(number) else {
+            return Ok(false);
+        };
+        if !has_table(alloc, client, tenant, items)? {
+            return Ok(false);
+        }
+    }
+    Ok(true)
+}
+
+/// Whether each reply, and each of these tables at the end, is what plain tables give over the history alone.
+pub(crate) fn is_recomputed(
+    alloc: Global,
+    quotas: &[Limits],
+    ended: &[Ended<'_>],
+) -> Result<bool, Fault> {
+    let Some(first) = ended.first() else {
+        return Ok(false);
+    };
+    let tables = tables_after(alloc, quotas, ended, first.client.history())?;
+    has_tables(alloc, &first.client, &tables)
+}
