@@ -7,7 +7,7 @@ use Rattle.mc_model.specs.declared.reply.Reply.{Reply}
 use Rattle.mc_model.specs.declared.reply.Reply.TheVariants.{Refused}
 use Rattle.mc_model.specs.declared.reply.WireNo.TheVariants.{E10}
 use Rattle.mc_model.specs.declared.request.Request.{Request}
-use Rattle.mc_model.specs.declared.request.Request.TheVariants.{Local, Logged, Quit, TooLong}
+use Rattle.mc_model.specs.declared.request.Request.TheVariants.{Logged}
 use Rattle.mc_model.specs.Helping.{BeginsWith}
 use Rattle.mc_model.specs.Replay.{reply_to}
 use Rattle.uc_cells.specs.Sighting.{Sighting, entries}
@@ -100,7 +100,6 @@ module _ (old new : Worker) (tenant : ℕ) (command : Command) (on : IsOnward ol
         place = begins_length _ _ on.history;
       })
       kept
-
 
 -- the command of a request that met a fault may be announced
 pub for_logged : (old new : Worker) (tenant : ℕ) (request : Request) (command : Command) (quiet : Bool) → request ≡ Logged command quiet → MayAnnounce old new tenant command →

@@ -1,14 +1,13 @@
 -- A fault behind parts that went well, and where it comes from.
-use Rattle.std.proofs.Common.{◌≡◌, ◌⊎◌, ℕ, ◌+◌, ◌≤◌, List, [], ◌∷◌, ◌++◌, length, take, drop, slice_get, Some, sym, refl, ap, ◌∙◌, subst, inl, inr, ⊎_elim, arith, append_assoc, append-nil, length-append}
+use Rattle.std.proofs.Common.{◌≡◌, ℕ, ◌+◌, List, [], ◌∷◌, ◌++◌, length, take, drop, slice_get, Some, sym, refl, ap, ◌∙◌, subst, inl, inr, ⊎_elim, arith, append_assoc, append-nil, length-append}
 use Rattle.std.proofs.lemmas.List.{take-append-drop}
 use Rattle.std.specs.Io.KnownBytes.{Consumes}
 use Rattle.std.proofs.KnownBytes.{Consumes-nil, Consumes-trans}
-use Rattle.mc_model.specs.declared.command.Command.{Command}
 use Rattle.mc_model.specs.declared.fault.Fault.{Fault}
 use Rattle.mc_model.specs.declared.fault.Fault.TheVariants.{Memory, LogFull, Taken, Input, Output, BadEvent, BadSettings}
 use Rattle.mc_model.specs.declared.request.Request.{Request}
 use Rattle.mc_model.specs.declared.request.Request.TheVariants.{Local, Logged, Quit, TooLong}
-use Rattle.mc_stream.specs.Event.{failures, moved}
+use Rattle.mc_stream.specs.Event.{moved}
 use Rattle.mc_stream.specs.Pushing.{FailsOnce, Pushes}
 use Rattle.mc_stream.specs.Stream.{Inflow, Outflow, Streams, both}
 use Rattle.uc_cells.specs.Sighting.{Sighting}
@@ -19,7 +18,7 @@ use Rattle.mc_conn.specs.declared.conn.Conn.{Conn}
 use Rattle.mc_conn.specs.Ending.{Breaks, CountsFailures, Meets}
 use Rattle.mc_conn.specs.Held.{HoldsOn, IsRead}
 use Rattle.mc_conn.specs.Onward.{IsOnward, own_sighting}
-use Rattle.mc_conn.specs.Owed.{Mark, Owes, mark_of}
+use Rattle.mc_conn.specs.Owed.{Owes, mark_of}
 use Rattle.mc_conn.specs.Parts.{IsTakeFault, MayAnnounceFor}
 use Rattle.mc_conn.specs.Turn.{NeitherFails, Scene, Takes, holding_of, queue_of, scene}
 use Rattle.mc_conn.proofs.Lists.{appended_twice, joined}
@@ -114,13 +113,13 @@ meets_one : (worker later : Worker) (tenant : ℕ) (request : Request) → IsOnw
 meets_one worker later tenant (Logged command quiet) on may = (
   refl,
   ⊎_elim
-  (λ (same : announced_of later ≡ announced_of worker). inl (ap (λ (list : List Sighting). length list) same))
-  (λ (more : announced_of later ≡ announced_of worker ++ own_sighting worker (length (announced_of worker)) tenant command ∷ []). inr (
-    ap (λ (list : List Sighting). length list) more ∙ length-append (announced_of worker) (own_sighting worker (length (announced_of worker)) tenant command ∷ []),
-    ap (λ (list : List Sighting). slice_get list (length (announced_of worker))) more
-    ∙ (last_at (announced_of worker) _ ∙ ap (λ (seen : Sighting). Some seen) (same_sighting worker later on (length (announced_of worker)) tenant command)),
-  ))
-  may,
+      (λ (same : announced_of later ≡ announced_of worker). inl (ap (λ (list : List Sighting). length list) same))
+      (λ (more : announced_of later ≡ announced_of worker ++ own_sighting worker (length (announced_of worker)) tenant command ∷ []). inr (
+        ap (λ (list : List Sighting). length list) more ∙ length-append (announced_of worker) (own_sighting worker (length (announced_of worker)) tenant command ∷ []),
+        ap (λ (list : List Sighting). slice_get list (length (announced_of worker))) more
+            ∙ (last_at (announced_of worker) _ ∙ ap (λ (seen : Sighting). Some seen) (same_sighting worker later on (length (announced_of worker)) tenant command)),
+      ))
+      may,
 )
 meets_one worker later tenant (Local reply quiet) on may = (refl, ap (λ (list : List Sighting). length list) may)
 meets_one worker later tenant Quit on may = (refl, ap (λ (list : List Sighting). length list) may)

@@ -1,6 +1,5 @@
 -- While a worker's command waits, its ticket stands nowhere.
-use Rattle.std.proofs.Common.{◌≡◌, ◌≢◌, ℕ, ◌+◌, ◌≤◌, suc, List, [], ◌∷◌, ◌++◌, length, take, slice_get, Some, sym, refl, ap, ◌∙◌, subst, arith}
-use Rattle.mc_model.specs.declared.id.Ticket.{Ticket}
+use Rattle.std.proofs.Common.{◌≡◌, ◌≢◌, ℕ, ◌+◌, suc, take, slice_get, Some, refl, ap, ◌∙◌, arith}
 use Rattle.mc_model.specs.declared.shown.LogSize.{LogSize}
 use Rattle.mc_model.specs.declared.shown.Phase.TheVariants.{Pending}
 use Rattle.mc_model.specs.declared.shown.WorkerState.{WorkerState}
@@ -14,7 +13,7 @@ pub not_yet : (size : LogSize) (worker number : ℕ) (state : WorkerState) → S
 not_yet size worker number state law waits last place at =
     let before = law.legal place (ticket_of worker number) at in
     let through : count worker (take (suc place) state.learned) ≡ count worker (take place state.learned) + 1 =
-        ap (count worker) (take_more state.learned place (ticket_of worker number) at) ∙ count_own worker (take place state.learned) (ticket_of worker number) refl in
+    ap (count worker) (take_more state.learned place (ticket_of worker number) at) ∙ count_own worker (take place state.learned) (ticket_of worker number) refl in
     let front = count_front worker (suc place) state.learned in
     let all = law.pending waits in
     omega arith

@@ -10,10 +10,11 @@ use Rattle.mc_conn.specs.declared.conn.Conn.{Conn}
 use Rattle.mc_conn.specs.declared.conn.TheConstants.{QUEUE_BYTES}
 use Rattle.mc_conn.specs.declared.conn.State.{State}
 use Rattle.mc_conn.specs.declared.conn.State.TheVariants.{Closed, Idle, Busy}
-use Rattle.mc_conn.specs.Ending.{Breaks, HoldsOnlyBehind, IsDone, IsState, IsStuck, PullsAfter, PullsLate, Stops, Turns}
+use Rattle.mc_conn.specs.Ending.{Breaks, HoldsOnlyBehind, IsDone, IsState, IsStuck, PullsAfter, PullsLate, Serves, Stops, Turns}
 use Rattle.mc_conn.specs.Held.{HoldsNone, Holding}
 use Rattle.mc_conn.specs.Parts.{Does, IsAtRest, IsHeldBehind, IsTold, StateIs}
 use Rattle.mc_conn.specs.Turn.{Scene, Takes, amount, holding_of, queue_of, scene}
+use Rattle.mc_conn.proofs.Breakings.{breaks_later}
 use Rattle.mc_conn.proofs.Takings.{does_trans, sent_last, takes_trans}
 
 or_left : (x y : Bool) → (x || y) ≡ false → x ≡ false
@@ -111,9 +112,9 @@ module _ (a m n z : Scene) (before pulled last : Bool) (one : Does a m before) (
   is_stuck undone none =
       let still : amount three.takes ≡ 0 = did_none last _ (or_right (before || pulled) last none) three.did_is in
       let long : (QUEUE_BYTES < length (queue_of n.conn)) → IsStuck a z =
-          λ (behind : QUEUE_BYTES < length (queue_of n.conn)).
-          let there : QUEUE_BYTES < length (queue_of z.conn) = omega (arith, behind, queue_left, still) in
-          inr (full_of (λ empty. omega (arith, there, ap length empty)), inr there)
+      λ (behind : QUEUE_BYTES < length (queue_of n.conn)).
+      let there : QUEUE_BYTES < length (queue_of z.conn) = omega (arith, behind, queue_left, still) in
+      inr (full_of (λ empty. omega (arith, there, ap length empty)), inr there)
       in
       ⊎_elim
       (λ (waited : waits n.streams.input.events ≡ waits m.streams.input.events + 1). inl (omega (arith, waited, first_waits, last_waits)))
@@ -187,3 +188,19 @@ untold Input queue before after other same = same
 untold Output queue before after other same = same
 untold BadEvent queue before after other same = same
 untold BadSettings queue before after other same = same
+
+-- a fault behind turns that went well
+pub stops_later : (fault : Fault) (a b c : Scene) → Takes a b → Stops fault b c → Stops fault a c
+stops_later Memory a b c one two = (two.0, breaks_later Memory a b (scene c.conn c.worker (both c.streams.input two.0)) one two.1, two.2)
+stops_later LogFull a b c one two = two
+stops_later Taken a b c one two = breaks_later Taken a b c one two
+stops_later Input a b c one two = breaks_later Input a b c one two
+stops_later Output a b c one two = breaks_later Output a b c one two
+stops_later BadEvent a b c one two = two
+stops_later BadSettings a b c one two = two
+
+-- turns that went well, and one that closes
+pub serves : (a b c : Scene) (state : State) → Takes a b → Turns b c state → state ≡ Closed → Serves a c
+serves a b c Closed one two is = record { takes = takes_trans a b c one two.takes; done = two.state_is }
+serves a b c Idle one two is = let no : Idle ≡ Closed = is in cc
+serves a b c Busy one two is = let no : Busy ≡ Closed = is in cc

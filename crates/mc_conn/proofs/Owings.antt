@@ -1,5 +1,5 @@
 -- What is owed stays owed while the worker goes on, and adds up.
-use Rattle.std.proofs.Common.{◌≡◌, ◌≢◌, ◌⊎◌, ℕ, ◌+◌, ◌≤◌, List, [], ◌∷◌, ◌++◌, length, take, slice_get, Some, sym, refl, ap, ◌∙◌, subst, inl, inr, ⊎_elim, arith, append_assoc, append-nil, length-append}
+use Rattle.std.proofs.Common.{◌≡◌, ◌≢◌, ℕ, ◌+◌, ◌≤◌, List, [], ◌∷◌, ◌++◌, length, take, slice_get, Some, sym, refl, ap, ◌∙◌, subst, inl, inr, ⊎_elim, arith, append_assoc}
 use Rattle.mc_model.specs.declared.command.Command.{Command}
 use Rattle.mc_model.specs.declared.id.Ticket.{Ticket}
 use Rattle.mc_model.specs.declared.reply.Reply.{Reply}
@@ -68,7 +68,7 @@ module _ (old new : Worker) (on : IsOnward old new) where
     stands = grows_at from.number tenant is.place command (history_of old) (history_of new) on.history is.stands;
     reply_is =
         let front : take is.place (history_of new) ≡ take is.place (history_of old) =
-            ap (λ (list : List Sighting). take is.place list) on.history.1 ∙ take_longer (history_of old) on.history.0 is.place _ is.stands
+        ap (λ (list : List Sighting). take is.place list) on.history.1 ∙ take_longer (history_of old) on.history.0 is.place _ is.stands
         in
         is.reply_is ∙ (λ i. reply_to (sym on.log i).now.settings.tenants (entries (sym front i)) (Some (same_entry from.number tenant command i)));
     next = is.next;

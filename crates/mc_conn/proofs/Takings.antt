@@ -1,25 +1,24 @@
 -- The parts of a turn, one after another.
-use Rattle.std.proofs.Common.{◌≡◌, ◌⊎◌, ℕ, ◌+◌, ◌≤◌, ◌<◌, ◌||◌, Bool, true, false, zero, suc, List, [], ◌∷◌, ◌++◌, length, take, drop, None, sym, refl, ap, ◌∙◌, subst, inl, inr, ⊎_elim, arith, append_assoc, append-nil, length-append}
+use Rattle.std.proofs.Common.{◌≡◌, ◌⊎◌, ℕ, ◌+◌, ◌≤◌, ◌<◌, ◌||◌, Bool, true, false, zero, suc, List, [], ◌∷◌, ◌++◌, length, take, drop, sym, refl, ap, ◌∙◌, subst, inl, inr, ⊎_elim, arith, append-nil, length-append}
 use Rattle.std.specs.Bool.{MatchBool, nat_lt}
 use Rattle.std.proofs.lemmas.Bool.{lt-ltb}
 use Rattle.std.proofs.lemmas.List.{length-take-le, take-append-drop}
 use Rattle.std.specs.Io.KnownBytes.{Consumes, IsAtEnd}
 use Rattle.std.proofs.KnownBytes.{Consumes-nil, Consumes-trans}
 use Rattle.mc_model.specs.declared.request.Request.{Request}
-use Rattle.mc_read.specs.Reading.{IsFed}
 use Rattle.mc_stream.specs.Event.{ends, failures, has_ended, moved, waits}
 use Rattle.mc_stream.specs.Pushing.{IsUnfailed, Pushes}
 use Rattle.mc_stream.specs.Stream.{Inflow, Outflow, Streams, both}
 use Rattle.uc_worker.specs.declared.worker.Worker.{Worker}
 use Rattle.mc_conn.specs.declared.conn.Conn.{Conn}
-use Rattle.mc_conn.specs.Held.{HoldsOn, IsRead}
+use Rattle.mc_conn.specs.Held.{IsRead}
 use Rattle.mc_conn.specs.Onward.{IsOnward}
 use Rattle.mc_conn.specs.Owed.{Owes, mark_of}
 use Rattle.mc_conn.specs.Parts.{Does, Responds}
 use Rattle.mc_conn.specs.Turn.{NeitherFails, RemembersTheEnd, Scene, Takes, amount, holding_of, queue_of, scene}
 use Rattle.mc_conn.proofs.Lists.{appended_twice, joined}
 use Rattle.mc_conn.proofs.Owings.{onward_self, onward_trans, owes_append, owes_grow, owes_nothing}
-use Rattle.mc_conn.proofs.Readings.{read_fed_at, read_refl, read_trans}
+use Rattle.mc_conn.proofs.Readings.{read_refl, read_trans}
 
 -- the end is remembered through two parts
 abbrev Remembers : Bool → Inflow → Bool → Inflow → Type 0

@@ -1,7 +1,6 @@
 -- How a turn ends: the state that it answers, and what a fault leaves; this project's profile.
 use Rattle.std.specs.Io.KnownBytes.{Consumes}
-use Rattle.std.specs.Prelude.{◌≡◌, ◌≢◌, ◌⊎◌, ℕ, ◌+◌, ◌≤◌, ◌<◌, true, List, [], ◌∷◌, ◌++◌, length, None, Some, slice_get}
-use Rattle.mc_model.specs.declared.command.Command.{Command}
+use Rattle.std.specs.Prelude.{◌≡◌, ◌≢◌, ◌⊎◌, ℕ, ◌+◌, ◌<◌, true, List, [], ◌∷◌, ◌++◌, length, None, Some, slice_get}
 use Rattle.mc_model.specs.declared.fault.Fault.{Fault}
 use Rattle.mc_model.specs.declared.fault.Fault.TheVariants.{Memory, LogFull, Taken, Input, Output, BadEvent, BadSettings}
 use Rattle.mc_model.specs.declared.reply.Reply.TheVariants.{Refused}
@@ -122,3 +121,8 @@ Stops Output before after = Breaks Output before after
 Stops LogFull before after = ⊥
 Stops BadEvent before after = ⊥
 Stops BadSettings before after = ⊥
+
+-- turns up to the end: all that came and was held is taken, and all that was queued and is owed is sent
+pub record Serves (before after : Scene) : Type 0 where
+  pub takes : Takes before after
+  pub done : IsDone after.conn

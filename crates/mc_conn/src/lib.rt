@@ -5,9 +5,11 @@
 
 pub use conn::{Conn, PULL_BYTES, QUEUE_BYTES, State};
 pub use mc_stream::{Input, Output, Pull, Push};
+pub use pumping::pump;
 
 pub mod conn;
 mod pulling;
+mod pumping;
 mod responding;
 mod sending;
 mod taking;

@@ -16,7 +16,11 @@ use uc_worker::{Gate, Worker};
 
 impl Conn {
     /// Pulls once. Says whether bytes came.
-    fn pull<I: Input>(&mut self, input: &mut I, buffer: &mut [u8; PULL_BYTES]) -> Result<bool, Fault>
+    fn pull<I: Input>(
+        &mut self,
+        input: &mut I,
+        buffer: &mut [u8; PULL_BYTES],
+    ) -> Result<bool, Fault>
         requires waiting { self.old.waiting ≡ None }
         requires going { self.old.has_ended ≡ false }
         ensures does { IfOk result (λ did. (worker : Worker) (output : Outflow) →
@@ -64,6 +68,7 @@ impl Conn {
             (scene self.new worker.new (both (I.tells input.new) (O.tells output.new)))) }
         ensures breaks { IfErr result (λ fault. Breaks fault (scene self.old worker.old (both (I.tells input.old) (O.tells output.old)))
             (scene self.new worker.new (both (I.tells input.new) (O.tells output.new)))) }
+        ensures is_closed { self.new.is_closed ≡ self.old.is_closed }
     {
         if self.waiting.is_some() | (self.queue.len() > QUEUE_BYTES) | self.has_ended {
             return Ok(false);

@@ -32,7 +32,11 @@ impl Conn {
     }
 
     /// Takes the request that waits. Says whether one did.
-    fn answer_waiting<G: Gate>(&mut self, worker: &mut Worker<'_>, gate: &mut G) -> Result<bool, Fault>
+    fn answer_waiting<G: Gate>(
+        &mut self,
+        worker: &mut Worker<'_>,
+        gate: &mut G,
+    ) -> Result<bool, Fault>
         requires tenant { self.old.tenant < length (tenants_of worker.old) }
         ensures does { IfOk result (λ did. (streams : Streams) → Does (scene self.old worker.old streams) (scene self.new worker.new streams) did) }
         ensures read { IfOk result (λ did. MatchBool did
@@ -71,7 +75,11 @@ impl Conn {
     }
 
     /// Takes requests while the queue isn't too long. Says whether any was taken.
-    pub(crate) fn take<G: Gate>(&mut self, worker: &mut Worker<'_>, gate: &mut G) -> Result<bool, Fault>
+    pub(crate) fn take<G: Gate>(
+        &mut self,
+        worker: &mut Worker<'_>,
+        gate: &mut G,
+    ) -> Result<bool, Fault>
         requires tenant { self.old.tenant < length (tenants_of worker.old) }
         ensures does { IfOk result (λ did. (streams : Streams) → Does (scene self.old worker.old streams) (scene self.new worker.new streams) did) }
         ensures held { OnOk result (IsHeldBehind self.new) }

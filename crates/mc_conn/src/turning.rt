@@ -1,5 +1,5 @@
 //! A turn of a connection.
-ghost use Rattle.std.specs.Prelude.{◌≡◌, ◌<◌, ◌++◌, true, false, length, Ok, IfOk, IfErr, OnErr};
+ghost use Rattle.std.specs.Prelude.{◌≡◌, ◌<◌, ◌++◌, true, false, length, Ok, IfOk, IfErr, MatchResult};
 ghost use Rattle.mc_stream.specs.Pushing.{PushesAtOnce};
 ghost use Rattle.mc_stream.specs.Stream.{both};
 ghost use Rattle.mc_model.specs.declared.reply.Reply.TheVariants.{Refused};
@@ -54,6 +54,7 @@ impl Conn {
             (scene self.new worker.new (both (I.tells input.new) (O.tells output.new))) state) }
         ensures breaks { IfErr result (λ fault. Breaks fault (scene self.old worker.old (both (I.tells input.old) (O.tells output.old)))
             (scene self.new worker.new (both (I.tells input.new) (O.tells output.new)))) }
+        ensures is_closed { self.new.is_closed ≡ self.old.is_closed }
     {
         let first = self.push(output)?;
         let taken = self.take(worker, gate)?;
@@ -93,7 +94,8 @@ impl Conn {
             (scene self.new worker.new (both (I.tells input.new) (O.tells output.new))) state) }
         ensures stops { IfErr result (λ fault. Stops fault (scene self.old worker.old (both (I.tells input.old) (O.tells output.old)))
             (scene self.new worker.new (both (I.tells input.new) (O.tells output.new)))) }
-        ensures shut { OnErr result (self.new.is_closed ≡ true) }
+        ensures shut { MatchResult result (λ _. self.new.is_closed ≡ self.old.is_closed) (λ _. self.new.is_closed ≡ true) }
+        ensures same { (self.new.tenant ≡ self.old.tenant) × (worker.new.log ≡ worker.old.log) }
         ensures closed { self.old.is_closed ≡ true → (result ≡ Ok State.Closed) × (self.new ≡ self.old) × (worker.new ≡ worker.old)
             × (input.new ≡ input.old) × (output.new ≡ output.old) }
     {

@@ -1,0 +1,30 @@
+use Rattle.std.proofs.Common.{◌∙◌}
+use Rattle.std.proofs.lemmas.Result.{err_from_is_err_and}
+use Rattle.mc_conn.proofs.Endings.{serves, stops_later}
+use Rattle.mc_conn.proofs.Takings.{takes_self, takes_trans}
+use Rattle.mc_conn.proofs.pumping.pump.Goals as goal
+
+pub loop-init : goal.loop-init
+loop-init g c = record { begun = c.if-conn.false; going = c.if-conn.false; takes = takes_self _ }
+
+pub returns-in_err-turn-clause-stops : goal.returns-in_err-turn-clause-stops
+returns-in_err-turn-clause-stops g c =
+    let out = err_from_is_err_and c.from_residual.result c.from_residual.ensures.1 in
+    rw (out.1, out.2) (stops_later c.in_err-turn.field-0.0 _ _ _ c.loop.invariant.takes c.in_err-turn.ensures.stops)
+
+pub returns-in-Closed-clause-serves : goal.returns-in-Closed-clause-serves
+returns-in-Closed-clause-serves g c begun = serves _ _ _ _ c.loop.invariant.takes (c.in_ok-turn.ensures.turns c.loop.invariant.going) c.in-Closed.is
+
+pub loop-preserved-in-Idle : goal.loop-preserved-in-Idle
+loop-preserved-in-Idle g c = record {
+  begun = c.loop.invariant.begun;
+  going = c.in_ok-turn.ensures.shut ∙ c.loop.invariant.going;
+  takes = takes_trans _ _ _ c.loop.invariant.takes (c.in_ok-turn.ensures.turns c.loop.invariant.going).takes;
+}
+
+pub loop-preserved : goal.loop-preserved
+loop-preserved g c = record {
+  begun = c.loop.invariant.begun;
+  going = c.in_ok-turn.ensures.shut ∙ c.loop.invariant.going;
+  takes = takes_trans _ _ _ c.loop.invariant.takes (c.in_ok-turn.ensures.turns c.loop.invariant.going).takes;
+}

@@ -1,0 +1,43 @@
+//! A connection from its beginning to its end.
+ghost use Rattle.std.specs.Prelude.{◌≡◌, ◌<◌, true, false, length, Ok, IfErr, OnOk};
+ghost use Rattle.mc_stream.specs.Stream.{both};
+ghost use Rattle.uc_worker.specs.Worker.{tenants_of};
+ghost use Rattle.mc_conn.specs.Ending.{Serves, Stops};
+ghost use Rattle.mc_conn.specs.Turn.{scene};
+
+use crate::conn::{Conn, PULL_BYTES, State};
+use mc_model::Fault;
+use mc_stream::{Input, Output};
+use std::sync::Wait;
+use uc_worker::{Open, Worker};
+
+/// Turns of a connection until it is closed. An input that has nothing, and an output that takes no more, are asked again. Faults are
+/// those of a turn.
+pub fn pump<R: Wait, I: Input, O: Output>(
+    rt: &R,
+    conn: &mut Conn,
+    worker: &mut Worker<'_>,
+    input: &mut I,
+    output: &mut O,
+) -> Result<(), Fault>
+    requires tenant { conn.old.tenant < length (tenants_of worker.old) }
+    ensures serves { conn.old.is_closed ≡ false → OnOk result (Serves (scene conn.old worker.old (both (I.tells input.old) (O.tells output.old)))
+        (scene conn.new worker.new (both (I.tells input.new) (O.tells output.new)))) }
+    ensures stops { IfErr result (λ fault. Stops fault (scene conn.old worker.old (both (I.tells input.old) (O.tells output.old)))
+        (scene conn.new worker.new (both (I.tells input.new) (O.tells output.new)))) }
+    ensures closed { conn.old.is_closed ≡ true → (result ≡ Ok tt) × (conn.new ≡ conn.old) × (worker.new ≡ worker.old)
+        × (input.new ≡ input.old) × (output.new ≡ output.old) }
+{
+    if conn.is_closed {
+        return Ok(());
+    }
+    let mut buffer = [0u8; PULL_BYTES];
+    for _ in rt.forever() {
+        match conn.turn(worker, input, output, &mut Open, &mut buffer)? {
+            State::Closed => return Ok(()),
+            State::Idle => {}
+            State::Busy => {}
+        }
+    }
+    unreachable!()
+}
