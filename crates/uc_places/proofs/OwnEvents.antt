@@ -1,7 +1,6 @@
 -- One seat's calls, with the others' events between them, are one run.
 use Rattle.std.proofs.Common.{◌≡◌, ◌≢◌, ℕ, zero, suc, ◌<◌, Bool, true, false, if◌then◌else◌, List, [], ◌∷◌, ◌++◌, Option, Some, None, refl, sym, ap, ◌∙◌, subst, arith, ne_eqb, slice_get}
 use Rattle.std.proofs.lemmas.List.Elements.{filter-append}
-use Rattle.std.specs.List.{filter}
 use Rattle.mc_model.specs.declared.id.Ticket.{Ticket}
 use Rattle.mc_model.specs.declared.shown.LogSize.{LogSize}
 use Rattle.mc_model.specs.declared.shown.ShownState.{ShownState}
@@ -13,9 +12,9 @@ use Rattle.uc_core.proofs.Lists.{begins_self, begins_through, set_elsewhere}
 use Rattle.uc_places.specs.declared.desk.Desk.{Desk}
 use Rattle.uc_places.specs.declared.view.View.{View}
 use Rattle.uc_places.specs.Calls.{known, last_of, size_of, state_of, worker_of}
-use Rattle.uc_places.specs.OneRun.{CallsLead, CallsLieOnOneRun, IsOneRun, OthersLeaveIt, is_of, own_events}
+use Rattle.uc_places.specs.OneRun.{CallsLead, CallsLieOnOneRun, OthersLeaveIt, is_of, own_events}
 use Rattle.uc_places.specs.Rule.{AreOfOthers, OthersLead, taker}
-use Rattle.uc_places.specs.Told.{Happens, moved_on, new_seat}
+use Rattle.uc_places.specs.Told.{Happens}
 
 -- another's event isn't the worker's
 not_its : (number : ℕ) (event : ShownEvent) → taker event ≢ number → is_of number event ≡ false
