@@ -10,3 +10,5 @@ mod lines;
 mod pieces;
 #[cfg(test)]
 mod queueing;
+#[cfg(test)]
+mod tenants;

@@ -185,3 +185,24 @@ pub(crate) fn one_line<'a>(
     };
     Line::open(alloc, log, first, tenant, ends)
 }
+
+/// The lines of the first tenant and worker 0, and of the second tenant and worker 1.
+pub(crate) fn both_lines<'a>(
+    alloc: Global,
+    log: &'a Log,
+    passes: Vec<Pass>,
+    ends: (MemoryInput, MemoryOutput),
+    others: (MemoryInput, MemoryOutput),
+) -> Result<(Line<'a>, Line<'a>), Fault>
+    requires { (number : ℕ) (pass : _) → slice_get passes.items number ≡ Some pass → IsFresh log.now pass }
+{
+    let Some((first, second)) = both_passes(log, passes) else {
+        return Err(Fault::BadEvent);
+    };
+    let (Some(one), Some(other)) = (TenantId::new(0), TenantId::new(1)) else {
+        return Err(Fault::BadEvent);
+    };
+    let first = Line::open(alloc, log, first, one, ends)?;
+    let second = Line::open(alloc, log, second, other, others)?;
+    Ok((first, second))
+}
