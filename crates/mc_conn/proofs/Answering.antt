@@ -12,6 +12,7 @@ use Rattle.mc_model.specs.Helping.{BeginsWith}
 use Rattle.mc_model.specs.Replay.{reply_to}
 use Rattle.uc_cells.specs.Sighting.{Sighting, entries}
 use Rattle.uc_log.specs.Passes.{next_entry}
+use Rattle.uc_places.specs.SeatLaw.{SeatLaw}
 use Rattle.uc_worker.specs.declared.worker.Worker.{Worker}
 use Rattle.uc_worker.specs.Steps.{IsSame, Leaves}
 use Rattle.uc_worker.specs.Worker.{announced_of, history_of, next_of, seat_of, tenants_of}
@@ -19,7 +20,7 @@ use Rattle.uc_worker.proofs.Lists.{begins_length, begins_pushed, begins_same, be
 use Rattle.mc_conn.specs.Onward.{IsOnward, own_entry, own_sighting}
 use Rattle.mc_conn.specs.Owed.{answered, mark_of}
 use Rattle.mc_conn.specs.Parts.{Answers, MayAnnounce, MayAnnounceFor, Responds}
-use Rattle.mc_conn.proofs.Counts.{not_yet}
+use Rattle.mc_conn.proofs.Counts.{number_below}
 use Rattle.mc_conn.proofs.Owings.{same_entry, same_sighting}
 
 module _ (old new : Worker) (tenant : ℕ) (command : Command) (on : IsOnward old new) where
@@ -73,10 +74,19 @@ module _ (old new : Worker) (tenant : ℕ) (command : Command) (on : IsOnward ol
   unfolding number
   full_answers kept fault is leaves =
       let full = leaves.full is in
+      let law : SeatLaw (seat_of new).size (seat_of new).worker (seat_of new).state = new.pass.desk.law in
       ⊎_elim
       (λ (none : announced_of new ≡ announced_of old). record {
         next = mark_of old;
-        is = inr (record { full = full; reply_is = refl; next = inl refl });
+        is = inr (record {
+          full = full;
+          before = λ place ticket at own.
+              let below = law.own place ticket at own in
+              let count : (seat_of new).state.announced ≡ number = sym new.pass.count ∙ ap (λ (list : List Sighting). length list) none in
+              omega arith;
+          reply_is = refl;
+          next = inl refl;
+        });
         number = ap (λ (list : List Sighting). length list) none;
         place = begins_length _ _ on.history;
       })
@@ -87,14 +97,12 @@ module _ (old new : Worker) (tenant : ℕ) (command : Command) (on : IsOnward ol
         next = record { number = number + 1; place = length (history_of old) };
         is = inr (record {
           full = full;
+          before = λ place ticket at own.
+              let below = number_below (seat_of new).state.learned (seat_of new).worker place ticket law.legal at own in
+              let waits = law.pending (leaves.waits is grown) in
+              omega arith;
           reply_is = refl;
-          next = inr (
-            record {
-              announced = announced_at more;
-              nowhere = not_yet (seat_of new).size (seat_of new).worker number (seat_of new).state new.pass.desk.law (leaves.waits is grown) count;
-            },
-            refl,
-          );
+          next = inr (announced_at more, refl);
         });
         number = one_more more;
         place = begins_length _ _ on.history;

@@ -1,19 +1,16 @@
--- While a worker's command waits, its ticket stands nowhere.
-use Rattle.std.proofs.Common.{◌≡◌, ◌≢◌, ℕ, ◌+◌, suc, take, slice_get, Some, refl, ap, ◌∙◌, arith}
-use Rattle.mc_model.specs.declared.shown.LogSize.{LogSize}
-use Rattle.mc_model.specs.declared.shown.Phase.TheVariants.{Pending}
-use Rattle.mc_model.specs.declared.shown.WorkerState.{WorkerState}
-use Rattle.mc_model.specs.Legal.{count, ticket_of}
+-- A worker's tickets that stand in a list, and how many they are.
+use Rattle.std.proofs.Common.{◌≡◌, ℕ, ◌+◌, ◌<◌, suc, List, take, slice_get, Some, ap, ◌∙◌, subst, arith}
+use Rattle.mc_model.specs.declared.id.Ticket.{Ticket}
+use Rattle.mc_model.specs.Legal.{IsLegal, count}
 use Rattle.uc_core.proofs.Lists.{take_more}
 use Rattle.uc_core.proofs.Tickets.{count_front, count_own}
-use Rattle.uc_places.specs.SeatLaw.{SeatLaw}
 
-pub not_yet : (size : LogSize) (worker number : ℕ) (state : WorkerState) → SeatLaw size worker state → state.phase ≡ Pending → state.announced ≡ number + 1 →
-    (place : ℕ) → slice_get state.learned place ≢ Some (ticket_of worker number)
-not_yet size worker number state law waits last place at =
-    let before = law.legal place (ticket_of worker number) at in
-    let through : count worker (take (suc place) state.learned) ≡ count worker (take place state.learned) + 1 =
-    ap (count worker) (take_more state.learned place (ticket_of worker number) at) ∙ count_own worker (take place state.learned) (ticket_of worker number) refl in
-    let front = count_front worker (suc place) state.learned in
-    let all = law.pending waits in
+-- in a legal list a worker's tickets have numbers below how many they are
+pub number_below : (tickets : List Ticket) (worker place : ℕ) (ticket : Ticket) → IsLegal tickets → slice_get tickets place ≡ Some ticket → ticket.worker ≡ worker →
+    ticket.number < count worker tickets
+number_below tickets worker place ticket legal at own =
+    let before : count worker (take place tickets) ≡ ticket.number = subst (λ w. count w (take place tickets) ≡ ticket.number) own (legal place ticket at) in
+    let through : count worker (take (suc place) tickets) ≡ count worker (take place tickets) + 1 =
+    ap (count worker) (take_more tickets place ticket at) ∙ count_own worker (take place tickets) ticket own in
+    let front = count_front worker (suc place) tickets in
     omega arith

@@ -7,3 +7,4 @@ pub mod Takings
 pub mod Breakings
 pub mod Outcomes
 pub mod Endings
+pub mod Alone

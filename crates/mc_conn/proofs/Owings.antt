@@ -1,5 +1,5 @@
 -- What is owed stays owed while the worker goes on, and adds up.
-use Rattle.std.proofs.Common.{◌≡◌, ◌≢◌, ℕ, ◌+◌, ◌≤◌, List, [], ◌∷◌, ◌++◌, length, take, slice_get, Some, sym, refl, ap, ◌∙◌, subst, inl, inr, ⊎_elim, arith, append_assoc}
+use Rattle.std.proofs.Common.{◌≡◌, ℕ, ◌+◌, ◌<◌, ◌≤◌, List, [], ◌∷◌, ◌++◌, length, take, slice_get, Some, sym, refl, ap, ◌∙◌, subst, inl, inr, ⊎_elim, arith, append_assoc}
 use Rattle.mc_model.specs.declared.command.Command.{Command}
 use Rattle.mc_model.specs.declared.id.Ticket.{Ticket}
 use Rattle.mc_model.specs.declared.reply.Reply.{Reply}
@@ -16,7 +16,7 @@ use Rattle.uc_worker.specs.declared.worker.Worker.{Worker}
 use Rattle.uc_worker.specs.Worker.{announced_of, history_of, seat_of, sighting_of, tenants_of}
 use Rattle.uc_worker.proofs.Lists.{at_longer, begins_length, begins_self, begins_through, begins_whole}
 use Rattle.mc_conn.specs.Onward.{IsFull, IsOnward, own_entry, own_sighting}
-use Rattle.mc_conn.specs.Owed.{IsAnswered, IsLeftOut, IsPlaced, IsTurnedAway, Mark, Owes, answered, mark_of}
+use Rattle.mc_conn.specs.Owed.{IsAnswered, IsPlaced, IsTurnedAway, Mark, Owes, answered, mark_of}
 use Rattle.mc_conn.proofs.Lists.{take_longer}
 
 pub onward_self : (worker : Worker) → IsOnward worker worker
@@ -74,21 +74,15 @@ module _ (old new : Worker) (on : IsOnward old new) where
     next = is.next;
   }
 
-  left_out_grows : (tenant : ℕ) (from : Mark) (command : Command) → IsFull old → IsLeftOut old tenant from command → IsLeftOut new tenant from command
-  left_out_grows tenant from command full is = record {
-    announced = grows_at from.number tenant from.number command (announced_of old) (announced_of new) on.announced is.announced;
-    nowhere = λ place at. is.nowhere place
-        (ap (λ (list : List Ticket). slice_get list place) (sym (full_same full)) ∙ (at ∙ ap (λ worker. Some (ticket_of worker from.number)) on.same.1));
-  }
-
   full_grows : IsFull old → IsFull new
   full_grows full = ap (λ (list : List Ticket). length list) (full_same full) ∙ (full ∙ sym (ap (λ size. size.places) on.same.0))
 
   away_grows : (tenant : ℕ) (from : Mark) (command : Command) (reply : Reply) (to : Mark) → IsTurnedAway old tenant from command reply to → IsTurnedAway new tenant from command reply to
   away_grows tenant from command reply to is = record {
     full = full_grows is.full;
+    before = λ place ticket at own. is.before place ticket (ap (λ (list : List Ticket). slice_get list place) (sym (full_same is.full)) ∙ at) (own ∙ on.same.1);
     reply_is = is.reply_is;
-    next = ⊎_elim inl (λ left. inr (left_out_grows tenant from command is.full left.0, left.1)) is.next;
+    next = ⊎_elim inl (λ announced. inr (grows_at from.number tenant from.number command (announced_of old) (announced_of new) on.announced announced.0, announced.1)) is.next;
   }
 
   answered_grows : (tenant : ℕ) (from : Mark) (command : Command) (reply : Reply) (to : Mark) → IsAnswered old tenant from command reply to → IsAnswered new tenant from command reply to
@@ -105,12 +99,6 @@ module _ (old new : Worker) (on : IsOnward old new) where
   owes_grow tenant from (TooLong ∷ requests) bytes to (rest, are, more) = (rest, are, owes_grow tenant from requests rest to more)
 
 module _ (worker : Worker) (tenant : ℕ) where
-  left_out_at : (low from : Mark) (command : Command) → from.number ≡ low.number → IsLeftOut worker tenant from command → IsLeftOut worker tenant low command
-  left_out_at low from command same is = record {
-    announced = subst (λ number. slice_get (announced_of worker) number ≡ Some (own_sighting worker number tenant command)) same is.announced;
-    nowhere = subst (λ number. (place : ℕ) → slice_get (seat_of worker).state.learned place ≢ Some (ticket_of (seat_of worker).worker number)) same is.nowhere;
-  }
-
   -- one answer after an earlier mark
   answered_lower : (low from : Mark) (command : Command) (reply : Reply) (to : Mark) → from.number ≡ low.number → low.place ≤ from.place → IsAnswered worker tenant from command reply to →
       (next : Mark) × IsAnswered worker tenant low command reply next × (to.number ≡ next.number) × (next.place ≤ to.place)
@@ -129,18 +117,25 @@ module _ (worker : Worker) (tenant : ℕ) where
         ap (λ (mark : Mark). mark.number) placed.next ∙ ap (λ n. n + 1) same,
         omega (arith, ap (λ (mark : Mark). mark.place) placed.next),
       ))
-      (λ (away : IsTurnedAway worker tenant from command reply to). ⊎_elim
+      (λ (away : IsTurnedAway worker tenant from command reply to).
+      let announced_before = subst (λ number. (place : ℕ) (ticket : Ticket) → slice_get (seat_of worker).state.learned place ≡ Some ticket → ticket.worker ≡ (seat_of worker).worker → ticket.number < number) same away.before in
+      ⊎_elim
       (λ (stays : to ≡ from). (
         low,
-        inr (record { full = away.full; reply_is = away.reply_is; next = inl refl }),
+        inr (record { full = away.full; before = announced_before; reply_is = away.reply_is; next = inl refl }),
         ap (λ (mark : Mark). mark.number) stays ∙ same,
         omega (arith, before, ap (λ (mark : Mark). mark.place) stays),
       ))
-      (λ (left : IsLeftOut worker tenant from command × (to ≡ record { number = from.number + 1; place = from.place })). (
+      (λ (announced : (slice_get (announced_of worker) from.number ≡ Some (own_sighting worker from.number tenant command)) × (to ≡ record { number = from.number + 1; place = from.place })). (
         record { number = low.number + 1; place = low.place },
-        inr (record { full = away.full; reply_is = away.reply_is; next = inr (left_out_at low from command same left.0, refl) }),
-        ap (λ (mark : Mark). mark.number) left.1 ∙ ap (λ n. n + 1) same,
-        omega (arith, before, ap (λ (mark : Mark). mark.place) left.1),
+        inr (record {
+          full = away.full;
+          before = announced_before;
+          reply_is = away.reply_is;
+          next = inr (subst (λ number. slice_get (announced_of worker) number ≡ Some (own_sighting worker number tenant command)) same announced.0, refl);
+        }),
+        ap (λ (mark : Mark). mark.number) announced.1 ∙ ap (λ n. n + 1) same,
+        omega (arith, before, ap (λ (mark : Mark). mark.place) announced.1),
       ))
       away.next)
       is

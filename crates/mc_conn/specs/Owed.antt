@@ -1,14 +1,14 @@
 -- The bytes that a connection is owed for its requests, one after another, over the history of the worker that took them. After
 -- memcached's doc/protocol.txt, "Commands" and "Storage commands": each request is answered, in order, but for those that say noreply.
 -- That a command is answered at its place in a log which many share is Herlihy's construction (Wait-Free Synchronization, TOPLAS 1991).
-use Rattle.std.specs.Prelude.{◌≡◌, ◌≢◌, ◌⊎◌, ℕ, ◌+◌, ◌≤◌, Bool, if◌then◌else◌, List, [], ◌∷◌, ◌++◌, length, take, Some, slice_get}
+use Rattle.std.specs.Prelude.{◌≡◌, ◌⊎◌, ℕ, ◌+◌, ◌<◌, ◌≤◌, Bool, if◌then◌else◌, List, [], ◌∷◌, ◌++◌, length, take, Some, slice_get}
 use Rattle.mc_model.specs.declared.command.Command.{Command}
+use Rattle.mc_model.specs.declared.id.Ticket.{Ticket}
 use Rattle.mc_model.specs.declared.reply.Reply.{Reply}
 use Rattle.mc_model.specs.declared.reply.Reply.TheVariants.{Refused}
 use Rattle.mc_model.specs.declared.reply.WireNo.TheVariants.{E5, E10}
 use Rattle.mc_model.specs.declared.request.Request.{Request}
 use Rattle.mc_model.specs.declared.request.Request.TheVariants.{Local, Logged, Quit, TooLong}
-use Rattle.mc_model.specs.Legal.{ticket_of}
 use Rattle.mc_model.specs.Replay.{reply_to}
 use Rattle.mc_write.specs.Text.{text}
 use Rattle.uc_cells.specs.Sighting.{entries}
@@ -38,16 +38,16 @@ pub record IsPlaced (worker : Worker) (tenant : ℕ) (from : Mark) (command : Co
   pub reply_is : Some reply ≡ reply_to (tenants_of worker) (entries (take place (history_of worker))) (Some (own_entry worker from.number tenant command))
   pub next : to ≡ record { number = from.number + 1; place = place + 1 }
 
--- the command was announced under the next number, and its ticket stands nowhere in the log
-pub record IsLeftOut (worker : Worker) (tenant : ℕ) (from : Mark) (command : Command) : Type 0 where
-  pub announced : slice_get (announced_of worker) from.number ≡ Some (own_sighting worker from.number tenant command)
-  pub nowhere : (place : ℕ) → slice_get (seat_of worker).state.learned place ≢ Some (ticket_of (seat_of worker).worker from.number)
-
--- All places are learned, the reply says that the log is full, and the command wasn't announced, or is left out.
+-- All places are learned, and each command of this worker that stands there was announced before this one: so this one stands nowhere,
+-- and nor does any later one. The reply says that the log is full, and the command wasn't announced, or was under the next number.
 pub record IsTurnedAway (worker : Worker) (tenant : ℕ) (from : Mark) (command : Command) (reply : Reply) (to : Mark) : Type 0 where
   pub full : IsFull worker
+  pub before : (place : ℕ) (ticket : Ticket) → slice_get (seat_of worker).state.learned place ≡ Some ticket → ticket.worker ≡ (seat_of worker).worker →
+      ticket.number < from.number
   pub reply_is : reply ≡ Refused E10
-  pub next : (to ≡ from) ⊎ IsLeftOut worker tenant from command × (to ≡ record { number = from.number + 1; place = from.place })
+  pub next : (to ≡ from)
+      ⊎ (slice_get (announced_of worker) from.number ≡ Some (own_sighting worker from.number tenant command))
+      × (to ≡ record { number = from.number + 1; place = from.place })
 
 abbrev pub IsAnswered : Worker → ℕ → Mark → Command → Reply → Mark → Type 0
 IsAnswered worker tenant from command reply to = IsPlaced worker tenant from command reply to ⊎ IsTurnedAway worker tenant from command reply to

@@ -8,6 +8,7 @@ pub use mc_stream::{Input, Output, Pull, Push};
 pub use pumping::pump;
 
 pub mod conn;
+pub mod laws;
 mod pulling;
 mod pumping;
 mod responding;
