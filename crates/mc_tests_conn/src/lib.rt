@@ -1,0 +1,14 @@
+//! Tests of the connection engine over what its crates make public: streams in pieces of any size, a queue above its bound, faults, two
+//! tenants on one log, and a full log. They stand above the crates that they test, since a crate with tests is proved twice.
+#![tactic(auto)]
+
+#[cfg(test)]
+mod faults;
+#[cfg(test)]
+mod lines;
+#[cfg(test)]
+mod pieces;
+#[cfg(test)]
+mod queueing;
+#[cfg(test)]
+mod tenants;

@@ -1,0 +1,208 @@
+//! A connection beside its worker and the log, with an input and an output over memory.
+ghost use Rattle.std.specs.Prelude.{◌≡◌, ◌<◌, ℕ, Some, length, slice_get, IfOk, IfSome};
+ghost use Rattle.uc_worker.specs.Worker.{tenants_of};
+ghost use Rattle.mc_tests_conn.specs.Fresh.{IsFresh};
+
+use mc_conn::{Conn, PULL_BYTES, State};
+use mc_model::{Fault, Limits, Settings, TenantId};
+use mc_stream::{Input, InputStep, MemoryInput, MemoryOutput, Output, OutputStep, Pull, Push};
+use std::alloc::Global;
+use uc_log::{Log, Pass};
+use uc_worker::{Open, Worker};
+
+/// Enough for all that most tests store.
+pub(crate) const QUOTAS: Limits = Limits {
+    items: 100,
+    bytes: 2_000_000,
+};
+
+/// More turns than a test needs.
+const TURNS: u32 = 100_000;
+
+/// A connection, its worker and the log that both work on.
+#[derive(Drop)]
+pub(crate) struct Line<'a> {
+    log: &'a Log,
+    worker: Worker<'a>,
+    tenant: TenantId,
+    conn: Conn,
+    input: MemoryInput,
+    output: MemoryOutput,
+    ghost same: { worker.log.now ≡ log.now },
+    ghost whose: { conn.tenant ≡ tenant },
+}
+
+/// A turn that promises no more than that the line stays what it is.
+fn turn(
+    conn: &mut Conn,
+    worker: &mut Worker<'_>,
+    input: &mut MemoryInput,
+    output: &mut MemoryOutput,
+    buffer: &mut [u8; PULL_BYTES],
+) -> Result<State, Fault>
+    requires { conn.old.tenant < length (tenants_of worker.old) }
+    ensures tenant { conn.new.tenant ≡ conn.old.tenant }
+    ensures log { worker.new.log ≡ worker.old.log }
+{
+    conn.turn(worker, input, output, &mut Open, buffer)
+}
+
+impl<'a> Line<'a> {
+    /// A line of the tenant and of the worker with this pass, on which nothing has come.
+    pub(crate) fn open(
+        alloc: Global,
+        log: &'a Log,
+        pass: Pass,
+        tenant: TenantId,
+        ends: (MemoryInput, MemoryOutput),
+    ) -> Result<Line<'a>, Fault>
+        requires { IsFresh log.now pass }
+    {
+        let worker = Worker::open(alloc, log, pass)?;
+        let conn = Conn::new(alloc, tenant);
+        let (input, output) = ends;
+        Ok(Line {
+            log,
+            worker,
+            tenant,
+            conn,
+            input,
+            output,
+        })
+    }
+
+    /// A turn, if there is such a tenant.
+    pub(crate) fn turn(&mut self, buffer: &mut [u8; PULL_BYTES]) -> Result<State, Fault> {
+        if usize::from(self.tenant.number()) >= self.log.settings().tenants().len() {
+            return Err(Fault::BadEvent);
+        }
+        turn(
+            &mut self.conn,
+            &mut self.worker,
+            &mut self.input,
+            &mut self.output,
+            buffer,
+        )
+    }
+
+    /// Turns until one ends so. Says whether one does.
+    pub(crate) fn comes_to(&mut self, end: State) -> Result<bool, Fault> {
+        let mut buffer = [0u8; PULL_BYTES];
+        for _ in 0..TURNS {
+            if self.turn(&mut buffer)? == end {
+                return Ok(true);
+            }
+        }
+        Ok(false)
+    }
+
+    /// Whether the next turns all end so.
+    pub(crate) fn stays(&mut self, end: State, turns: u32) -> Result<bool, Fault> {
+        let mut buffer = [0u8; PULL_BYTES];
+        for _ in 0..turns {
+            if self.turn(&mut buffer)? != end {
+                return Ok(false);
+            }
+        }
+        Ok(true)
+    }
+
+    /// What was pushed.
+    pub(crate) fn pushed(&self) -> &[u8] {
+        self.output.as_bytes()
+    }
+
+    /// How many entries the worker has replayed.
+    pub(crate) fn replayed(&self) -> usize {
+        self.worker.history().len()
+    }
+
+    /// What a pull beside the connection gives.
+    pub(crate) fn next_pull(&mut self) -> Pull {
+        self.input.pull(&mut [0; 512])
+    }
+
+    /// What a push beside the connection takes.
+    pub(crate) fn next_push(&mut self) -> Push {
+        self.output.push(b"x")
+    }
+}
+
+/// An input that holds these bytes and an output, which go by these steps first.
+pub(crate) fn ends_of(
+    alloc: Global,
+    sent: &[u8],
+    pulls: &[InputStep],
+    pushes: &[OutputStep],
+) -> Result<(MemoryInput, MemoryOutput), Fault> {
+    let bytes = Vec::from_slice(alloc, sent)?;
+    let pulls = Vec::from_slice(alloc, pulls)?;
+    let pushes = Vec::from_slice(alloc, pushes)?;
+    Ok((
+        MemoryInput::new(bytes, pulls),
+        MemoryOutput::new(alloc, pushes),
+    ))
+}
+
+/// A log of two workers, of so many places, and of tenants with these quotas; and the workers' passes.
+pub(crate) fn opened(
+    alloc: Global,
+    places: u64,
+    quotas: &[Limits],
+) -> Result<(Log, Vec<Pass>), Fault>
+    ensures { IfOk result (λ opened. (number : ℕ) (pass : _) → slice_get opened.1.items number ≡ Some pass → IsFresh opened.0 pass) }
+{
+    let quotas = Vec::from_slice(alloc, quotas)?;
+    let settings = Settings::check(2, places, quotas)?;
+    let (log, passes) = Log::open(alloc, &settings)?;
+    Ok((log, passes))
+}
+
+/// The passes of worker 0 and worker 1.
+pub(crate) fn both_passes(log: &Log, mut passes: Vec<Pass>) -> Option<(Pass, Pass)>
+    requires { (number : ℕ) (pass : _) → slice_get passes.items number ≡ Some pass → IsFresh log.now pass }
+    ensures { IfSome result (λ pair. IsFresh log.now pair.0 × IsFresh log.now pair.1) }
+{
+    let second = passes.pop()?;
+    let first = passes.pop()?;
+    Some((first, second))
+}
+
+/// A line of the first tenant and worker 0. The other worker does nothing.
+pub(crate) fn one_line<'a>(
+    alloc: Global,
+    log: &'a Log,
+    passes: Vec<Pass>,
+    ends: (MemoryInput, MemoryOutput),
+) -> Result<Line<'a>, Fault>
+    requires { (number : ℕ) (pass : _) → slice_get passes.items number ≡ Some pass → IsFresh log.now pass }
+{
+    let Some((first, _idle)) = both_passes(log, passes) else {
+        return Err(Fault::BadEvent);
+    };
+    let Some(tenant) = TenantId::new(0) else {
+        return Err(Fault::BadEvent);
+    };
+    Line::open(alloc, log, first, tenant, ends)
+}
+
+/// The lines of the first tenant and worker 0, and of the second tenant and worker 1.
+pub(crate) fn both_lines<'a>(
+    alloc: Global,
+    log: &'a Log,
+    passes: Vec<Pass>,
+    ends: (MemoryInput, MemoryOutput),
+    others: (MemoryInput, MemoryOutput),
+) -> Result<(Line<'a>, Line<'a>), Fault>
+    requires { (number : ℕ) (pass : _) → slice_get passes.items number ≡ Some pass → IsFresh log.now pass }
+{
+    let Some((first, second)) = both_passes(log, passes) else {
+        return Err(Fault::BadEvent);
+    };
+    let (Some(one), Some(other)) = (TenantId::new(0), TenantId::new(1)) else {
+        return Err(Fault::BadEvent);
+    };
+    let first = Line::open(alloc, log, first, one, ends)?;
+    let second = Line::open(alloc, log, second, other, others)?;
+    Ok((first, second))
+}

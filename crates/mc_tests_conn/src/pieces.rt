@@ -1,0 +1,94 @@
+//! Worked streams in pieces: what a client sends comes, and what it is owed goes, however both are cut.
+use crate::lines::{QUOTAS, ends_of, one_line, opened};
+use mc_conn::State;
+use mc_model::Fault;
+use mc_stream::{InputStep, OutputStep};
+use std::alloc::Global;
+use std::test::Fail;
+
+/// What a client sends, and what it reads.
+const STREAMS: [(&str, &str); 3] = [
+    (
+        "set a 5 0 3\r\nabc\r\nget a\r\n",
+        "STORED\r\nVALUE a 5 3\r\nabc\r\nEND\r\n",
+    ),
+    (
+        "set e 0 0 0\r\n\r\ngets e x\r\n",
+        "STORED\r\nVALUE e 0 0 1\r\n\r\nEND\r\n",
+    ),
+    BLOCK,
+];
+
+/// Line ends inside a block don't end it.
+const BLOCK: (&str, &str) = (
+    "set k 0 0 7\r\n\r\nEND\r\n\r\nget k\r\n",
+    "STORED\r\nVALUE k 0 7\r\n\r\nEND\r\n\r\nEND\r\n",
+);
+
+/// Whether a client that sends this reads that, where a new log is of so many places, and the input and the output go by these steps.
+fn is_served(
+    alloc: Global,
+    places: u64,
+    (sent, want): (&str, &str),
+    pulls: &[InputStep],
+    pushes: &[OutputStep],
+) -> Result<bool, Fault> {
+    let ends = ends_of(alloc, sent.as_bytes(), pulls, pushes)?;
+    let (log, passes) = opened(alloc, places, &[QUOTAS])?;
+    let mut line = one_line(alloc, &log, passes, ends)?;
+    Ok(line.comes_to(State::Closed)? && line.pushed() == want.as_bytes())
+}
+
+/// So many single bytes, with an empty pull before each.
+fn single_pulls(alloc: Global, count: usize) -> Result<Vec<InputStep>, Fault> {
+    let mut steps = Vec::new(alloc);
+    for _ in 0..count {
+        steps.extend_from_slice(&[InputStep::Empty, InputStep::Give(1)])?;
+    }
+    Ok(steps)
+}
+
+/// So many single bytes, with a full push before each.
+fn single_pushes(alloc: Global, count: usize) -> Result<Vec<OutputStep>, Fault> {
+    let mut steps = Vec::new(alloc);
+    for _ in 0..count {
+        steps.extend_from_slice(&[OutputStep::Full, OutputStep::Take(1)])?;
+    }
+    Ok(steps)
+}
+
+/// Whether the client is served where nothing and one byte come in turn, and nothing and one byte are taken in turn.
+fn is_served_by_turns(alloc: Global, stream: (&str, &str)) -> Result<bool, Fault> {
+    let pulls = single_pulls(alloc, stream.0.len())?;
+    let pushes = single_pushes(alloc, stream.1.len())?;
+    is_served(alloc, 64, stream, &pulls, &pushes)
+}
+
+#[test]
+fn empty_and_full_in_turn(rt: HostRuntime) -> Result<(), Fail> {
+    for stream in STREAMS {
+        assert!(rt; is_served_by_turns(rt.alloc(), stream)?, "{}", stream.0);
+    }
+    Ok(())
+}
+
+/// The first pull gives so many bytes, and the second the others.
+#[test]
+fn block_cut_anywhere(rt: HostRuntime) -> Result<(), Fail> {
+    for count in 1..BLOCK.0.len() {
+        let pulls = [InputStep::Give(count)];
+        assert!(rt; is_served(rt.alloc(), 64, BLOCK, &pulls, &[])?, "{count}");
+    }
+    Ok(())
+}
+
+/// The third command finds the log full, and the replies that need no log are given as before.
+#[test]
+fn log_full_on_the_wire(rt: HostRuntime) -> Result<(), Fail> {
+    let stream = (
+        "set a 0 0 1\r\nx\r\nset b 0 0 1\r\ny\r\nget a\r\nversion\r\n",
+        "STORED\r\nSTORED\r\nSERVER_ERROR log full\r\nVERSION 1.0.0\r\n",
+    );
+    assert!(rt; is_served(rt.alloc(), 2, stream, &[], &[])?);
+    Ok(())
+}

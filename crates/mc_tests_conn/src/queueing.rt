@@ -1,0 +1,79 @@
+//! A client that takes nothing at first: replies are queued up to a bound, and requests wait behind it.
+use crate::lines::{Line, QUOTAS, ends_of, one_line, opened};
+use mc_conn::State;
+use mc_model::Fault;
+use mc_stream::{InputStep, MemoryInput, MemoryOutput, OutputStep};
+use std::alloc::Global;
+use std::test::Fail;
+
+/// How many bytes the item has, and how many a pull gives at most.
+const ITEM: usize = 1_048_576;
+
+const PULL: usize = 16_384;
+
+/// As many pulls as the item has, and then the bytes of the lines around it.
+const PULLS: usize = 64;
+
+const LINES: usize = 21;
+
+/// How many bytes are owed: for the set 8, and for each get 1,048,602.
+const OWED: usize = 3_145_814;
+
+/// A set of the item, and three gets of it.
+fn sent(alloc: Global) -> Result<Vec<u8>, Fault> {
+    let item = "x".repeat(alloc, ITEM)?;
+    let mut bytes = Vec::new(alloc);
+    bytes.extend_from_slice(b"set b 0 0 1048576\r\n")?;
+    bytes.extend_from_slice(item.as_bytes())?;
+    bytes.extend_from_slice(b"\r\nget b\r\nget b\r\nget b\r\n")?;
+    Ok(bytes)
+}
+
+/// The set comes in many pulls, and the gets in the last one.
+fn pulls(alloc: Global) -> Result<Vec<InputStep>, Fault> {
+    let mut steps = Vec::new(alloc);
+    for _ in 0..PULLS {
+        steps.push(InputStep::Give(PULL))?;
+    }
+    steps.push(InputStep::Give(LINES))?;
+    Ok(steps)
+}
+
+/// Pushes that take nothing, more than the turns make before the worker has replayed two entries.
+fn pushes(alloc: Global) -> Result<Vec<OutputStep>, Fault> {
+    let mut steps = Vec::new(alloc);
+    for _ in 0..1_000 {
+        steps.push(OutputStep::Full)?;
+    }
+    Ok(steps)
+}
+
+/// The client's input and output.
+fn ends(alloc: Global) -> Result<(MemoryInput, MemoryOutput), Fault> {
+    let sent = sent(alloc)?;
+    let pulls = pulls(alloc)?;
+    let pushes = pushes(alloc)?;
+    ends_of(alloc, &sent, &pulls, &pushes)
+}
+
+/// Whether the turns come to nothing that can be done, again and again, once the set and one get are taken.
+fn waits_behind_two(line: &mut Line<'_>) -> Result<bool, Fault> {
+    let is_idle = line.comes_to(State::Idle)? && line.stays(State::Idle, 100)?;
+    Ok(is_idle && line.replayed() == 2 && line.pushed().is_empty())
+}
+
+/// Whether all is taken and sent once the output takes it.
+fn goes_on(line: &mut Line<'_>) -> Result<bool, Fault> {
+    Ok(line.comes_to(State::Closed)? && line.replayed() == 4 && line.pushed().len() == OWED)
+}
+
+#[test]
+fn queue_above_its_bound(rt: HostRuntime) -> Result<(), Fail> {
+    let alloc = rt.alloc();
+    let ends = ends(alloc)?;
+    let (log, passes) = opened(alloc, 64, &[QUOTAS])?;
+    let mut line = one_line(alloc, &log, passes, ends)?;
+    assert!(rt; waits_behind_two(&mut line)?);
+    assert!(rt; goes_on(&mut line)?);
+    Ok(())
+}
