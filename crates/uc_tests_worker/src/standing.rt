@@ -17,7 +17,7 @@ use uc_worker::{Gate, Open, Step};
 /// How many commands worker 0 ends before the one in which it stops, and how many each other submits then.
 const BEFORE: u32 = 5;
 
-const BESIDE: u64 = 500;
+const BESIDE: u64 = 2_000;
 
 /// After which of its steps worker 0 stops, and where the command that it was at stands then. Place 8 is the first at which it is helped,
 /// since nobody else proposes its command at the places before.
@@ -147,7 +147,7 @@ fn place_of_last(all: &[Ended<'_>]) -> Option<usize> {
 /// Whether the others ended all their commands while worker 0 stood still, and all is answered right.
 fn is_right(all: &[Ended<'_>], alloc: Global, place: usize) -> Result<bool, Fault> {
     Ok(
-        are_all_equal(all, 1_506)
+        are_all_equal(all, 6_006)
             && place_of_last(all) == Some(place)
             && is_recomputed(alloc, &TENANTS, all)?,
     )
@@ -160,7 +160,7 @@ fn stops_nobody<R: Threads + Sync>(
     step: Step,
     place: usize,
 ) -> Result<bool, Fault> {
-    let (log, passes) = opened(alloc, 4, 2_048, &TENANTS)?;
+    let (log, passes) = opened(alloc, 4, 8_192, &TENANTS)?;
     let clients = clients_of(alloc, &log, passes)?;
     let all = all_ended(rt, alloc, &log, clients, step)?;
     let all = all_meet(alloc, &log, all)?;
