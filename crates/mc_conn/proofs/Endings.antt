@@ -1,9 +1,11 @@
 -- How the parts of a turn make up its state, and a fault what it leaves.
-use Rattle.std.proofs.Common.{◌≡◌, ◌≢◌, ◌⊎◌, ℕ, ◌+◌, ◌≤◌, ◌<◌, ◌||◌, Bool, true, false, List, [], ◌∷◌, ◌++◌, length, None, sym, refl, ap, ◌∙◌, subst, inl, inr, ⊎_elim, arith, length-append}
-use Rattle.std.specs.Bool.{MatchBool}
+use Rattle.std.proofs.Common.{◌≡◌, ◌≢◌, ◌⊎◌, ℕ, ◌+◌, ◌≤◌, ◌<◌, ◌||◌, ◌&&◌, Bool, true, false, List, [], ◌∷◌, ◌++◌, length, Option, Some, None, is_some, sym, refl, ap, ◌∙◌, subst, inl, inr, ⊎_elim, arith, append-nil, length-append}
+use Rattle.std.specs.Bool.{MatchBool, ◌==◌}
 use Rattle.mc_model.specs.declared.fault.Fault.{Fault}
 use Rattle.mc_model.specs.declared.fault.Fault.TheVariants.{Memory, LogFull, Taken, Input, Output, BadEvent, BadSettings}
-use Rattle.mc_stream.specs.Event.{Event, waits}
+use Rattle.mc_model.specs.declared.request.Request.{Request}
+use Rattle.mc_stream.specs.Event.{Event, moved, waits}
+use Rattle.mc_stream.specs.Pushing.{Pushes}
 use Rattle.mc_stream.specs.Stream.{Inflow, Outflow, both}
 use Rattle.uc_worker.specs.declared.worker.Worker.{Worker}
 use Rattle.mc_conn.specs.declared.conn.Conn.{Conn}
@@ -12,9 +14,11 @@ use Rattle.mc_conn.specs.declared.conn.State.{State}
 use Rattle.mc_conn.specs.declared.conn.State.TheVariants.{Closed, Idle, Busy}
 use Rattle.mc_conn.specs.Ending.{Breaks, HoldsOnlyBehind, IsDone, IsState, IsStuck, PullsAfter, PullsLate, Serves, Stops, Turns}
 use Rattle.mc_conn.specs.Held.{HoldsNone, Holding}
+use Rattle.mc_conn.specs.Owed.{Mark, Owes, mark_of}
 use Rattle.mc_conn.specs.Parts.{Does, IsAtRest, IsHeldBehind, IsTold, StateIs}
 use Rattle.mc_conn.specs.Turn.{Scene, Takes, amount, holding_of, queue_of, scene}
 use Rattle.mc_conn.proofs.Breakings.{breaks_later}
+use Rattle.mc_conn.proofs.Lists.{appended_twice}
 use Rattle.mc_conn.proofs.Takings.{does_trans, sent_last, takes_trans}
 
 or_left : (x y : Bool) → (x || y) ≡ false → x ≡ false
@@ -36,41 +40,139 @@ did_much false n is none = let no : false ≡ true = is in cc
 done_rests : (conn : Conn) → IsDone conn → IsAtRest conn
 done_rests conn done = (done.0, done.1.0, done.2)
 
+no_some : (waiting : Option Request) → is_some waiting ≡ false → waiting ≡ None
+no_some None none = refl
+no_some (Some request) none = let no : true ≡ false = none in cc
+
+-- no request waits before a pull, so that none is held whole
+pub none_held : (old new : Conn) (some long ended : Bool) → holding_of new ≡ holding_of old → IsHeldBehind old → some ≡ is_some old.waiting → ((some || long) || ended) ≡ false →
+    HoldsNone (holding_of new)
+none_held old new some long ended same held is none =
+    subst HoldsNone (sym same)
+    (⊎_elim
+    (λ (nothing : HoldsNone (holding_of old)). nothing)
+    (λ (behind : (old.waiting ≢ None) × (QUEUE_BYTES < length (queue_of old))).
+    absurd (behind.0 (no_some old.waiting (sym is ∙ or_left some long (or_left (some || long) ended none)))))
+    held)
+
+and_left : (over empty : Bool) → empty ≡ true → (over && empty) ≡ false → over ≡ false
+and_left true empty is none = let no : true ≡ false = sym is ∙ none in cc
+and_left false empty is none = refl
+
+-- where all is sent before a pull, no request has ended the stream
+pub still_on : (queue : List ℕ) (count : ℕ) (over empty : Bool) (Full : Type 0) → count ≡ length queue → empty ≡ (count == 0) → (over && empty) ≡ false → (queue ≡ []) ⊎ Full → (queue ≡ []) × (over ≡ false) ⊎ Full
+still_on queue count over empty Full long is going left =
+    ⊎_elim (λ (none : queue ≡ []). inl (none, and_left over empty (is ∙ ap (λ n. n == 0) (long ∙ ap length none)) going)) inr left
+
 -- a pull behind a push
-pub pulls_late : (a between z : Scene) → Takes a between → between.streams.input ≡ a.streams.input →
-    (queue_of between.conn ≡ []) ⊎ (waits between.streams.output.events ≡ waits a.streams.output.events + 1) →
-    (event : Event) → z.streams.input.events ≡ event ∷ between.streams.input.events → PullsLate a z
-pulls_late a between z first same left event pull = inr (
+pub pulls_late : (a between z : Scene) → Takes a between → HoldsNone (holding_of between.conn) →
+    (queue_of between.conn ≡ []) × (between.conn.is_over ≡ false) ⊎ (waits between.streams.output.events ≡ waits a.streams.output.events + 1) →
+    (event : Event) → z.streams.input.events ≡ event ∷ between.streams.input.events → z.streams.output ≡ between.streams.output → PullsLate a z
+pulls_late a between z first none left event pull same = inr (
   between,
   record {
     first = first;
-    same = same;
+    taken = none;
     sent = ⊎_elim inl (λ (full : waits between.streams.output.events ≡ waits a.streams.output.events + 1). inr (omega (arith, full))) left;
     event = event;
     pull = pull;
+    later = [];
+    pushed = ap (λ (output : Outflow). moved output.events) same ∙ sym (append-nil (moved between.streams.output.events));
   },
 )
 
--- what is done before a pull and after it
-pub late_within : (a m n z : Scene) → Takes a m → m.streams.input ≡ a.streams.input → PullsLate m n → z.streams.input ≡ n.streams.input → PullsLate a z
-late_within a m n z one before late after =
+-- more is sent behind the last pull
+pub late_more : (a n z : Scene) → PullsLate a n → z.streams.input ≡ n.streams.input → (more : List ℕ) → Pushes n.streams.output z.streams.output more → PullsLate a z
+late_more a n z late same more went =
     ⊎_elim
-    (λ (none : n.streams.input ≡ m.streams.input). inl (after ∙ (none ∙ before)))
-    (λ (pulled : (between : Scene) × PullsAfter m between n). inr (
+    (λ (none : n.streams.input ≡ a.streams.input). inl (same ∙ none))
+    (λ (pulled : (between : Scene) × PullsAfter a between n). inr (
       pulled.0,
       record {
-        first = takes_trans a m pulled.0 one pulled.1.first;
-        same = pulled.1.same ∙ before;
-        sent = ⊎_elim inl (λ (full : waits m.streams.output.events < waits pulled.0.streams.output.events). inr (omega (arith, full, one.waited))) pulled.1.sent;
+        first = pulled.1.first;
+        taken = pulled.1.taken;
+        sent = pulled.1.sent;
         event = pulled.1.event;
-        pull = ap (λ (input : Inflow). input.events) after ∙ pulled.1.pull;
+        pull = ap (λ (input : Inflow). input.events) same ∙ pulled.1.pull;
+        later = pulled.1.later ++ more;
+        pushed = appended_twice _ _ _ pulled.1.later more pulled.1.pushed went;
       },
     ))
     late
 
+-- a last pull behind what was done before
+late_behind : (a m n between : Scene) → Takes a m → PullsAfter m between n → PullsLate a n
+late_behind a m n between one pulled = inr (
+  between,
+  record {
+    first = takes_trans a m between one pulled.first;
+    taken = pulled.taken;
+    sent = ⊎_elim inl (λ (full : waits m.streams.output.events < waits between.streams.output.events). inr (omega (arith, full, one.waited))) pulled.sent;
+    event = pulled.event;
+    pull = pulled.pull;
+    later = pulled.later;
+    pushed = pulled.pushed;
+  },
+)
+
+-- what is done before a pull and after it
+pub late_within : (a m n z : Scene) → Takes a m → m.streams.input ≡ a.streams.input → PullsLate m n → z.streams.input ≡ n.streams.input → (more : List ℕ) →
+    Pushes n.streams.output z.streams.output more → PullsLate a z
+late_within a m n z one before late after more went =
+    ⊎_elim
+    (λ (none : n.streams.input ≡ m.streams.input). inl (after ∙ (none ∙ before)))
+    (λ (pulled : (between : Scene) × PullsAfter m between n). late_more a n z (late_behind a m n pulled.0 one pulled.1) after more went)
+    late
+
+-- turns behind turns
+pub late_later : (a b c : Scene) → Takes a b → PullsLate a b → PullsLate b c → (more : List ℕ) → Pushes b.streams.output c.streams.output more → PullsLate a c
+late_later a b c one first second more went =
+    ⊎_elim
+    (λ (none : c.streams.input ≡ b.streams.input). late_more a b c first none more went)
+    (λ (pulled : (between : Scene) × PullsAfter b between c). late_behind a b c pulled.0 one pulled.1)
+    second
+
+-- what is told at a fault is sent behind the last pull
+untold_pushes : (before after : Outflow) → after ≡ before → (more : List ℕ) × Pushes before after more
+untold_pushes before after same = ([], ap (λ (output : Outflow). moved output.events) same ∙ sym (append-nil (moved before.events)))
+
+told_pushes : (fault : Fault) (queue : List ℕ) (before after : Outflow) → IsTold fault queue before after → (more : List ℕ) × Pushes before after more
+told_pushes Memory queue before after told = (told.1.front, told.1.went)
+told_pushes LogFull queue before after told = untold_pushes before after told
+told_pushes Taken queue before after told = untold_pushes before after told
+told_pushes Input queue before after told = untold_pushes before after told
+told_pushes Output queue before after told = untold_pushes before after told
+told_pushes BadEvent queue before after told = untold_pushes before after told
+told_pushes BadSettings queue before after told = untold_pushes before after told
+
+pub late_told : (fault : Fault) (a : Scene) (old new : Conn) (worker : Worker) (input : Inflow) (between after : Outflow) (queue : List ℕ) →
+    PullsLate a (scene old worker (both input between)) → IsTold fault queue between after → PullsLate a (scene new worker (both input after))
+late_told fault a old new worker input between after queue late told =
+    let more = told_pushes fault queue between after told in
+    late_more a (scene old worker (both input between)) (scene new worker (both input after)) late refl more.0 more.1
+
+-- what is sent up to a fault
+pub stops_push : (fault : Fault) (a b : Scene) → Stops fault a b → (more : List ℕ) × Pushes a.streams.output b.streams.output more
+stops_push Memory a b stops = (stops.1.sent ++ stops.2.1.front, appended_twice _ _ _ stops.1.sent stops.2.1.front stops.1.pushed stops.2.1.went)
+stops_push LogFull a b stops = absurd stops
+stops_push Taken a b stops = (stops.sent, stops.pushed)
+stops_push Input a b stops = (stops.sent, stops.pushed)
+stops_push Output a b stops = (stops.sent, stops.pushed)
+stops_push BadEvent a b stops = absurd stops
+stops_push BadSettings a b stops = absurd stops
+
+-- nothing is owed for no request
+owed_none : (worker : Worker) (tenant : ℕ) (from to : Mark) (requests : List Request) (bytes : List ℕ) → length requests ≡ 0 → Owes worker tenant from requests bytes to → length bytes ≡ 0
+owed_none worker tenant from to [] bytes none owes = ap length owes.0
+owed_none worker tenant from to (request ∷ requests) bytes none owes = absurd (omega (arith, none))
+
+nothing_in : (bytes : List ℕ) → length bytes ≡ 0 → bytes ≡ []
+nothing_in [] none = refl
+nothing_in (byte ∷ bytes) none = absurd (omega (arith, none))
+
 module _ (a m n z : Scene) (before pulled last : Bool) (one : Does a m before) (two : Does m n pulled) (three : Does n z last)
-    (held : IsHeldBehind n.conn) (same : holding_of z.conn ≡ holding_of n.conn) (ended : z.conn.has_ended ≡ n.conn.has_ended)
-    (stuck : pulled ≡ false → (waits n.streams.input.events ≡ waits m.streams.input.events + 1) ⊎ ((n.conn.has_ended ≡ true) ⊎ (QUEUE_BYTES < length (queue_of n.conn))))
+    (held : IsHeldBehind n.conn) (same : holding_of z.conn ≡ holding_of n.conn) (ended : z.conn.has_ended ≡ n.conn.has_ended) (over : z.conn.is_over ≡ n.conn.is_over)
+    (stuck : pulled ≡ false → (waits n.streams.input.events ≡ waits m.streams.input.events + 1) ⊎ ((n.conn.has_ended ≡ true) ⊎ ((QUEUE_BYTES < length (queue_of n.conn)) ⊎ (n.conn.is_over ≡ true) × (queue_of n.conn ≡ []))))
     (first_input : m.streams.input ≡ a.streams.input) (last_input : z.streams.input ≡ n.streams.input)
     (left : (queue_of z.conn ≡ []) ⊎ (waits z.streams.output.events ≡ waits n.streams.output.events + 1)) where
   all : Does a z ((before || pulled) || last)
@@ -108,6 +210,19 @@ module _ (a m n z : Scene) (before pulled last : Bool) (one : Does a m before) (
       (λ (full : waits z.streams.output.events ≡ waits n.streams.output.events + 1). omega (arith, full, waits_so_far))
       left
 
+  -- a request has ended the stream, and all is sent
+  over_rests : amount three.takes ≡ 0 → n.conn.is_over ≡ true → queue_of n.conn ≡ [] → IsAtRest z.conn
+  over_rests still is empty =
+      let owed = owed_none z.worker n.conn.tenant (mark_of n.worker) (mark_of z.worker) three.takes.requests three.takes.owed (omega (arith, still)) three.takes.owes in
+      let queue =
+      nothing_in (queue_of z.conn)
+      (omega (arith, ap length three.takes.bytes, length-append three.takes.sent (queue_of z.conn), length-append (queue_of n.conn) three.takes.owed, owed, ap length empty))
+      in
+      ⊎_elim
+      (λ (none : HoldsNone (holding_of n.conn)). (inr (over ∙ is), ap (λ (h : Holding). h.waiting) same ∙ none.0, queue))
+      (λ (behind : (n.conn.waiting ≢ None) × (QUEUE_BYTES < length (queue_of n.conn))). absurd (omega (arith, behind.1, ap length empty)))
+      held
+
   is_stuck : ¬ (IsAtRest z.conn) → ((before || pulled) || last) ≡ false → IsStuck a z
   is_stuck undone none =
       let still : amount three.takes ≡ 0 = did_none last _ (or_right (before || pulled) last none) three.did_is in
@@ -118,7 +233,7 @@ module _ (a m n z : Scene) (before pulled last : Bool) (one : Does a m before) (
       in
       ⊎_elim
       (λ (waited : waits n.streams.input.events ≡ waits m.streams.input.events + 1). inl (omega (arith, waited, first_waits, last_waits)))
-      (λ (rest : (n.conn.has_ended ≡ true) ⊎ (QUEUE_BYTES < length (queue_of n.conn))).
+      (λ (rest : (n.conn.has_ended ≡ true) ⊎ ((QUEUE_BYTES < length (queue_of n.conn)) ⊎ (n.conn.is_over ≡ true) × (queue_of n.conn ≡ []))).
       ⊎_elim
       (λ (end : n.conn.has_ended ≡ true).
       ⊎_elim
@@ -126,7 +241,7 @@ module _ (a m n z : Scene) (before pulled last : Bool) (one : Does a m before) (
       inr (full_of (λ empty. undone (inl (ended ∙ end), ap (λ (h : Holding). h.waiting) same ∙ nothing.0, empty)), inl (ended ∙ end)))
       (λ (behind : (n.conn.waiting ≢ None) × (QUEUE_BYTES < length (queue_of n.conn))). long behind.1)
       held)
-      long
+      (⊎_elim long (λ (over : (n.conn.is_over ≡ true) × (queue_of n.conn ≡ [])). absurd (undone (over_rests still over.0 over.1))))
       rest)
       (stuck (or_right before pulled (or_left (before || pulled) last none)))
 
@@ -142,8 +257,8 @@ module _ (a m n z : Scene) (before pulled last : Bool) (one : Does a m before) (
   state_of Idle is = ((λ done. is.0 (done_rests z.conn done)), did_none _ _ is.1 all.did_is, is_stuck is.0 is.1)
   state_of Busy is = ((λ done. is.0 (done_rests z.conn done)), did_much _ _ is.1 all.did_is)
 
-  pub turns : (state : State) → StateIs z.conn ((before || pulled) || last) state → PullsLate m n → Turns a z state
-  turns state is late = record { takes = all.takes; state_is = state_of state is; held = held_behind; late = late_within a m n z one.takes first_input late last_input }
+  pub turns : (state : State) → StateIs z.conn ((before || pulled) || last) state → Turns a z state
+  turns state is = record { takes = all.takes; state_is = state_of state is; held = held_behind }
 
 -- a fault that was told
 module _ (before : Scene) (old new : Conn) (worker : Worker) (input : Inflow) (between after : Outflow) (tenant : new.tenant ≡ old.tenant) (queue : queue_of new ≡ queue_of old) where

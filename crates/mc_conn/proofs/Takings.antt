@@ -3,6 +3,9 @@ use Rattle.std.proofs.Common.{◌≡◌, ◌⊎◌, ℕ, ◌+◌, ◌≤◌, ◌
 use Rattle.std.specs.Bool.{MatchBool, nat_lt}
 use Rattle.std.proofs.lemmas.Bool.{lt-ltb}
 use Rattle.std.proofs.lemmas.List.{length-take-le, take-append-drop}
+use Rattle.std.specs.List.{list_any}
+use Rattle.std.proofs.lemmas.List.Folds.{list_any-append}
+use Rattle.mc_read.specs.Reading.{ends_stream}
 use Rattle.std.specs.Io.KnownBytes.{Consumes, IsAtEnd}
 use Rattle.std.proofs.KnownBytes.{Consumes-nil, Consumes-trans}
 use Rattle.mc_model.specs.declared.request.Request.{Request}
@@ -51,6 +54,26 @@ pub remembers_open : (is : Bool) (before after : Inflow) → is ≡ false → en
 remembers_open true before after going same = let no : true ≡ false = going in cc
 remembers_open false before after going same = (refl, same)
 
+-- no request was taken that ends the stream
+or_none : (x : Bool) → (x || false) ≡ x
+or_none true = refl
+or_none false = refl
+
+pub over_same : (old new : Bool) → new ≡ old → new ≡ (old || false)
+over_same old new same = same ∙ sym (or_none old)
+
+or_assoc : (x y z : Bool) → (x || (y || z)) ≡ ((x || y) || z)
+or_assoc true y z = refl
+or_assoc false y z = refl
+
+-- a request that ends the stream is remembered through two parts
+over_trans : (first second third : Bool) (one two : List Request) → second ≡ (first || list_any ends_stream one) → third ≡ (second || list_any ends_stream two) →
+    third ≡ (first || list_any ends_stream (one ++ two))
+over_trans first second third one two begun ended =
+    ended
+    ∙ (ap (λ over. over || list_any ends_stream two) begun
+    ∙ (sym (or_assoc first (list_any ends_stream one) (list_any ends_stream two)) ∙ ap (λ any. first || any) (sym (list_any-append ends_stream one two))))
+
 unfailed_trans : (first second third : Streams) → NeitherFails first second → NeitherFails second third → NeitherFails first third
 unfailed_trans first second third one two = (two.0 ∙ one.0, two.1 ∙ one.1)
 
@@ -72,6 +95,7 @@ takes_self a = record {
   unfailed = (refl, refl);
   waited = omega arith;
   end = remembers_self a.conn.has_ended a.streams.input;
+  over = over_same a.conn.is_over a.conn.is_over refl;
 }
 
 pub takes_trans : (a b c : Scene) → Takes a b → Takes b c → Takes a c
@@ -94,6 +118,7 @@ takes_trans a b c one two = record {
   unfailed = unfailed_trans a.streams b.streams c.streams one.unfailed two.unfailed;
   waited = omega (arith, one.waited, two.waited);
   end = remembers_trans a.conn.has_ended b.conn.has_ended c.conn.has_ended a.streams.input b.streams.input c.streams.input one.end two.end;
+  over = over_trans a.conn.is_over b.conn.is_over c.conn.is_over one.requests two.requests one.over two.over;
 }
 
 amount_trans : (a b c : Scene) (one : Takes a b) (two : Takes b c) → amount (takes_trans a b c one two) ≡ amount one + amount two
@@ -120,10 +145,6 @@ or_true : (x : Bool) → (x || true) ≡ true
 or_true true = refl
 or_true false = refl
 
-or_none : (x : Bool) → (x || false) ≡ x
-or_none true = refl
-or_none false = refl
-
 pub did_then : (a b c : Scene) (x y : Bool) → y ≡ true → Does a b x → Does b c y → Does a c true
 did_then a b c x y is one two = subst (Does a c) (ap (λ did. x || did) is ∙ or_true x) (does_trans a b c x y one two)
 
@@ -141,7 +162,7 @@ did_some (suc count) n same = let some : 0 < n = omega (arith, same) in subst (�
 
 -- a front of the queue is pushed
 module _ (old new : Conn) (worker : Worker) (input : Inflow) (before after : Outflow) (count : ℕ) (same : holding_of new ≡ holding_of old) (tenant : new.tenant ≡ old.tenant)
-    (ended : new.has_ended ≡ old.has_ended) (few : count ≤ length (queue_of old)) (left : queue_of new ≡ drop count (queue_of old))
+    (ended : new.has_ended ≡ old.has_ended) (over : new.is_over ≡ old.is_over) (few : count ≤ length (queue_of old)) (left : queue_of new ≡ drop count (queue_of old))
     (went : Pushes before after (take count (queue_of old))) (waited : waits before.events ≤ waits after.events) (unfailed : IsUnfailed before after) where
   takes_pushed : Takes (scene old worker (both input before)) (scene new worker (both input after))
   takes_pushed = record {
@@ -160,6 +181,7 @@ module _ (old new : Conn) (worker : Worker) (input : Inflow) (before after : Out
     unfailed = (refl, unfailed);
     waited = waited;
     end = end_same old new worker worker input before after ended;
+    over = over_same old.is_over new.is_over over;
   }
 
   pub does_pushed : Does (scene old worker (both input before)) (scene new worker (both input after)) (nat_lt 0 count)
@@ -168,8 +190,8 @@ module _ (old new : Conn) (worker : Worker) (input : Inflow) (before after : Out
 
 -- the reader looks for a request
 pub does_looked : (old new : Conn) (worker : Worker) (streams : Streams) → IsRead (holding_of old) [] [] (holding_of new) → new.tenant ≡ old.tenant → new.has_ended ≡ old.has_ended →
-    queue_of new ≡ queue_of old → Does (scene old worker streams) (scene new worker streams) false
-does_looked old new worker streams read tenant ended queue = record {
+    queue_of new ≡ queue_of old → new.is_over ≡ old.is_over → Does (scene old worker streams) (scene new worker streams) false
+does_looked old new worker streams read tenant ended queue over = record {
   takes = record {
     came = [];
     requests = [];
@@ -186,15 +208,16 @@ does_looked old new worker streams read tenant ended queue = record {
     unfailed = (refl, refl);
     waited = omega arith;
     end = end_same old new worker worker streams.input streams.output streams.output ended;
+    over = over_same old.is_over new.is_over over;
   };
   did_is = refl;
 }
 
 -- a request is taken
 pub does_responded : (old new : Conn) (worker later : Worker) (streams : Streams) (request : Request) → IsRead (holding_of old) [] (request ∷ []) (holding_of new) → new.tenant ≡ old.tenant →
-    new.has_ended ≡ old.has_ended → IsOnward worker later → Responds worker later old.tenant request (queue_of old) (queue_of new) →
-    Does (scene old worker streams) (scene new later streams) true
-does_responded old new worker later streams request read tenant ended on responds = record {
+    new.has_ended ≡ old.has_ended → new.is_over ≡ (old.is_over || ends_stream request) → IsOnward worker later →
+    Responds worker later old.tenant request (queue_of old) (queue_of new) → Does (scene old worker streams) (scene new later streams) true
+does_responded old new worker later streams request read tenant ended over on responds = record {
   takes = record {
     came = [];
     requests = request ∷ [];
@@ -211,6 +234,7 @@ does_responded old new worker later streams request read tenant ended on respond
     unfailed = (refl, refl);
     waited = omega arith;
     end = end_same old new worker later streams.input streams.output streams.output ended;
+    over = over ∙ ap (λ ends. old.is_over || ends) (sym (or_none (ends_stream request)));
   };
   did_is = omega arith;
 }
@@ -218,7 +242,7 @@ does_responded old new worker later streams request read tenant ended on respond
 -- a piece came, or none
 module _ (old new : Conn) (worker : Worker) (before after : Inflow) (output : Outflow) (piece : List ℕ) (read : IsRead (holding_of old) piece [] (holding_of new)) (tenant : new.tenant ≡ old.tenant)
     (queue : queue_of new ≡ queue_of old) (pulled : moved after.events ≡ moved before.events ++ piece) (consumed : Consumes before.left after.left piece)
-    (unfailed : failures after.events ≡ failures before.events) (end : Remembers old.has_ended before new.has_ended after) where
+    (unfailed : failures after.events ≡ failures before.events) (end : Remembers old.has_ended before new.has_ended after) (over : new.is_over ≡ old.is_over) where
   takes_fed : Takes (scene old worker (both before output)) (scene new worker (both after output))
   takes_fed = record {
     came = piece;
@@ -236,6 +260,7 @@ module _ (old new : Conn) (worker : Worker) (before after : Inflow) (output : Ou
     unfailed = (unfailed, refl);
     waited = omega arith;
     end = end;
+    over = over_same old.is_over new.is_over over;
   }
 
   pub does_fed : 0 < length piece → Does (scene old worker (both before output)) (scene new worker (both after output)) true

@@ -1,16 +1,15 @@
 -- How a turn ends: the state that it answers, and what a fault leaves; this project's profile.
 use Rattle.std.specs.Io.KnownBytes.{Consumes}
-use Rattle.std.specs.Prelude.{◌≡◌, ◌≢◌, ◌⊎◌, ℕ, ◌+◌, ◌<◌, true, List, [], ◌∷◌, ◌++◌, length, None, Some, slice_get}
+use Rattle.std.specs.Prelude.{◌≡◌, ◌≢◌, ◌⊎◌, ℕ, ◌+◌, ◌<◌, true, false, List, [], ◌∷◌, ◌++◌, length, None, Some, slice_get}
 use Rattle.mc_model.specs.declared.fault.Fault.{Fault}
 use Rattle.mc_model.specs.declared.fault.Fault.TheVariants.{Memory, LogFull, Taken, Input, Output, BadEvent, BadSettings}
 use Rattle.mc_model.specs.declared.reply.Reply.TheVariants.{Refused}
 use Rattle.mc_model.specs.declared.reply.WireNo.TheVariants.{E11}
 use Rattle.mc_model.specs.declared.request.Request.{Request}
 use Rattle.mc_model.specs.declared.request.Request.TheVariants.{Local, Logged, Quit, TooLong}
-use Rattle.mc_read.specs.Reading.{Ended}
 use Rattle.mc_stream.specs.Event.{Event, failures, moved, waits}
 use Rattle.mc_stream.specs.Pushing.{FailsOnce, IsUnfailed, Pushes, PushesAtOnce}
-use Rattle.mc_stream.specs.Stream.{Outflow, Streams, both}
+use Rattle.mc_stream.specs.Stream.{Inflow, Outflow, Streams, both}
 use Rattle.mc_write.specs.Text.{text}
 use Rattle.uc_worker.specs.declared.worker.Worker.{Worker}
 use Rattle.uc_worker.specs.Worker.{announced_of}
@@ -23,9 +22,9 @@ use Rattle.mc_conn.specs.Onward.{IsOnward, own_sighting}
 use Rattle.mc_conn.specs.Owed.{Mark, Owes, mark_of}
 use Rattle.mc_conn.specs.Turn.{NeitherFails, Scene, Takes, amount, holding_of, queue_of, scene}
 
--- the input has ended or nothing is read any more, no whole request is held, and nothing is queued
+-- the input has ended or a request has ended the stream, no whole request is held, and nothing is queued
 abbrev pub IsDone : Conn → Type 0
-IsDone conn = ((conn.has_ended ≡ true) ⊎ (conn.reader.held ≡ Ended)) × HoldsNone (holding_of conn) × (queue_of conn ≡ [])
+IsDone conn = ((conn.has_ended ≡ true) ⊎ (conn.is_over ≡ true)) × HoldsNone (holding_of conn) × (queue_of conn ≡ [])
 
 -- why nothing can be done now: the input had nothing; or the output took no more, and the input has ended or too much is queued
 abbrev pub IsStuck : Scene → Scene → Type 0
@@ -45,24 +44,30 @@ abbrev pub HoldsOnlyBehind : {before after : Scene} → Takes before after → T
 HoldsOnlyBehind {before} {after} takes =
     HoldsNone (holding_of after.conn) ⊎ (after.conn.waiting ≢ None) × (QUEUE_BYTES < length takes.sent + length (queue_of after.conn))
 
--- A part of a turn before its pull, at whose end nothing is queued or the output took no more; and the one pull.
+-- What was done before the last pull, and that pull: all requests that had come whole were taken, all that is owed for them was sent, and
+-- none of them had ended the stream; or else the output took no more. What was sent later on.
 pub record PullsAfter (before between after : Scene) : Type 0 where
   pub first : Takes before between
-  pub same : between.streams.input ≡ before.streams.input
-  pub sent : (queue_of between.conn ≡ []) ⊎ (waits before.streams.output.events < waits between.streams.output.events)
+  pub taken : HoldsNone (holding_of between.conn)
+  pub sent : (queue_of between.conn ≡ []) × (between.conn.is_over ≡ false) ⊎ (waits before.streams.output.events < waits between.streams.output.events)
   pub event : Event
   pub pull : after.streams.input.events ≡ event ∷ between.streams.input.events
+  pub later : List ℕ
+  pub pushed : Pushes between.streams.output after.streams.output later
 
--- nothing was pulled, or once, and not before all replies so far were sent or the output took no more
+-- nothing was pulled, or at the last pull all replies so far had been sent, if the output took them
 abbrev pub PullsLate : Scene → Scene → Type 0
 PullsLate before after = (after.streams.input ≡ before.streams.input) ⊎ (between : Scene) × PullsAfter before between after
+
+-- nothing was pulled, or once
+abbrev pub PullsOnce : Inflow → Inflow → Type 0
+PullsOnce before after = (after ≡ before) ⊎ (event : Event) × (after.events ≡ event ∷ before.events)
 
 -- a turn without a fault
 pub record Turns (before after : Scene) (state : State) : Type 0 where
   pub takes : Takes before after
   pub state_is : IsState takes state
   pub held : HoldsOnlyBehind takes
-  pub late : PullsLate before after
 
 -- The command of the request that met a fault was announced behind the mark, or wasn't; no other was.
 abbrev pub Meets : Worker → ℕ → Mark → List Request → Type 0

@@ -9,7 +9,6 @@ use Rattle.mc_model.specs.declared.reply.Reply.TheVariants.{Refused}
 use Rattle.mc_model.specs.declared.reply.WireNo.TheVariants.{E11}
 use Rattle.mc_model.specs.declared.request.Request.{Request}
 use Rattle.mc_model.specs.declared.request.Request.TheVariants.{Local, Logged, Quit, TooLong}
-use Rattle.mc_read.specs.Reading.{Ended}
 use Rattle.mc_stream.specs.Pushing.{PushesAtOnce}
 use Rattle.mc_stream.specs.Stream.{Outflow}
 use Rattle.mc_write.specs.Text.{text}
@@ -73,7 +72,7 @@ IsPullFault fault = (fault ≡ Memory) ⊎ (fault ≡ Input)
 
 -- nothing more comes, no request waits, and nothing is queued
 abbrev pub IsAtRest : Conn → Type 0
-IsAtRest conn = ((conn.has_ended ≡ true) ⊎ (conn.reader.held ≡ Ended)) × (conn.waiting ≡ None) × (queue_of conn ≡ [])
+IsAtRest conn = ((conn.has_ended ≡ true) ⊎ (conn.is_over ≡ true)) × (conn.waiting ≡ None) × (queue_of conn ≡ [])
 
 -- the state of a connection after a turn that did something or nothing
 abbrev pub StateIs : Conn → Bool → State → Type 0

@@ -1,8 +1,10 @@
 -- What a turn of a connection does: bytes come, requests are taken, and bytes are sent; this project's profile.
 use Rattle.std.specs.Bool.{MatchBool}
+use Rattle.std.specs.List.{list_any}
 use Rattle.std.specs.Io.KnownBytes.{Consumes, IsAtEnd}
-use Rattle.std.specs.Prelude.{◌≡◌, ◌⊎◌, ℕ, ◌+◌, ◌≤◌, true, false, List, ◌++◌, length}
+use Rattle.std.specs.Prelude.{◌≡◌, ◌⊎◌, ℕ, ◌+◌, ◌≤◌, ◌||◌, true, false, List, ◌++◌, length}
 use Rattle.mc_model.specs.declared.request.Request.{Request}
+use Rattle.mc_read.specs.Reading.{ends_stream}
 use Rattle.mc_stream.specs.Event.{ends, failures, has_ended, moved, waits}
 use Rattle.mc_stream.specs.Pushing.{IsUnfailed, Pushes}
 use Rattle.mc_stream.specs.Stream.{Streams}
@@ -41,7 +43,8 @@ RemembersTheEnd before after =
     ((before.conn.has_ended ≡ false) × (ends after.streams.input.events ≡ ends before.streams.input.events))
 
 -- Bytes came, and read as requests, which were taken; what was sent and what is queued then is what was queued and what is owed for these
--- requests; each was taken for the connection's tenant, from the worker's mark before to its mark after.
+-- requests; each was taken for the connection's tenant, from the worker's mark before to its mark after. A request that ends the stream
+-- is remembered.
 pub record Takes (before after : Scene) : Type 0 where
   pub came : List ℕ
   pub requests : List Request
@@ -58,6 +61,7 @@ pub record Takes (before after : Scene) : Type 0 where
   pub unfailed : NeitherFails before.streams after.streams
   pub waited : waits before.streams.output.events ≤ waits after.streams.output.events
   pub end : RemembersTheEnd before after
+  pub over : after.conn.is_over ≡ (before.conn.is_over || list_any ends_stream requests)
 
 -- how much was done: bytes that came, requests that were taken, and bytes that were sent
 abbrev pub amount : {before after : Scene} → Takes before after → ℕ

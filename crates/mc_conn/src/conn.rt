@@ -24,6 +24,8 @@ pub struct Conn {
     pub(crate) queue: Vec<u8>,
     /// The input has ended.
     pub(crate) has_ended: bool,
+    /// A request that ends the stream was taken.
+    pub(crate) is_over: bool,
     /// A fault has closed the connection.
     pub(crate) is_closed: bool,
 }
@@ -45,7 +47,7 @@ impl Conn {
         ensures tenant { result.tenant ≡ tenant }
         ensures holding { holding_of result ≡ record { waiting = None; held = Kept [] } }
         ensures queue { queue_of result ≡ [] }
-        ensures open { (result.has_ended ≡ false) × (result.is_closed ≡ false) }
+        ensures open { (result.has_ended ≡ false) × (result.is_over ≡ false) × (result.is_closed ≡ false) }
     {
         Conn {
             tenant,
@@ -53,6 +55,7 @@ impl Conn {
             waiting: None,
             queue: Vec::new(alloc),
             has_ended: false,
+            is_over: false,
             is_closed: false,
         }
     }

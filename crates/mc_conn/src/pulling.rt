@@ -5,7 +5,7 @@ ghost use Rattle.mc_stream.specs.Stream.{Outflow, both};
 ghost use Rattle.uc_worker.specs.declared.worker.Worker.{Worker};
 ghost use Rattle.uc_worker.specs.Worker.{tenants_of};
 ghost use Rattle.mc_conn.specs.declared.conn.TheConstants.{QUEUE_BYTES};
-ghost use Rattle.mc_conn.specs.Ending.{Breaks, PullsLate};
+ghost use Rattle.mc_conn.specs.Ending.{Breaks, PullsLate, PullsOnce};
 ghost use Rattle.mc_conn.specs.Parts.{Does, IsHeldBehind, IsPullFault, IsSameBeside};
 ghost use Rattle.mc_conn.specs.Turn.{queue_of, scene};
 
@@ -48,7 +48,8 @@ impl Conn {
         }
     }
     /// Pulls, where no whole request is held, the queue isn't too long and the input hasn't ended, and takes requests again. Replies that
-    /// are queued are pushed before, since an input may wait for its next bytes. Says whether anything was done.
+    /// are queued are pushed before, since an input may wait for its next bytes; where a request has ended the stream and all is sent,
+    /// nothing is pulled. Says whether anything was done.
     pub(crate) fn pull_and_take<I: Input, O: Output, G: Gate>(
         &mut self,
         worker: &mut Worker<'_>,
@@ -63,9 +64,10 @@ impl Conn {
             (scene self.new worker.new (both (I.tells input.new) (O.tells output.new))) did) }
         ensures held { OnOk result (IsHeldBehind self.new) }
         ensures stuck { IfOk result (λ did. did ≡ false → (waits (I.tells input.new).events ≡ waits (I.tells input.old).events + 1)
-            ⊎ (self.new.has_ended ≡ true) ⊎ (QUEUE_BYTES < length (queue_of self.new))) }
-        ensures late { OnOk result (PullsLate (scene self.old worker.old (both (I.tells input.old) (O.tells output.old)))
-            (scene self.new worker.new (both (I.tells input.new) (O.tells output.new)))) }
+            ⊎ (self.new.has_ended ≡ true) ⊎ (QUEUE_BYTES < length (queue_of self.new)) ⊎ (self.new.is_over ≡ true) × (queue_of self.new ≡ [])) }
+        ensures once { PullsOnce (I.tells input.old) (I.tells input.new) }
+        ensures late { PullsLate (scene self.old worker.old (both (I.tells input.old) (O.tells output.old)))
+            (scene self.new worker.new (both (I.tells input.new) (O.tells output.new))) }
         ensures breaks { IfErr result (λ fault. Breaks fault (scene self.old worker.old (both (I.tells input.old) (O.tells output.old)))
             (scene self.new worker.new (both (I.tells input.new) (O.tells output.new)))) }
         ensures is_closed { self.new.is_closed ≡ self.old.is_closed }
@@ -74,6 +76,10 @@ impl Conn {
             return Ok(false);
         }
         let pushed = self.push(output)?;
+        // Behind a request that ended the stream nothing is to come.
+        if self.is_over & self.queue.is_empty() {
+            return Ok(pushed);
+        }
         let pulled = self.pull(input, buffer)?;
         let taken = self.take(worker, gate)?;
         Ok(pushed | pulled | taken)

@@ -2,7 +2,7 @@
 ghost use Rattle.std.specs.Prelude.{◌≡◌, ◌<◌, true, false, length, Ok, IfErr, OnOk};
 ghost use Rattle.mc_stream.specs.Stream.{both};
 ghost use Rattle.uc_worker.specs.Worker.{tenants_of};
-ghost use Rattle.mc_conn.specs.Ending.{Serves, Stops};
+ghost use Rattle.mc_conn.specs.Ending.{PullsLate, Serves, Stops};
 ghost use Rattle.mc_conn.specs.Turn.{scene};
 
 use crate::conn::{Conn, PULL_BYTES, State};
@@ -25,6 +25,8 @@ pub fn pump<R: Wait, I: Input, O: Output>(
         (scene conn.new worker.new (both (I.tells input.new) (O.tells output.new)))) }
     ensures stops { IfErr result (λ fault. Stops fault (scene conn.old worker.old (both (I.tells input.old) (O.tells output.old)))
         (scene conn.new worker.new (both (I.tells input.new) (O.tells output.new)))) }
+    ensures late { PullsLate (scene conn.old worker.old (both (I.tells input.old) (O.tells output.old)))
+        (scene conn.new worker.new (both (I.tells input.new) (O.tells output.new))) }
     ensures closed { conn.old.is_closed ≡ true → (result ≡ Ok tt) × (conn.new ≡ conn.old) × (worker.new ≡ worker.old)
         × (input.new ≡ input.old) × (output.new ≡ output.old) }
 {

@@ -43,6 +43,7 @@ impl Conn {
         ensures left { OnOk result ((queue_of self.new ≡ []) ⊎ (waits (O.tells output.new).events ≡ waits (O.tells output.old).events + 1)) }
         ensures same { IsSameBeside self.old self.new }
         ensures holding { holding_of self.new ≡ holding_of self.old }
+        ensures over { self.new.is_over ≡ self.old.is_over }
         ensures fault { IsOkUnless result faults.Output }
         ensures breaks { IfErr result (λ fault. (worker : Worker) (input : Inflow) →
             Breaks fault (scene self.old worker (both input (O.tells output.old))) (scene self.new worker (both input (O.tells output.new)))) }

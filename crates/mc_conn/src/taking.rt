@@ -14,6 +14,7 @@ ghost use Rattle.mc_conn.specs.Turn.{holding_of, queue_of, scene};
 use crate::conn::{Conn, QUEUE_BYTES};
 use crate::responding::respond;
 use mc_model::Fault;
+use mc_read::ends_stream;
 use uc_worker::{Gate, Worker};
 
 impl Conn {
@@ -23,6 +24,7 @@ impl Conn {
         ensures found { OnOk result (HoldsNone (holding_of self.new) ⊎ (self.new.waiting ≢ None)) }
         ensures same { IsSameBeside self.old self.new }
         ensures queue { queue_of self.new ≡ queue_of self.old }
+        ensures over { self.new.is_over ≡ self.old.is_over }
         ensures memory { IsOkUnless result faults.Memory }
     {
         if self.waiting.is_none() {
@@ -49,7 +51,9 @@ impl Conn {
     {
         match self.waiting.take() {
             Some(request) => {
+                let ends = ends_stream(&request);
                 respond(self.tenant, request, &mut self.queue, worker, gate)?;
+                self.is_over |= ends;
                 Ok(true)
             }
             None => Ok(false),

@@ -6,7 +6,7 @@ ghost use Rattle.mc_model.specs.declared.reply.Reply.TheVariants.{Refused};
 ghost use Rattle.mc_model.specs.declared.reply.WireNo.TheVariants.{E11};
 ghost use Rattle.mc_write.specs.Text.{text};
 ghost use Rattle.uc_worker.specs.Worker.{tenants_of};
-ghost use Rattle.mc_conn.specs.Ending.{Breaks, Stops, Turns};
+ghost use Rattle.mc_conn.specs.Ending.{Breaks, PullsLate, PullsOnce, Stops, Turns};
 ghost use Rattle.mc_conn.specs.Parts.{IsTold, StateIs};
 ghost use Rattle.mc_conn.specs.Turn.{queue_of, scene};
 
@@ -30,8 +30,7 @@ impl Conn {
     fn state(&self, did: bool) -> State
         ensures { StateIs self.now did result }
     {
-        let ended = self.has_ended || self.reader.has_ended();
-        if ended && self.waiting.is_none() && self.queue.is_empty() {
+        if (self.has_ended | self.is_over) && self.waiting.is_none() && self.queue.is_empty() {
             State::Closed
         } else if did {
             State::Busy
@@ -54,6 +53,9 @@ impl Conn {
             (scene self.new worker.new (both (I.tells input.new) (O.tells output.new))) state) }
         ensures breaks { IfErr result (λ fault. Breaks fault (scene self.old worker.old (both (I.tells input.old) (O.tells output.old)))
             (scene self.new worker.new (both (I.tells input.new) (O.tells output.new)))) }
+        ensures once { PullsOnce (I.tells input.old) (I.tells input.new) }
+        ensures late { PullsLate (scene self.old worker.old (both (I.tells input.old) (O.tells output.old)))
+            (scene self.new worker.new (both (I.tells input.new) (O.tells output.new))) }
         ensures is_closed { self.new.is_closed ≡ self.old.is_closed }
     {
         let first = self.push(output)?;
@@ -94,6 +96,9 @@ impl Conn {
             (scene self.new worker.new (both (I.tells input.new) (O.tells output.new))) state) }
         ensures stops { IfErr result (λ fault. Stops fault (scene self.old worker.old (both (I.tells input.old) (O.tells output.old)))
             (scene self.new worker.new (both (I.tells input.new) (O.tells output.new)))) }
+        ensures once { PullsOnce (I.tells input.old) (I.tells input.new) }
+        ensures late { PullsLate (scene self.old worker.old (both (I.tells input.old) (O.tells output.old)))
+            (scene self.new worker.new (both (I.tells input.new) (O.tells output.new))) }
         ensures shut { MatchResult result (λ _. self.new.is_closed ≡ self.old.is_closed) (λ _. self.new.is_closed ≡ true) }
         ensures same { (self.new.tenant ≡ self.old.tenant) × (worker.new.log ≡ worker.old.log) }
         ensures closed { self.old.is_closed ≡ true → (result ≡ Ok State.Closed) × (self.new ≡ self.old) × (worker.new ≡ worker.old)

@@ -1,11 +1,11 @@
-use Rattle.std.proofs.Common.{◌∙◌}
+use Rattle.std.proofs.Common.{◌∙◌, inl, refl}
 use Rattle.std.proofs.lemmas.Result.{err_from_is_err_and}
-use Rattle.mc_conn.proofs.Endings.{serves, stops_later}
+use Rattle.mc_conn.proofs.Endings.{late_later, serves, stops_later, stops_push}
 use Rattle.mc_conn.proofs.Takings.{takes_self, takes_trans}
 use Rattle.mc_conn.proofs.pumping.pump.Goals as goal
 
 pub loop-init : goal.loop-init
-loop-init g c = record { begun = c.if-conn.false; going = c.if-conn.false; takes = takes_self _ }
+loop-init g c = record { begun = c.if-conn.false; going = c.if-conn.false; takes = takes_self _; late = inl refl }
 
 pub returns-in_err-turn-clause-stops : goal.returns-in_err-turn-clause-stops
 returns-in_err-turn-clause-stops g c =
@@ -20,6 +20,7 @@ loop-preserved-in-Idle g c = record {
   begun = c.loop.invariant.begun;
   going = c.in_ok-turn.ensures.shut ∙ c.loop.invariant.going;
   takes = takes_trans _ _ _ c.loop.invariant.takes (c.in_ok-turn.ensures.turns c.loop.invariant.going).takes;
+  late = late_later _ _ _ c.loop.invariant.takes c.loop.invariant.late c.turn.ensures.late _ (c.in_ok-turn.ensures.turns c.loop.invariant.going).takes.pushed;
 }
 
 pub loop-preserved : goal.loop-preserved
@@ -27,4 +28,14 @@ loop-preserved g c = record {
   begun = c.loop.invariant.begun;
   going = c.in_ok-turn.ensures.shut ∙ c.loop.invariant.going;
   takes = takes_trans _ _ _ c.loop.invariant.takes (c.in_ok-turn.ensures.turns c.loop.invariant.going).takes;
+  late = late_later _ _ _ c.loop.invariant.takes c.loop.invariant.late c.turn.ensures.late _ (c.in_ok-turn.ensures.turns c.loop.invariant.going).takes.pushed;
 }
+
+pub returns-in_err-turn-clause-late : goal.returns-in_err-turn-clause-late
+returns-in_err-turn-clause-late g c =
+    let more = stops_push c.in_err-turn.field-0.0 _ _ c.in_err-turn.ensures.stops in
+    late_later _ _ _ c.loop.invariant.takes c.loop.invariant.late c.turn.ensures.late more.0 more.1
+
+pub returns-in-Closed-clause-late : goal.returns-in-Closed-clause-late
+returns-in-Closed-clause-late g c =
+    late_later _ _ _ c.loop.invariant.takes c.loop.invariant.late c.turn.ensures.late _ (c.in_ok-turn.ensures.turns c.loop.invariant.going).takes.pushed

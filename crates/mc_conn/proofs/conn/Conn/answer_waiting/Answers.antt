@@ -1,4 +1,4 @@
-use Rattle.std.proofs.Common.{◌≡◌, Some, refl}
+use Rattle.std.proofs.Common.{◌≡◌, ◌||◌, Some, refl, ap}
 use Rattle.std.proofs.lemmas.Result.{err_from_is_err_and}
 use Rattle.mc_conn.proofs.Breakings.{breaks_taking}
 use Rattle.mc_conn.proofs.Readings.{read_answered, read_same}
@@ -11,7 +11,7 @@ returns-in_ok-respond-in-Some-clause-does g c streams =
     let is = c.in-Some.is in
     let old : c.args.self.now.waiting ≡ Some c.in-Some.request = cc in
     does_responded c.args.self.now _ _ _ streams c.in-Some.request (read_answered c.args.self.now.waiting c.take.new.self c.args.self.now.reader.held c.in-Some.request old c.take.ensures.after) refl refl
-    c.respond.ensures.onward c.in_ok-respond-in-Some.ensures.responds
+    (ap (λ ends. c.args.self.now.is_over || ends) c.ends_stream-ends.ensures) c.respond.ensures.onward c.in_ok-respond-in-Some.ensures.responds
 
 pub returns-in_ok-respond-in-Some-clause-read : goal.returns-in_ok-respond-in-Some-clause-read
 returns-in_ok-respond-in-Some-clause-read g c =
@@ -37,4 +37,4 @@ returns-in-None-clause-does g c streams =
     let is = c.in-None.is in
     let after = c.take.ensures.after in
     let same : c.take.new.self ≡ c.args.self.now.waiting = cc in
-    does_looked c.args.self.now _ _ streams (read_same c.args.self.now.waiting c.take.new.self c.args.self.now.reader.held same) refl refl refl
+    does_looked c.args.self.now _ _ streams (read_same c.args.self.now.waiting c.take.new.self c.args.self.now.reader.held same) refl refl refl refl

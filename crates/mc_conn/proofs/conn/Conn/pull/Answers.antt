@@ -21,20 +21,20 @@ returns-in_ok-feed-in-Bytes-clause-does g c worker output =
     let said = c.in-Bytes.ensures in
     does_fed c.args.self.now _ worker _ _ output (take c.in-Bytes.count c.pull.new.buffer)
     (read_fed_at c.args.self.now.waiting c.args.self.now.waiting c.args.self.now.reader.held c.feed.new.self.held (take c.in-Bytes.count c.pull.new.buffer) c.requires.waiting refl c.in_ok-feed-in-Bytes.ensures.readings)
-    refl refl (ap moved said.event) said.rest (ap failures said.event) (remembers_open c.args.self.now.has_ended _ _ c.requires.going (ap ends said.event))
+    refl refl (ap moved said.event) said.rest (ap failures said.event) (remembers_open c.args.self.now.has_ended _ _ c.requires.going (ap ends said.event)) refl
     (let taken = length-take-le c.in-Bytes.count c.pull.new.buffer said.count.1 in let some = said.count.0 in omega arith)
 
 pub returns-in-Empty-clause-does : goal.returns-in-Empty-clause-does
 returns-in-Empty-clause-does g c worker output =
     let said = c.in-Empty.ensures in
     does_waited c.args.self.now _ worker _ _ output [] (read_refl (holding_of c.args.self.now)) refl refl (ap moved said.event ∙ sym (append-nil _)) said.rest (ap failures said.event)
-    (remembers_open c.args.self.now.has_ended _ _ c.requires.going (ap ends said.event)) refl
+    (remembers_open c.args.self.now.has_ended _ _ c.requires.going (ap ends said.event)) refl refl
 
 pub returns-in-Ended-clause-does : goal.returns-in-Ended-clause-does
 returns-in-Ended-clause-does g c worker output =
     let said = c.in-Ended.ensures in
     does_waited c.args.self.now _ worker _ _ output [] (read_refl (holding_of c.args.self.now)) refl refl (ap moved said.event ∙ sym (append-nil _)) said.rest (ap failures said.event)
-    (inr (ap has_ended said.event, said.no_more refl)) refl
+    (inr (ap has_ended said.event, said.no_more refl)) refl refl
 
 pub returns-in-Failed-clause-breaks : goal.returns-in-Failed-clause-breaks
 returns-in-Failed-clause-breaks g c worker output =

@@ -14,13 +14,13 @@ returns-in_err-look-clause-breaks g c =
 
 pub returns-then-len-gt-QUEUE_BYTES-clause-does : goal.returns-then-len-gt-QUEUE_BYTES-clause-does
 returns-then-len-gt-QUEUE_BYTES-clause-does g c streams =
-    does_looked c.args.self.now c.look.new.self _ streams c.in_ok-look.ensures.read c.look.ensures.same.tenant c.look.ensures.same.has_ended c.look.ensures.queue
+    does_looked c.args.self.now c.look.new.self _ streams c.in_ok-look.ensures.read c.look.ensures.same.tenant c.look.ensures.same.has_ended c.look.ensures.queue c.look.ensures.over
 
 pub returns-clause-does : goal.returns-clause-does
 returns-clause-does g c =
     if_ok_map c.answer_waiting.result _ _ (λ did does streams.
     does_trans _ (scene c.look.new.self _ streams) _ _ did
-    (does_looked c.args.self.now c.look.new.self _ streams c.in_ok-look.ensures.read c.look.ensures.same.tenant c.look.ensures.same.has_ended c.look.ensures.queue) (does streams))
+    (does_looked c.args.self.now c.look.new.self _ streams c.in_ok-look.ensures.read c.look.ensures.same.tenant c.look.ensures.same.has_ended c.look.ensures.queue c.look.ensures.over) (does streams))
     c.answer_waiting.ensures.does
 
 pub returns-clause-fewer : goal.returns-clause-fewer
@@ -32,5 +32,5 @@ pub returns-clause-breaks : goal.returns-clause-breaks
 returns-clause-breaks g c =
     if_err_map c.answer_waiting.result _ _ (λ fault breaks streams.
     breaks_later fault _ (scene c.look.new.self _ streams) _
-    (does_looked c.args.self.now c.look.new.self _ streams c.in_ok-look.ensures.read c.look.ensures.same.tenant c.look.ensures.same.has_ended c.look.ensures.queue).takes (breaks streams))
+    (does_looked c.args.self.now c.look.new.self _ streams c.in_ok-look.ensures.read c.look.ensures.same.tenant c.look.ensures.same.has_ended c.look.ensures.queue c.look.ensures.over).takes (breaks streams))
     c.answer_waiting.ensures.breaks
