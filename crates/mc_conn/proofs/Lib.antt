@@ -8,3 +8,4 @@ pub mod Breakings
 pub mod Outcomes
 pub mod Endings
 pub mod Alone
+pub mod AloneOwed

@@ -4,3 +4,4 @@ pub mod Held
 pub mod Turn
 pub mod Ending
 pub mod Parts
+pub mod Alone
