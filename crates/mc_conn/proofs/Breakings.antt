@@ -1,5 +1,5 @@
 -- A fault behind parts that went well, and where it comes from.
-use Rattle.std.proofs.Common.{◌≡◌, ℕ, ◌+◌, List, [], ◌∷◌, ◌++◌, length, take, drop, slice_get, Some, sym, refl, ap, ◌∙◌, subst, inl, inr, ⊎_elim, arith, append_assoc, append-nil, length-append}
+use Rattle.std.proofs.Common.{◌≡◌, ℕ, ◌+◌, ◌≤◌, List, [], ◌∷◌, ◌++◌, length, take, drop, slice_get, Some, sym, refl, ap, ◌∙◌, subst, inl, inr, ⊎_elim, arith, append_assoc, append-nil, length-append}
 use Rattle.std.proofs.lemmas.List.{take-append-drop}
 use Rattle.std.specs.Io.KnownBytes.{Consumes}
 use Rattle.std.proofs.KnownBytes.{Consumes-nil, Consumes-trans}
@@ -7,7 +7,7 @@ use Rattle.mc_model.specs.declared.fault.Fault.{Fault}
 use Rattle.mc_model.specs.declared.fault.Fault.TheVariants.{Memory, LogFull, Taken, Input, Output, BadEvent, BadSettings}
 use Rattle.mc_model.specs.declared.request.Request.{Request}
 use Rattle.mc_model.specs.declared.request.Request.TheVariants.{Local, Logged, Quit, TooLong}
-use Rattle.mc_stream.specs.Event.{moved}
+use Rattle.mc_stream.specs.Event.{moved, waits}
 use Rattle.mc_stream.specs.Pushing.{FailsOnce, Pushes}
 use Rattle.mc_stream.specs.Stream.{Inflow, Outflow, Streams, both}
 use Rattle.uc_cells.specs.Sighting.{Sighting}
@@ -58,13 +58,14 @@ breaks_later fault a b c one two = record {
   meets = subst (λ tenant. Meets c.worker tenant two.mark two.met) one.tenant two.meets;
   bytes = joined one.sent two.sent (queue_of a.conn) (queue_of b.conn) (queue_of c.conn) one.owed two.owed one.bytes two.bytes;
   failures = counts_later fault a.streams b.streams c.streams one.unfailed two.failures;
+  waited = omega (arith, one.waited, two.waited);
 }
 
 -- no request was taken, and none met the fault
 pub breaks_here : (fault : Fault) (old new : Conn) (worker : Worker) (before after : Streams) (came sent : List ℕ) → moved after.input.events ≡ moved before.input.events ++ came →
     Consumes before.input.left after.input.left came → Pushes before.output after.output sent → new.tenant ≡ old.tenant → sent ++ queue_of new ≡ queue_of old →
-    CountsFailures fault before after → Breaks fault (scene old worker before) (scene new worker after)
-breaks_here fault old new worker before after came sent pulled consumed pushed tenant bytes counts = record {
+    CountsFailures fault before after → waits before.output.events ≤ waits after.output.events → Breaks fault (scene old worker before) (scene new worker after)
+breaks_here fault old new worker before after came sent pulled consumed pushed tenant bytes counts waited = record {
   came = came;
   requests = [];
   met = [];
@@ -81,21 +82,23 @@ breaks_here fault old new worker before after came sent pulled consumed pushed t
   meets = refl;
   bytes = bytes ∙ sym (append-nil (queue_of old));
   failures = counts;
+  waited = waited;
 }
 
 -- while a front of the queue was pushed
 pub breaks_pushing : (old new : Conn) (worker : Worker) (input : Inflow) (before after : Outflow) (count : ℕ) → queue_of new ≡ drop count (queue_of old) → new.tenant ≡ old.tenant →
-    Pushes before after (take count (queue_of old)) → FailsOnce before after → Breaks Output (scene old worker (both input before)) (scene new worker (both input after))
-breaks_pushing old new worker input before after count left tenant went failed =
+    Pushes before after (take count (queue_of old)) → FailsOnce before after → waits after.events ≡ waits before.events →
+    Breaks Output (scene old worker (both input before)) (scene new worker (both input after))
+breaks_pushing old new worker input before after count left tenant went failed waited =
     breaks_here Output old new worker (both input before) (both input after) [] (take count (queue_of old)) (sym (append-nil (moved input.events))) (Consumes-nil input.left) went tenant
-    (ap (λ rest. take count (queue_of old) ++ rest) left ∙ take-append-drop count (queue_of old)) (refl, failed)
+    (ap (λ rest. take count (queue_of old) ++ rest) left ∙ take-append-drop count (queue_of old)) (refl, failed) (omega (arith, waited))
 
 -- while bytes were pulled, or kept
 pub breaks_pulling : (fault : Fault) (old new : Conn) (worker : Worker) (before after : Inflow) (output : Outflow) (piece : List ℕ) → queue_of new ≡ queue_of old → new.tenant ≡ old.tenant →
     moved after.events ≡ moved before.events ++ piece → Consumes before.left after.left piece → CountsFailures fault (both before output) (both after output) →
     Breaks fault (scene old worker (both before output)) (scene new worker (both after output))
 breaks_pulling fault old new worker before after output piece queue tenant pulled consumed counts =
-    breaks_here fault old new worker (both before output) (both after output) piece [] pulled consumed (sym (append-nil (moved output.events))) tenant queue counts
+    breaks_here fault old new worker (both before output) (both after output) piece [] pulled consumed (sym (append-nil (moved output.events))) tenant queue counts (omega arith)
 
 take_counts : (fault : Fault) (streams : Streams) → IsTakeFault fault → CountsFailures fault streams streams
 take_counts fault streams which =
@@ -106,7 +109,7 @@ pub breaks_looking : (fault : Fault) (old new : Conn) (worker : Worker) (streams
     Breaks fault (scene old worker streams) (scene new worker streams)
 breaks_looking fault old new worker streams which tenant queue =
     breaks_here fault old new worker streams streams [] [] (sym (append-nil (moved streams.input.events))) (Consumes-nil streams.input.left) (sym (append-nil (moved streams.output.events))) tenant queue
-    (take_counts fault streams which)
+    (take_counts fault streams which) (omega arith)
 
 -- what the request that met a fault announced
 meets_one : (worker later : Worker) (tenant : ℕ) (request : Request) → IsOnward worker later → MayAnnounceFor worker later tenant request → Meets later tenant (mark_of worker) (request ∷ [])
@@ -146,4 +149,5 @@ breaks_taking fault old new worker later streams request which read tenant queue
   meets = meets_one worker later old.tenant request on may;
   bytes = queue ∙ sym (append-nil (queue_of old));
   failures = take_counts fault streams which;
+  waited = omega arith;
 }

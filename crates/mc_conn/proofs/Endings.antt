@@ -4,12 +4,12 @@ use Rattle.std.specs.Bool.{MatchBool, ◌==◌}
 use Rattle.mc_model.specs.declared.fault.Fault.{Fault}
 use Rattle.mc_model.specs.declared.fault.Fault.TheVariants.{Memory, LogFull, Taken, Input, Output, BadEvent, BadSettings}
 use Rattle.mc_model.specs.declared.request.Request.{Request}
-use Rattle.mc_stream.specs.Event.{Event, moved, waits}
+use Rattle.mc_stream.specs.Event.{Event, last_moved, moved, waits}
 use Rattle.mc_stream.specs.Pushing.{Pushes}
 use Rattle.mc_stream.specs.Stream.{Inflow, Outflow, both}
 use Rattle.uc_worker.specs.declared.worker.Worker.{Worker}
 use Rattle.mc_conn.specs.declared.conn.Conn.{Conn}
-use Rattle.mc_conn.specs.declared.conn.TheConstants.{QUEUE_BYTES}
+use Rattle.mc_conn.specs.declared.conn.TheConstants.{PULL_BYTES, QUEUE_BYTES}
 use Rattle.mc_conn.specs.declared.conn.State.{State}
 use Rattle.mc_conn.specs.declared.conn.State.TheVariants.{Closed, Idle, Busy}
 use Rattle.mc_conn.specs.Ending.{Breaks, HoldsOnlyBehind, IsDone, IsState, IsStuck, PullsAfter, PullsLate, Serves, Stops, Turns}
@@ -67,8 +67,9 @@ still_on queue count over empty Full long is going left =
 -- a pull behind a push
 pub pulls_late : (a between z : Scene) → Takes a between → HoldsNone (holding_of between.conn) →
     (queue_of between.conn ≡ []) × (between.conn.is_over ≡ false) ⊎ (waits between.streams.output.events ≡ waits a.streams.output.events + 1) →
-    (event : Event) → z.streams.input.events ≡ event ∷ between.streams.input.events → z.streams.output ≡ between.streams.output → PullsLate a z
-pulls_late a between z first none left event pull same = inr (
+    (event : Event) → z.streams.input.events ≡ event ∷ between.streams.input.events → length (last_moved z.streams.input.events) ≤ PULL_BYTES →
+    z.streams.output ≡ between.streams.output → PullsLate a z
+pulls_late a between z first none left event pull short same = inr (
   between,
   record {
     first = first;
@@ -76,14 +77,17 @@ pulls_late a between z first none left event pull same = inr (
     sent = ⊎_elim inl (λ (full : waits between.streams.output.events ≡ waits a.streams.output.events + 1). inr (omega (arith, full))) left;
     event = event;
     pull = pull;
+    short = short;
     later = [];
     pushed = ap (λ (output : Outflow). moved output.events) same ∙ sym (append-nil (moved between.streams.output.events));
+    waited = omega (arith, ap (λ (output : Outflow). waits output.events) same);
   },
 )
 
 -- more is sent behind the last pull
-pub late_more : (a n z : Scene) → PullsLate a n → z.streams.input ≡ n.streams.input → (more : List ℕ) → Pushes n.streams.output z.streams.output more → PullsLate a z
-late_more a n z late same more went =
+pub late_more : (a n z : Scene) → PullsLate a n → z.streams.input ≡ n.streams.input → (more : List ℕ) → Pushes n.streams.output z.streams.output more →
+    waits n.streams.output.events ≤ waits z.streams.output.events → PullsLate a z
+late_more a n z late same more went waited =
     ⊎_elim
     (λ (none : n.streams.input ≡ a.streams.input). inl (same ∙ none))
     (λ (pulled : (between : Scene) × PullsAfter a between n). inr (
@@ -94,8 +98,10 @@ late_more a n z late same more went =
         sent = pulled.1.sent;
         event = pulled.1.event;
         pull = ap (λ (input : Inflow). input.events) same ∙ pulled.1.pull;
+        short = subst (λ (input : Inflow). length (last_moved input.events) ≤ PULL_BYTES) (sym same) pulled.1.short;
         later = pulled.1.later ++ more;
         pushed = appended_twice _ _ _ pulled.1.later more pulled.1.pushed went;
+        waited = omega (arith, pulled.1.waited, waited);
       },
     ))
     late
@@ -110,34 +116,41 @@ late_behind a m n between one pulled = inr (
     sent = ⊎_elim inl (λ (full : waits m.streams.output.events < waits between.streams.output.events). inr (omega (arith, full, one.waited))) pulled.sent;
     event = pulled.event;
     pull = pulled.pull;
+    short = pulled.short;
     later = pulled.later;
     pushed = pulled.pushed;
+    waited = pulled.waited;
   },
 )
 
 -- what is done before a pull and after it
 pub late_within : (a m n z : Scene) → Takes a m → m.streams.input ≡ a.streams.input → PullsLate m n → z.streams.input ≡ n.streams.input → (more : List ℕ) →
-    Pushes n.streams.output z.streams.output more → PullsLate a z
-late_within a m n z one before late after more went =
+    Pushes n.streams.output z.streams.output more → waits n.streams.output.events ≤ waits z.streams.output.events → PullsLate a z
+late_within a m n z one before late after more went waited =
     ⊎_elim
     (λ (none : n.streams.input ≡ m.streams.input). inl (after ∙ (none ∙ before)))
-    (λ (pulled : (between : Scene) × PullsAfter m between n). late_more a n z (late_behind a m n pulled.0 one pulled.1) after more went)
+    (λ (pulled : (between : Scene) × PullsAfter m between n). late_more a n z (late_behind a m n pulled.0 one pulled.1) after more went waited)
     late
 
 -- turns behind turns
-pub late_later : (a b c : Scene) → Takes a b → PullsLate a b → PullsLate b c → (more : List ℕ) → Pushes b.streams.output c.streams.output more → PullsLate a c
-late_later a b c one first second more went =
+pub late_later : (a b c : Scene) → Takes a b → PullsLate a b → PullsLate b c → (more : List ℕ) → Pushes b.streams.output c.streams.output more →
+    waits b.streams.output.events ≤ waits c.streams.output.events → PullsLate a c
+late_later a b c one first second more went waited =
     ⊎_elim
-    (λ (none : c.streams.input ≡ b.streams.input). late_more a b c first none more went)
+    (λ (none : c.streams.input ≡ b.streams.input). late_more a b c first none more went waited)
     (λ (pulled : (between : Scene) × PullsAfter b between c). late_behind a b c pulled.0 one pulled.1)
     second
 
 -- what is told at a fault is sent behind the last pull
-untold_pushes : (before after : Outflow) → after ≡ before → (more : List ℕ) × Pushes before after more
-untold_pushes before after same = ([], ap (λ (output : Outflow). moved output.events) same ∙ sym (append-nil (moved before.events)))
+untold_pushes : (before after : Outflow) → after ≡ before → (more : List ℕ) × Pushes before after more × (waits before.events ≤ waits after.events)
+untold_pushes before after same = (
+  [],
+  ap (λ (output : Outflow). moved output.events) same ∙ sym (append-nil (moved before.events)),
+  omega (arith, ap (λ (output : Outflow). waits output.events) same),
+)
 
-told_pushes : (fault : Fault) (queue : List ℕ) (before after : Outflow) → IsTold fault queue before after → (more : List ℕ) × Pushes before after more
-told_pushes Memory queue before after told = (told.1.front, told.1.went)
+told_pushes : (fault : Fault) (queue : List ℕ) (before after : Outflow) → IsTold fault queue before after → (more : List ℕ) × Pushes before after more × (waits before.events ≤ waits after.events)
+told_pushes Memory queue before after told = (told.0.1.front, told.0.1.went, told.1)
 told_pushes LogFull queue before after told = untold_pushes before after told
 told_pushes Taken queue before after told = untold_pushes before after told
 told_pushes Input queue before after told = untold_pushes before after told
@@ -149,15 +162,20 @@ pub late_told : (fault : Fault) (a : Scene) (old new : Conn) (worker : Worker) (
     PullsLate a (scene old worker (both input between)) → IsTold fault queue between after → PullsLate a (scene new worker (both input after))
 late_told fault a old new worker input between after queue late told =
     let more = told_pushes fault queue between after told in
-    late_more a (scene old worker (both input between)) (scene new worker (both input after)) late refl more.0 more.1
+    late_more a (scene old worker (both input between)) (scene new worker (both input after)) late refl more.0 more.1 more.2
 
 -- what is sent up to a fault
-pub stops_push : (fault : Fault) (a b : Scene) → Stops fault a b → (more : List ℕ) × Pushes a.streams.output b.streams.output more
-stops_push Memory a b stops = (stops.1.sent ++ stops.2.1.front, appended_twice _ _ _ stops.1.sent stops.2.1.front stops.1.pushed stops.2.1.went)
+pub stops_push : (fault : Fault) (a b : Scene) → Stops fault a b →
+    (more : List ℕ) × Pushes a.streams.output b.streams.output more × (waits a.streams.output.events ≤ waits b.streams.output.events)
+stops_push Memory a b stops = (
+  stops.1.sent ++ stops.2.1.front,
+  appended_twice _ _ _ stops.1.sent stops.2.1.front stops.1.pushed stops.2.1.went,
+  omega (arith, stops.1.waited, stops.3),
+)
 stops_push LogFull a b stops = absurd stops
-stops_push Taken a b stops = (stops.sent, stops.pushed)
-stops_push Input a b stops = (stops.sent, stops.pushed)
-stops_push Output a b stops = (stops.sent, stops.pushed)
+stops_push Taken a b stops = (stops.sent, stops.pushed, stops.waited)
+stops_push Input a b stops = (stops.sent, stops.pushed, stops.waited)
+stops_push Output a b stops = (stops.sent, stops.pushed, stops.waited)
 stops_push BadEvent a b stops = absurd stops
 stops_push BadSettings a b stops = absurd stops
 
@@ -280,13 +298,14 @@ module _ (before : Scene) (old new : Conn) (worker : Worker) (input : Inflow) (b
     meets = breaks.meets;
     bytes = ap (λ rest. breaks.sent ++ rest) queue ∙ breaks.bytes;
     failures = breaks.failures;
+    waited = breaks.waited;
   }
 
   at_once : (fault : Fault) → after ≡ between → Breaks fault before (scene old worker (both input between)) → Breaks fault before (scene new worker (both input after))
   at_once fault same breaks = subst (λ output. Breaks fault before (scene new worker (both input output))) (sym same) (closed fault breaks)
 
   pub stops : (fault : Fault) → Breaks fault before (scene old worker (both input between)) → IsTold fault (queue_of old) between after → Stops fault before (scene new worker (both input after))
-  stops Memory breaks told = (between, closed Memory breaks, subst (λ bytes. IsTold Memory bytes between after) (sym queue) told)
+  stops Memory breaks told = let said = subst (λ bytes. IsTold Memory bytes between after) (sym queue) told in (between, closed Memory breaks, said.0, said.1)
   stops LogFull breaks told = breaks.failures
   stops Taken breaks told = at_once Taken told breaks
   stops Input breaks told = at_once Input told breaks
@@ -306,7 +325,7 @@ untold BadSettings queue before after other same = same
 
 -- a fault behind turns that went well
 pub stops_later : (fault : Fault) (a b c : Scene) → Takes a b → Stops fault b c → Stops fault a c
-stops_later Memory a b c one two = (two.0, breaks_later Memory a b (scene c.conn c.worker (both c.streams.input two.0)) one two.1, two.2)
+stops_later Memory a b c one two = (two.0, breaks_later Memory a b (scene c.conn c.worker (both c.streams.input two.0)) one two.1, two.2, two.3)
 stops_later LogFull a b c one two = two
 stops_later Taken a b c one two = breaks_later Taken a b c one two
 stops_later Input a b c one two = breaks_later Input a b c one two

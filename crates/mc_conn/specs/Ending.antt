@@ -1,13 +1,13 @@
 -- How a turn ends: the state that it answers, and what a fault leaves; this project's profile.
 use Rattle.std.specs.Io.KnownBytes.{Consumes}
-use Rattle.std.specs.Prelude.{◌≡◌, ◌≢◌, ◌⊎◌, ℕ, ◌+◌, ◌<◌, true, false, List, [], ◌∷◌, ◌++◌, length, None, Some, slice_get}
+use Rattle.std.specs.Prelude.{◌≡◌, ◌≢◌, ◌⊎◌, ℕ, ◌+◌, ◌<◌, ◌≤◌, true, false, List, [], ◌∷◌, ◌++◌, length, None, Some, slice_get}
 use Rattle.mc_model.specs.declared.fault.Fault.{Fault}
 use Rattle.mc_model.specs.declared.fault.Fault.TheVariants.{Memory, LogFull, Taken, Input, Output, BadEvent, BadSettings}
 use Rattle.mc_model.specs.declared.reply.Reply.TheVariants.{Refused}
 use Rattle.mc_model.specs.declared.reply.WireNo.TheVariants.{E11}
 use Rattle.mc_model.specs.declared.request.Request.{Request}
 use Rattle.mc_model.specs.declared.request.Request.TheVariants.{Local, Logged, Quit, TooLong}
-use Rattle.mc_stream.specs.Event.{Event, failures, moved, waits}
+use Rattle.mc_stream.specs.Event.{Event, failures, last_moved, moved, waits}
 use Rattle.mc_stream.specs.Pushing.{FailsOnce, IsUnfailed, Pushes, PushesAtOnce}
 use Rattle.mc_stream.specs.Stream.{Inflow, Outflow, Streams, both}
 use Rattle.mc_write.specs.Text.{text}
@@ -16,7 +16,7 @@ use Rattle.uc_worker.specs.Worker.{announced_of}
 use Rattle.mc_conn.specs.declared.conn.Conn.{Conn}
 use Rattle.mc_conn.specs.declared.conn.State.{State}
 use Rattle.mc_conn.specs.declared.conn.State.TheVariants.{Closed, Idle, Busy}
-use Rattle.mc_conn.specs.declared.conn.TheConstants.{QUEUE_BYTES}
+use Rattle.mc_conn.specs.declared.conn.TheConstants.{PULL_BYTES, QUEUE_BYTES}
 use Rattle.mc_conn.specs.Held.{HoldsNone, HoldsOn}
 use Rattle.mc_conn.specs.Onward.{IsOnward, own_sighting}
 use Rattle.mc_conn.specs.Owed.{Mark, Owes, mark_of}
@@ -52,16 +52,18 @@ pub record PullsAfter (before between after : Scene) : Type 0 where
   pub sent : (queue_of between.conn ≡ []) × (between.conn.is_over ≡ false) ⊎ (waits before.streams.output.events < waits between.streams.output.events)
   pub event : Event
   pub pull : after.streams.input.events ≡ event ∷ between.streams.input.events
+  pub short : length (last_moved after.streams.input.events) ≤ PULL_BYTES
   pub later : List ℕ
   pub pushed : Pushes between.streams.output after.streams.output later
+  pub waited : waits between.streams.output.events ≤ waits after.streams.output.events
 
 -- nothing was pulled, or at the last pull all replies so far had been sent, if the output took them
 abbrev pub PullsLate : Scene → Scene → Type 0
 PullsLate before after = (after.streams.input ≡ before.streams.input) ⊎ (between : Scene) × PullsAfter before between after
 
--- nothing was pulled, or once
+-- nothing was pulled, or once, and no more bytes than a pull asks for
 abbrev pub PullsOnce : Inflow → Inflow → Type 0
-PullsOnce before after = (after ≡ before) ⊎ (event : Event) × (after.events ≡ event ∷ before.events)
+PullsOnce before after = (after ≡ before) ⊎ (event : Event) × (after.events ≡ event ∷ before.events) × (length (last_moved after.events) ≤ PULL_BYTES)
 
 -- a turn without a fault
 pub record Turns (before after : Scene) (state : State) : Type 0 where
@@ -110,12 +112,13 @@ pub record Breaks (fault : Fault) (before after : Scene) : Type 0 where
   pub meets : Meets after.worker before.conn.tenant mark met
   pub bytes : sent ++ queue_of after.conn ≡ queue_of before.conn ++ owed
   pub failures : CountsFailures fault before.streams after.streams
+  pub waited : waits before.streams.output.events ≤ waits after.streams.output.events
 
 -- where memory ran out, what is queued and then the refusal are pushed, as far as the output takes them at once
 abbrev pub TellsStarved : Scene → Scene → Type 0
 TellsStarved before after =
     (between : Outflow) × Breaks Memory before (scene after.conn after.worker (both after.streams.input between))
-    × PushesAtOnce (queue_of after.conn ++ text (Refused E11)) between after.streams.output
+    × PushesAtOnce (queue_of after.conn ++ text (Refused E11)) between after.streams.output × (waits between.events ≤ waits after.streams.output.events)
 
 -- what a fault leaves; where memory ran out, the client was told
 abbrev pub Stops : Fault → Scene → Scene → Type 0

@@ -9,6 +9,7 @@ use Rattle.mc_model.specs.declared.reply.Reply.TheVariants.{Refused}
 use Rattle.mc_model.specs.declared.reply.WireNo.TheVariants.{E11}
 use Rattle.mc_model.specs.declared.request.Request.{Request}
 use Rattle.mc_model.specs.declared.request.Request.TheVariants.{Local, Logged, Quit, TooLong}
+use Rattle.mc_stream.specs.Event.{waits}
 use Rattle.mc_stream.specs.Pushing.{PushesAtOnce}
 use Rattle.mc_stream.specs.Stream.{Outflow}
 use Rattle.mc_write.specs.Text.{text}
@@ -82,7 +83,7 @@ StateIs conn did Busy = ¬ (IsAtRest conn) × (did ≡ true)
 
 -- what is told of a fault: where memory ran out, the queue and the refusal are pushed as far as the output takes them at once
 abbrev pub IsTold : Fault → List ℕ → Outflow → Outflow → Type 0
-IsTold Memory queue before after = PushesAtOnce (queue ++ text (Refused E11)) before after
+IsTold Memory queue before after = PushesAtOnce (queue ++ text (Refused E11)) before after × (waits before.events ≤ waits after.events)
 IsTold LogFull queue before after = after ≡ before
 IsTold Taken queue before after = after ≡ before
 IsTold Input queue before after = after ≡ before

@@ -1,10 +1,10 @@
 //! Bytes are pulled.
-ghost use Rattle.std.specs.Prelude.{◌≡◌, ◌≢◌, ◌⊎◌, ◌+◌, ◌<◌, ◌∷◌, [], true, false, length, None, IfOk, IfErr, OnOk};
-ghost use Rattle.mc_stream.specs.Event.{Event, waits};
+ghost use Rattle.std.specs.Prelude.{◌≡◌, ◌≢◌, ◌⊎◌, ◌+◌, ◌<◌, ◌≤◌, ◌∷◌, [], true, false, length, None, IfOk, IfErr, OnOk};
+ghost use Rattle.mc_stream.specs.Event.{Event, last_moved, waits};
 ghost use Rattle.mc_stream.specs.Stream.{Outflow, both};
 ghost use Rattle.uc_worker.specs.declared.worker.Worker.{Worker};
 ghost use Rattle.uc_worker.specs.Worker.{tenants_of};
-ghost use Rattle.mc_conn.specs.declared.conn.TheConstants.{QUEUE_BYTES};
+ghost use Rattle.mc_conn.specs.declared.conn.TheConstants.{PULL_BYTES, QUEUE_BYTES};
 ghost use Rattle.mc_conn.specs.Ending.{Breaks, PullsLate, PullsOnce};
 ghost use Rattle.mc_conn.specs.Parts.{Does, IsHeldBehind, IsPullFault, IsSameBeside};
 ghost use Rattle.mc_conn.specs.Turn.{queue_of, scene};
@@ -28,6 +28,7 @@ impl Conn {
         ensures stuck { IfOk result (λ did. did ≡ false →
             (waits (I.tells input.new).events ≡ waits (I.tells input.old).events + 1) ⊎ (self.new.has_ended ≡ true)) }
         ensures once { (event : Event) × ((I.tells input.new).events ≡ event ∷ (I.tells input.old).events) }
+        ensures short { length (last_moved (I.tells input.new).events) ≤ PULL_BYTES }
         ensures tenant { self.new.tenant ≡ self.old.tenant }
         ensures is_closed { self.new.is_closed ≡ self.old.is_closed }
         ensures faults { IfErr result IsPullFault }

@@ -1,5 +1,6 @@
 //! A turn of a connection.
-ghost use Rattle.std.specs.Prelude.{◌≡◌, ◌<◌, ◌++◌, true, false, length, Ok, IfOk, IfErr, MatchResult};
+ghost use Rattle.std.specs.Prelude.{◌≡◌, ◌<◌, ◌≤◌, ◌++◌, true, false, length, Ok, IfOk, IfErr, MatchResult};
+ghost use Rattle.mc_stream.specs.Event.{waits};
 ghost use Rattle.mc_stream.specs.Pushing.{PushesAtOnce};
 ghost use Rattle.mc_stream.specs.Stream.{both};
 ghost use Rattle.mc_model.specs.declared.reply.Reply.TheVariants.{Refused};
@@ -18,7 +19,8 @@ use uc_worker::{Gate, Worker};
 
 /// Tells the client that memory ran out, after the replies that are queued, as far as the output takes it at once.
 fn tell_starved<O: Output>(queue: &[u8], output: &mut O)
-    ensures { PushesAtOnce (queue.now ++ text (Refused E11)) (O.tells output.old) (O.tells output.new) }
+    ensures pushed { PushesAtOnce (queue.now ++ text (Refused E11)) (O.tells output.old) (O.tells output.new) }
+    ensures waited { waits (O.tells output.old).events ≤ waits (O.tells output.new).events }
 {
     if push_while_taken(queue, output) {
         push_while_taken(refusal_text(WireNo::E11), output);

@@ -1,6 +1,7 @@
 //! Bytes to an output that may take them in pieces.
 ghost use Rattle.std.specs.Bool.{OnFalse, OnTrue};
 ghost use Rattle.std.specs.Prelude.{◌≤◌, length, take};
+ghost use Rattle.mc_stream.specs.Event.{waits};
 ghost use Rattle.mc_stream.specs.Pushing.{IsStopped, IsUnfailed, Pushes, PushesAtOnce, StopsAs};
 
 use crate::stream::{Output, Push};
@@ -39,6 +40,7 @@ pub fn push_while_taken<O: Output>(bytes: &[u8], output: &mut O) -> bool
     ensures all { OnTrue result (Pushes (O.tells output.old) (O.tells output.new) bytes.now) }
     ensures taken { OnTrue result (IsUnfailed (O.tells output.old) (O.tells output.new)) }
     ensures stopped { OnFalse result (IsStopped (O.tells output.old) (O.tells output.new)) }
+    ensures waited { waits (O.tells output.old).events ≤ waits (O.tells output.new).events }
 {
     let (_, stop) = push_front(bytes, output);
     match stop {

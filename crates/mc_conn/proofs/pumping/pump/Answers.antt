@@ -20,7 +20,8 @@ loop-preserved-in-Idle g c = record {
   begun = c.loop.invariant.begun;
   going = c.in_ok-turn.ensures.shut ∙ c.loop.invariant.going;
   takes = takes_trans _ _ _ c.loop.invariant.takes (c.in_ok-turn.ensures.turns c.loop.invariant.going).takes;
-  late = late_later _ _ _ c.loop.invariant.takes c.loop.invariant.late c.turn.ensures.late _ (c.in_ok-turn.ensures.turns c.loop.invariant.going).takes.pushed;
+  late = late_later _ _ _ c.loop.invariant.takes c.loop.invariant.late c.turn.ensures.late _ (c.in_ok-turn.ensures.turns c.loop.invariant.going).takes.pushed
+      (c.in_ok-turn.ensures.turns c.loop.invariant.going).takes.waited;
 }
 
 pub loop-preserved : goal.loop-preserved
@@ -28,14 +29,16 @@ loop-preserved g c = record {
   begun = c.loop.invariant.begun;
   going = c.in_ok-turn.ensures.shut ∙ c.loop.invariant.going;
   takes = takes_trans _ _ _ c.loop.invariant.takes (c.in_ok-turn.ensures.turns c.loop.invariant.going).takes;
-  late = late_later _ _ _ c.loop.invariant.takes c.loop.invariant.late c.turn.ensures.late _ (c.in_ok-turn.ensures.turns c.loop.invariant.going).takes.pushed;
+  late = late_later _ _ _ c.loop.invariant.takes c.loop.invariant.late c.turn.ensures.late _ (c.in_ok-turn.ensures.turns c.loop.invariant.going).takes.pushed
+      (c.in_ok-turn.ensures.turns c.loop.invariant.going).takes.waited;
 }
 
 pub returns-in_err-turn-clause-late : goal.returns-in_err-turn-clause-late
 returns-in_err-turn-clause-late g c =
     let more = stops_push c.in_err-turn.field-0.0 _ _ c.in_err-turn.ensures.stops in
-    late_later _ _ _ c.loop.invariant.takes c.loop.invariant.late c.turn.ensures.late more.0 more.1
+    late_later _ _ _ c.loop.invariant.takes c.loop.invariant.late c.turn.ensures.late more.0 more.1 more.2
 
 pub returns-in-Closed-clause-late : goal.returns-in-Closed-clause-late
 returns-in-Closed-clause-late g c =
     late_later _ _ _ c.loop.invariant.takes c.loop.invariant.late c.turn.ensures.late _ (c.in_ok-turn.ensures.turns c.loop.invariant.going).takes.pushed
+      (c.in_ok-turn.ensures.turns c.loop.invariant.going).takes.waited

@@ -1,4 +1,4 @@
-use Rattle.std.proofs.Common.{[], refl, sym, inl, append-nil}
+use Rattle.std.proofs.Common.{[], refl, sym, inl, append-nil, arith}
 use Rattle.std.proofs.lemmas.Result.{err_from_is_err_and}
 use Rattle.mc_stream.specs.Stream.{both}
 use Rattle.mc_conn.specs.Turn.{scene}
@@ -43,18 +43,18 @@ returns-in_err-taken-clause-late g c = inl refl
 
 pub returns-in_err-pulled-clause-late : goal.returns-in_err-pulled-clause-late
 returns-in_err-pulled-clause-late g c =
-    late_within _ _ _ _ (does_trans _ _ _ _ _ (c.in_ok-first.ensures.does _ _) (c.in_ok-taken.ensures.does _)).takes refl c.pull_and_take.ensures.late refl [] (sym (append-nil _))
+    late_within _ _ _ _ (does_trans _ _ _ _ _ (c.in_ok-first.ensures.does _ _) (c.in_ok-taken.ensures.does _)).takes refl c.pull_and_take.ensures.late refl [] (sym (append-nil _)) (omega arith)
 
 pub returns-in_err-last-clause-late : goal.returns-in_err-last-clause-late
 returns-in_err-last-clause-late g c =
     let input = g.I.Input.tells c.pull_and_take.new.input in
     let broken = c.in_err-last.ensures.breaks c.pull_and_take.new.worker input in
     late_within _ _ (scene c.pull_and_take.new.self c.pull_and_take.new.worker (both input (g.O.Output.tells c.pull_and_take.new.output))) _
-    (does_trans _ _ _ _ _ (c.in_ok-first.ensures.does _ _) (c.in_ok-taken.ensures.does _)).takes refl c.pull_and_take.ensures.late refl broken.sent broken.pushed
+    (does_trans _ _ _ _ _ (c.in_ok-first.ensures.does _ _) (c.in_ok-taken.ensures.does _)).takes refl c.pull_and_take.ensures.late refl broken.sent broken.pushed broken.waited
 
 pub returns-clause-late : goal.returns-clause-late
 returns-clause-late g c =
     let input = g.I.Input.tells c.pull_and_take.new.input in
     let last = (c.in_ok-last.ensures.does c.pull_and_take.new.worker input).takes in
     late_within _ _ (scene c.pull_and_take.new.self c.pull_and_take.new.worker (both input (g.O.Output.tells c.pull_and_take.new.output))) _
-    (does_trans _ _ _ _ _ (c.in_ok-first.ensures.does _ _) (c.in_ok-taken.ensures.does _)).takes refl c.pull_and_take.ensures.late refl last.sent last.pushed
+    (does_trans _ _ _ _ _ (c.in_ok-first.ensures.does _ _) (c.in_ok-taken.ensures.does _)).takes refl c.pull_and_take.ensures.late refl last.sent last.pushed last.waited

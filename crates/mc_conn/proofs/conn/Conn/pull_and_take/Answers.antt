@@ -40,7 +40,7 @@ returns-in_err-pulled-clause-late g c =
     in
     let left = still_on (queue_of c.push.new.self) _ c.push.new.self.is_over c.is_empty.result _ c.push.new.self.queue.ok.0 c.is_empty.ensures c.if-self-is_empty.false c.in_ok-pushed.ensures.left in
     pulls_late _ (scene c.push.new.self c.args.worker.now (both (g.I.Input.tells c.args.input.now) (g.O.Output.tells c.push.new.output))) _ (c.in_ok-pushed.ensures.does _ _).takes
-    none left c.pull.ensures.once.0 c.pull.ensures.once.1 refl
+    none left c.pull.ensures.once.0 c.pull.ensures.once.1 c.pull.ensures.short refl
 
 pub returns-in_err-taken-clause-late : goal.returns-in_err-taken-clause-late
 returns-in_err-taken-clause-late g c =
@@ -49,7 +49,7 @@ returns-in_err-taken-clause-late g c =
     in
     let left = still_on (queue_of c.push.new.self) _ c.push.new.self.is_over c.is_empty.result _ c.push.new.self.queue.ok.0 c.is_empty.ensures c.if-self-is_empty.false c.in_ok-pushed.ensures.left in
     pulls_late _ (scene c.push.new.self c.args.worker.now (both (g.I.Input.tells c.args.input.now) (g.O.Output.tells c.push.new.output))) _ (c.in_ok-pushed.ensures.does _ _).takes
-    none left c.pull.ensures.once.0 c.pull.ensures.once.1 refl
+    none left c.pull.ensures.once.0 c.pull.ensures.once.1 c.pull.ensures.short refl
 
 pub returns-clause-late : goal.returns-clause-late
 returns-clause-late g c =
@@ -58,4 +58,4 @@ returns-clause-late g c =
     in
     let left = still_on (queue_of c.push.new.self) _ c.push.new.self.is_over c.is_empty.result _ c.push.new.self.queue.ok.0 c.is_empty.ensures c.if-self-is_empty.false c.in_ok-pushed.ensures.left in
     pulls_late _ (scene c.push.new.self c.args.worker.now (both (g.I.Input.tells c.args.input.now) (g.O.Output.tells c.push.new.output))) _ (c.in_ok-pushed.ensures.does _ _).takes
-    none left c.pull.ensures.once.0 c.pull.ensures.once.1 refl
+    none left c.pull.ensures.once.0 c.pull.ensures.once.1 c.pull.ensures.short refl

@@ -19,4 +19,4 @@ pub returns-in-Failed-clause-breaks : goal.returns-in-Failed-clause-breaks
 returns-in-Failed-clause-breaks g c worker input =
     let pushed = c.push_queue-count.ensures in
     let stop = rw c.in-Failed.is at pushed.stop in
-    breaks_pushing c.args.self.now _ worker input _ _ c.push_queue-count.result.0 pushed.left refl pushed.pushed stop.0
+    breaks_pushing c.args.self.now _ worker input _ _ c.push_queue-count.result.0 pushed.left refl pushed.pushed stop.0 stop.1
