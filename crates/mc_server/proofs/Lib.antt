@@ -2,6 +2,5 @@ pub mod Answered
 mod ListRows
 pub mod Owings
 pub mod Reported
-pub mod Underway
+pub mod Served
 mod Rows
-pub mod Sessions

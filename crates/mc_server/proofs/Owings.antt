@@ -6,25 +6,20 @@ use Rattle.mc_model.specs.declared.request.Request.TheVariants.{Local, Logged, Q
 use Rattle.mc_model.specs.declared.reply.Reply.TheVariants.{Refused}
 use Rattle.mc_model.specs.declared.reply.WireNo.TheVariants.{E5}
 use Rattle.mc_model.specs.declared.settings.Limits.{Limits}
-use Rattle.mc_server.specs.Owed.{answered, applied_by, applied_with, logged_reply, owed}
+use Rattle.mc_conn.specs.Alone.{applied_with, logged_reply, owed}
+use Rattle.mc_conn.specs.Owed.{answered}
 use Rattle.mc_write.specs.Text.{text}
 
-pub owed-append : (limits : Limits) (places : ℕ) (applied : List Command) (first second : List Request) → owed limits places applied (first ++ second) ≡ owed limits places applied first ++ owed limits places (applied_by places applied first) second
-owed-append limits places applied [] second = refl
-owed-append limits places applied (Logged command quiet ∷ first) second =
-    ap (λ rest. answered quiet (logged_reply limits places applied command) ++ rest) (owed-append limits places (applied_with places applied command) first second)
-    ∙ sym (append_assoc (answered quiet (logged_reply limits places applied command)) (owed limits places (applied_with places applied command) first) (owed limits places (applied_by places (applied_with places applied command) first) second))
-owed-append limits places applied (Local reply quiet ∷ first) second =
-    ap (λ rest. answered quiet reply ++ rest) (owed-append limits places applied first second)
-    ∙ sym (append_assoc (answered quiet reply) (owed limits places applied first) (owed limits places (applied_by places applied first) second))
-owed-append limits places applied (Quit ∷ first) second = owed-append limits places applied first second
-owed-append limits places applied (TooLong ∷ first) second =
-    ap (λ rest. text (Refused E5) ++ rest) (owed-append limits places applied first second)
-    ∙ sym (append_assoc (text (Refused E5)) (owed limits places applied first) (owed limits places (applied_by places applied first) second))
+behind : (text others rest more : List ℕ) → others ≡ rest ++ more → text ++ others ≡ (text ++ rest) ++ more
+behind text others rest more is = ap (λ it. text ++ it) is ∙ sym (append_assoc text rest more)
 
-pub applied_by-append : (places : ℕ) (applied : List Command) (first second : List Request) → applied_by places applied (first ++ second) ≡ applied_by places (applied_by places applied first) second
-applied_by-append places applied [] second = refl
-applied_by-append places applied (Logged command quiet ∷ first) second = applied_by-append places (applied_with places applied command) first second
-applied_by-append places applied (Local reply quiet ∷ first) second = applied_by-append places applied first second
-applied_by-append places applied (Quit ∷ first) second = applied_by-append places applied first second
-applied_by-append places applied (TooLong ∷ first) second = applied_by-append places applied first second
+-- what is owed for the first requests stands first in what is owed for all
+pub owed-more : (limits : Limits) (places : ℕ) (applied : List Command) (first second : List Request) →
+    (more : List ℕ) × (owed limits places applied (first ++ second) ≡ owed limits places applied first ++ more)
+owed-more limits places applied [] second = (owed limits places applied second, refl)
+owed-more limits places applied (Logged command quiet ∷ first) second =
+    let rest = owed-more limits places (applied_with places applied command) first second in
+    (rest.0, behind (answered quiet (logged_reply limits places applied command)) _ _ rest.0 rest.1)
+owed-more limits places applied (Local reply quiet ∷ first) second = let rest = owed-more limits places applied first second in (rest.0, behind (answered quiet reply) _ _ rest.0 rest.1)
+owed-more limits places applied (Quit ∷ first) second = owed-more limits places applied first second
+owed-more limits places applied (TooLong ∷ first) second = let rest = owed-more limits places applied first second in (rest.0, behind (text (Refused E5)) _ _ rest.0 rest.1)

@@ -12,10 +12,9 @@ use Rattle.mc_read.specs.Line.{refused}
 use Rattle.clap.specs.Faults.{fault_of}
 use Rattle.clap.specs.declared.error.kind.ErrorKind.TheVariants as kind
 use Rattle.clap.proofs.OnLiterals.{clap_on_literals}
-use Rattle.mc_server.specs.declared.serving.TheConstants.{PULL_BYTES}
-use Rattle.mc_server.specs.declared.session.TheConstants.{QUEUE_BYTES}
+use Rattle.mc_conn.specs.declared.conn.TheConstants.{PULL_BYTES, QUEUE_BYTES}
 use Rattle.mc_server.specs.Options.{limits_asked, places_asked, stdin_app}
-use Rattle.mc_server.specs.Owed.{owed}
+use Rattle.mc_conn.specs.Alone.{owed}
 use Rattle.mc_write.specs.Text.{text}
 
 -- a get that shows no item

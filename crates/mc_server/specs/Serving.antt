@@ -1,20 +1,29 @@
--- What a client is given for what it sent, by how the call that serves it ends; this project's profile.
+-- What a client is given for what it sent, where one worker serves it on a log of its own, by how the call that serves it ends; this
+-- project's profile. What is owed for requests is `mc_conn`'s, said place by place over the worker's history (`Owes`); on a log of its
+-- own it is a function of the requests (`owed`).
 use Rattle.std.specs.Io.KnownBytes.{Consumes, IsAtEnd}
 use Rattle.std.specs.List.{list_any}
-use Rattle.std.specs.Prelude.{◌≡◌, ℕ, true, false, ◌+◌, ◌≤◌, ◌⊎◌, Result, Ok, Err, List, [], ◌++◌, length}
+use Rattle.std.specs.Prelude.{◌≡◌, ℕ, true, false, ◌+◌, ◌≤◌, ◌⊎◌, Result, Ok, Err, List, [], ◌∷◌, ◌++◌, length}
 use Rattle.mc_model.specs.declared.fault.Fault.{Fault}
 use Rattle.mc_model.specs.declared.fault.Fault.TheVariants.{Memory, LogFull, Taken, Input, Output, BadEvent, BadSettings}
 use Rattle.mc_model.specs.declared.reply.Reply.TheVariants.{Refused}
 use Rattle.mc_model.specs.declared.reply.WireNo.TheVariants.{E11}
 use Rattle.mc_model.specs.declared.request.Request.{Request}
 use Rattle.mc_model.specs.declared.settings.Limits.{Limits}
+use Rattle.mc_model.specs.Settings.{Configuration, IsLawful}
 use Rattle.mc_read.specs.Reading.{Reads, ReadsAs, ends_stream}
-use Rattle.mc_server.specs.declared.serving.TheConstants.{PULL_BYTES}
-use Rattle.mc_server.specs.Owed.{owed}
-use Rattle.mc_stream.specs.Event.{failures, has_ended, last_moved, moved}
-use Rattle.mc_stream.specs.Pushing.{FailsOnce, IsAllOrStopped, IsUnfailed, Pushes}
+use Rattle.mc_conn.specs.declared.conn.TheConstants.{PULL_BYTES}
+use Rattle.mc_conn.specs.Alone.{IsAlone, first_mark, owed}
+use Rattle.mc_conn.specs.Owed.{Mark, Owes}
+use Rattle.mc_stream.specs.Event.{failures, has_ended, last_moved, moved, waits}
+use Rattle.mc_stream.specs.Pushing.{FailsOnce, IsAllOrStopped, IsUnfailed, Pushes, PushesAtOnce}
 use Rattle.mc_stream.specs.Stream.{Inflow, Streams}
 use Rattle.mc_write.specs.Text.{text}
+use Rattle.uc_worker.specs.declared.worker.Worker.{Worker}
+
+-- the settings of a log with one worker, for one tenant
+abbrev pub settings_alone : Limits → ℕ → Configuration
+settings_alone limits places = record { workers = 1; places = places; tenants = limits ∷ [] }
 
 -- The bytes that came read as these requests and a rest. An input that knows what is left has lost them from its front.
 pub record Comes (before after : Streams) : Type 0 where
@@ -25,9 +34,17 @@ pub record Comes (before after : Streams) : Type 0 where
   pub consumed : Consumes before.input.left after.input.left bytes
   pub reads : Reads bytes requests rest
 
+-- The one worker of a log with so many places, whose tenant has these quotas, took the requests, and over its history this is owed for them.
+pub record Answers (limits : Limits) (places : ℕ) (requests : List Request) (bytes : List ℕ) : Type 0 where
+  pub worker : Worker
+  pub alone : IsAlone limits places worker
+  pub mark : Mark
+  pub owes : Owes worker 0 first_mark requests bytes mark
+
 -- All that came was answered, under these quotas and by a log with so many places, up to the end of the input or a request that ends the stream.
 pub record Serves (limits : Limits) (places : ℕ) (before after : Streams) : Type 0 where
   pub comes : Comes before after
+  pub answers : Answers limits places comes.requests (owed limits places [] comes.requests)
   pub went : Pushes before.output after.output (owed limits places [] comes.requests)
   pub end : (has_ended after.input.events ≡ true) × IsAtEnd after.input.left ⊎ (list_any ends_stream comes.requests ≡ true)
 
@@ -49,44 +66,40 @@ pub record IsCaughtUp (limits : Limits) (places : ℕ) (bytes last_pull sent : L
   pub reads : ReadsAs earlier requests
   pub is_sent : sent ≡ owed limits places [] requests ++ later
 
--- A front of what is owed for all that came was pushed.
-pub record ServesInPart (limits : Limits) (places : ℕ) (before after : Streams) : Type 0 where
-  pub comes : Comes before after
-  pub sent : List ℕ
-  pub unsent : List ℕ
-  pub owes : owed limits places [] comes.requests ≡ sent ++ unsent
-  pub went : Pushes before.output after.output sent
-  pub caught_up : IsCaughtUp limits places comes.bytes (last_moved after.input.events) sent
+-- the output took something whenever it was asked
+abbrev pub NeverWaits : Streams → Streams → Type 0
+NeverWaits before after = waits after.output.events ≡ waits before.output.events
 
--- The first requests that came were answered, and then the client was told that memory ran out, as far as the output took it
--- at once. The others are all that came after them; the first of those is the one for which memory ran out, if that wasn't
--- while a piece was read or a request looked for, and it may have been applied.
-pub record ServesUntilStarved (limits : Limits) (places : ℕ) (before after : Streams) : Type 0 where
+-- The first requests that came were answered. A front of what is owed for them, with what is told behind, was sent. The others are all
+-- that came after them; the first of those may have met the fault, and then its command may stand in the log.
+pub record ServesInPart (limits : Limits) (places : ℕ) (before after : Streams) (told : List ℕ) : Type 0 where
   pub comes : Comes before after
   pub answered : List Request
   pub others : List Request
   pub split : comes.requests ≡ answered ++ others
+  pub answers : Answers limits places answered (owed limits places [] answered)
   pub sent : List ℕ
   pub unsent : List ℕ
-  pub owes : owed limits places [] answered ++ text (Refused E11) ≡ sent ++ unsent
+  pub owes : owed limits places [] answered ++ told ≡ sent ++ unsent
   pub went : Pushes before.output after.output sent
-  pub stops : IsAllOrStopped unsent before.output after.output
-  pub caught_up : IsCaughtUp limits places comes.bytes (last_moved after.input.events) sent
+  pub caught_up : NeverWaits before after → IsCaughtUp limits places comes.bytes (last_moved after.input.events) sent
 
--- what a client was given where a fault ended it, and where memory ran out this; where a command's cell was taken, a front of what is
--- owed and no refusal
-abbrev pub StopsAt : Limits → ℕ → Fault → Streams → Streams → Type 0 → Type 0
-StopsAt limits places Memory before after is_starved = is_starved
-StopsAt limits places Input before after is_starved = ServesOn limits places before after
-StopsAt limits places Output before after is_starved = ServesInPart limits places before after
-StopsAt limits places LogFull before after is_starved = ⊥
-StopsAt limits places Taken before after is_starved = ServesInPart limits places before after
-StopsAt limits places BadEvent before after is_starved = ⊥
-StopsAt limits places BadSettings before after is_starved = ⊥
+-- Memory ran out, and the client was told so behind its replies, as far as the output took that at once; or memory ran out before a log
+-- could be opened, nothing was pulled, and only that was told.
+abbrev pub ServesUntilStarved : Limits → ℕ → Streams → Streams → Type 0
+ServesUntilStarved limits places before after =
+    ((part : ServesInPart limits places before after (text (Refused E11))) × IsAllOrStopped part.unsent before.output after.output)
+    ⊎ (after.input ≡ before.input) × PushesAtOnce (text (Refused E11)) before.output after.output
 
--- what a client was given where a fault ended it
+-- what a client was given where a fault ended it; where the quotas or the number of places aren't lawful, nothing was done
 abbrev pub Stops : Limits → ℕ → Fault → Streams → Streams → Type 0
-Stops limits places fault before after = StopsAt limits places fault before after (ServesUntilStarved limits places before after)
+Stops limits places Memory before after = ServesUntilStarved limits places before after
+Stops limits places Input before after = ServesInPart limits places before after [] × (NeverWaits before after → ServesOn limits places before after)
+Stops limits places Output before after = ServesInPart limits places before after []
+Stops limits places Taken before after = ServesInPart limits places before after []
+Stops limits places LogFull before after = ⊥
+Stops limits places BadEvent before after = ⊥
+Stops limits places BadSettings before after = (after ≡ before) × ¬ (IsLawful (settings_alone limits places))
 
 -- the input hasn't failed from the one to the other
 abbrev pub IsUnfailedInput : Inflow → Inflow → Type 0
@@ -97,8 +110,8 @@ abbrev pub NeitherFails : Streams → Streams → Type 0
 NeitherFails before after = IsUnfailedInput before.input after.input × IsUnfailed before.output after.output
 
 -- The failures of an input and of an output before and after a call: without a fault there was none, nor where a command's cell was
--- taken; a failure of the input, or of the output, is the one fault that names it; and where memory ran out, the output may fail once
--- more while the client is told.
+-- taken or nothing was done; a failure of the input, or of the output, is the one fault that names it; and where memory ran out, the
+-- output may fail once more while the client is told.
 abbrev pub CountsFailures : Result (Unit {0}) Fault → Streams → Streams → Type 0
 CountsFailures (Ok done) before after = NeitherFails before after
 CountsFailures (Err Input) before after = (failures after.input.events ≡ failures before.input.events + 1) × IsUnfailed before.output after.output
@@ -108,4 +121,4 @@ CountsFailures (Err Memory) before after =
 CountsFailures (Err LogFull) before after = ⊥
 CountsFailures (Err Taken) before after = NeitherFails before after
 CountsFailures (Err BadEvent) before after = ⊥
-CountsFailures (Err BadSettings) before after = ⊥
+CountsFailures (Err BadSettings) before after = NeitherFails before after

@@ -7,7 +7,7 @@ pub use mc_stream::{
 };
 pub use mc_write::fault_text;
 pub use schedule::run_schedule;
-pub use serving::pump;
+pub use serving::serve_client;
 pub use stdin::run_stdin;
 pub use words::{refuse_words, words_after_name};
 
@@ -16,7 +16,6 @@ mod options;
 mod schedule;
 mod schedule_words;
 mod serving;
-mod session;
 mod stdin;
 mod waiting;
 mod words;

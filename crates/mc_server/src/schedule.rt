@@ -7,7 +7,7 @@ ghost use Rattle.mc_stream.specs.Stream.{both};
 
 use crate::faults::{fail, tell_fault};
 use crate::schedule_words::{ScheduleOptions, read_words};
-use crate::serving::PULL_BYTES;
+use mc_conn::PULL_BYTES;
 use crate::waiting::push_all;
 use crate::words::answer_words;
 use itoa::Buffer;

@@ -6,7 +6,7 @@ ghost use Rattle.mc_stream.specs.Stream.{both};
 
 use crate::faults::{fail, tell_fault};
 use crate::options::read_words;
-use crate::serving::{Memory, serve_client};
+use crate::serving::{Memory, serve_and_leave};
 use crate::words::answer_words;
 use mc_model::Fault;
 use mc_stream::{Input, Output};
@@ -54,7 +54,7 @@ pub fn run_stdin<R: Wait, I: Input, O: Output, E: Output>(
         return 2;
     }
     let (limits, places) = (options.limits, options.places);
-    match serve_client(rt, alloc, limits, places, Memory::Left, input, output) {
+    match serve_and_leave(rt, alloc, limits, places, Memory::Left, input, output) {
         Ok(()) => 0,
         Err(fault) => fail(rt, NAME, fault, errors),
     }

@@ -1,6 +1,6 @@
 use Rattle.std.proofs.Common.{◌≡◌, ◌++◌, length}
 use Rattle.std.specs.Io.KnownBytes.{Consumes}
-use Rattle.mc_server.specs.declared.serving.TheConstants.{PULL_BYTES}
+use Rattle.mc_conn.specs.declared.conn.TheConstants.{PULL_BYTES}
 use Rattle.mc_server.specs.Serving.{IsUnfailedInput}
 use Rattle.mc_stream.specs.Event.{moved}
 use Rattle.mc_server.proofs.schedule.receive.Given as goal
