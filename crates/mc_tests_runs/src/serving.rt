@@ -1,8 +1,6 @@
 //! Worked streams through the loop, whole and in the smallest pieces, and what it does where the input, the output or
 //! memory fails.
 ghost use Rattle.std.specs.Prelude.{◌≤◌, length};
-ghost use Rattle.mc_model.specs.Settings.{IsBetween};
-ghost use Rattle.mc_model.specs.declared.settings.TheConstants.{MAX_PLACES};
 
 use crate::runs::{
     demand, input_of, joined, output_of, single_pulls, single_pushes, thousand_keys,
@@ -10,7 +8,7 @@ use crate::runs::{
 };
 use mc_model::{Fault, Limits};
 use mc_server::{
-    Input, InputStep, MemoryInput, MemoryOutput, Output, OutputStep, Pull, Push, pump,
+    Input, InputStep, MemoryInput, MemoryOutput, Output, OutputStep, Pull, Push, serve_client,
 };
 use std::alloc::AllocError;
 use std::process::Abort;
@@ -109,10 +107,8 @@ fn open(
 }
 
 /// Serves a client, of whose commands so many are applied.
-fn pump_places(rt: &(impl Wait + AllocGlobal), places: u64, served: &mut Served)
-    requires { IsBetween 1 MAX_PLACES places }
-{
-    served.result = pump(
+fn serve_places(rt: &(impl Wait + AllocGlobal), places: u64, served: &mut Served) {
+    served.result = serve_client(
         rt,
         rt.alloc(),
         LIMITS,
@@ -130,7 +126,7 @@ fn serve(
     pushes: &[OutputStep],
 ) -> Result<Served, AllocError> {
     let mut served = open(rt, sent, pulls, pushes)?;
-    pump_places(rt, PLACES, &mut served);
+    serve_places(rt, PLACES, &mut served);
     Ok(served)
 }
 
@@ -494,7 +490,7 @@ const FULL_LOG: (&str, &[&str]) = (
 /// Serves a client of whose commands two are applied.
 fn serve_two_places(rt: &(impl Wait + AllocGlobal), sent: &[u8]) -> Result<Served, AllocError> {
     let mut served = open(rt, sent, &[], &[])?;
-    pump_places(rt, 2, &mut served);
+    serve_places(rt, 2, &mut served);
     Ok(served)
 }
 
