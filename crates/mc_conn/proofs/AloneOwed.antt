@@ -1,5 +1,5 @@
 -- What is owed over the history of a worker that has a log to itself.
-use Rattle.std.proofs.Common.{◌≡◌, ◌⊎◌, ℕ, zero, suc, ◌+◌, ◌<◌, ◌≤◌, true, false, List, [], ◌∷◌, ◌++◌, length, take, slice_get, Some, sym, refl, ap, ◌∙◌, subst, inl, inr, ⊎_elim, arith, length-append}
+use Rattle.std.proofs.Common.{◌≡◌, ◌⊎◌, ℕ, suc, ◌<◌, ◌≤◌, false, List, [], ◌∷◌, ◌++◌, length, take, slice_get, Some, sym, refl, ap, ◌∙◌, subst, inl, inr, ⊎_elim, arith, length-append}
 use Rattle.std.specs.Bool.{nat_lt}
 use Rattle.std.proofs.lemmas.Bool.Decides.{nat_tests}
 use Rattle.std.proofs.lemmas.Bool.{lt-ltb}
@@ -18,10 +18,10 @@ use Rattle.mc_write.specs.Text.{text}
 use Rattle.uc_cells.specs.Sighting.{Sighting, entries}
 use Rattle.uc_core.proofs.Lists.{take_more}
 use Rattle.uc_worker.specs.declared.worker.Worker.{Worker}
-use Rattle.uc_worker.specs.Worker.{history_of, seat_of}
+use Rattle.uc_worker.specs.Worker.{history_of}
 use Rattle.mc_conn.specs.Alone.{IsAlone, applied_with, first_mark, logged_reply, owed}
 use Rattle.mc_conn.specs.Onward.{own_entry, own_sighting}
-use Rattle.mc_conn.specs.Owed.{IsAnswered, IsPlaced, IsTurnedAway, Mark, Owes, answered}
+use Rattle.mc_conn.specs.Owed.{IsPlaced, IsTurnedAway, Mark, Owes, answered}
 use Rattle.mc_conn.proofs.Alone.{placed_in_order, turned_away_last}
 
 not_less : (n m : ℕ) → m ≤ n → nat_lt n m ≡ false
@@ -70,16 +70,15 @@ module _ (limits : Limits) (places : ℕ) (worker : Worker) (alone : IsAlone lim
       let first : Some reply ≡ Some (answer limits (own 0 (entries (take is.place (history_of worker)))) command) = rw (alone.tenants) at is.reply_is in
       let given : Some reply ≡ Some (answer limits applied command) = first ∙ ap (λ (list : List Command). Some (answer limits list command)) before in
       let said : reply ≡ answer limits applied command = cc in
-      let next : to.number ≡ suc from.number = omega (arith, ap (λ (mark : Mark). mark.number) is.next) in
-      (
+      let next : to.number ≡ suc from.number = omega (arith, ap (λ (mark : Mark). mark.number) is.next) in (
         said ∙ sym room.0,
         subst (λ n. IsUpTo n (applied_with places applied command)) (sym next)
-        (subst (λ list. IsUpTo (suc from.number) list) (sym room.1)
-        (inl (
-          own_later from.number command stands ∙ ap (λ (list : List Command). list ++ command ∷ []) now.0,
-          omega (arith, length-append applied (command ∷ []), now.1),
-          omega (arith, short, few),
-        ))),
+            (subst (λ list. IsUpTo (suc from.number) list) (sym room.1)
+            (inl (
+              own_later from.number command stands ∙ ap (λ (list : List Command). list ++ command ∷ []) now.0,
+              omega (arith, length-append applied (command ∷ []), now.1),
+              omega (arith, short, few),
+            ))),
       ))
       (λ (full : (places ≤ from.number) × (length applied ≡ places)). absurd (omega (arith, short, few, full.0)))
       up

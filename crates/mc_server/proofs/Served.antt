@@ -1,7 +1,7 @@
 -- What a connection does with the one worker of a log, in bytes that came and bytes that went.
 use Rattle.std.proofs.Common.{◌≡◌, ◌⊎◌, ℕ, ◌+◌, ◌≤◌, ◌<◌, ◌||◌, Bool, true, false, Result, Ok, Err, OnOk, IfErr, List, [], ◌∷◌, ◌++◌, length, None, Some, slice_get, sym, refl, ap, ◌∙◌, subst, inl, inr, ⊎_elim, arith, append_assoc, append-nil, length-append}
 use Rattle.std.specs.Bool.{MatchBool}
-use Rattle.std.specs.Io.KnownBytes.{Consumes, IsAtEnd}
+use Rattle.std.specs.Io.KnownBytes.{IsAtEnd}
 use Rattle.std.specs.List.{list_any}
 use Rattle.mc_model.specs.declared.fault.Fault.{Fault}
 use Rattle.mc_model.specs.declared.fault.Fault.TheVariants.{Memory, LogFull, Taken, Input, Output, BadEvent, BadSettings}
@@ -10,7 +10,7 @@ use Rattle.mc_model.specs.declared.reply.WireNo.TheVariants.{E11}
 use Rattle.mc_model.specs.declared.request.Request.{Request}
 use Rattle.mc_model.specs.declared.settings.Limits.{Limits}
 use Rattle.mc_model.specs.Settings.{Configuration}
-use Rattle.mc_read.specs.Reading.{HasNone, Kept, ReadsAs, ReadsOn, ends_stream}
+use Rattle.mc_read.specs.Reading.{Kept, ReadsAs, ends_stream}
 use Rattle.mc_read.specs.Readings.{has_reading}
 use Rattle.mc_read.specs.Text.{IsRequestText}
 use Rattle.mc_conn.proofs.AloneOwed.{owes_in_order}
@@ -19,12 +19,11 @@ use Rattle.mc_conn.specs.Ending.{Breaks, PullsAfter, PullsLate, Serves as Serves
 use Rattle.mc_conn.specs.Held.{Holding, HoldsNone, HoldsOn, IsRead}
 use Rattle.mc_conn.specs.Onward.{IsOnward}
 use Rattle.mc_conn.specs.Owed.{Mark, Owes, mark_of}
-use Rattle.mc_conn.specs.Turn.{RemembersTheEnd, Scene, Takes, holding_of, queue_of, scene}
-use Rattle.mc_conn.specs.declared.conn.TheConstants.{PULL_BYTES}
+use Rattle.mc_conn.specs.Turn.{Scene, holding_of, queue_of, scene}
 use Rattle.mc_server.proofs.Owings.{owed-more}
 use Rattle.mc_server.specs.Serving.{Answers, Comes, CountsFailures, IsCaughtUp, NeverWaits, Serves, ServesInPart, ServesOn, Stops}
 use Rattle.mc_stream.specs.Event.{Event, Moves, Waits, Ends, Fails, ends, failures, has_ended, last_moved, moved, waits}
-use Rattle.mc_stream.specs.Pushing.{FailsOnce, IsAllOrStopped, IsUnfailed, Pushes, PushesAtOnce}
+use Rattle.mc_stream.specs.Pushing.{IsAllOrStopped, Pushes, PushesAtOnce}
 use Rattle.mc_stream.specs.Pushed.{same_stop}
 use Rattle.mc_stream.specs.Stream.{Inflow, Outflow, Streams, both}
 use Rattle.mc_write.specs.Text.{text}
@@ -240,18 +239,21 @@ module _ (limits : Limits) (places : ℕ) (start : Scene) (begins : Begins limit
     in_part : (output : Outflow) (told sent unsent : List ℕ) → owed limits places [] breaks.requests ++ told ≡ sent ++ unsent → Pushes start.streams.output output sent →
         PullsLate start (scene after.conn after.worker (both after.streams.input output)) → (part : ServesInPart limits places start.streams (both after.streams.input output) told) × (part.unsent ≡ unsent)
     unfolding all_comes
-    in_part output told sent unsent owes went late = (record {
-      comes = all_comes output;
-      answered = breaks.requests;
-      others = all_split.0;
-      split = all_split.1;
-      answers = all_answers.1;
-      sent = sent;
-      unsent = unsent;
-      owes = owes;
-      went = went;
-      caught_up = λ never. caught_up (scene after.conn after.worker (both after.streams.input output)) breaks.came sent breaks.pulled went never late;
-    }, refl)
+    in_part output told sent unsent owes went late = (
+      record {
+        comes = all_comes output;
+        answered = breaks.requests;
+        others = all_split.0;
+        split = all_split.1;
+        answers = all_answers.1;
+        sent = sent;
+        unsent = unsent;
+        owes = owes;
+        went = went;
+        caught_up = λ never. caught_up (scene after.conn after.worker (both after.streams.input output)) breaks.came sent breaks.pulled went never late;
+      },
+      refl,
+    )
 
     pub untold : PullsLate start after → ServesInPart limits places start.streams after.streams []
     untold late = (in_part after.streams.output [] breaks.sent (queue_of after.conn) (append-nil (owed limits places [] breaks.requests) ∙ sym owed_is) breaks.pushed late).0

@@ -7,10 +7,10 @@ ghost use Rattle.mc_stream.specs.Stream.{both};
 
 use crate::faults::{fail, tell_fault};
 use crate::schedule_words::{ScheduleOptions, read_words};
-use mc_conn::PULL_BYTES;
 use crate::waiting::push_all;
 use crate::words::answer_words;
 use itoa::Buffer;
+use mc_conn::PULL_BYTES;
 use mc_model::{Fault, Settings};
 use mc_schedules::schedule::INPUT_BYTES;
 use mc_schedules::{Item, Reading, Unwatched, draw_items, read_schedule, run_items};

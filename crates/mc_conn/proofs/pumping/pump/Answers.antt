@@ -41,4 +41,4 @@ returns-in_err-turn-clause-late g c =
 pub returns-in-Closed-clause-late : goal.returns-in-Closed-clause-late
 returns-in-Closed-clause-late g c =
     late_later _ _ _ c.loop.invariant.takes c.loop.invariant.late c.turn.ensures.late _ (c.in_ok-turn.ensures.turns c.loop.invariant.going).takes.pushed
-      (c.in_ok-turn.ensures.turns c.loop.invariant.going).takes.waited
+    (c.in_ok-turn.ensures.turns c.loop.invariant.going).takes.waited
