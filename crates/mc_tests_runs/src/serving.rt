@@ -274,6 +274,45 @@ fn nothing_is_pulled_after_a_line_too_long(rt: HostRuntime) -> Result<(), Fail> 
     Ok(())
 }
 
+/// So many pulls of 16,384 bytes, and then a failure.
+fn failing_pieces(rt: &impl AllocGlobal, good: usize) -> Result<Vec<InputStep>, AllocError> {
+    let mut pulls = Vec::new(rt.alloc());
+    for _ in 0..good {
+        pulls.push(InputStep::Give(16_384))?;
+    }
+    pulls.push(InputStep::Fail)?;
+    Ok(pulls)
+}
+
+/// Nothing is pulled after a `quit` that waited behind replies of more than 1,048,576 bytes, though the next pull would fail.
+#[test]
+fn nothing_is_pulled_after_a_quit_that_waited(rt: HostRuntime) -> Result<(), Fail> {
+    let block = "x".repeat(rt.alloc(), 1_048_576)?;
+    let block = block.as_bytes();
+    let sent = joined(
+        rt.alloc(),
+        &[
+            b"set a 0 0 1048576\r\n",
+            block,
+            b"\r\nget a\r\nget a\r\nquit\r\n",
+        ],
+    )?;
+    let wanted = joined(
+        rt.alloc(),
+        &[
+            b"STORED\r\nVALUE a 0 1048576\r\n",
+            block,
+            b"\r\nEND\r\nVALUE a 0 1048576\r\n",
+            block,
+            b"\r\nEND\r\n",
+        ],
+    )?;
+    let pulls = failing_pieces(&rt, sent.len() / 16_384 + 1)?;
+    let served = serve(&rt, &sent, &pulls, &[])?;
+    check_end(&rt, &served, Ok(()), &wanted)?;
+    Ok(())
+}
+
 #[test]
 fn too_large_an_object_is_passed_over(rt: HostRuntime) -> Result<(), Fail> {
     let block = "\n".repeat(rt.alloc(), 1_048_577)?;
