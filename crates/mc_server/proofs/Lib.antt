@@ -5,3 +5,5 @@ pub mod Reported
 pub mod Underway
 mod Rows
 pub mod Sessions
+pub mod TenantForms
+pub mod TenantParts

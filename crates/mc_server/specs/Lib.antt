@@ -5,4 +5,5 @@ pub mod Owed
 pub mod Reporting
 pub mod Serving
 pub mod Session
+pub mod TenantWord
 pub mod Words

@@ -18,5 +18,6 @@ mod schedule_words;
 mod serving;
 mod session;
 mod stdin;
+mod tenant_word;
 mod waiting;
 mod words;
