@@ -6,4 +6,6 @@ pub mod Underway
 mod Rows
 pub mod Sessions
 pub mod TenantForms
+pub mod TenantLists
+pub mod TenantNames
 pub mod TenantParts
