@@ -3,6 +3,7 @@ mod ListRows
 pub mod Owings
 pub mod Reported
 pub mod Underway
+mod NetworkRows
 mod Rows
 pub mod Sessions
 pub mod TenantForms

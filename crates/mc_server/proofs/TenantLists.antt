@@ -1,11 +1,13 @@
 -- Lists of tenants, each the only one that its word says.
-use Rattle.std.proofs.Common.{◌≡◌, ℕ, ◌+◌, ◌<◌, List, [], ◌∷◌, ◌++◌, length, map, take, Option, Some, None, Bor, ap, sym, subst, ◌∙◌, refl}
-use Rattle.std.proofs.lemmas.List.{take_more}
+use Rattle.std.proofs.Common.{◌≡◌, ℕ, List, [], ◌∷◌, ◌++◌, map, Option, Some, None, ap, sym, ◌∙◌, refl}
 use Rattle.std.proofs.lemmas.Slice.Zip.{AllZip-left, all_zipped_more}
 use Rattle.std.specs.List.{AllZip, slice_get}
 use Rattle.std.specs.Option.{IsSomeAnd, MatchOption}
 use Rattle.clap.specs.Walk.{Text}
-use Rattle.mc_server.specs.TenantWord.{Says, TenantAsked}
+use Rattle.mc_model.specs.declared.settings.Limits.{Limits}
+use Rattle.mc_server.specs.NetworkWords.{Asks, NetworkAsked, NetworkGiven, settings_asked}
+use Rattle.mc_server.specs.TenantWord.{Says, TenantAsked, asked_of}
+use Rattle.mc_server.specs.declared.tenant_word.Tenant.{Tenant}
 
 -- the word says this tenant, and no other
 pub record IsOnly (word : Text) (tenant : TenantAsked) : Type 0 where
@@ -47,3 +49,23 @@ none_say words others place word is none h = go (slice_get words place) (slice_g
     go None p e h = cc
     go (Some x) None e h = h
     go (Some x) (Some t) e h = let same : x ≡ word = cc in none t (rw same at h)
+
+-- what is asked, in what was read
+mapped : {A B C : Type 0} (f : A → B) (g : B → C) (xs : List A) → map g (map f xs) ≡ map (λ x. g (f x)) xs
+mapped f g [] = refl
+mapped f g (x ∷ xs) = ap (λ rest. g (f x) ∷ rest) (mapped f g xs)
+
+pub limits_are : (tenants : List Tenant) → map (λ (tenant : TenantAsked). tenant.limits) (map asked_of tenants) ≡ map (λ tenant. tenant.limits) tenants
+limits_are tenants = mapped asked_of (λ tenant. tenant.limits) tenants
+
+pub names_are_read : (tenants : List Tenant) → map (λ (tenant : TenantAsked). tenant.name) (map asked_of tenants) ≡ map (λ tenant. tenant.name.now) tenants
+names_are_read tenants = mapped asked_of (λ tenant. tenant.name) tenants
+
+pub names_are : (asked : NetworkAsked) (tenants : List Tenant) → asked.tenants ≡ map asked_of tenants → map (λ tenant. tenant.name) asked.tenants ≡ map (λ tenant. tenant.name.now) tenants
+names_are asked tenants e = ap (map (λ tenant. tenant.name)) e ∙ names_are_read tenants
+
+pub settings_are : (given : NetworkGiven) (asked : NetworkAsked) (tenants : List Tenant) (quotas : List Limits) → Asks given asked → asked.tenants ≡ map asked_of tenants
+    → quotas ≡ map (λ tenant. tenant.limits) tenants → settings_asked asked ≡ record { workers = given.workers; places = given.places; tenants = quotas }
+settings_are given asked tenants quotas asks e q =
+    let limits : map (λ tenant. tenant.limits) asked.tenants ≡ quotas = ap (map (λ tenant. tenant.limits)) e ∙ limits_are tenants ∙ sym q in
+    λ i. record { workers = asks.workers i; places = asks.places i; tenants = limits i }

@@ -1,5 +1,5 @@
 -- Names that are used once: the first is used by none of the others, which are used once.
-use Rattle.std.proofs.Common.{◌≡◌, ◌≤◌, ◌<◌, ◌-◌, ◌+◌, ◌||◌, ◌↔◌, Bool, true, false, not, IsTrue, ℕ, suc, List, [], ◌∷◌, length, map, take, drop, get_or, refl, sym, ap, ◌∙◌, arith, cond, subst}
+use Rattle.std.proofs.Common.{◌≡◌, ◌≤◌, ◌<◌, ◌-◌, ◌||◌, ◌↔◌, Bool, true, false, not, IsTrue, ℕ, List, [], ◌∷◌, length, map, take, drop, get_or, refl, sym, ap, ◌∙◌, arith, subst}
 use Rattle.std.proofs.lemmas.List.{take_all}
 use Rattle.std.specs.List.{AllByRecursion, IsDistinct, list_any}
 use Rattle.std.specs.Str.{bytes_eq}
@@ -45,8 +45,7 @@ unfolding IsDistinct
 first_is_shared [] some has low e used = absurd (omega arith)
 first_is_shared (x ∷ xs) some has low e used =
     let P : List Tenant → Type 0 = λ rest. has ≡ uses x.name.now rest in
-    let known = subst P (rest_is x xs) e in
-    (
+    let known = subst P (rest_is x xs) e in (
       (λ (passes : not has ≡ true). let fails : not has ≡ false = ap not used in absurd (cc)),
       λ distinct. let free = not_used x.name.now xs distinct.0 in absurd (cc),
     )

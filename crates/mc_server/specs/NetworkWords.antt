@@ -1,6 +1,6 @@
 -- What the words after the program's name ask for on wfmc's command line, by clap's own definitions of a command; this project's profile.
 use Rattle.std.specs.List.{AllZip, IsDistinct}
-use Rattle.std.specs.Prelude.{◌≡◌, ◌^◌, ◌-◌, ℕ, List, [], Some, codes, map, true, unwrap_or}
+use Rattle.std.specs.Prelude.{◌≡◌, ℕ, List, [], Some, codes, map, true, unwrap_or}
 use Rattle.std.specs.Str.{bytes_eq}
 use Rattle.clap.specs.Faults.{fault_of}
 use Rattle.clap.specs.Lexer.{usize_max}

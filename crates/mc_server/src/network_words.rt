@@ -4,13 +4,13 @@ ghost use Rattle.std.specs.Prelude.{◌≡◌, ◌↔◌, ◌⊎◌, List, Err, 
 ghost use Rattle.std.specs.Str.{bytes_eq};
 ghost use Rattle.clap.specs.Words.{FailsBy, app_of, fault_of, rule_of};
 ghost use Rattle.mc_model.specs.declared.fault.Fault.TheVariants as faults;
-ghost use Rattle.mc_server.specs.NetworkWords.{Asks, AsksInVain, IsServable, given_by, given_of, network_app, options_app, served_by, tenants_rule};
+ghost use Rattle.mc_server.specs.NetworkWords.{Asks, AsksInVain, IsServable, given_by, given_of, network_app, options_app, served_by, settings_asked, tenants_rule};
 ghost use Rattle.mc_server.specs.TenantWord.{Says, TenantAsked, asked_of};
 
 use crate::tenant_word::{Tenant, read_tenant};
 use crate::words::{number, number_option};
 use clap::{Arg, Command, Error};
-use mc_model::{Fault, Settings};
+use mc_model::{Fault, Limits, Settings};
 use std::alloc::{AllocError, Global};
 
 /// How many workers there are where the words don't say.
@@ -136,16 +136,24 @@ fn have_own_names(tenants: &[Tenant]) -> bool
     }
 }
 
+/// The tenants' quotas, in the tenants' order.
+fn quotas_of(alloc: Global, tenants: &[Tenant]) -> Result<Vec<Limits>, AllocError>
+    ensures { IfOk result (λ quotas. quotas.items ≡ map (λ tenant. tenant.limits) tenants.now) }
+{
+    tenants.iter().map(|tenant| tenant.limits).collect(alloc)
+}
+
 /// What the words ask to be served. Where that can't be, since a tenant's word is of another form, a number is out of its bounds, or a
 /// name is used twice: `BadSettings`.
 pub(crate) fn service_of<'a>(alloc: Global, words: &NetworkWords<'a>) -> Result<Service<'a>, Fault>
     ensures asks { IfOk result (λ service. Asks (given_of words.now) (served_by service)) }
+    ensures settings { IfOk result (λ service. service.settings ≡ settings_asked (served_by service)) }
     ensures servable { IfOk result (λ service. IsServable (served_by service)) }
     ensures vain { result ≡ Err faults.BadSettings → AsksInVain (given_of words.now) }
     ensures faults { IfErr result (λ fault. (fault ≡ faults.Memory) ⊎ (fault ≡ faults.BadSettings)) }
 {
     let tenants = read_tenants(alloc, &words.tenants)?;
-    let quotas = tenants.iter().map(|tenant| tenant.limits).collect(alloc)?;
+    let quotas = quotas_of(alloc, &tenants)?;
     let settings = Settings::check(words.workers, words.places, quotas)?;
     // Only so many names as there may be tenants are compared.
     if !have_own_names(&tenants) {

@@ -1,7 +1,7 @@
-use Rattle.std.proofs.Common.{◌≡◌, ◌∙◌, ℕ, zero, suc, ◌+◌, ◌<◌, ◌≤◌, List, [], ◌∷◌, ◌++◌, refl, map, take, get_or, sym, ap, subst, Bor, length, Some, arith}
+use Rattle.std.proofs.Common.{◌≡◌, ℕ, zero, suc, ◌<◌, ◌≤◌, List, [], ◌∷◌, refl, map, take, get_or, sym, subst, Bor, length, Some, arith}
 use Rattle.std.proofs.lemmas.List.{take_all, take_more}
 use Rattle.std.specs.List.{AllZip, slice_get}
-use Rattle.mc_server.specs.TenantWord.{Says, TenantAsked, asked_of}
+use Rattle.mc_server.specs.TenantWord.{TenantAsked, asked_of}
 use Rattle.mc_server.proofs.TenantLists.{IsOnly, all_only, all_say, none_say, one_more}
 use Rattle.mc_server.proofs.network_words.read_tenants.Goals as goal
 

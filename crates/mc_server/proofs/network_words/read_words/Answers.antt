@@ -30,5 +30,10 @@ pub returns-clause-given : goal.returns-clause-given
 returns-clause-given c =
     let app_is : app_of c.in_ok-network_command.field-0 ≡ network_app = c.in_ok-network_command.ensures in
     let rows = (c.in_ok-matches.ensures.matches (ap is_simple app_is ∙ app_is_simple)).0 ∙ ap (λ a. matches_of a (map string_bytes c.args.words.now)) app_is in
-    let workers = ? in
-    ?
+    let number_of = λ (name : Text). ap (option_and_then u64_of) (one_text-rows (found_of c.in_ok-matches.matches) name ∙ ap (one_of name) rows) in
+    let workers = c.unwrap_or.ensures ∙ ap (λ o. unwrap_or o 2) (c.number.ensures ∙ number_of (codes "workers")) in
+    let places = c.unwrap_or-2.ensures ∙ ap (λ o. unwrap_or o 65536) (c.number-2.ensures ∙ number_of (codes "places")) in
+    let connections = c.unwrap_or-3.ensures ∙ ap (λ o. unwrap_or o 0) (c.number-3.ensures ∙ number_of (codes "connections")) in
+    let raw = c.get_raw.ensures ∙ raw_values-rows (found_of c.in_ok-matches.matches) (codes "tenants") ∙ ap (all_of (codes "tenants")) rows in
+    let tenants = ap (map (λ word. word.now)) (c.in_ok-tenants.ensures.items ∙ ap (λ lent. lent.now) c.unwrap_or-tenants.ensures) ∙ lent_words c.get_raw.result _ refl ∙ ap (λ o. unwrap_or o []) raw in
+    λ i. record { workers = workers i; places = places i; connections = connections i; tenants = tenants i }
