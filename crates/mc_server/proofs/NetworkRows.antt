@@ -1,12 +1,11 @@
 -- Worked rows of wfmc, tried on the definitions: what its words give and ask for.
 use Rattle.std.specs.Prelude.{codes}
-use Rattle.std.proofs.Common.{◌≡◌, ℕ, true, false, List, [], ◌∷◌, All, IsTrue, refl, lit<, lit≤}
+use Rattle.std.proofs.Common.{◌≡◌, ℕ, true, false, [], ◌∷◌, IsTrue, refl, lit<, lit≤}
 use Rattle.std.proofs.lemmas.List.Elements.{All-from_recursion}
 use Rattle.std.specs.Fmt.{digits}
 use Rattle.std.specs.List.{IsDistinct}
 use Rattle.std.specs.Net.Grammar.{IsSocketV4Text}
 use Rattle.std.specs.Str.{bytes_eq}
-use Rattle.std.specs.declared.net.ipv4_addr.Ipv4Addr.{Ipv4Addr}
 use Rattle.std.specs.declared.net.socket_addr.SocketAddrV4.{SocketAddrV4}
 use Rattle.clap.specs.Faults.{fault_of}
 use Rattle.clap.specs.declared.error.kind.ErrorKind.TheVariants as kind
@@ -70,7 +69,7 @@ local port = record { ip = record { octets = 127 ∷ 0 ∷ 0 ∷ 1 ∷ [] }; por
 a_name : IsName (codes "shop-2_b")
 a_name = record {
   size = (lit≤ tt, lit≤ tt);
-  bytes = All-from_recursion (λ byte. IsTrue (is_name_byte byte)) (codes "shop-2_b") (refl, refl, refl, refl, refl, refl, refl, refl, tt);
+  bytes = All-from_recursion (λ byte. IsTrue (is_name_byte byte)) (codes "shop-2_b") (refl, (refl, (refl, (refl, (refl, (refl, (refl, (refl, tt))))))));
 }
 
 an_address : IsSocketV4Text (codes "127.0.0.1:11211") (local 11211)
@@ -80,7 +79,7 @@ an_address = (
   codes ":11211",
   refl,
   record { a = 127; b = 0; c = 0; d = 1; fit = (lit< tt, lit< tt, lit< tt, lit< tt); value = refl; spelled = refl },
-  (codes "11211", refl, ((lit< tt, lit< tt, lit< tt, lit< tt, lit< tt, lit< tt, tt), refl), lit< tt),
+  (codes "11211", refl, ((lit< tt, (lit< tt, (lit< tt, (lit< tt, (lit< tt, (lit< tt, tt)))))), refl), lit< tt),
 )
 
 a_tenant : Says (codes "shop-2_b=127.0.0.1:11211,1000,1048576") (record { name = codes "shop-2_b"; address = local 11211; limits = record { items = 1000; bytes = 1048576 } })
@@ -100,7 +99,7 @@ a_tenant = record {
 
 two_names : IsDistinct bytes_eq (codes "a" ∷ codes "b" ∷ [])
 unfolding IsDistinct
-two_names = ((refl, tt), tt, tt)
+two_names = ((refl, tt), (tt, tt))
 
 one_name : IsDistinct bytes_eq (codes "a" ∷ codes "b" ∷ codes "a" ∷ []) → ⊥
 unfolding IsDistinct

@@ -1,5 +1,6 @@
 pub mod Faults
 pub mod Lists
+pub mod NetworkTexts
 pub mod NetworkWords
 pub mod Options
 pub mod Owed

@@ -12,6 +12,7 @@ pub use stdin::run_stdin;
 pub use words::{refuse_words, words_after_name};
 
 mod faults;
+mod network_texts;
 mod network_words;
 mod options;
 mod schedule;

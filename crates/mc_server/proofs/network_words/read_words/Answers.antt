@@ -1,10 +1,10 @@
-use Rattle.std.proofs.Common.{ap, refl, sym, codes, true, map, string_bytes, ◌≡◌, ◌∙◌, List, [], Option, Some, None, Bor, ℕ}
+use Rattle.std.proofs.Common.{ap, refl, sym, codes, true, map, string_bytes, ◌≡◌, ◌∙◌, List, [], Option, Some, None, Bor}
 use Rattle.std.specs.Option.{option_map}
 use Rattle.std.specs.Prelude.{option_and_then, unwrap_or}
 use Rattle.clap.specs.Words.{Text, all_of, app_of, fault_of, found_of, is_simple, is_simple_and_free, matches_of, one_of}
 use Rattle.clap.proofs.OnLiterals.{clap_on_literals}
 use Rattle.clap.proofs.WalkLemmas.{one_text-rows, raw_values-rows}
-use Rattle.mc_server.specs.NetworkWords.{given_by, network_app}
+use Rattle.mc_server.specs.NetworkWords.{network_app}
 use Rattle.mc_server.specs.Words.{u64_of}
 use Rattle.mc_server.proofs.network_words.read_words.Goals as goal
 
