@@ -1,5 +1,7 @@
 pub mod Answered
+pub mod Crews
 mod ListRows
+pub mod Numbered
 pub mod Owings
 pub mod Reported
 pub mod Underway

@@ -1,5 +1,7 @@
 pub mod Faults
+pub mod Listeners
 pub mod Lists
+pub mod Network
 pub mod NetworkTexts
 pub mod NetworkWords
 pub mod Options

@@ -11,7 +11,9 @@ pub use serving::pump;
 pub use stdin::run_stdin;
 pub use words::{refuse_words, words_after_name};
 
+mod crew;
 mod faults;
+mod listeners;
 mod network_texts;
 mod network_words;
 mod options;
