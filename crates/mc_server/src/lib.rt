@@ -6,6 +6,7 @@ pub use mc_stream::{
     WriteOutput,
 };
 pub use mc_write::fault_text;
+pub use network::run_wfmc;
 pub use schedule::run_schedule;
 pub use serving::pump;
 pub use stdin::run_stdin;
@@ -14,6 +15,7 @@ pub use words::{refuse_words, words_after_name};
 mod crew;
 mod faults;
 mod listeners;
+mod network;
 mod network_texts;
 mod network_words;
 mod options;

@@ -1,4 +1,4 @@
-use Rattle.std.proofs.Common.{◌≡◌, ◌∙◌, ℕ, ◌+◌, ◌∷◌, [], ◌++◌, length, sym, ap, arith, length-append}
+use Rattle.std.proofs.Common.{◌∙◌, ◌∷◌, [], length, sym, ap, arith, length-append}
 use Rattle.mc_server.proofs.Numbered.{one_more_numbered, one_more_told}
 use Rattle.mc_server.proofs.listeners.bind_all.Goals as goal
 
