@@ -1,0 +1,19 @@
+use Rattle.std.proofs.Common.{◌≡◌, All, ap, length, rules, subst, sym, ◌∙◌}
+use Rattle.std.proofs.lemmas.List.Elements.{All-head, All-rest}
+use Rattle.uc_worker.specs.declared.worker.Worker.{Worker}
+use Rattle.mc_net.proofs.serving.seats_of.Goals as goal
+
+pub invariant_of-push : goal.invariant_of-push
+invariant_of-push g c =
+    let same = All-head (λ (worker : Worker). worker.log.now ≡ c.args.log.now) c.in-Some.worker _ (subst (All (λ (worker : Worker). worker.log.now ≡ c.args.log.now)) c.in-Some.ensures.steps.0 c.loop-worker.invariant.1) in
+    let one = c.settings.ensures in
+    let two = c.tenants-tenants.ensures.value in
+    record { tenants = rw (sym same) (rw (sym one) (rw (sym two) c.in_ok-desk.ensures)) }
+
+pub loop-worker-preserved : goal.loop-worker-preserved
+loop-worker-preserved g c = (
+  search rules,
+  All-rest (λ (worker : Worker). worker.log.now ≡ c.args.log.now) c.in-Some.worker _ _ c.in-Some.ensures.steps.0 c.loop-worker.invariant.1,
+  search rules,
+  search rules,
+)
