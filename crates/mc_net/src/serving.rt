@@ -69,7 +69,9 @@ fn run_seats<'a, R: Threads + Wait + Sync, G: Gate + Send>(
         rt,
         seats,
         threads,
-        &|number, seat| run_seat(rt, hall, number, seat),
+        &|number: usize, seat: &mut Seat<'_, G>|
+            ensures { IsOnward seat.entry.now.worker seat.exit.now.worker }
+        { run_seat(rt, hall, number, seat) },
     );
 }
 
