@@ -42,7 +42,9 @@ impl Acceptor {
         let events = Events::with_capacity(alloc, EVENTS)?;
         for (number, door) in doors.iter_mut().enumerate() {
             let token = Token(number);
-            let watched = poll.registry().register(&mut door.listener, token, Interest::READABLE);
+            let watched = poll
+                .registry()
+                .register(&mut door.listener, token, Interest::READABLE);
             if watched.is_err() {
                 return Err(Halt::Poll);
             }

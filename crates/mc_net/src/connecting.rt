@@ -91,7 +91,10 @@ impl Table {
             return None;
         }
         let conn = Conn::new(alloc, tenant);
-        Some(self.connections.insert_reserved(Connection { stream, conn }))
+        Some(
+            self.connections
+                .insert_reserved(Connection { stream, conn }),
+        )
     }
 
     /// Turns of the connection under a key, if there is one. Says how it stands then.

@@ -92,6 +92,19 @@ fn run_all<'a, R: Threads + Wait + Sync, G: Gate + Send>(
     );
 }
 
+/// All loops, until each has ended.
+fn run<'a, R: Threads + Wait + Sync, G: Gate + Send>(
+    rt: &R,
+    hall: &Hall,
+    acceptor: &mut Acceptor,
+    seats: &mut Vec<Seat<'a, G>>,
+)
+    requires { 0 < vec_len hall.now.stations }
+    ensures { GoOnward seats.old.items seats.new.items }
+{
+    run_all(rt, hall, acceptor, seats);
+}
+
 /// The doors of these listeners, in their order. Where memory runs out: `Memory`.
 fn doors_of(
     alloc: Global,
@@ -197,7 +210,7 @@ pub fn serve<'a, R: Threads + Wait + Net + Sync, G: Gate + Send + Drop>(
     let doors = doors_of(alloc, listeners)?;
     let mut acceptor = Acceptor::new(alloc, poll, doors, connections)?;
     let hall = Hall { stations, bell };
-    run_all(rt, &hall, &mut acceptor, &mut seats);
+    run(rt, &hall, &mut acceptor, &mut seats);
     acceptor.outcome?;
     Ok(workers_of(alloc, seats)?)
 }

@@ -4,7 +4,4 @@ use Rattle.mc_net.proofs.serving.serve.Goals as goal
 
 pub returns-clause-back : goal.returns-clause-back
 returns-clause-back g c =
-    let value = c.deref_mut.ensures.value in
-    let back = c.deref_mut.ensures.writes_back in
-    let left = c.in_ok-workers_of.ensures in
-    ?
+    rw c.in_ok-workers_of.ensures (rw (sym c.in_ok-stations.ensures.seats) (all_onward _ _ c.run.ensures))
