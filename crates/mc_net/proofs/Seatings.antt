@@ -1,6 +1,8 @@
 -- Seats and their workers, place by place.
-use Rattle.std.proofs.Common.{◌≡◌, ℕ, ◌<◌, suc, List, [], ◌∷◌, length, ap, refl, ◌++◌, arith, slice_index_or}
+use Rattle.std.proofs.Common.{◌≡◌, ℕ, ◌<◌, suc, List, [], ◌∷◌, length, ap, refl, ◌++◌, arith, slice_index_or, All, Bor, ◌∙◌}
 use Rattle.std.specs.List.{AllZip}
+use Rattle.std.proofs.lemmas.List.Elements.{AllZip-get_or, length_all_zip}
+use Rattle.uc_log.specs.declared.log.Log.{Log}
 use Rattle.mc_conn.specs.Onward.{IsOnward}
 use Rattle.mc_net.specs.declared.seat.Seat.{Seat}
 use Rattle.uc_worker.specs.declared.worker.Worker.{Worker}
@@ -20,3 +22,9 @@ one_more (first ∷ seats) seat left = ap (λ (list : List Worker). first.worker
 
 pub all_onward : {G : Type 0} (old new : List (Seat G)) → GoOnward old new → AllZip IsOnward (workers_of old) (workers_of new)
 all_onward old new go = all_zip old new go.long go.each
+
+-- workers that have gone onward are of the log that they were of
+pub all_of : (log : Log) (old new : List Worker) → AllZip IsOnward old new → All (λ (worker : Worker). worker.log.now ≡ log) old → All (λ (worker : Worker). worker.log.now ≡ log) new
+all_of log old new onward of = λ i d inside.
+    let within : i < length old = rw (length_all_zip IsOnward old new onward) inside in
+    ap (λ (log : Bor Log). log.now) (AllZip-get_or IsOnward old new i d d onward within).log ∙ of i d within

@@ -91,10 +91,8 @@ impl Table {
             return None;
         }
         let conn = Conn::new(alloc, tenant);
-        Some(
-            self.connections
-                .insert_reserved(Connection { stream, conn }),
-        )
+        let connection = Connection { stream, conn };
+        Some(self.connections.insert_reserved(connection))
     }
 
     /// Turns of the connection under a key, if there is one. Says how it stands then.

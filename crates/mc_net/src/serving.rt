@@ -200,6 +200,7 @@ pub fn serve<'a, R: Threads + Wait + Net + Sync, G: Gate + Send + Drop>(
     requires tenants { All (λ listener. listener.0 < length log.now.settings.tenants) listeners.items }
     requires gates { vec_len gates ≡ vec_len workers }
     ensures back { IfOk result (λ back. AllZip IsOnward workers.entry.items back.items) }
+    ensures logs { IfOk result (λ back. All (λ worker. worker.log.now ≡ log.entry.now) back.items) }
     ensures faults { IfErr result IsNetworkFault }
 {
     let (stations, mut seats) = seats_of(rt, alloc, log, workers, gates)?;
