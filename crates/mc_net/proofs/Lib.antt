@@ -1,0 +1,2 @@
+pub mod Servings
+pub mod Seatings

@@ -1,0 +1,121 @@
+//! The acceptor's loop.
+ghost use Rattle.std.specs.Prelude.{◌<◌, vec_len};
+
+use crate::door::Door;
+use crate::halt::Halt;
+use crate::handing::{Accepted, accept_one};
+use crate::station::Hall;
+use mio::net::TcpListener;
+use mio::{Events, Interest, Poll, Token};
+use std::alloc::Global;
+use std::sync::Wait;
+use std::time::Duration;
+
+/// How many events a poll of the acceptor tells of at most.
+const EVENTS: usize = 64;
+
+/// How long a listener that failed is left alone, in milliseconds.
+const PAUSE_MILLIS: u64 = 50;
+
+/// The listeners, and what waits at them.
+#[derive(Drop)]
+pub(crate) struct Acceptor {
+    doors: Vec<Door<TcpListener>>,
+    poll: Poll,
+    events: Events,
+    // How many streams have been accepted, and how many are to be: with 0 there is no end.
+    done: u64,
+    most: u64,
+    // Some listener is to be asked again though no event tells of it.
+    is_troubled: bool,
+    pub(crate) outcome: Result<(), Halt>,
+}
+
+impl Acceptor {
+    /// The acceptor of these doors, which has accepted nothing.
+    pub(crate) fn new(
+        alloc: Global,
+        poll: Poll,
+        mut doors: Vec<Door<TcpListener>>,
+        most: u64,
+    ) -> Result<Acceptor, Halt> {
+        let events = Events::with_capacity(alloc, EVENTS)?;
+        for (number, door) in doors.iter_mut().enumerate() {
+            let token = Token(number);
+            let watched = poll
+                .registry()
+                .register(&mut door.listener, token, Interest::READABLE);
+            if watched.is_err() {
+                return Err(Halt::Poll);
+            }
+        }
+        Ok(Acceptor {
+            doors,
+            poll,
+            events,
+            done: 0,
+            most,
+            is_troubled: false,
+            outcome: Ok(()),
+        })
+    }
+
+    fn is_done(&self) -> bool {
+        self.most > 0 && self.done >= self.most
+    }
+
+    /// Accepts what waits at one listener. One that fails is to be asked again.
+    fn accept_waiting<R: Wait>(&mut self, rt: &R, door: usize, hall: &Hall) -> Result<(), Halt>
+        requires { 0 < vec_len hall.now.stations }
+    {
+        for _ in 0..u64::MAX {
+            if self.is_done() {
+                break;
+            }
+            let Some(open) = self.doors.get(door) else {
+                break;
+            };
+            match accept_one(rt, open, &hall.stations, self.done)? {
+                Accepted::One => self.done = self.done.wrapping_add(1),
+                Accepted::None => break,
+                Accepted::Failed => {
+                    self.is_troubled = true;
+                    break;
+                }
+            }
+        }
+        Ok(())
+    }
+
+    /// Polls once, and accepts at each listener of which an event tells, or at all after a failure.
+    fn go_round<R: Wait>(&mut self, rt: &R, hall: &Hall) -> Result<(), Halt>
+        requires { 0 < vec_len hall.now.stations }
+    {
+        let pause = Duration::from_millis(PAUSE_MILLIS);
+        let timeout = self.is_troubled.then_some(pause);
+        if self.poll.poll(&mut self.events, timeout).is_err() {
+            return Err(Halt::Poll);
+        }
+        let asks_all = self.is_troubled;
+        self.is_troubled = false;
+        for door in 0..self.doors.len() {
+            if asks_all || self.events.iter().any(|event| event.token() == Token(door)) {
+                self.accept_waiting(rt, door, hall)?;
+            }
+        }
+        Ok(())
+    }
+
+    /// Accepts until so many streams were handed over, or another loop has failed.
+    pub(crate) fn run<R: Wait>(&mut self, rt: &R, hall: &Hall) -> Result<(), Halt>
+        requires { 0 < vec_len hall.now.stations }
+    {
+        for _ in rt.forever() {
+            if self.is_done() || hall.bell.is_halted(rt) {
+                return Ok(());
+            }
+            self.go_round(rt, hall)?;
+        }
+        unreachable!()
+    }
+}

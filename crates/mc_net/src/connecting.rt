@@ -1,0 +1,149 @@
+//! A worker takes connections in and serves them.
+ghost use Rattle.std.specs.Prelude.{◌≡◌, ◌<◌, length, None, IfNone, IfSome};
+ghost use Rattle.mc_conn.specs.declared.conn.State.TheVariants as states;
+ghost use Rattle.mc_conn.specs.Onward.{IsOnward};
+ghost use Rattle.mc_net.specs.Serving.{Admits, HasEnded, IsLater, Serves, connection_at};
+ghost use Rattle.slab.specs.Slab.{Updates};
+ghost use Rattle.uc_worker.specs.Worker.{tenants_of};
+
+use crate::door::Arrival;
+use crate::socket::{SocketReader, SocketWriter};
+use crate::table::{Connection, MOST_CONNECTIONS, Table};
+use mc_conn::{Conn, PULL_BYTES, State};
+use mc_stream::{Input, Output, ReadInput, WriteOutput};
+use mio::net::TcpStream;
+use mio::{Interest, Registry, Token};
+use std::alloc::Global;
+use uc_worker::{Gate, Worker};
+
+/// How many turns a connection has for one event at most, so that others have theirs.
+const TURNS: u32 = 64;
+
+/// A turn, in which every fault ends the connection.
+fn turn<I: Input, O: Output, G: Gate>(
+    conn: &mut Conn,
+    worker: &mut Worker<'_>,
+    input: &mut I,
+    output: &mut O,
+    gate: &mut G,
+    buffer: &mut [u8; PULL_BYTES],
+) -> State
+    requires { conn.old.tenant < length (tenants_of worker.old) }
+    ensures tenant { conn.new.tenant ≡ conn.old.tenant }
+    ensures onward { IsOnward worker.old worker.new }
+    ensures ended { result ≡ states.Closed → HasEnded conn.new }
+{
+    match conn.turn(worker, input, output, gate, buffer) {
+        Ok(state) => state,
+        Err(_) => State::Closed,
+    }
+}
+
+impl Connection {
+    /// Turns, until nothing is left to do or so many were made. Says how the connection stands then.
+    fn turns<G: Gate>(
+        &mut self,
+        worker: &mut Worker<'_>,
+        gate: &mut G,
+        buffer: &mut [u8; PULL_BYTES],
+        stops_short: bool,
+    ) -> State
+        requires { self.old.conn.tenant < length (tenants_of worker.old) }
+        ensures later { IsLater self.old self.new }
+        ensures onward { IsOnward worker.old worker.new }
+        ensures ended { result ≡ states.Closed → HasEnded self.new.conn }
+    {
+        let Connection { stream, conn } = self;
+        let mut input = ReadInput::new(SocketReader::new(stream, stops_short));
+        let mut output = WriteOutput::new(SocketWriter::new(stream));
+        for _ in 0..TURNS {
+            let state = turn(conn, worker, &mut input, &mut output, gate, buffer);
+            if state != State::Busy {
+                return state;
+            }
+        }
+        State::Busy
+    }
+}
+
+impl Table {
+    /// Takes an arrival in, under the key that it answers, which tells of its events. Where the table is full, the stream can't be watched,
+    /// or the log has no such tenant, it is closed without a byte. Needs no memory.
+    pub(crate) fn admit(
+        &mut self,
+        alloc: Global,
+        registry: &Registry,
+        arrival: Arrival<TcpStream>,
+    ) -> Option<usize>
+        ensures admits { IfSome result (Admits self.old self.new arrival) }
+        ensures same { IfNone result (self.new ≡ self.old) }
+        ensures tenants { self.new.tenants ≡ self.old.tenants }
+    {
+        let Arrival { tenant, mut stream } = arrival;
+        // What comes out of a queue under a lock isn't known to be of this log.
+        let is_known = usize::from(tenant.number()) < self.tenants;
+        if self.connections.len() >= MOST_CONNECTIONS || !is_known {
+            return None;
+        }
+        let token = Token(self.connections.vacant_key());
+        let both = Interest::READABLE | Interest::WRITABLE;
+        if registry.register(&mut stream, token, both).is_err() {
+            return None;
+        }
+        let conn = Conn::new(alloc, tenant);
+        let connection = Connection { stream, conn };
+        Some(self.connections.insert_reserved(connection))
+    }
+
+    /// Turns of the connection under a key, if there is one. Says how it stands then.
+    fn turns_at<G: Gate>(
+        &mut self,
+        worker: &mut Worker<'_>,
+        gate: &mut G,
+        buffer: &mut [u8; PULL_BYTES],
+        key: usize,
+        stops_short: bool,
+    ) -> State
+        requires { self.old.tenants ≡ length (tenants_of worker.old) }
+        ensures serves { Serves self.old self.new key }
+        ensures ended { result ≡ states.Closed → IfSome (connection_at self.new key) (λ connection. HasEnded connection.conn) }
+        ensures onward { IsOnward worker.old worker.new }
+    {
+        match self.connections.get_mut(key) {
+            Some(connection) => connection.turns(worker, gate, buffer, stops_short),
+            None => State::Idle,
+        }
+    }
+
+    /// Drops the connection under a key.
+    fn remove(&mut self, key: usize)
+        ensures updates { Updates self.old.connections self.new.connections key None }
+        ensures tenants { self.new.tenants ≡ self.old.tenants }
+    {
+        self.connections.try_remove(key);
+    }
+
+    /// Serves the connection under a key, if there is one, and drops it where it has ended. Says whether it is to be served again though
+    /// no event tells of it.
+    pub(crate) fn serve<G: Gate>(
+        &mut self,
+        worker: &mut Worker<'_>,
+        gate: &mut G,
+        buffer: &mut [u8; PULL_BYTES],
+        key: usize,
+        stops_short: bool,
+    ) -> bool
+        requires { self.old.tenants ≡ length (tenants_of worker.old) }
+        ensures serves { Serves self.old self.new key }
+        ensures onward { IsOnward worker.old worker.new }
+    {
+        match self.turns_at(worker, gate, buffer, key, stops_short) {
+            State::Busy => true,
+            State::Idle => false,
+            State::Closed => {
+                self.remove(key);
+                false
+            }
+        }
+    }
+}

@@ -1,0 +1,39 @@
+//! Why a loop ends before its time.
+ghost use Rattle.std.specs.Prelude.{◌≡◌};
+ghost use Rattle.mc_model.specs.declared.fault.Fault.TheVariants as faults;
+ghost use Rattle.mc_net.specs.Serving.{IsNetworkFault};
+
+use mc_model::Fault;
+use std::alloc::{AllocError, AllocFailed};
+
+/// Why a loop ends before its time.
+#[derive(Clone, Copy, Debug, PartialEq, Eq)]
+pub enum Halt {
+    /// A growth outside a connection was refused.
+    Memory,
+    /// A poll can't be made or failed, or what wakes one did.
+    Poll,
+}
+
+impl From<AllocError> for Halt {
+    fn from(_error: AllocError) -> Halt {
+        Halt::Memory
+    }
+}
+
+impl<T: Drop> From<AllocFailed<T>> for Halt {
+    fn from(_error: AllocFailed<T>) -> Halt {
+        Halt::Memory
+    }
+}
+
+impl From<Halt> for Fault {
+    ghost from_gives = { λ _ fault. IsNetworkFault fault };
+
+    fn from(halt: Halt) -> Fault {
+        match halt {
+            Halt::Memory => Fault::Memory,
+            Halt::Poll => Fault::Input,
+        }
+    }
+}

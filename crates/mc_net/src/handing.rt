@@ -1,0 +1,69 @@
+//! Streams go to the workers in turn.
+ghost use Rattle.std.specs.Prelude.{◌≡◌, ◌<◌, length, IfOk, OnOk};
+ghost use Rattle.mc_net.specs.declared.door.Arrival.{Arrival};
+ghost use Rattle.mc_net.specs.Handing.{IsHanded, IsPassed};
+
+use crate::door::{Arrival, Door, Listen};
+use crate::halt::Halt;
+use std::io::ErrorKind;
+use std::sync::Wait;
+
+/// Receives arrivals for a worker.
+pub trait Receive<S> {
+    /// The arrival is one that this place has received.
+    ghost received: { Self → Arrival S → Type 0 };
+
+    /// Receives an arrival.
+    fn receive<R: Wait>(&self, rt: &R, arrival: Arrival<S>) -> Result<(), Halt>
+        ensures { OnOk result (received self.now arrival) };
+}
+
+/// Hands an arrival to the place whose turn it is after so many, and to no other. Fails as the place does.
+pub fn hand_over<R: Wait, S, P: Receive<S>>(
+    rt: &R,
+    places: &[P],
+    done: u64,
+    arrival: Arrival<S>,
+) -> Result<(), Halt>
+    requires { 0 < length places.now }
+    ensures { OnOk result (IsHanded P.received places.now done arrival) }
+{
+    let turn = (done % places.len() as u64) as usize;
+    places[turn].receive(rt, arrival)
+}
+
+/// What came of an attempt to accept.
+#[derive(Clone, Copy, Debug, PartialEq, Eq)]
+pub enum Accepted {
+    /// A stream was handed over.
+    One,
+    /// None waits.
+    None,
+    /// The listener failed.
+    Failed,
+}
+
+/// Accepts a stream, and hands it over. Fails as the place does that is to receive it.
+pub fn accept_one<R: Wait, L: Listen, P: Receive<L::Stream>>(
+    rt: &R,
+    door: &Door<L>,
+    places: &[P],
+    done: u64,
+) -> Result<Accepted, Halt>
+    requires { 0 < length places.now }
+    ensures { IfOk result (λ accepted. accepted ≡ Accepted.One → IsPassed L.accepted_by P.received door.now places.now done) }
+{
+    match door.accept() {
+        Ok(arrival) => {
+            hand_over(rt, places, done, arrival)?;
+            Ok(Accepted::One)
+        }
+        Err(error) => {
+            if error.kind() == ErrorKind::WouldBlock {
+                Ok(Accepted::None)
+            } else {
+                Ok(Accepted::Failed)
+            }
+        }
+    }
+}

@@ -1,0 +1,22 @@
+//! The network: an acceptor takes the streams of each tenant's listeners and hands them to workers in turn, each worker in a thread of its
+//! own serves its connections until they end, and the workers come back. `specs/Handing.antt` says which stream goes where, and
+//! `specs/Serving.antt` what becomes of the connections of a worker.
+#![tactic(auto)]
+
+pub use door::{Arrival, Door, Listen};
+pub use halt::Halt;
+pub use handing::{Accepted, Receive, accept_one, hand_over};
+pub use serving::serve;
+
+mod accepting;
+mod connecting;
+pub mod door;
+pub mod halt;
+pub mod handing;
+mod rota;
+mod seat;
+mod serving;
+mod socket;
+mod station;
+mod table;
+mod working;

@@ -1,0 +1,55 @@
+//! The connections of a worker.
+ghost use Rattle.std.specs.Prelude.{◌≡◌, ◌<◌, ◌≤◌, ℕ, IfOk, Some};
+ghost use Rattle.mc_net.specs.declared.table.TheConstants.{MOST_CONNECTIONS};
+ghost use Rattle.slab.specs.Slab.{get};
+
+use crate::halt::Halt;
+use mc_conn::Conn;
+use mio::net::TcpStream;
+use slab::Slab;
+use std::alloc::Global;
+
+/// How many connections a worker has at most.
+pub(crate) const MOST_CONNECTIONS: usize = 1_024;
+
+/// A stream, and what is kept of its requests and replies.
+#[derive(Drop)]
+pub(crate) struct Connection {
+    pub(crate) stream: TcpStream,
+    pub(crate) conn: Conn,
+}
+
+/// The connections of a worker under their keys, each of a tenant of the log.
+#[derive(Drop)]
+pub(crate) struct Table {
+    pub(crate) connections: Slab<Connection>,
+    /// How many tenants the log has.
+    pub(crate) tenants: usize,
+    ghost room: { MOST_CONNECTIONS ≤ connections.capacity },
+    ghost known: { (key : ℕ) (connection : _) → get connections key ≡ Some connection → connection.conn.tenant < tenants },
+}
+
+impl Table {
+    /// No connection, with room for all that there may be. Where memory runs out: `Memory`.
+    pub(crate) fn new(alloc: Global, tenants: usize) -> Result<Table, Halt>
+        ensures { IfOk result (λ table. table.tenants ≡ tenants) }
+    {
+        let mut connections = Slab::new(alloc);
+        connections.reserve(MOST_CONNECTIONS)?;
+        Ok(Table {
+            connections,
+            tenants,
+        })
+    }
+
+    pub(crate) fn is_empty(&self) -> bool {
+        self.connections.is_empty()
+    }
+
+    /// Closes every connection.
+    pub(crate) fn clear(&mut self)
+        ensures { self.new.tenants ≡ self.old.tenants }
+    {
+        self.connections.clear();
+    }
+}

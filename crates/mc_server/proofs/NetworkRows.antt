@@ -1,0 +1,106 @@
+-- Worked rows of wfmc, tried on the definitions: what its words give and ask for.
+use Rattle.std.specs.Prelude.{codes}
+use Rattle.std.proofs.Common.{◌≡◌, ℕ, true, false, [], ◌∷◌, IsTrue, refl, lit<, lit≤}
+use Rattle.std.proofs.lemmas.List.Elements.{All-from_recursion}
+use Rattle.std.specs.Fmt.{digits}
+use Rattle.std.specs.List.{IsDistinct}
+use Rattle.std.specs.Net.Grammar.{IsSocketV4Text}
+use Rattle.std.specs.Str.{bytes_eq}
+use Rattle.std.specs.declared.net.socket_addr.SocketAddrV4.{SocketAddrV4}
+use Rattle.clap.specs.Faults.{fault_of}
+use Rattle.clap.specs.declared.error.kind.ErrorKind.TheVariants as kind
+use Rattle.clap.proofs.OnLiterals.{clap_on_literals}
+use Rattle.mc_server.specs.NetworkWords.{given_by, network_app, tenant_words}
+use Rattle.mc_server.specs.TenantWord.{IsName, Says, is_name_byte}
+
+-- ---- what words give
+
+one_tenant : given_by (codes "a=127.0.0.1:0,1,1" ∷ []) ≡ record { workers = 2; places = 65536; connections = 0; tenants = codes "a=127.0.0.1:0,1,1" ∷ [] }
+unfolding clap_on_literals
+one_tenant = refl
+
+all_options : given_by (codes "--workers" ∷ codes "3" ∷ codes "a" ∷ codes "--places=4" ∷ codes "b" ∷ codes "--connections" ∷ codes "5" ∷ [])
+    ≡ record { workers = 3; places = 4; connections = 5; tenants = codes "a" ∷ codes "b" ∷ [] }
+unfolding clap_on_literals
+all_options = refl
+
+-- a name may begin with a dash, behind two
+dashes : tenant_words (codes "--" ∷ codes "-a" ∷ codes "--b" ∷ []) ≡ codes "-a" ∷ codes "--b" ∷ []
+unfolding clap_on_literals
+dashes = refl
+
+taken : fault_of network_app (codes "a" ∷ codes "--places" ∷ codes "0" ∷ []) ≡ []
+unfolding clap_on_literals
+taken = refl
+
+no_tenant : fault_of network_app (codes "--places" ∷ codes "4" ∷ []) ≡ kind.MissingRequiredArgument ∷ []
+unfolding clap_on_literals
+no_tenant = refl
+
+no_number : fault_of network_app (codes "--workers" ∷ codes "x" ∷ codes "a" ∷ []) ≡ kind.ValueValidation ∷ []
+unfolding clap_on_literals
+no_number = refl
+
+unknown : fault_of network_app (codes "--bogus" ∷ codes "a" ∷ []) ≡ kind.UnknownArgument ∷ []
+unfolding clap_on_literals
+unknown = refl
+
+dashed : fault_of network_app (codes "-a" ∷ []) ≡ kind.UnknownArgument ∷ []
+unfolding clap_on_literals
+dashed = refl
+
+twice : fault_of network_app (codes "--workers" ∷ codes "1" ∷ codes "--workers" ∷ codes "1" ∷ codes "a" ∷ []) ≡ kind.ArgumentConflict ∷ []
+unfolding clap_on_literals
+twice = refl
+
+help : fault_of network_app (codes "--help" ∷ []) ≡ kind.DisplayHelp ∷ []
+unfolding clap_on_literals
+help = refl
+
+version : fault_of network_app (codes "-V" ∷ []) ≡ kind.DisplayVersion ∷ []
+unfolding clap_on_literals
+version = refl
+
+-- ---- what a tenant's word says
+
+local : ℕ → SocketAddrV4
+local port = record { ip = record { octets = 127 ∷ 0 ∷ 0 ∷ 1 ∷ [] }; port = port }
+
+a_name : IsName (codes "shop-2_b")
+a_name = record {
+  size = (lit≤ tt, lit≤ tt);
+  bytes = All-from_recursion (λ byte. IsTrue (is_name_byte byte)) (codes "shop-2_b") (refl, (refl, (refl, (refl, (refl, (refl, (refl, (refl, tt))))))));
+}
+
+an_address : IsSocketV4Text (codes "127.0.0.1:11211") (local 11211)
+unfolding local digits
+an_address = (
+  codes "127.0.0.1",
+  codes ":11211",
+  refl,
+  record { a = 127; b = 0; c = 0; d = 1; fit = (lit< tt, lit< tt, lit< tt, lit< tt); value = refl; spelled = refl },
+  (codes "11211", refl, ((lit< tt, (lit< tt, (lit< tt, (lit< tt, (lit< tt, (lit< tt, tt)))))), refl), lit< tt),
+)
+
+a_tenant : Says (codes "shop-2_b=127.0.0.1:11211,1000,1048576") (record { name = codes "shop-2_b"; address = local 11211; limits = record { items = 1000; bytes = 1048576 } })
+unfolding local
+a_tenant = record {
+  address = codes "127.0.0.1:11211";
+  items = codes "1000";
+  bytes = codes "1048576";
+  spelled = refl;
+  is_name = a_name;
+  is_address = an_address;
+  is_items = refl;
+  is_bytes = refl;
+}
+
+-- ---- names
+
+two_names : IsDistinct bytes_eq (codes "a" ∷ codes "b" ∷ [])
+unfolding IsDistinct
+two_names = ((refl, tt), (tt, tt))
+
+one_name : IsDistinct bytes_eq (codes "a" ∷ codes "b" ∷ codes "a" ∷ []) → ⊥
+unfolding IsDistinct
+one_name distinct = let first : true ≡ false = distinct.0.1.0 in cc

@@ -1,0 +1,94 @@
+-- What is printed while tenants are served adds up, and the workers that come back are of the log.
+use Rattle.std.proofs.Common.{◌≡◌, ◌∙◌, ℕ, ◌+◌, ◌<◌, inl, inr, refl, Contains, List, [], ◌∷◌, ◌++◌, All, Result, Ok, Err, IfErr, OnOk, length, map, ap, sym, subst, arith, append_assoc}
+use Rattle.std.proofs.lemmas.List.{length-map}
+use Rattle.std.proofs.lemmas.List.Elements.{All-cons, All-head, All-nil, All-tail}
+use Rattle.std.specs.List.{AllZip}
+use Rattle.clap.specs.Faults.{fault_of}
+use Rattle.clap.specs.Walk.{Text}
+use Rattle.mc_conn.specs.Onward.{IsOnward}
+use Rattle.mc_model.specs.declared.fault.Fault.{Fault}
+use Rattle.mc_model.specs.declared.fault.Fault.TheVariants.{Memory, LogFull, Taken, Input, Output, BadEvent, BadSettings}
+use Rattle.mc_server.proofs.Numbered.{all_below}
+use Rattle.mc_server.specs.Listeners.{CountsFrom, StopsListening}
+use Rattle.mc_server.specs.Network.{AreOf, IsDone, IsReady, IsServed, StopsAnnouncing, StopsFinishing, StopsRun, StopsServing, names_of}
+use Rattle.mc_server.specs.NetworkTexts.{done_line, ready_text}
+use Rattle.mc_server.specs.NetworkWords.{Asks, AsksForNone, AsksForService, AsksInVain, IsServable, NetworkAsked, NetworkGiven, given_by, given_of, network_app, served_by}
+use Rattle.mc_server.specs.declared.network_words.NetworkWords.{NetworkWords}
+use Rattle.mc_server.specs.declared.network_words.Service.{Service}
+use Rattle.mc_server.specs.declared.listeners.Stop.{Stop}
+use Rattle.mc_server.specs.declared.listeners.Stop.TheVariants.{CannotListen, Failed}
+use Rattle.mc_server.specs.declared.network_texts.Listening.{Listening}
+use Rattle.mc_stream.specs.Event.{moved}
+use Rattle.mc_stream.specs.Pushed.{front_more, front_only}
+use Rattle.mc_stream.specs.Stream.{Outflow}
+use Rattle.uc_log.specs.declared.log.Log.{Log}
+use Rattle.uc_worker.specs.declared.worker.Worker.{Worker}
+
+-- a fault before all was printed of the listeners
+pub announcing_stops : (fault : Fault) (listening : List Listening) (before after : Outflow) → StopsAnnouncing fault listening before after → StopsServing fault listening before after
+announcing_stops Memory listening before after stops = inl stops
+announcing_stops LogFull listening before after stops = absurd stops
+announcing_stops Taken listening before after stops = absurd stops
+announcing_stops Input listening before after stops = absurd stops
+announcing_stops Output listening before after stops = (0, front_only (ready_text listening) (done_line 0) before after stops.0, stops.1)
+announcing_stops BadEvent listening before after stops = absurd stops
+announcing_stops BadSettings listening before after stops = absurd stops
+
+-- the log's length was printed after it
+pub served : {E : Type 0} (result : Result (Unit {0}) E) (listening : List Listening) (before now after : Outflow) → IsReady listening before now → OnOk result (IsDone now after)
+    → OnOk result (IsServed listening before after)
+served (Err fault) listening before now after ready done = done
+served (Ok nothing) listening before now after ready done = (
+  done.0,
+  done.1 ∙ (ap (λ known. known ++ done_line done.0) ready.0 ∙ append_assoc (moved before.events) (ready_text listening) (done_line done.0)),
+  done.2 ∙ ready.1,
+)
+
+finishing_stops : (fault : Fault) (listening : List Listening) (before now after : Outflow) → IsReady listening before now → StopsFinishing fault now after → StopsServing fault listening before after
+finishing_stops Memory listening before now after ready stops = inr (subst (IsReady listening before) (sym stops) ready)
+finishing_stops LogFull listening before now after ready stops = absurd stops
+finishing_stops Taken listening before now after ready stops = absurd stops
+finishing_stops Input listening before now after ready stops = absurd stops
+finishing_stops Output listening before now after ready stops =
+    (stops.0, front_more (ready_text listening) (done_line stops.0) before now after ready.0 stops.1, stops.2 ∙ ap (λ n. n + 1) ready.1)
+finishing_stops BadEvent listening before now after ready stops = absurd stops
+finishing_stops BadSettings listening before now after ready stops = absurd stops
+
+-- a fault after it
+pub stopped : (result : Result (Unit {0}) Fault) (listening : List Listening) (before now after : Outflow) → IsReady listening before now
+    → IfErr result (λ fault. StopsFinishing fault now after) → IfErr result (λ fault. StopsServing fault listening before after)
+stopped (Ok nothing) listening before now after ready stops = stops
+stopped (Err fault) listening before now after ready stops = finishing_stops fault listening before now after ready stops
+
+-- the workers that come back are of the log, and as many
+pub back_of : (log : Log) (workers back : List Worker) → AllZip IsOnward workers back → AreOf log workers → AreOf log back
+back_of log [] [] onward of = of
+back_of log [] (y ∷ ys) onward of = absurd onward
+back_of log (x ∷ xs) [] onward of = absurd onward
+back_of log (x ∷ xs) (y ∷ ys) onward of =
+    let P = λ (worker : Worker). worker.log.now ≡ log in
+    All-cons P y ys (ap (λ lent. lent.now) onward.0.log ∙ All-head P x xs of) (back_of log xs ys onward.1 (All-tail P x xs of))
+
+-- each listener's number is a tenant's
+from_map : {A B : Type 0} (f : A → B) (P : B → Type 0) (xs : List A) → All P (map f xs) → All (λ x. P (f x)) xs
+from_map f P [] h = All-nil (λ x. P (f x))
+from_map f P (x ∷ xs) h = All-cons (λ x. P (f x)) x xs (All-head P (f x) (map f xs) h) (from_map f P xs (All-tail P (f x) (map f xs) h))
+
+pub are_tenants : {A : Type 0} (number : A → ℕ) (listeners : List A) (count : ℕ) → CountsFrom 0 (map number listeners) → length listeners ≡ count → All (λ listener. number listener < count) listeners
+are_tenants number listeners count h e =
+    let below = all_below 0 (map number listeners) h in
+    let P = λ (bound : ℕ). All (λ listener. number listener < bound) listeners in
+    subst P (omega (arith, length-map listeners number)) (from_map number (λ n. n < 0 + length (map number listeners)) listeners below)
+
+-- not all listeners were bound, and nothing was printed
+pub listening_stops : (names : List (List ℕ)) (asked : NetworkAsked) (stop : Stop) (before : Outflow) → names ≡ names_of asked → StopsListening names stop → StopsRun asked stop before before
+listening_stops names asked (CannotListen name) before e stops = (subst (λ (known : List (List ℕ)). Contains known name.now) e stops, refl)
+listening_stops names asked (Failed fault) before e stops = inl (stops, refl)
+
+-- what the words that were read ask for is what the words ask for
+pub for_service : (words : List Text) (read : NetworkWords) (service : Service) → fault_of network_app words ≡ [] → given_of read ≡ given_by words → Asks (given_of read) (served_by service)
+    → IsServable (served_by service) → AsksForService words (served_by service)
+for_service words read service taken given asks servable = (taken, subst (λ (known : NetworkGiven). Asks known (served_by service)) given asks, servable)
+
+pub for_none : (words : List Text) (read : NetworkWords) → fault_of network_app words ≡ [] → given_of read ≡ given_by words → AsksInVain (given_of read) → AsksForNone words
+for_none words read taken given vain = (taken, subst AsksInVain given vain)

@@ -1,0 +1,57 @@
+-- Names that are used once: the first is used by none of the others, which are used once.
+use Rattle.std.proofs.Common.{◌≡◌, ◌≤◌, ◌<◌, ◌-◌, ◌||◌, ◌↔◌, Bool, true, false, not, IsTrue, ℕ, List, [], ◌∷◌, length, map, take, drop, get_or, refl, sym, ap, ◌∙◌, arith, subst}
+use Rattle.std.proofs.lemmas.List.{take_all}
+use Rattle.std.specs.List.{AllByRecursion, IsDistinct, list_any}
+use Rattle.std.specs.Str.{bytes_eq}
+use Rattle.mc_server.specs.declared.tenant_word.Tenant.{Tenant}
+
+abbrev uses : List ℕ → List Tenant → Bool
+uses name = list_any (λ tenant. bytes_eq name tenant.name.now)
+
+either : (a b : Bool) → (a || b) ≡ false → (a ≡ false) × (b ≡ false)
+either true b e = absurd (cc)
+either false true e = absurd (cc)
+either false false e = (refl, refl)
+
+none_uses : (name : List ℕ) (tenants : List Tenant) → uses name tenants ≡ false → AllByRecursion (λ other. bytes_eq name other ≡ false) (map (λ tenant. tenant.name.now) tenants)
+none_uses name [] e = tt
+none_uses name (x ∷ xs) e = let both = either (bytes_eq name x.name.now) (uses name xs) e in (both.0, none_uses name xs both.1)
+
+not_used : (name : List ℕ) (tenants : List Tenant) → AllByRecursion (λ other. bytes_eq name other ≡ false) (map (λ tenant. tenant.name.now) tenants) → uses name tenants ≡ false
+not_used name [] h = refl
+not_used name (x ∷ xs) h = ap (λ b. b || uses name xs) h.0 ∙ not_used name xs h.1
+
+rest_is : (x : Tenant) (xs : List Tenant) → take (length (x ∷ xs) - 1) (drop 1 (x ∷ xs)) ≡ xs
+rest_is x xs = take_all (length (x ∷ xs) - 1) xs (omega arith)
+
+-- the first's name is used by no other
+pub first_is_own : (tenants : List Tenant) (some : Tenant) (has own : Bool) → 1 ≤ length tenants
+    → has ≡ uses (get_or tenants 0 some).name.now (take (length tenants - 1) (drop 1 tenants)) → has ≡ false
+    → IsTrue own ↔ IsDistinct bytes_eq (map (λ tenant. tenant.name.now) (take (length tenants - 1) (drop 1 tenants)))
+    → IsTrue own ↔ IsDistinct bytes_eq (map (λ tenant. tenant.name.now) tenants)
+unfolding IsDistinct
+first_is_own [] some has own low e unused h = absurd (omega arith)
+first_is_own (x ∷ xs) some has own low e unused h =
+    let P : List Tenant → Type 0 = λ rest. (has ≡ uses x.name.now rest) × (IsTrue own ↔ IsDistinct bytes_eq (map (λ tenant. tenant.name.now) rest)) in
+    let known = subst P (rest_is x xs) (e, h) in
+    let free = none_uses x.name.now xs (sym known.0 ∙ unused) in
+    ((λ passes. (free, known.1.0 passes)), λ distinct. known.1.1 distinct.1)
+
+-- it is used by another
+pub first_is_shared : (tenants : List Tenant) (some : Tenant) (has : Bool) → 1 ≤ length tenants
+    → has ≡ uses (get_or tenants 0 some).name.now (take (length tenants - 1) (drop 1 tenants)) → has ≡ true
+    → IsTrue (not has) ↔ IsDistinct bytes_eq (map (λ tenant. tenant.name.now) tenants)
+unfolding IsDistinct
+first_is_shared [] some has low e used = absurd (omega arith)
+first_is_shared (x ∷ xs) some has low e used =
+    let P : List Tenant → Type 0 = λ rest. has ≡ uses x.name.now rest in
+    let known = subst P (rest_is x xs) e in (
+      (λ (passes : not has ≡ true). let fails : not has ≡ false = ap not used in absurd (cc)),
+      λ distinct. let free = not_used x.name.now xs distinct.0 in absurd (cc),
+    )
+
+-- no names
+pub none_is_own : (tenants : List Tenant) → length tenants < 1 → IsTrue true ↔ IsDistinct bytes_eq (map (λ tenant. tenant.name.now) tenants)
+unfolding IsDistinct
+none_is_own [] low = ((λ passes. tt), λ distinct. refl)
+none_is_own (x ∷ xs) low = absurd (omega arith)

@@ -1,0 +1,43 @@
+use Rattle.std.proofs.Common.{◌≡◌, ◌∙◌, List, length, map, ap, subst, arith}
+use Rattle.std.proofs.lemmas.List.{length-map}
+use Rattle.std.proofs.lemmas.Result.{err_from_is_err_and}
+use Rattle.std.proofs.lemmas.Slice.Zip.{AllZip-long}
+use Rattle.mc_conn.specs.Onward.{IsOnward}
+use Rattle.mc_model.specs.Settings.{Configuration}
+use Rattle.mc_server.proofs.NetworkRuns.{announcing_stops, are_tenants, back_of, served, stopped}
+use Rattle.mc_server.specs.Network.{IsReady, StopsAnnouncing}
+use Rattle.mc_server.specs.TenantWord.{asked_of}
+use Rattle.mc_server.specs.declared.network_texts.Listening.{Listening}
+use Rattle.mc_server.proofs.network.serve_tenants.Goals as goal
+
+pub returns-in_err-announce-clause-stops : goal.returns-in_err-announce-clause-stops
+returns-in_err-announce-clause-stops g c =
+    let P : List Listening → Type 0 = λ told. StopsAnnouncing c.in_err-announce.field-0.0 told (g.O.Output.tells c.args.output.now) (g.O.Output.tells c.announce.new.output) in
+    let stops = announcing_stops c.in_err-announce.field-0.0 c.args.bound.told.items (g.O.Output.tells c.args.output.now) (g.O.Output.tells c.announce.new.output) (subst P c.deref.ensures.value c.in_err-announce.ensures.stops) in
+    let left = err_from_is_err_and c.from_residual-in_err-announce.result c.from_residual-in_err-announce.ensures.1 in
+    rw (left.1, left.2) stops
+
+pub serve-requires-clause-tenants : goal.serve-requires-clause-tenants
+serve-requires-clause-tenants g c κs within =
+    let tenants = ap (λ (settings : Configuration). length settings.tenants) (c.in_ok-log.ensures.settings ∙ c.requires.settings) in
+    let count : length c.args.bound.listeners.items ≡ length c.in_ok-log.log.settings.tenants =
+    omega (arith, c.requires.bound.count, tenants, length-map (map asked_of c.args.service.now.tenants.items) (λ tenant. tenant.limits), length-map c.args.service.now.tenants.items asked_of) in
+    are_tenants (λ listener. listener.0) c.args.bound.listeners.items _ c.requires.bound.numbers count
+
+pub finish-requires-clause-log : goal.finish-requires-clause-log
+finish-requires-clause-log g c = (c.in_ok-log.log, back_of c.in_ok-log.log _ c.in_ok-workers-2.workers.items c.in_ok-workers-2.ensures.back c.in_ok-workers.ensures.log)
+
+pub finish-requires-clause-some : goal.finish-requires-clause-some
+finish-requires-clause-some g c =
+    let workers = ap (λ (settings : Configuration). settings.workers) c.requires.settings in
+    omega (arith, AllZip-long IsOnward _ _ c.in_ok-workers-2.ensures.back, c.in_ok-workers.ensures.count, c.in_ok-log.ensures.count, workers, c.requires.servable.lawful.workers.0)
+
+pub returns-clause-serves : goal.returns-clause-serves
+returns-clause-serves g c =
+    let ready = subst (λ (told : List Listening). IsReady told (g.O.Output.tells c.args.output.now) (g.O.Output.tells c.announce.new.output)) c.deref.ensures.value c.in_ok-announce.ensures.ready in
+    served c.finish.result c.args.bound.told.items (g.O.Output.tells c.args.output.now) (g.O.Output.tells c.announce.new.output) (g.O.Output.tells c.finish.new.output) ready c.finish.ensures.done
+
+pub returns-clause-stops : goal.returns-clause-stops
+returns-clause-stops g c =
+    let ready = subst (λ (told : List Listening). IsReady told (g.O.Output.tells c.args.output.now) (g.O.Output.tells c.announce.new.output)) c.deref.ensures.value c.in_ok-announce.ensures.ready in
+    stopped c.finish.result c.args.bound.told.items (g.O.Output.tells c.args.output.now) (g.O.Output.tells c.announce.new.output) (g.O.Output.tells c.finish.new.output) ready c.finish.ensures.stops

@@ -1,0 +1,8 @@
+use Rattle.std.proofs.Common.{List, ℕ, ◌++◌, codes, subst}
+use Rattle.mc_stream.specs.Pushing.{PushesOrFails}
+use Rattle.mc_server.proofs.network_texts.tell_cannot_listen.Goals as goal
+
+pub returns : goal.returns
+returns g c =
+    let P : List ℕ → Type 0 = λ name. PushesOrFails (codes "wfmc: cannot listen " ++ (name ++ codes "\n")) (g.E.Output.tells c.args.errors.now) (g.E.Output.tells c.push_line.new.output) in
+    subst P c.as_bytes.ensures.value c.push_line.ensures.pushed

@@ -1,0 +1,39 @@
+use Rattle.std.proofs.Common.{ap, refl, sym, codes, true, map, string_bytes, ◌≡◌, ◌∙◌, List, [], Option, Some, None, Bor}
+use Rattle.std.specs.Option.{option_map}
+use Rattle.std.specs.Prelude.{option_and_then, unwrap_or}
+use Rattle.clap.specs.Words.{Text, all_of, app_of, fault_of, found_of, is_simple, is_simple_and_free, matches_of, one_of}
+use Rattle.clap.proofs.OnLiterals.{clap_on_literals}
+use Rattle.clap.proofs.WalkLemmas.{one_text-rows, raw_values-rows}
+use Rattle.mc_server.specs.NetworkWords.{network_app}
+use Rattle.mc_server.specs.Words.{u64_of}
+use Rattle.mc_server.proofs.network_words.read_words.Goals as goal
+
+app_is_simple : is_simple network_app ≡ true
+unfolding clap_on_literals
+app_is_simple = refl
+
+app_is_free : is_simple_and_free network_app ≡ true
+unfolding clap_on_literals
+app_is_free = refl
+
+-- the words of a list that is lent, where there is one
+lent_words : (o : Option (Bor (List (Bor Text)))) (some : Bor (List (Bor Text))) → some.now ≡ [] → map (λ word. word.now) (unwrap_or o some).now ≡ unwrap_or (option_map (λ s. map (λ v. v.now) s.now) o) []
+lent_words None some none = ap (map (λ word. word.now)) none
+lent_words (Some x) some none = refl
+
+pub returns-clause-kinds : goal.returns-clause-kinds
+returns-clause-kinds c =
+    let app_is : app_of c.in_ok-network_command.field-0 ≡ network_app = c.in_ok-network_command.ensures in
+    sym (ap (λ a. fault_of a (map string_bytes c.args.words.now)) app_is) ∙ c.in_ok-matches.ensures.kinds (ap is_simple_and_free app_is ∙ app_is_free)
+
+pub returns-clause-given : goal.returns-clause-given
+returns-clause-given c =
+    let app_is : app_of c.in_ok-network_command.field-0 ≡ network_app = c.in_ok-network_command.ensures in
+    let rows = (c.in_ok-matches.ensures.matches (ap is_simple app_is ∙ app_is_simple)).0 ∙ ap (λ a. matches_of a (map string_bytes c.args.words.now)) app_is in
+    let number_of = λ (name : Text). ap (option_and_then u64_of) (one_text-rows (found_of c.in_ok-matches.matches) name ∙ ap (one_of name) rows) in
+    let workers = c.unwrap_or.ensures ∙ ap (λ o. unwrap_or o 2) (c.number.ensures ∙ number_of (codes "workers")) in
+    let places = c.unwrap_or-2.ensures ∙ ap (λ o. unwrap_or o 65536) (c.number-2.ensures ∙ number_of (codes "places")) in
+    let connections = c.unwrap_or-3.ensures ∙ ap (λ o. unwrap_or o 0) (c.number-3.ensures ∙ number_of (codes "connections")) in
+    let raw = c.get_raw.ensures ∙ raw_values-rows (found_of c.in_ok-matches.matches) (codes "tenants") ∙ ap (all_of (codes "tenants")) rows in
+    let tenants = ap (map (λ word. word.now)) (c.in_ok-tenants.ensures.items ∙ ap (λ lent. lent.now) c.unwrap_or-tenants.ensures) ∙ lent_words c.get_raw.result _ refl ∙ ap (λ o. unwrap_or o []) raw in
+    λ i. record { workers = workers i; places = places i; connections = connections i; tenants = tenants i }

@@ -1,0 +1,157 @@
+//! What the program that serves several tenants does.
+ghost use Rattle.std.specs.Prelude.{◌≡◌, ◌<◌, ◌⊎◌, IfErr, IfOk, OnOk, length, map, string_bytes, vec_len};
+ghost use Rattle.mc_server.specs.Listeners.{AreListenersOf};
+ghost use Rattle.mc_server.specs.Network.{AreOf, EndsInFault, EndsWell, IsDone, IsReady, IsServed, RefusesWords, Serves, StopsAnnouncing, StopsFinishing, StopsRun, StopsServing, stop_line};
+ghost use Rattle.mc_server.specs.NetworkWords.{IsServable, served_by, settings_asked};
+ghost use Rattle.mc_stream.specs.Pushing.{PushesOrFails};
+
+use crate::crew::{meet_all, open_workers};
+use crate::faults::{fail, tell_fault};
+use crate::listeners::{Listeners, Stop, bind_all};
+use mc_net::serve;
+use crate::network_texts::{Listening, ready_text, tell_cannot_listen, tell_done};
+use crate::network_words::{Service, read_words, service_of};
+use crate::waiting::push_all;
+use crate::words::answer_words;
+use mc_model::Fault;
+use mc_stream::Output;
+use std::alloc::{AllocError, Global};
+use std::net::Net;
+use std::sync::Wait;
+use std::thread::Threads;
+use uc_log::Log;
+use uc_worker::{Open, Worker};
+
+/// The program's name, as it stands before what it tells.
+const NAME: &[u8] = b"wfmc";
+
+/// Prints who listens where. Where memory runs out: `Memory`. Where the output fails: `Output`.
+fn announce<R: Wait, O: Output>(
+    rt: &R,
+    alloc: Global,
+    told: &[Listening],
+    output: &mut O,
+) -> Result<(), Fault>
+    ensures ready { OnOk result (IsReady told.now (O.tells output.old) (O.tells output.new)) }
+    ensures stops { IfErr result (λ fault. StopsAnnouncing fault told.now (O.tells output.old) (O.tells output.new)) }
+{
+    let text = ready_text(alloc, told)?;
+    push_all(rt, text.as_bytes(), output)
+}
+
+/// Has the workers meet, and prints how long the log has become. Where memory runs out: `Memory`. Where the output fails: `Output`.
+fn finish<R: Wait, O: Output>(rt: &R, workers: Vec<Worker<'_>>, output: &mut O) -> Result<(), Fault>
+    requires log { (log : _) × AreOf log workers.items }
+    requires some { 0 < length workers.items }
+    ensures done { OnOk result (IsDone (O.tells output.old) (O.tells output.new)) }
+    ensures stops { IfErr result (λ fault. StopsFinishing fault (O.tells output.old) (O.tells output.new)) }
+{
+    let count = meet_all(workers)?;
+    tell_done(rt, count as u64, output)
+}
+
+/// Serves the tenants by their listeners until all connections are served: prints who listens where, and at the end how long the log has
+/// become. Where memory runs out: `Memory`. Where waiting for connections fails: `Input`. Where the output fails: `Output`.
+fn serve_tenants<R: Threads + Wait + Net + Sync, O: Output>(
+    rt: &R,
+    alloc: Global,
+    service: &Service,
+    bound: Listeners,
+    output: &mut O,
+) -> Result<(), Fault>
+    requires settings { service.now.settings ≡ settings_asked (served_by service.now) }
+    requires servable { IsServable (served_by service.now) }
+    requires bound { AreListenersOf service.now.tenants.items bound }
+    ensures serves { OnOk result (IsServed bound.entry.told.items (O.tells output.old) (O.tells output.new)) }
+    ensures stops { IfErr result (λ fault. StopsServing fault bound.entry.told.items (O.tells output.old) (O.tells output.new)) }
+{
+    let Listeners { listeners, told } = bound;
+    let (log, passes) = Log::open(alloc, &service.settings)?;
+    let workers = open_workers(alloc, &log, passes)?;
+    let gates = vec![in alloc; Open; workers.len()]?;
+    announce(rt, alloc, &told, output)?;
+    let workers = serve(
+        rt,
+        alloc,
+        &log,
+        workers,
+        listeners,
+        service.connections,
+        gates,
+    )?;
+    finish(rt, workers, output)
+}
+
+/// Listens for each tenant, and serves them all. Before a line is printed all listeners are bound.
+fn run_service<'a, R: Threads + Wait + Net + Sync, O: Output>(
+    rt: &R,
+    alloc: Global,
+    service: &Service<'a>,
+    output: &mut O,
+) -> Result<(), Stop<'a>>
+    requires settings { service.now.settings ≡ settings_asked (served_by service.now) }
+    requires servable { IsServable (served_by service.now) }
+    ensures serves { OnOk result (Serves (served_by service.now) (O.tells output.old) (O.tells output.new)) }
+    ensures stops { IfErr result (λ stop. StopsRun (served_by service.now) stop (O.tells output.old) (O.tells output.new)) }
+{
+    let bound = bind_all(rt, alloc, &service.tenants)?;
+    Ok(serve_tenants(rt, alloc, service, bound, output)?)
+}
+
+/// Says why a run stopped. A failure of `errors` is passed over.
+fn tell_stop<R: Wait, E: Output>(rt: &R, stop: Stop, errors: &mut E)
+    ensures { PushesOrFails (stop_line stop.entry) (E.tells errors.old) (E.tells errors.new) }
+{
+    match stop {
+        Stop::CannotListen(name) => tell_cannot_listen(rt, name, errors),
+        Stop::Failed(fault) => tell_fault(rt, NAME, fault, errors),
+    }
+}
+
+/// Does what the words after the program's name ask for, and answers the status that the program ends with.
+///
+/// Serves the tenants that the words name, each by a listener of its own: prints `listening NAME ADDR` for each, in their order and with the
+/// port that its listener has, and then `ready`. With `--connections` above 0 it ends once so many connections were accepted and all have
+/// ended: then the workers meet, `done L` is printed, where L is the length of the log, and the status is 0. Else it doesn't end.
+///
+/// A tenant's word of another form, a number out of its range, or a name that is used twice is told on `errors` as `wfmc: bad settings`,
+/// with 2, and an address that can't be listened at as `wfmc: cannot listen NAME`, with 1; nothing is printed then. Where memory runs out,
+/// waiting for connections fails, or the output fails: `wfmc: TEXT`, with 1.
+///
+/// Help and the version go to the output, with 0, and a mistake in the words to `errors`, with 2, by clap's text. A failure of `errors`
+/// is passed over.
+pub fn run_wfmc<R: Threads + Wait + Net + Sync, O: Output, E: Output>(
+    rt: &R,
+    alloc: Global,
+    words: Vec<String>,
+    output: &mut O,
+    errors: &mut E,
+) -> u8
+    ensures status { (result ≡ 0) ⊎ (result ≡ 1) ⊎ (result ≡ 2) }
+    // What is printed, by what the words ask for.
+    ensures serves { result ≡ 0 → EndsWell (map string_bytes words.items) (O.tells output.old) (O.tells output.new) }
+    ensures silent { result ≡ 0 → E.tells errors.new ≡ E.tells errors.old }
+    ensures fails { result ≡ 1 → EndsInFault (map string_bytes words.items) (O.tells output.old) (O.tells output.new) (E.tells errors.old) (E.tells errors.new) }
+    ensures refuses { result ≡ 2 → RefusesWords (map string_bytes words.items) (E.tells errors.old) (E.tells errors.new) }
+    ensures untouched { result ≡ 2 → O.tells output.new ≡ O.tells output.old }
+{
+    let given = match read_words(alloc, &words) {
+        Ok(given) => given,
+        Err(error) => return answer_words(rt, alloc, NAME, &error, output, errors),
+    };
+    let service = match service_of(alloc, &given) {
+        Ok(service) => service,
+        Err(Fault::BadSettings) => {
+            tell_fault(rt, NAME, Fault::BadSettings, errors);
+            return 2;
+        }
+        Err(fault) => return fail(rt, NAME, fault, errors),
+    };
+    match run_service(rt, alloc, &service, output) {
+        Ok(()) => 0,
+        Err(stop) => {
+            tell_stop(rt, stop, errors);
+            1
+        }
+    }
+}

@@ -1,0 +1,88 @@
+//! What wfmc prints of its listeners and at its end.
+ghost use Rattle.std.specs.Prelude.{◌≡◌, ◌++◌, IfOk, IsOkUnless, MatchResult, codes, string_bytes};
+ghost use Rattle.mc_model.specs.declared.fault.Fault.{Fault};
+ghost use Rattle.mc_server.specs.NetworkTexts.{cannot_listen_line, done_line, listening_line, ready_text, told_address};
+ghost use Rattle.mc_stream.specs.Pushing.{FailsOnce, IsUnfailed, PushesOrFails};
+
+use crate::waiting::push_all;
+use itoa::Buffer;
+use mc_model::Fault;
+use mc_stream::Output;
+use std::alloc::{AllocError, Global};
+use std::net::SocketAddrV4;
+use std::sync::Wait;
+
+/// A tenant's name, and the address at which its listener listens.
+#[derive(Clone, Copy, Debug)]
+pub(crate) struct Listening<'a> {
+    pub name: &'a str,
+    pub address: SocketAddrV4,
+}
+
+/// The address to tell of a listener that was bound at `address` and was given the port `given`, which counts where the address has port 0.
+pub(crate) fn told_address(address: SocketAddrV4, given: u16) -> SocketAddrV4
+    ensures { result ≡ told_address address given }
+{
+    if address.port() == 0 {
+        SocketAddrV4::new(*address.ip(), given)
+    } else {
+        address
+    }
+}
+
+/// The line on a tenant's listener.
+fn listening_line(alloc: Global, name: &str, address: SocketAddrV4) -> Result<String, AllocError>
+    ensures { IfOk result (λ line. string_bytes line ≡ listening_line name.now address) }
+{
+    format!(in alloc; "listening {name} {address}\n")
+}
+
+/// The lines on all listeners, and the one that says that they are all.
+pub(crate) fn ready_text(alloc: Global, listening: &[Listening]) -> Result<String, AllocError>
+    ensures { IfOk result (λ text. string_bytes text ≡ ready_text listening.now) }
+{
+    let mut text = String::new(alloc);
+    for one in listening {
+        let line = listening_line(alloc, one.name, one.address)?;
+        text.push_str(&line)?;
+    }
+    text.push_str("ready\n")?;
+    Ok(text)
+}
+
+/// Pushes a line of two parts. Takes no memory.
+fn push_line<R: Wait, O: Output>(
+    rt: &R,
+    front: &[u8],
+    back: &[u8],
+    output: &mut O,
+) -> Result<(), Fault>
+    ensures pushed { PushesOrFails (front.now ++ (back.now ++ codes "\n")) (O.tells output.old) (O.tells output.new) }
+    ensures fault { IsOkUnless result Fault.Output }
+    ensures failures { MatchResult result (λ _. IsUnfailed (O.tells output.old) (O.tells output.new)) (λ _. FailsOnce (O.tells output.old) (O.tells output.new)) }
+{
+    push_all(rt, front, output)?;
+    push_all(rt, back, output)?;
+    push_all(rt, b"\n", output)
+}
+
+/// Says how long the log has become. Takes no memory.
+pub(crate) fn tell_done<R: Wait, O: Output>(
+    rt: &R,
+    length: u64,
+    output: &mut O,
+) -> Result<(), Fault>
+    ensures pushed { PushesOrFails (done_line length) (O.tells output.old) (O.tells output.new) }
+    ensures fault { IsOkUnless result Fault.Output }
+    ensures failures { MatchResult result (λ _. IsUnfailed (O.tells output.old) (O.tells output.new)) (λ _. FailsOnce (O.tells output.old) (O.tells output.new)) }
+{
+    let mut buffer = Buffer::new();
+    push_line(rt, b"done ", buffer.format(length).as_bytes(), output)
+}
+
+/// Says that a tenant's address can't be listened at. A failure of `errors` is passed over. Takes no memory.
+pub(crate) fn tell_cannot_listen<R: Wait, E: Output>(rt: &R, name: &str, errors: &mut E)
+    ensures { PushesOrFails (cannot_listen_line name.now) (E.tells errors.old) (E.tells errors.new) }
+{
+    let _ = push_line(rt, b"wfmc: cannot listen ", name.as_bytes(), errors);
+}

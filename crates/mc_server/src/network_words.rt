@@ -1,0 +1,167 @@
+//! What the words of wfmc's command line ask for.
+ghost use Rattle.std.specs.List.{AllZip, IsDistinct, list_any};
+ghost use Rattle.std.specs.Prelude.{◌≡◌, ◌↔◌, ◌⊎◌, List, Err, IfErr, IfOk, IsTrue, false, map, string_bytes};
+ghost use Rattle.std.specs.Str.{bytes_eq};
+ghost use Rattle.clap.specs.Words.{FailsBy, app_of, fault_of, rule_of};
+ghost use Rattle.mc_model.specs.declared.fault.Fault.TheVariants as faults;
+ghost use Rattle.mc_server.specs.NetworkWords.{Asks, AsksInVain, IsServable, given_by, given_of, network_app, options_app, served_by, settings_asked, tenants_rule};
+ghost use Rattle.mc_server.specs.TenantWord.{Says, TenantAsked, asked_of};
+
+use crate::tenant_word::{Tenant, read_tenant};
+use crate::words::{number, number_option};
+use clap::{Arg, Command, Error};
+use mc_model::{Fault, Limits, Settings};
+use std::alloc::{AllocError, Global};
+
+/// How many workers there are where the words don't say.
+const DEFAULT_WORKERS: u64 = 2;
+
+/// How many places the log has where the words don't say.
+const DEFAULT_PLACES: u64 = 65_536;
+
+/// After how many connections the server ends where the words don't say: never.
+const DEFAULT_CONNECTIONS: u64 = 0;
+
+/// A tenant's form, as help shows it.
+const FORM: &str = "\
+Each TENANT is NAME=ADDR,ITEMS,BYTES:
+  NAME   1 to 32 of a to z, 0 to 9, - and _; no name twice
+  ADDR   the IPv4 address and port at which the tenant's clients connect; port 0 takes a free one
+  ITEMS  how many items the tenant may hold, from 1 to 1048576
+  BYTES  how many bytes their keys and data may have, from 1 to 1073741824
+
+Example, two tenants apart from each other on two ports:
+  wfmc shop=127.0.0.1:11211,1000,1048576 blog=127.0.0.1:11212,1000,1048576";
+
+/// What the words of wfmc give: numbers, or their defaults, and the tenants' words in their order.
+#[derive(Debug, Drop)]
+pub(crate) struct NetworkWords<'a> {
+    pub workers: u64,
+    pub places: u64,
+    pub connections: u64,
+    pub tenants: Vec<&'a str>,
+}
+
+/// What wfmc is to serve: settings, after how many connections it ends (0: never), and the tenants by their numbers.
+#[derive(Debug, Drop)]
+pub(crate) struct Service<'a> {
+    pub settings: Settings,
+    pub connections: u64,
+    pub tenants: Vec<Tenant<'a>>,
+}
+
+/// The tenants' words, of which there has to be one.
+fn tenants_argument<'a>(alloc: Global) -> Arg<'a>
+    ensures rule { rule_of result ≡ tenants_rule }
+    ensures local { result.global ≡ false }
+{
+    Arg::new(alloc, "tenants")
+        .value_name("TENANT")
+        .num_args(1usize..)
+        .required(true)
+        .help("A tenant: NAME=ADDR,ITEMS,BYTES, as below")
+}
+
+/// The options that wfmc takes on its command line.
+fn options_command<'a>(alloc: Global) -> Result<Command<'a>, AllocError>
+    ensures { IfOk result (λ command. app_of command ≡ options_app) }
+{
+    let workers = "How many threads serve, from 1 to 16 [default: 2]";
+    let places = "How many commands are applied, from 1 to 1048576 [default: 65536]";
+    let connections = "After how many connections it ends; 0 for never [default: 0]";
+    Command::new(alloc, "wfmc")
+        .no_binary_name(true)
+        .version("1.0.0")
+        .about("A memcached server for several tenants")
+        .after_help(FORM)
+        .arg(number_option(alloc, "workers", workers))?
+        .arg(number_option(alloc, "places", places))?
+        .arg(number_option(alloc, "connections", connections))
+}
+
+/// What wfmc takes on its command line.
+fn network_command<'a>(alloc: Global) -> Result<Command<'a>, AllocError>
+    ensures { IfOk result (λ command. app_of command ≡ network_app) }
+{
+    options_command(alloc)?.arg(tenants_argument(alloc))
+}
+
+/// What the words after the program's name give.
+pub(crate) fn read_words(alloc: Global, words: &[String]) -> Result<NetworkWords<'_>, Error>
+    ensures given { IfOk result (λ read. given_of read ≡ given_by (map string_bytes words.now)) }
+    ensures kinds { FailsBy (fault_of network_app (map string_bytes words.now)) result }
+{
+    let matches = network_command(alloc)?.try_get_matches_from(words)?;
+    let tenants = matches.get_raw("tenants").unwrap_or(&[]);
+    let tenants = Vec::from_slice(alloc, tenants)?;
+    Ok(NetworkWords {
+        workers: number(&matches, "workers").unwrap_or(DEFAULT_WORKERS),
+        places: number(&matches, "places").unwrap_or(DEFAULT_PLACES),
+        connections: number(&matches, "connections").unwrap_or(DEFAULT_CONNECTIONS),
+        tenants,
+    })
+}
+
+/// The tenants that words say, in their order. Where one is not of a tenant's form: `BadSettings`.
+fn read_tenants<'a>(alloc: Global, words: &[&'a str]) -> Result<Vec<Tenant<'a>>, Fault>
+    ensures says { IfOk result (λ tenants. AllZip Says (map (λ word. word.now) words.now) (map asked_of tenants.items)) }
+    ensures only { IfOk result (λ tenants. (others : List TenantAsked) → AllZip Says (map (λ word. word.now) words.now) others → others ≡ map asked_of tenants.items) }
+    ensures other { result ≡ Err faults.BadSettings → (others : List TenantAsked) → ¬ (AllZip Says (map (λ word. word.now) words.now) others) }
+    ensures faults { IfErr result (λ fault. (fault ≡ faults.Memory) ⊎ (fault ≡ faults.BadSettings)) }
+{
+    let mut tenants = Vec::new(alloc);
+    for word in words {
+        match read_tenant(word) {
+            Some(tenant) => tenants.push(tenant)?,
+            None => return Err(Fault::BadSettings),
+        }
+    }
+    Ok(tenants)
+}
+
+/// Whether a tenant has this name.
+fn has_name(tenants: &[Tenant], name: &str) -> bool
+    ensures { result ≡ list_any (λ tenant. bytes_eq name.now tenant.name.now) tenants.now }
+{
+    tenants.iter().any(|tenant| name == tenant.name)
+}
+
+/// Whether no tenant has the name of another.
+fn have_own_names(tenants: &[Tenant]) -> bool
+    ensures { IsTrue result ↔ IsDistinct bytes_eq (map (λ tenant. tenant.name.now) tenants.now) }
+{
+    match tenants {
+        [] => true,
+        [first, rest @ ..] => !has_name(rest, first.name) && have_own_names(rest),
+    }
+}
+
+/// The tenants' quotas, in the tenants' order.
+fn quotas_of(alloc: Global, tenants: &[Tenant]) -> Result<Vec<Limits>, AllocError>
+    ensures { IfOk result (λ quotas. quotas.items ≡ map (λ tenant. tenant.limits) tenants.now) }
+{
+    tenants.iter().map(|tenant| tenant.limits).collect(alloc)
+}
+
+/// What the words ask to be served. Where that can't be, since a tenant's word is of another form, a number is out of its bounds, or a
+/// name is used twice: `BadSettings`.
+pub(crate) fn service_of<'a>(alloc: Global, words: &NetworkWords<'a>) -> Result<Service<'a>, Fault>
+    ensures asks { IfOk result (λ service. Asks (given_of words.now) (served_by service)) }
+    ensures settings { IfOk result (λ service. service.settings ≡ settings_asked (served_by service)) }
+    ensures servable { IfOk result (λ service. IsServable (served_by service)) }
+    ensures vain { result ≡ Err faults.BadSettings → AsksInVain (given_of words.now) }
+    ensures faults { IfErr result (λ fault. (fault ≡ faults.Memory) ⊎ (fault ≡ faults.BadSettings)) }
+{
+    let tenants = read_tenants(alloc, &words.tenants)?;
+    let quotas = quotas_of(alloc, &tenants)?;
+    let settings = Settings::check(words.workers, words.places, quotas)?;
+    // Only so many names as there may be tenants are compared.
+    if !have_own_names(&tenants) {
+        return Err(Fault::BadSettings);
+    }
+    Ok(Service {
+        settings,
+        connections: words.connections,
+        tenants,
+    })
+}

@@ -1,0 +1,85 @@
+//! What a tenant's word says on wfmc's command line.
+ghost use Rattle.std.specs.Option.{IsSomeAnd};
+ghost use Rattle.std.specs.Prelude.{◌≡◌, ◌↔◌, ℕ, List, Some, IfSome, IsTrue};
+ghost use Rattle.mc_server.specs.TenantWord.{IsName, Lacks, Says, TenantAsked, asked_of, is_name_byte, tenant_text};
+ghost use Rattle.mc_server.specs.Words.{u64_of};
+
+use mc_model::Limits;
+use std::net::SocketAddrV4;
+
+/// The greatest length of a tenant's name.
+const MAX_NAME: usize = 32;
+
+/// A tenant, as its word says it: its name, the address at which it listens, and its quotas, which need not be lawful.
+#[derive(Clone, Copy, Debug)]
+pub(crate) struct Tenant<'a> {
+    pub name: &'a str,
+    pub address: SocketAddrV4,
+    pub limits: Limits,
+}
+
+/// The parts of a tenant's word.
+#[derive(Clone, Copy)]
+struct Parts<'a> {
+    name: &'a str,
+    address: &'a str,
+    items: &'a str,
+    bytes: &'a str,
+}
+
+/// Whether a byte may stand in a name.
+fn is_name_byte(byte: u8) -> bool
+    ensures { result ≡ is_name_byte byte }
+{
+    matches!(byte, b'a'..=b'z' | b'0'..=b'9' | b'-' | b'_')
+}
+
+/// Whether a tenant may have this name.
+fn is_name(name: &str) -> bool
+    ensures { IsTrue result ↔ IsName name.now }
+{
+    (1..=MAX_NAME).contains(&name.len()) && name.bytes().all(|byte| is_name_byte(byte))
+}
+
+/// The number of 64 bits that a text spells; a plus may stand first.
+fn read_number(text: &str) -> Option<u64>
+    ensures { result ≡ u64_of text.now }
+{
+    text.parse::<u64>().ok()
+}
+
+/// Cuts a word at its first `=`, and what follows at its first two commas.
+fn cut(word: &str) -> Option<Parts<'_>>
+    ensures whole { IfSome result (λ parts. word.now ≡ tenant_text parts.name.now parts.address.now parts.items.now parts.bytes.now) }
+    ensures only { (name address items bytes : List ℕ) → Lacks 61 name → Lacks 44 address → Lacks 44 items → word.now ≡ tenant_text name address items bytes
+        → IsSomeAnd result (λ parts. (parts.name.now ≡ name) × (parts.address.now ≡ address) × (parts.items.now ≡ items) × (parts.bytes.now ≡ bytes)) }
+{
+    let (name, rest) = word.split_once('=')?;
+    let (address, rest) = rest.split_once(',')?;
+    let (items, bytes) = rest.split_once(',')?;
+    Some(Parts {
+        name,
+        address,
+        items,
+        bytes,
+    })
+}
+
+/// The tenant that a word says, or `None` where the word is not of a tenant's form.
+pub(crate) fn read_tenant(word: &str) -> Option<Tenant<'_>>
+    ensures says { IfSome result (λ tenant. Says word.now (asked_of tenant)) }
+    ensures only { (asked : TenantAsked) → Says word.now asked → IsSomeAnd result (λ tenant. asked_of tenant ≡ asked) }
+{
+    let parts = cut(word)?;
+    if !is_name(parts.name) {
+        return None;
+    }
+    let address = parts.address.parse::<SocketAddrV4>().ok()?;
+    let items = read_number(parts.items)?;
+    let bytes = read_number(parts.bytes)?;
+    Some(Tenant {
+        name: parts.name,
+        address,
+        limits: Limits { items, bytes },
+    })
+}

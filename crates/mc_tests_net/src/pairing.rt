@@ -1,0 +1,79 @@
+//! Streams of listeners that the test knows, at places that it can look into.
+ghost use Rattle.std.specs.Prelude.{◌≡◌, ⊤, IfOk, OnOk};
+
+use mc_model::TenantId;
+use mc_net::{Accepted, Arrival, Door, Halt, Listen, Receive, accept_one};
+use std::alloc::Global;
+use std::io;
+use std::sync::{Mutex, Wait};
+use std::test::Fail;
+
+/// A listener whose streams are its number.
+#[derive(Drop)]
+struct Numbered {
+    number: u8,
+}
+
+impl Listen for Numbered {
+    type Stream = u8;
+
+    ghost accepted_by = { λ listener stream. stream ≡ listener.number };
+
+    fn accept_stream(&self) -> io::Result<u8>
+        ensures { IfOk result (λ stream. stream ≡ self.now.number) }
+    {
+        Ok(self.number)
+    }
+}
+
+/// Keeps what it receives: each tenant's number and its stream.
+#[derive(Drop)]
+struct Pigeonhole {
+    kept: Mutex<Vec<(u8, u8)>>,
+}
+
+impl Receive<u8> for Pigeonhole {
+    ghost received = { λ _ _. ⊤ };
+
+    fn receive<R: Wait>(&self, rt: &R, arrival: Arrival<u8>) -> Result<(), Halt>
+        ensures { OnOk result ⊤ }
+    {
+        let pair = (arrival.tenant.number(), arrival.stream);
+        self.kept.lock(rt).push(pair)?;
+        Ok(())
+    }
+}
+
+fn hole(alloc: Global) -> Pigeonhole {
+    Pigeonhole {
+        kept: Mutex::new(Vec::new(alloc)),
+    }
+}
+
+fn holds<R: Wait>(rt: &R, hole: &Pigeonhole, pairs: &[(u8, u8)]) -> bool {
+    hole.kept.lock(rt).as_slice() == pairs
+}
+
+#[test]
+fn streams_go_round_with_their_tenants(rt: HostRuntime) -> Result<(), Fail> {
+    let alloc = rt.alloc();
+    let one = TenantId::new(3).ok_or("no tenant")?;
+    let two = TenantId::new(5).ok_or("no tenant")?;
+    let first = Door {
+        tenant: one,
+        listener: Numbered { number: 30 },
+    };
+    let second = Door {
+        tenant: two,
+        listener: Numbered { number: 50 },
+    };
+    let places = [hole(alloc), hole(alloc), hole(alloc)];
+    for done in 0..4u64 {
+        let door = if done == 1 { &second } else { &first };
+        assert_eq!(rt; accept_one(&rt, door, &places, done)?, Accepted::One);
+    }
+    assert!(rt; holds(&rt, &places[0], &[(3, 30), (3, 30)]));
+    assert!(rt; holds(&rt, &places[1], &[(5, 50)]));
+    assert!(rt; holds(&rt, &places[2], &[(3, 30)]));
+    Ok(())
+}
