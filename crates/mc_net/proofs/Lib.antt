@@ -1,2 +1,3 @@
 pub mod Servings
 pub mod Seatings
+pub mod Stopped
