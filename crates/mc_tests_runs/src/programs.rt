@@ -48,7 +48,7 @@ fn push_word(words: &mut Vec<String>, word: &str) -> Result<(), AllocError> {
 }
 
 /// The words of a command line, of which these are given with a space between them.
-fn words_of(alloc: Global, given: &str) -> Result<Vec<String>, AllocError> {
+pub fn words_of(alloc: Global, given: &str) -> Result<Vec<String>, AllocError> {
     let mut words = Vec::new(alloc);
     for word in given.split_terminator(' ') {
         push_word(&mut words, word)?;
