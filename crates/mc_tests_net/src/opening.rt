@@ -6,6 +6,9 @@ use mc_model::{Fault, Limits, Settings, TenantId};
 use mc_net::serve;
 use mio::net::TcpListener;
 use std::alloc::Global;
+use std::net::Net;
+use std::sync::Wait;
+use std::thread::Threads;
 use uc_log::{Log, Pass};
 use uc_worker::{Open, Worker};
 
@@ -45,8 +48,9 @@ pub(crate) fn workers_of<'a>(
 }
 
 /// Serves the first tenant at one listener and the second at the other, until two streams have ended.
-pub(crate) fn served<'a>(
-    rt: &HostRuntime,
+pub(crate) fn served<'a, R: Threads + Wait + Net + Sync>(
+    rt: &R,
+    alloc: Global,
     log: &'a Log,
     workers: Vec<Worker<'a>>,
     one: TcpListener,
@@ -55,7 +59,6 @@ pub(crate) fn served<'a>(
     requires { All (λ worker. worker.log.now ≡ log.now) workers.items }
     ensures { IfOk result (λ back. All (λ worker. worker.log.now ≡ log.entry.now) back.items) }
 {
-    let alloc = rt.alloc();
     let (Some(first), Some(second)) = (TenantId::new(0), TenantId::new(1)) else {
         return Err(Fault::BadEvent);
     };

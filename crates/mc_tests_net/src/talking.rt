@@ -6,7 +6,7 @@ use mc_model::Fault;
 use mio::net::TcpListener;
 use std::io;
 use std::io::{Read, Write};
-use std::net::{Ipv4Addr, Net, Shutdown, SocketAddr, TcpStream};
+use std::net::{Ipv4Addr, Net, OpenStream, Shutdown, SocketAddr, TcpStream};
 use std::test::Fail;
 use std::thread;
 use std::time::Duration;
@@ -16,18 +16,18 @@ use uc_worker::Worker;
 /// How long a client waits for a reply.
 const PATIENCE_SECONDS: u64 = 20;
 
-fn listen(rt: &HostRuntime) -> io::Result<TcpListener> {
+fn listen<R: Net>(rt: &R) -> io::Result<TcpListener> {
     TcpListener::bind(rt, SocketAddr::from((Ipv4Addr::LOCALHOST, 0)))
 }
 
-fn connect(rt: &HostRuntime, address: SocketAddr) -> io::Result<TcpStream> {
+fn connect<R: Net>(rt: &R, address: SocketAddr) -> io::Result<R::Stream> {
     let stream = TcpStream::connect(rt, address)?;
     stream.set_read_timeout(Some(Duration::from_secs(PATIENCE_SECONDS)))?;
     Ok(stream)
 }
 
 /// Whether the answer to the text is this.
-fn asks(stream: &mut TcpStream, text: &str, want: &str) -> io::Result<bool> {
+fn asks<S: Read + Write>(stream: &mut S, text: &str, want: &str) -> io::Result<bool> {
     stream.write_all(text.as_bytes())?;
     let mut bytes = [0u8; 256];
     let Some(answer) = bytes.get_mut(..want.len()) else {
@@ -38,12 +38,12 @@ fn asks(stream: &mut TcpStream, text: &str, want: &str) -> io::Result<bool> {
 }
 
 /// Whether nothing comes any more.
-fn is_closed(stream: &mut TcpStream) -> io::Result<bool> {
+fn is_closed<S: Read>(stream: &mut S) -> io::Result<bool> {
     Ok(stream.read(&mut [0u8; 16])? == 0)
 }
 
 /// Whether both tenants see their own value under the same key, and each connection is closed after its `quit`.
-fn share_a_key(rt: &HostRuntime, one: SocketAddr, two: SocketAddr) -> io::Result<bool> {
+fn share_a_key<R: Net>(rt: &R, one: SocketAddr, two: SocketAddr) -> io::Result<bool> {
     let mut first = connect(rt, one)?;
     let mut second = connect(rt, two)?;
     let set = asks(&mut first, "set a 0 0 1\r\nx\r\n", "STORED\r\n")?;
@@ -58,7 +58,7 @@ fn share_a_key(rt: &HostRuntime, one: SocketAddr, two: SocketAddr) -> io::Result
 }
 
 /// Whether the second tenant is served beside a client of the first that goes in the middle of a block.
-fn leaves_in_a_block(rt: &HostRuntime, one: SocketAddr, two: SocketAddr) -> io::Result<bool> {
+fn leaves_in_a_block<R: Net>(rt: &R, one: SocketAddr, two: SocketAddr) -> io::Result<bool> {
     let mut first = connect(rt, one)?;
     let mut second = connect(rt, two)?;
     let before = asks(&mut second, "set a 0 0 1\r\nx\r\n", "STORED\r\n")?;
@@ -89,14 +89,15 @@ fn have_met<'a>(log: &'a Log, back: Vec<Worker<'a>>, places: usize) -> Result<bo
 
 #[test]
 fn two_tenants_share_a_key(rt: HostRuntime) -> Result<(), Fail> {
-    let (log, passes) = opened(rt.alloc())?;
-    let workers = workers_of(rt.alloc(), &log, passes)?;
+    let alloc = rt.alloc();
+    let (log, passes) = opened(alloc)?;
+    let workers = workers_of(alloc, &log, passes)?;
     let (one, two) = (listen(&rt)?, listen(&rt)?);
     let (first, second) = (one.local_addr()?, two.local_addr()?);
     let (said, back) = thread::join(
         &rt,
         || share_a_key(&rt, first, second),
-        || served(&rt, &log, workers, one, two),
+        || served(&rt, alloc, &log, workers, one, two),
     );
     assert!(rt; said?);
     assert!(rt; have_met(&log, back?, 5)?);
@@ -105,14 +106,15 @@ fn two_tenants_share_a_key(rt: HostRuntime) -> Result<(), Fail> {
 
 #[test]
 fn one_leaves_in_a_block(rt: HostRuntime) -> Result<(), Fail> {
-    let (log, passes) = opened(rt.alloc())?;
-    let workers = workers_of(rt.alloc(), &log, passes)?;
+    let alloc = rt.alloc();
+    let (log, passes) = opened(alloc)?;
+    let workers = workers_of(alloc, &log, passes)?;
     let (one, two) = (listen(&rt)?, listen(&rt)?);
     let (first, second) = (one.local_addr()?, two.local_addr()?);
     let (said, back) = thread::join(
         &rt,
         || leaves_in_a_block(&rt, first, second),
-        || served(&rt, &log, workers, one, two),
+        || served(&rt, alloc, &log, workers, one, two),
     );
     assert!(rt; said?);
     assert!(rt; have_met(&log, back?, 2)?);
