@@ -1,6 +1,6 @@
 #!/usr/bin/env bash
 # Proves and builds the named crates with the libraries that they stand on, those that don't wait for each other side by side. A
-# program is run on its stored input, and on none where it has none.
+# program is run on its stored words and input, and on none where it has none.
 # Prints a line as each crate begins and one as it ends; where one fails, its log stays and the last line says where.
 # rt keeps others out of a crate's folder and of all below it while it works, so each crate is proved in a room of its own, made of
 # hard links; what it has made comes back when it ends.
@@ -65,14 +65,15 @@ logs=$(mktemp -d)
 declare -A state jobs_of process_of
 begun=0
 begin() {
-    local crate=$1 jobs=$2 input
+    local crate=$1 jobs=$2 input words=()
     begun=$((begun + 1))
     echo "proving $crate ($begun of ${#order[@]})"
     make_room "$crate"
     input=/dev/null
     [ ! -e "crates/$crate/stdin" ] || input=stdin
+    [ ! -e "crates/$crate/args" ] || mapfile -t words <"crates/$crate/args"
     if [ -e "crates/$crate/src/main.rt" ]; then
-        (cd "$rooms/$crate/crates/$crate" && rt run --jobs "$jobs" <"$input") >"$logs/$crate" 2>&1 &
+        (cd "$rooms/$crate/crates/$crate" && rt run --jobs "$jobs" ${words:+-- "${words[@]}"} <"$input") >"$logs/$crate" 2>&1 &
     else
         (cd "$rooms/$crate/crates/$crate" && rt lib --jobs "$jobs") >"$logs/$crate" 2>&1 &
     fi
