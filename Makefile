@@ -56,6 +56,7 @@ bench: kit
 	@bench/cells.sh
 	@bench/places.sh
 	@bench/worker.sh
+	@bench/wfmc.sh
 	@python3 bench/schedule.py
 
 # A clear word where the kit is missing, in place of the shell's.

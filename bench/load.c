@@ -1,0 +1,157 @@
+/* Loads a memcached over loopback: some connections, each with so many requests sent at once and the next when all their replies are
+ * there. Prints requests a second, and the median and the 99th percentile of the time from a send to its last reply, in microseconds.
+ *
+ * load PORT[,PORT...] CONNECTIONS DEPTH REQUESTS: the connections go to the ports in turn. 95 in 100 requests are gets of one of 1,000
+ * keys, the others sets, with data of 100 bytes; the keys are set before the clock starts. Every reply has a known length, by which it
+ * is counted, and the last bytes of each batch are compared. */
+#define _GNU_SOURCE
+#include <arpa/inet.h>
+#include <errno.h>
+#include <netinet/in.h>
+#include <netinet/tcp.h>
+#include <stdint.h>
+#include <stdio.h>
+#include <stdlib.h>
+#include <string.h>
+#include <sys/epoll.h>
+#include <sys/socket.h>
+#include <time.h>
+#include <unistd.h>
+
+enum { KEYS = 1000, DATA = 100, MOST = 64 };
+
+struct client {
+    int socket;
+    size_t wanted;      /* reply bytes of the batch that are still to come */
+    int ends_with_get;  /* its last request is a get */
+    char tail[5];       /* the last bytes that came */
+    double sent_at;
+};
+
+static char data[DATA];
+static uint64_t state = 88172645463325252u;
+
+static unsigned next_random(void) {
+    state ^= state << 13, state ^= state >> 7, state ^= state << 17;
+    return (unsigned)(state >> 33);
+}
+
+static double now(void) {
+    struct timespec t;
+    clock_gettime(CLOCK_MONOTONIC, &t);
+    return (double)t.tv_sec * 1e6 + (double)t.tv_nsec / 1e3;
+}
+
+static void fail(const char *what) {
+    perror(what);
+    exit(1);
+}
+
+static int connect_to(int port) {
+    int one = 1, it = socket(AF_INET, SOCK_STREAM, 0);
+    struct sockaddr_in address = {.sin_family = AF_INET, .sin_port = htons((uint16_t)port), .sin_addr = {htonl(INADDR_LOOPBACK)}};
+    if (it < 0 || connect(it, (struct sockaddr *)&address, sizeof address)) fail("connect");
+    setsockopt(it, IPPROTO_TCP, TCP_NODELAY, &one, sizeof one);
+    return it;
+}
+
+static void send_all(int socket, const char *bytes, size_t count) {
+    while (count) {
+        ssize_t sent = send(socket, bytes, count, 0);
+        if (sent < 0 && errno == EAGAIN) continue;
+        if (sent <= 0) fail("send");
+        bytes += sent, count -= (size_t)sent;
+    }
+}
+
+/* A request, and how many bytes its reply has. */
+static size_t ask(char *to, int is_get, unsigned key, size_t *wanted) {
+    if (is_get) {
+        *wanted += strlen("VALUE key00000 0 100\r\n") + DATA + strlen("\r\nEND\r\n");
+        return (size_t)sprintf(to, "get key%05u\r\n", key);
+    }
+    *wanted += strlen("STORED\r\n");
+    return (size_t)sprintf(to, "set key%05u 0 0 100\r\n%.*s\r\n", key, DATA, data);
+}
+
+static void send_batch(struct client *client, int depth) {
+    static char text[MOST * 160];
+    size_t count = 0;
+    client->wanted = 0;
+    for (int i = 0; i < depth; i++) {
+        client->ends_with_get = next_random() % 100 < 95;
+        count += ask(text + count, client->ends_with_get, next_random() % KEYS, &client->wanted);
+    }
+    client->sent_at = now();
+    send_all(client->socket, text, count);
+}
+
+/* Takes in what is there. Whether the batch is answered. */
+static int take_in(struct client *client) {
+    static char bytes[1 << 16];
+    ssize_t count = recv(client->socket, bytes, sizeof bytes, MSG_DONTWAIT);
+    if (count < 0 && errno == EAGAIN) return 0;
+    if (count <= 0 || (size_t)count > client->wanted) {
+        fprintf(stderr, "another reply than the one that is wanted: %.*s\n", count > 0 ? (int)(count < 60 ? count : 60) : 0, bytes);
+        exit(1);
+    }
+    for (ssize_t i = count > 5 ? count - 5 : 0; i < count; i++) memmove(client->tail, client->tail + 1, 4), client->tail[4] = bytes[i];
+    client->wanted -= (size_t)count;
+    if (client->wanted) return 0;
+    if (memcmp(client->tail, client->ends_with_get ? "END\r\n" : "RED\r\n", 5)) {
+        fprintf(stderr, "another reply than the one that is wanted, which ends with %.5s\n", client->tail);
+        exit(1);
+    }
+    return 1;
+}
+
+static int compare(const void *one, const void *two) {
+    double a = *(const double *)one, b = *(const double *)two;
+    return a < b ? -1 : a > b;
+}
+
+static void set_keys(int port) {
+    char text[256];
+    struct client client = {.socket = connect_to(port)};
+    for (unsigned key = 0; key < KEYS; key++) {
+        size_t count = ask(text, 0, key, &client.wanted);
+        send_all(client.socket, text, count);
+        while (!take_in(&client)) continue;
+    }
+    close(client.socket);
+}
+
+int main(int count, char **words) {
+    if (count != 5) return fprintf(stderr, "load PORT[,PORT...] CONNECTIONS DEPTH REQUESTS\n"), 2;
+    int connections = atoi(words[2]), depth = atoi(words[3]), ports[MOST], known = 0;
+    long requests = atol(words[4]), batches = requests / depth, begun = 0, done = 0;
+    for (char *word = strtok(words[1], ","); word && known < MOST; word = strtok(NULL, ",")) ports[known++] = atoi(word);
+    if (depth < 1 || depth > MOST || connections < 1 || !known) return fprintf(stderr, "numbers out of range\n"), 2;
+    memset(data, 'v', DATA);
+    for (int i = 0; i < known; i++) set_keys(ports[i]);
+    struct client *clients = calloc((size_t)connections, sizeof *clients);
+    double *times = malloc((size_t)batches * sizeof *times);
+    int poll = epoll_create1(0);
+    for (int i = 0; i < connections; i++) {
+        clients[i].socket = connect_to(ports[i % known]);
+        struct epoll_event event = {.events = EPOLLIN, .data.ptr = &clients[i]};
+        epoll_ctl(poll, EPOLL_CTL_ADD, clients[i].socket, &event);
+    }
+    double start = now();
+    for (int i = 0; i < connections && begun < batches; i++, begun++) send_batch(&clients[i], depth);
+    while (done < batches) {
+        struct epoll_event events[MOST];
+        int ready = epoll_wait(poll, events, MOST, 10000);
+        if (ready <= 0) return fprintf(stderr, "no reply comes\n"), 1;
+        for (int i = 0; i < ready; i++) {
+            struct client *client = events[i].data.ptr;
+            if (!take_in(client)) continue;
+            times[done++] = now() - client->sent_at;
+            if (begun < batches) begun++, send_batch(client, depth);
+        }
+    }
+    double seconds = (now() - start) / 1e6;
+    qsort(times, (size_t)batches, sizeof *times, compare);
+    printf("%.0f %.0f %.0f\n", (double)(batches * depth) / seconds, times[batches / 2], times[batches * 99 / 100]);
+    return 0;
+}
