@@ -1,6 +1,7 @@
 #!/usr/bin/env bash
 # The gate: the kit's own (every proof from nothing, the edits of must-fail/, the tests, the programs on their stored runs), and
-# then the built programs on their worked rows, and wfmc over sockets. The last line is 'N passed, M failed', of all together.
+# then the built programs on their worked rows, wfmc over sockets, orders of what its clients saw, a round of the attack, and whether the
+# picture of the crates is up to date. The last line is 'N passed, M failed', of all together.
 set -euo pipefail
 cd "$(dirname "$0")/.."
 
@@ -11,14 +12,33 @@ trap 'rm -rf "$folder"' EXIT
 all_but_last() { awk -v last="$1" 'NR > 1 { print held; fflush() } { held = $0 } END { print held >last }'; }
 
 failed=0
-rt ci 2>&1 | all_but_last "$folder/gate" || failed=1
+sums=()
+# Runs a command, whose last line is kept for the sum.
+count() {
+    local sum=$folder/${#sums[@]}
+    sums+=("$sum")
+    "$@" 2>&1 | all_but_last "$sum" || failed=1
+}
+
+picture_is_up_to_date() {
+    if tools/picture.py --check; then echo "1 passed, 0 failed"; else echo "0 passed, 1 failed" && return 1; fi
+}
+
+count rt ci
 echo "the built programs on their worked rows"
-tests/programs.sh | all_but_last "$folder/rows" || failed=1
+count tests/programs.sh
 for binary in wfmc wfmc.by-rattle; do
     echo "$binary over sockets"
-    python3 tests/network.py "crates/wfmc/out/$binary" 2>&1 | all_but_last "$folder/$binary" || failed=1
+    count python3 tests/network.py "crates/wfmc/out/$binary"
 done
+echo "one order explains what clients of wfmc saw"
+count python3 tests/orders.py --self-test
+count python3 tests/orders.py 20
+echo "a round of the attack on wfmc"
+count python3 tests/attack.py --seed 77 --round 3
+echo "the picture of the crates"
+count picture_is_up_to_date
 
 awk '{ passed += $1; failed += $3; if ($0 !~ /^[0-9]+ passed, [0-9]+ failed$/) { print; failed++ } }
-     END { print passed + 0 " passed, " failed + 0 " failed" }' "$folder/gate" "$folder/rows" "$folder/wfmc" "$folder/wfmc.by-rattle"
+     END { print passed + 0 " passed, " failed + 0 " failed" }' "${sums[@]}"
 exit "$failed"

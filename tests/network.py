@@ -11,41 +11,14 @@ import os
 import pathlib
 import resource
 import socket
-import struct
-import subprocess
 import sys
 import threading
 
+from serving import SECONDS, Server, reset
+
 PROGRAM = sys.argv[1] if len(sys.argv) > 1 else "crates/wfmc/out/wfmc"
 SHORT = 4096
-SECONDS = 60
 results = []
-
-
-class Server:
-    """wfmc with these options, for tenants of these quotas, each at a free port."""
-
-    def __init__(self, options, tenants):
-        words = [f"{name}=127.0.0.1:0,{items},{size}" for name, (items, size) in tenants.items()]
-        self.process = subprocess.Popen([PROGRAM, *options, *words], stdout=subprocess.PIPE, stderr=subprocess.PIPE)
-        self.ports = {}
-        for _ in tenants:
-            said, name, address = self.process.stdout.readline().decode().split()
-            assert said == "listening", said
-            self.ports[name] = int(address.rpartition(":")[2])
-        assert self.process.stdout.readline() == b"ready\n"
-
-    def connect(self, name):
-        client = socket.create_connection(("127.0.0.1", self.ports[name]), timeout=SECONDS)
-        client.setsockopt(socket.IPPROTO_TCP, socket.TCP_NODELAY, 1)
-        return client
-
-    def __enter__(self):
-        return self
-
-    def __exit__(self, *_):
-        self.process.kill()
-        self.process.communicate()
 
 
 def received(client, pieces):
@@ -119,7 +92,7 @@ def check_rows():
     for name, options, quotas, sent, wanted in rows():
         for workers in ("1", "4"):
             for step in [None, 1] if len(sent) <= SHORT else [None]:
-                with Server(["--workers", workers, *options], {"a": quotas}) as server:
+                with Server(PROGRAM, ["--workers", workers, *options], {"a": quotas}) as server:
                     check(f"{name}, {workers} workers, {'whole' if step is None else 'by bytes'}", is_served(sent, wanted, *talk(server, "a", sent, step)))
 
 
@@ -127,7 +100,7 @@ LARGE = (1000, 100_000_000)
 
 
 def check_tenants():
-    with Server(["--connections", "2"], {"a": LARGE, "b": LARGE}) as server:
+    with Server(PROGRAM, ["--connections", "2"], {"a": LARGE, "b": LARGE}) as server:
         check("the first tenant's", answer(server, "a", b"set a 0 0 1\r\nx\r\ngets a\r\nquit\r\n") == b"STORED\r\nVALUE a 0 1 1\r\nx\r\nEND\r\n")
         check("the second tenant's", answer(server, "b", b"gets a\r\nset a 0 0 1\r\ny\r\ngets a\r\nquit\r\n") == b"END\r\nSTORED\r\nVALUE a 0 1 1\r\ny\r\nEND\r\n")
         out, errors = server.process.communicate(timeout=SECONDS)
@@ -136,12 +109,12 @@ def check_tenants():
 
 def check_others_unfelt():
     """One worker, so that all clients share it."""
-    with Server(["--workers", "1"], {"a": LARGE}) as server:
+    with Server(PROGRAM, ["--workers", "1"], {"a": LARGE}) as server:
         with server.connect("a") as client:
             client.sendall(b"set k 0 0 5\r\nab")
-        with server.connect("a") as client:
-            client.setsockopt(socket.SOL_SOCKET, socket.SO_LINGER, struct.pack("ii", 1, 0))
-            client.sendall(b"set k 0 0 5\r\nab")
+        client = server.connect("a")
+        client.sendall(b"set k 0 0 5\r\nab")
+        reset(client)
         block = b"v" * 100_000
         lazy = server.connect("a")
         lazy.sendall(b"set big 0 0 100000\r\n" + block + b"\r\n")
@@ -163,7 +136,7 @@ def check_too_many():
     if resource.getrlimit(resource.RLIMIT_NOFILE)[0] < 1100:
         print("1,024 connections aren't tried: too few descriptors are allowed here")
         return
-    with Server(["--workers", "1"], {"a": LARGE}) as server:
+    with Server(PROGRAM, ["--workers", "1"], {"a": LARGE}) as server:
         clients = [server.connect("a") for _ in range(1024)]
         for client in clients:
             client.sendall(b"get k\r\n")
@@ -180,7 +153,7 @@ def check_too_many():
 
 def check_together():
     """8 clients of two tenants on 4 workers: each reads what it wrote, and a counter of each tenant counts all."""
-    with Server(["--workers", "4"], {"a": LARGE, "b": LARGE}) as server:
+    with Server(PROGRAM, ["--workers", "4"], {"a": LARGE, "b": LARGE}) as server:
         for name in "ab":
             answer(server, name, b"set n 0 0 1\r\n0\r\n")
         replies = {}

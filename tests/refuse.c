@@ -1,11 +1,13 @@
 /* Refuses one allocation of a program: the one whose number, from 1, is in REFUSED; with ONWARD set all later ones too. With
-   COUNTED set it prints at the end how many there were, and the number of the first that asked for a MB or more. Preloaded into
-   a built program by allocations.py; no part of any program of this repository. */
+   COUNTED set it prints at the end how many there were, and the number of the first that asked for a MB or more. Threads are counted
+   together. Preloaded into a built program by allocations.py and network_allocations.py; no part of any program of this repository. */
 #define _GNU_SOURCE
 #include <dlfcn.h>
 #include <errno.h>
 #include <stdio.h>
 #include <stdlib.h>
+#include <sys/syscall.h>
+#include <unistd.h>
 
 static long asked;
 static long large;
@@ -16,9 +18,9 @@ static int is_refused(size_t size) {
         const char *number = getenv("REFUSED");
         refused = number ? atol(number) : 0;
     }
-    asked++;
-    if (size >= 1 << 20 && !large) large = asked;
-    return asked == refused || (refused && asked > refused && getenv("ONWARD"));
+    long now = __atomic_add_fetch(&asked, 1, __ATOMIC_SEQ_CST);
+    if (size >= 1 << 20 && !large) large = now;
+    return now == refused || (refused && now > refused && getenv("ONWARD"));
 }
 
 void *malloc(size_t size) {
@@ -51,4 +53,11 @@ int posix_memalign(void **block, size_t alignment, size_t size) {
 
 __attribute__((destructor)) static void tell(void) {
     if (getenv("COUNTED")) fprintf(stderr, "%ld %ld", asked, large);
+}
+
+/* A program that ends so runs no destructor. */
+void _exit(int status) {
+    tell();
+    syscall(SYS_exit_group, status);
+    __builtin_unreachable();
 }

@@ -60,9 +60,9 @@ and_left true empty is none = let no : true ≡ false = sym is ∙ none in cc
 and_left false empty is none = refl
 
 -- where all is sent before a pull, no request has ended the stream
-pub still_on : (queue : List ℕ) (count : ℕ) (over empty : Bool) (Full : Type 0) → count ≡ length queue → empty ≡ (count == 0) → (over && empty) ≡ false → (queue ≡ []) ⊎ Full → (queue ≡ []) × (over ≡ false) ⊎ Full
-still_on queue count over empty Full long is going left =
-    ⊎_elim (λ (none : queue ≡ []). inl (none, and_left over empty (is ∙ ap (λ n. n == 0) (long ∙ ap length none)) going)) inr left
+pub still_on : (queue : List ℕ) (over empty : Bool) (Full : Type 0) → empty ≡ (length queue == 0) → (over && empty) ≡ false → (queue ≡ []) ⊎ Full → (queue ≡ []) × (over ≡ false) ⊎ Full
+still_on queue over empty Full is going left =
+    ⊎_elim (λ (none : queue ≡ []). inl (none, and_left over empty (is ∙ ap (λ bytes. length bytes == 0) none) going)) inr left
 
 -- a pull behind a push
 pub pulls_late : (a between z : Scene) → Takes a between → HoldsNone (holding_of between.conn) →

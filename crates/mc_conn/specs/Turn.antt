@@ -29,7 +29,7 @@ holding_of conn = record { waiting = conn.waiting; held = conn.reader.held }
 
 -- the bytes that are to be pushed
 abbrev pub queue_of : Conn → List ℕ
-queue_of conn = conn.queue.items
+queue_of conn = conn.queue
 
 -- neither the input nor the output failed
 abbrev pub NeitherFails : Streams → Streams → Type 0

@@ -3,6 +3,7 @@ ghost use Rattle.std.specs.Prelude.{◌≡◌, [], false, None};
 ghost use Rattle.mc_read.specs.Reading.{Kept};
 ghost use Rattle.mc_conn.specs.Turn.{holding_of, queue_of};
 
+use crate::queue::Queue;
 use mc_model::{Request, TenantId};
 use mc_read::Reader;
 use std::alloc::Global;
@@ -21,7 +22,7 @@ pub struct Conn {
     /// The next request, once it is read and until it is taken.
     pub(crate) waiting: Option<Request>,
     /// Reply bytes that are to be pushed.
-    pub(crate) queue: Vec<u8>,
+    pub(crate) queue: Queue,
     /// The input has ended.
     pub(crate) has_ended: bool,
     /// A request that ends the stream was taken.
@@ -53,7 +54,7 @@ impl Conn {
             tenant,
             reader: Reader::new(alloc),
             waiting: None,
-            queue: Vec::new(alloc),
+            queue: Queue::new(alloc),
             has_ended: false,
             is_over: false,
             is_closed: false,

@@ -11,6 +11,7 @@ pub mod conn;
 pub mod laws;
 mod pulling;
 mod pumping;
+mod queue;
 mod responding;
 mod sending;
 mod taking;

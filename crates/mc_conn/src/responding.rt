@@ -6,8 +6,8 @@ ghost use Rattle.mc_conn.specs.Onward.{IsOnward};
 ghost use Rattle.mc_conn.specs.Owed.{answered};
 ghost use Rattle.mc_conn.specs.Parts.{Answers, IsTakeFault, MayAnnounce, MayAnnounceFor, Responds};
 
+use crate::queue::Queue;
 use mc_model::{Command, Fault, Reply, Request, TenantId, WireNo};
-use mc_write::write_reply;
 use uc_worker::{Gate, Worker};
 
 /// Submits a command. A full log is a reply.
@@ -33,30 +33,30 @@ fn answer<G: Gate>(
 }
 
 /// Queues a reply, but for a quiet request.
-fn queue_reply(reply: &Reply, quiet: bool, queue: &mut Vec<u8>) -> Result<(), Fault>
-    ensures queued { OnOk result (queue.new.items ≡ queue.old.items ++ answered quiet reply.now) }
+fn queue_reply(reply: &Reply, quiet: bool, queue: &mut Queue) -> Result<(), Fault>
+    ensures queued { OnOk result (queue.new ≡ queue.old ++ answered quiet reply.now) }
     ensures memory { IsOkUnless result faults.Memory }
-    ensures unchanged { OnErr result (queue.new.items ≡ queue.old.items) }
+    ensures unchanged { OnErr result (queue.new ≡ queue.old) }
 {
     if quiet {
         return Ok(());
     }
-    write_reply(reply, queue)
+    queue.append(reply)
 }
 
 /// Does what a request asks for, and queues the reply. At a fault no reply is queued, and the request's command may be announced.
 pub(crate) fn respond<G: Gate>(
     tenant: TenantId,
     request: Request,
-    queue: &mut Vec<u8>,
+    queue: &mut Queue,
     worker: &mut Worker<'_>,
     gate: &mut G,
 ) -> Result<(), Fault>
     requires tenant { tenant < length (tenants_of worker.old) }
     ensures onward { IsOnward worker.old worker.new }
-    ensures responds { OnOk result (Responds worker.old worker.new tenant request queue.old.items queue.new.items) }
+    ensures responds { OnOk result (Responds worker.old worker.new tenant request queue.old queue.new) }
     ensures announced { OnErr result (MayAnnounceFor worker.old worker.new tenant request) }
-    ensures unchanged { OnErr result (queue.new.items ≡ queue.old.items) }
+    ensures unchanged { OnErr result (queue.new ≡ queue.old) }
     ensures faults { IfErr result IsTakeFault }
 {
     match request {

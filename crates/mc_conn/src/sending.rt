@@ -10,28 +10,19 @@ ghost use Rattle.mc_conn.specs.Parts.{Does, IsSameBeside};
 ghost use Rattle.mc_conn.specs.Turn.{holding_of, queue_of, scene};
 
 use crate::conn::Conn;
+use crate::queue::Queue;
 use mc_model::Fault;
 use mc_stream::{Output, Stop, push_front};
 
-/// Takes bytes off the front.
-fn drop_front(queue: &mut Vec<u8>, count: usize)
-    requires { count ≤ length queue.old.items }
-    ensures { queue.new.items ≡ drop count queue.old.items }
-{
-    let left = queue.len() - count;
-    queue.copy_within(count.., 0);
-    queue.truncate(left);
-}
-
 /// Pushes what is queued while the output takes it, and drops what was taken. Gives how many bytes were, and why no more.
-fn push_queue<O: Output>(queue: &mut Vec<u8>, output: &mut O) -> (usize, Stop)
-    ensures within { result.0 ≤ length queue.old.items }
-    ensures pushed { Pushes (O.tells output.old) (O.tells output.new) (take result.0 queue.old.items) }
-    ensures left { queue.new.items ≡ drop result.0 queue.old.items }
-    ensures stop { StopsAs result.1 result.0 (length queue.old.items) (O.tells output.old) (O.tells output.new) }
+fn push_queue<O: Output>(queue: &mut Queue, output: &mut O) -> (usize, Stop)
+    ensures within { result.0 ≤ length queue.old }
+    ensures pushed { Pushes (O.tells output.old) (O.tells output.new) (take result.0 queue.old) }
+    ensures left { queue.new ≡ drop result.0 queue.old }
+    ensures stop { StopsAs result.1 result.0 (length queue.old) (O.tells output.old) (O.tells output.new) }
 {
-    let (count, stop) = push_front(queue, output);
-    drop_front(queue, count);
+    let (count, stop) = push_front(queue.as_slice(), output);
+    queue.advance(count);
     (count, stop)
 }
 

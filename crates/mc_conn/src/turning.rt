@@ -76,7 +76,7 @@ impl Conn {
     {
         self.is_closed = true;
         if fault == Fault::Memory {
-            tell_starved(&self.queue, output);
+            tell_starved(self.queue.as_slice(), output);
         }
     }
 

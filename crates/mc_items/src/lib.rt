@@ -9,3 +9,4 @@ mod blocks;
 mod held;
 pub mod items;
 pub mod tables;
+pub mod unanswered;

@@ -17,6 +17,9 @@ const EVENTS: usize = 64;
 /// How long a listener that failed is left alone, in milliseconds.
 const PAUSE_MILLIS: u64 = 50;
 
+/// How long the workers' loops have to begin: so many polls of a millisecond in which nothing comes.
+const POLLS_TO_BEGIN: u64 = 10_000;
+
 /// The listeners, and what waits at them.
 #[derive(Drop)]
 pub(crate) struct Acceptor {
@@ -106,10 +109,34 @@ impl Acceptor {
         Ok(())
     }
 
-    /// Accepts until so many streams were handed over, or another loop has failed.
+    /// Waits until every worker's loop has begun, so that no stream is handed to a thread that never runs. Where one doesn't in good
+    /// time, as where the system refuses its thread: `Memory`. An event that comes meanwhile is not lost: all listeners are asked first.
+    fn await_workers<R: Wait>(&mut self, rt: &R, hall: &Hall) -> Result<(), Halt> {
+        let pause = Duration::from_millis(1);
+        self.is_troubled = true;
+        let mut left = POLLS_TO_BEGIN;
+        for _ in rt.forever() {
+            if hall.has_begun(rt) || hall.bell.is_halted(rt) {
+                return Ok(());
+            }
+            if left == 0 {
+                return Err(Halt::Memory);
+            }
+            if self.poll.poll(&mut self.events, Some(pause)).is_err() {
+                return Err(Halt::Poll);
+            }
+            if self.events.is_empty() {
+                left = left.saturating_sub(1);
+            }
+        }
+        unreachable!()
+    }
+
+    /// Accepts until so many streams were handed over, or another loop has failed. Nothing is accepted before all workers are there.
     pub(crate) fn run<R: Wait>(&mut self, rt: &R, hall: &Hall) -> Result<(), Halt>
         requires { 0 < vec_len hall.now.stations }
     {
+        self.await_workers(rt, hall)?;
         for _ in rt.forever() {
             if self.is_done() || hall.bell.is_halted(rt) {
                 return Ok(());

@@ -16,8 +16,8 @@ use mio::{Interest, Registry, Token};
 use std::alloc::Global;
 use uc_worker::{Gate, Worker};
 
-/// How many turns a connection has for one event at most, so that others have theirs.
-const TURNS: u32 = 64;
+/// How many turns a connection has for one event at most, so that others have theirs soon: a turn takes at most a buffer of bytes.
+const TURNS: u32 = 4;
 
 /// A turn, in which every fault ends the connection.
 fn turn<I: Input, O: Output, G: Gate>(

@@ -75,7 +75,7 @@ fn run_seats<'a, R: Threads + Wait + Sync, G: Gate + Send>(
     );
 }
 
-/// The workers beside the acceptor. Where no thread can be made the acceptor is first, so that what it leaves is served then.
+/// The workers beside the acceptor. Where no thread can be made the acceptor is first, and ends as no worker's loop begins.
 fn run_all<'a, R: Threads + Wait + Sync, G: Gate + Send>(
     rt: &R,
     hall: &Hall,
@@ -185,7 +185,9 @@ fn workers_of<'a, G: Drop>(alloc: Global, seats: Vec<Seat<'a, G>>) -> Result<Vec
 /// Serves the tenants' listeners by these workers of the log, each in a thread of its own where one can be made. A stream is a connection
 /// of its listener's tenant, and goes to the worker whose turn it is. With `connections` above 0 it ends once so many streams were accepted
 /// and all have ended, and gives the workers back in their order; with 0 it doesn't end. A fault of a connection ends that one alone.
-/// Where a growth outside a connection is refused: `Memory`. Where a poll can't be made or fails: `Input`. All loops are ended then.
+/// Nothing is accepted before every worker's loop has begun. Where one doesn't begin within ten seconds, as where the system refuses its
+/// thread, or a growth outside a connection and the queues is refused: `Memory`. Where a poll can't be made or fails: `Input`. All loops are
+/// ended then.
 pub fn serve<'a, R: Threads + Wait + Net + Sync, G: Gate + Send + Drop>(
     rt: &R,
     alloc: Global,

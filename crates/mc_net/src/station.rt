@@ -17,6 +17,8 @@ pub(crate) const WAKER: Token = Token(usize::MAX);
 #[derive(Drop)]
 struct Inbox {
     arrivals: VecDeque<Arrival<TcpStream>>,
+    // The worker's loop has begun.
+    has_begun: bool,
     // No more comes.
     is_closed: bool,
     // Another loop has failed.
@@ -55,6 +57,7 @@ impl Station {
     pub(crate) fn new(alloc: Global, registry: &Registry) -> io::Result<Station> {
         let inbox = Inbox {
             arrivals: VecDeque::new(alloc),
+            has_begun: false,
             is_closed: false,
             is_halted: false,
         };
@@ -62,6 +65,16 @@ impl Station {
             inbox: Mutex::new(inbox),
             waker: Waker::new(registry, WAKER)?,
         })
+    }
+
+    /// The worker's loop has begun: what comes is served.
+    pub(crate) fn begin<R: Wait>(&self, rt: &R) {
+        self.inbox.lock(rt).has_begun = true;
+    }
+
+    /// Whether the worker's loop has begun.
+    fn has_begun<R: Wait>(&self, rt: &R) -> bool {
+        self.inbox.lock(rt).has_begun
     }
 
     /// What stands first in the queue, which leaves it.
@@ -95,11 +108,14 @@ impl Receive<TcpStream> for Station {
     // Nothing is known of what stands behind a lock.
     ghost received = { λ _ _. ⊤ };
 
+    /// Puts an arrival into the queue, and wakes the worker. One for which the queue can't grow is closed: it ends nobody else.
     fn receive<R: Wait>(&self, rt: &R, arrival: Arrival<TcpStream>) -> Result<(), Halt>
         ensures { OnOk result ⊤ }
     {
-        self.inbox.lock(rt).arrivals.push_back(arrival)?;
-        wake(&self.waker)
+        match self.inbox.lock(rt).arrivals.push_back(arrival) {
+            Ok(()) => wake(&self.waker),
+            Err(_) => Ok(()),
+        }
     }
 }
 
@@ -133,6 +149,11 @@ pub(crate) struct Hall {
 }
 
 impl Hall {
+    /// Whether every worker's loop has begun.
+    pub(crate) fn has_begun<R: Wait>(&self, rt: &R) -> bool {
+        self.stations.iter().all(|station| station.has_begun(rt))
+    }
+
     /// Tells all loops to end, after one has failed.
     pub(crate) fn halt<R: Wait>(&self, rt: &R) {
         for station in &self.stations {

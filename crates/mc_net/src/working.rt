@@ -16,6 +16,10 @@ use uc_worker::{Gate, Worker};
 /// How many events a poll of a worker tells of at most.
 const EVENTS: usize = 256;
 
+/// How many arrivals a worker takes in between two polls: fewer than a poll tells of events, so that connections whose clients are gone
+/// already make room for those that come behind them.
+const ARRIVALS: u32 = 64;
+
 /// What a worker's loop works with: its connections, and the poll that tells of them.
 #[derive(Drop)]
 pub(crate) struct Desk {
@@ -30,6 +34,8 @@ pub(crate) struct Desk {
 enum Order {
     /// More may come.
     GoOn,
+    /// More may be left in the queue.
+    LookAgain,
     /// No more comes.
     Finish,
     /// Another loop has failed.
@@ -51,11 +57,11 @@ impl Desk {
         })
     }
 
-    /// Takes in what the acceptor left.
+    /// Takes in what the acceptor left, but no more than so many.
     fn take_in<R: Wait>(&mut self, rt: &R, station: &Station) -> Order
         ensures { self.new.rota.table.tenants ≡ self.old.rota.table.tenants }
     {
-        for _ in 0..u64::MAX {
+        for _ in 0..ARRIVALS {
             match station.next(rt) {
                 Next::Arrived(arrival) => {
                     let registry = self.poll.registry();
@@ -66,21 +72,23 @@ impl Desk {
                 Next::Halted => return Order::Halt,
             }
         }
-        Order::GoOn
+        Order::LookAgain
     }
 
-    /// Polls, and serves whose turn it is then. Says whether the acceptor has woken the worker.
+    /// Polls, without a wait where the queue is to be looked at again, and serves whose turn it is then. Says whether the acceptor has woken
+    /// the worker.
     fn go_round<G: Gate>(
         &mut self,
         worker: &mut Worker<'_>,
         gate: &mut G,
         buffer: &mut [u8; PULL_BYTES],
+        order: Order,
     ) -> Result<bool, Halt>
         requires { self.old.rota.table.tenants ≡ length (tenants_of worker.old) }
         ensures onward { IsOnward worker.old worker.new }
         ensures tenants { self.new.rota.table.tenants ≡ self.old.rota.table.tenants }
     {
-        let timeout = if self.rota.may_wait() {
+        let timeout = if order != Order::LookAgain && self.rota.may_wait() {
             None
         } else {
             Some(Duration::ZERO)
@@ -104,6 +112,7 @@ impl Desk {
         ensures onward { IsOnward worker.old worker.new }
         ensures tenants { self.new.rota.table.tenants ≡ self.old.rota.table.tenants }
     {
+        station.begin(rt);
         let mut buffer = [0u8; PULL_BYTES];
         let mut order = Order::GoOn;
         for _ in rt.forever() {
@@ -114,7 +123,8 @@ impl Desk {
             if order == Order::Finish && self.rota.table.is_empty() {
                 return Ok(());
             }
-            if self.go_round(worker, gate, &mut buffer)? {
+            let is_woken = self.go_round(worker, gate, &mut buffer, order)?;
+            if is_woken || order == Order::LookAgain {
                 order = self.take_in(rt, station);
             }
         }

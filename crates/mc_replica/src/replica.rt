@@ -10,6 +10,7 @@ ghost use Rattle.uc_cells.specs.Sighting.{entries};
 
 use mc_items::Items;
 use mc_items::tables::{tables_of, take_effect};
+use mc_items::unanswered::take_effect_unanswered;
 use mc_model::{Fault, Limits, Reply, TenantId, WorkerId};
 use std::alloc::Global;
 use std::marker::Model;
@@ -100,6 +101,32 @@ impl<'a> Replica<'a> {
         let reply = take_effect(&mut self.tables, self.worker, seen.entry())?;
         self.history.push_reserved(seen);
         Ok(reply)
+    }
+
+    /// Puts what was seen at the next place at the end of the history, and does what its entry says to its tenant's table, as
+    /// `replay` does, but answers nobody: so a retrieval needs no memory, however large its reply would be. Where memory runs out:
+    /// `Memory`, and nothing changes.
+    pub fn advance(&mut self, seen: Seen<'a>) -> Result<(), Fault>
+        requires { length self.old.history < self.old.places }
+        ensures history { OnOk result (self.new.history ≡ self.old.history ++ seen.entry ∷ []) }
+        ensures tables { OnOk result (TakeEffect (entry_of seen.entry) self.old.tables self.new.tables) }
+        ensures untouched { IsNobodys self.old.openings (entry_of seen.entry) → self.new.tables ≡ self.old.tables }
+        ensures tenants { length self.new.tables ≡ length self.old.tables }
+        ensures stands { EachStands self.new.openings (entries self.new.history) self.new.tables }
+        ensures openings { self.new.openings ≡ self.old.openings }
+        ensures worker { self.new.worker ≡ self.old.worker }
+        ensures places { self.new.places ≡ self.old.places }
+
+        // What needs no memory. An entry that is nobody's counts as refused.
+        ensures takes_out { IfSome (entry_of seen.entry) (λ entry. IsTakingOut entry.command) → IsOk result }
+        ensures reads { IfSome (entry_of seen.entry) (λ entry. IsRetrieval entry.command) → IsOk result }
+        ensures refused { IsRefused self.old.openings (entries self.old.history) (entry_of seen.entry) → IsOk result }
+        ensures memory { IsOkUnless result Fault.Memory }
+        ensures unchanged { OnErr result (self.new ≡ self.old) }
+    {
+        take_effect_unanswered(&mut self.tables, seen.entry())?;
+        self.history.push_reserved(seen);
+        Ok(())
     }
 
     /// What was seen at each place that was replayed.

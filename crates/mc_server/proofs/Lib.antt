@@ -1,6 +1,7 @@
 pub mod Answered
 pub mod Crews
 mod ListRows
+pub mod Meetings
 pub mod NetworkRuns
 pub mod Numbered
 pub mod Owings

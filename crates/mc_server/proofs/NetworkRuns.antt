@@ -2,15 +2,17 @@
 use Rattle.std.proofs.Common.{◌≡◌, ◌∙◌, ℕ, ◌+◌, ◌<◌, inl, inr, refl, Contains, List, [], ◌∷◌, ◌++◌, All, Result, Ok, Err, IfErr, OnOk, length, map, ap, sym, subst, arith, append_assoc}
 use Rattle.std.proofs.lemmas.List.{length-map}
 use Rattle.std.proofs.lemmas.List.Elements.{All-cons, All-head, All-nil, All-tail}
+use Rattle.std.proofs.lemmas.Slice.Zip.{AllZip-long}
 use Rattle.std.specs.List.{AllZip}
 use Rattle.clap.specs.Faults.{fault_of}
 use Rattle.clap.specs.Walk.{Text}
 use Rattle.mc_conn.specs.Onward.{IsOnward}
 use Rattle.mc_model.specs.declared.fault.Fault.{Fault}
 use Rattle.mc_model.specs.declared.fault.Fault.TheVariants.{Memory, LogFull, Taken, Input, Output, BadEvent, BadSettings}
+use Rattle.mc_model.specs.Settings.{Configuration}
 use Rattle.mc_server.proofs.Numbered.{all_below}
 use Rattle.mc_server.specs.Listeners.{CountsFrom, StopsListening}
-use Rattle.mc_server.specs.Network.{AreOf, IsDone, IsReady, IsServed, StopsAnnouncing, StopsFinishing, StopsRun, StopsServing, names_of}
+use Rattle.mc_server.specs.Network.{AreOf, AreWorkersOf, HaveMet, IsDone, IsLengthOfLog, IsReady, IsServed, number_of, StopsAnnouncing, StopsFinishing, StopsRun, StopsServing, names_of}
 use Rattle.mc_server.specs.NetworkTexts.{done_line, ready_text}
 use Rattle.mc_server.specs.NetworkWords.{Asks, AsksForNone, AsksForService, AsksInVain, IsServable, NetworkAsked, NetworkGiven, given_by, given_of, network_app, served_by}
 use Rattle.mc_server.specs.declared.network_words.NetworkWords.{NetworkWords}
@@ -19,46 +21,56 @@ use Rattle.mc_server.specs.declared.listeners.Stop.{Stop}
 use Rattle.mc_server.specs.declared.listeners.Stop.TheVariants.{CannotListen, Failed}
 use Rattle.mc_server.specs.declared.network_texts.Listening.{Listening}
 use Rattle.mc_stream.specs.Event.{moved}
-use Rattle.mc_stream.specs.Pushed.{front_more, front_only}
+use Rattle.mc_stream.specs.Pushed.{front_more}
 use Rattle.mc_stream.specs.Stream.{Outflow}
 use Rattle.uc_log.specs.declared.log.Log.{Log}
 use Rattle.uc_worker.specs.declared.worker.Worker.{Worker}
 
 -- a fault before all was printed of the listeners
-pub announcing_stops : (fault : Fault) (listening : List Listening) (before after : Outflow) → StopsAnnouncing fault listening before after → StopsServing fault listening before after
-announcing_stops Memory listening before after stops = inl stops
-announcing_stops LogFull listening before after stops = absurd stops
-announcing_stops Taken listening before after stops = absurd stops
-announcing_stops Input listening before after stops = absurd stops
-announcing_stops Output listening before after stops = (0, front_only (ready_text listening) (done_line 0) before after stops.0, stops.1)
-announcing_stops BadEvent listening before after stops = absurd stops
-announcing_stops BadSettings listening before after stops = absurd stops
+pub announcing_stops : (settings : Configuration) (fault : Fault) (listening : List Listening) (before after : Outflow) → StopsAnnouncing fault listening before after
+    → StopsServing settings fault listening before after
+announcing_stops settings Memory listening before after stops = inl stops
+announcing_stops settings LogFull listening before after stops = absurd stops
+announcing_stops settings Taken listening before after stops = absurd stops
+announcing_stops settings Input listening before after stops = absurd stops
+announcing_stops settings Output listening before after stops = inl stops
+announcing_stops settings BadEvent listening before after stops = absurd stops
+announcing_stops settings BadSettings listening before after stops = absurd stops
 
--- the log's length was printed after it
-pub served : {E : Type 0} (result : Result (Unit {0}) E) (listening : List Listening) (before now after : Outflow) → IsReady listening before now → OnOk result (IsDone now after)
-    → OnOk result (IsServed listening before after)
-served (Err fault) listening before now after ready done = done
-served (Ok nothing) listening before now after ready done = (
-  done.0,
-  done.1 ∙ (ap (λ known. known ++ done_line done.0) ready.0 ∙ append_assoc (moved before.events) (ready_text listening) (done_line done.0)),
-  done.2 ∙ ready.1,
-)
+-- the length of the workers' log, which has these settings, was printed after it, or a fault came
+module _ (settings : Configuration) (log : Log) (workers : List Worker) (all : AreWorkersOf settings log workers) where
+  length_of : (number : ℕ) → HaveMet workers number → IsLengthOfLog settings number
+  length_of number met = record { log = log; workers = workers; all = all; met = met }
 
-finishing_stops : (fault : Fault) (listening : List Listening) (before now after : Outflow) → IsReady listening before now → StopsFinishing fault now after → StopsServing fault listening before after
-finishing_stops Memory listening before now after ready stops = inr (subst (IsReady listening before) (sym stops) ready)
-finishing_stops LogFull listening before now after ready stops = absurd stops
-finishing_stops Taken listening before now after ready stops = absurd stops
-finishing_stops Input listening before now after ready stops = absurd stops
-finishing_stops Output listening before now after ready stops =
-    (stops.0, front_more (ready_text listening) (done_line stops.0) before now after ready.0 stops.1, stops.2 ∙ ap (λ n. n + 1) ready.1)
-finishing_stops BadEvent listening before now after ready stops = absurd stops
-finishing_stops BadSettings listening before now after ready stops = absurd stops
+  pub served : {E : Type 0} (result : Result (Unit {0}) E) (listening : List Listening) (before now after : Outflow) → IsReady listening before now
+      → OnOk result (IsDone workers now after) → OnOk result (IsServed settings listening before after)
+  served (Err fault) listening before now after ready done = done
+  served (Ok nothing) listening before now after ready done = (
+    done.0,
+    length_of done.0 done.1,
+    done.2 ∙ (ap (λ known. known ++ done_line done.0) ready.0 ∙ append_assoc (moved before.events) (ready_text listening) (done_line done.0)),
+    done.3 ∙ ready.1,
+  )
 
--- a fault after it
-pub stopped : (result : Result (Unit {0}) Fault) (listening : List Listening) (before now after : Outflow) → IsReady listening before now
-    → IfErr result (λ fault. StopsFinishing fault now after) → IfErr result (λ fault. StopsServing fault listening before after)
-stopped (Ok nothing) listening before now after ready stops = stops
-stopped (Err fault) listening before now after ready stops = finishing_stops fault listening before now after ready stops
+  finishing_stops : (fault : Fault) (listening : List Listening) (before now after : Outflow) → IsReady listening before now → StopsFinishing fault workers now after
+      → StopsServing settings fault listening before after
+  finishing_stops Memory listening before now after ready stops = inr (subst (IsReady listening before) (sym stops) ready)
+  finishing_stops LogFull listening before now after ready stops = absurd stops
+  finishing_stops Taken listening before now after ready stops = absurd stops
+  finishing_stops Input listening before now after ready stops = absurd stops
+  finishing_stops Output listening before now after ready stops = inr (
+    stops.0,
+    length_of stops.0 stops.1,
+    front_more (ready_text listening) (done_line stops.0) before now after ready.0 stops.2,
+    stops.3 ∙ ap (λ n. n + 1) ready.1,
+  )
+  finishing_stops BadEvent listening before now after ready stops = absurd stops
+  finishing_stops BadSettings listening before now after ready stops = absurd stops
+
+  pub stopped : (result : Result (Unit {0}) Fault) (listening : List Listening) (before now after : Outflow) → IsReady listening before now
+      → IfErr result (λ fault. StopsFinishing fault workers now after) → IfErr result (λ fault. StopsServing settings fault listening before after)
+  stopped (Ok nothing) listening before now after ready stops = stops
+  stopped (Err fault) listening before now after ready stops = finishing_stops fault listening before now after ready stops
 
 -- the workers that come back are of the log, and as many
 pub back_of : (log : Log) (workers back : List Worker) → AllZip IsOnward workers back → AreOf log workers → AreOf log back
@@ -68,6 +80,22 @@ back_of log (x ∷ xs) [] onward of = absurd onward
 back_of log (x ∷ xs) (y ∷ ys) onward of =
     let P = λ (worker : Worker). worker.log.now ≡ log in
     All-cons P y ys (ap (λ lent. lent.now) onward.0.log ∙ All-head P x xs of) (back_of log xs ys onward.1 (All-tail P x xs of))
+
+pub back_numbers : (workers back : List Worker) → AllZip IsOnward workers back → map number_of back ≡ map number_of workers
+back_numbers [] [] onward = refl
+back_numbers [] (y ∷ ys) onward = absurd onward
+back_numbers (x ∷ xs) [] onward = absurd onward
+back_numbers (x ∷ xs) (y ∷ ys) onward = let rest = back_numbers xs ys onward.1 in λ i. onward.0.same.1 i ∷ rest i
+
+-- so they are all workers of the log
+pub are_workers : (settings : Configuration) (log : Log) (workers back : List Worker) → AllZip IsOnward workers back → log.settings ≡ settings → AreOf log workers
+    → length workers ≡ settings.workers → CountsFrom 0 (map number_of workers) → AreWorkersOf settings log back
+are_workers settings log workers back onward opened of many numbers = record {
+  opened = opened;
+  of = back_of log workers back onward of;
+  many = omega (arith, AllZip-long IsOnward workers back onward, many);
+  numbers = subst (CountsFrom 0) (sym (back_numbers workers back onward)) numbers;
+}
 
 -- each listener's number is a tenant's
 from_map : {A B : Type 0} (f : A → B) (P : B → Type 0) (xs : List A) → All P (map f xs) → All (λ x. P (f x)) xs

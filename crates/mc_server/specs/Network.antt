@@ -1,25 +1,31 @@
 -- What the workers of wfmc's log come to, what is printed while its tenants are served, and how its run ends; this project's profile.
 use Rattle.std.specs.List.{AllZip}
-use Rattle.std.specs.Prelude.{◌≡◌, ◌≤◌, ◌⊎◌, ℕ, List, [], ◌++◌, All, Contains, None, codes, length, map}
+use Rattle.std.specs.Prelude.{◌≡◌, ◌≤◌, ◌⊎◌, ℕ, ◌+◌, List, [], ◌++◌, All, Contains, None, codes, length, map}
 use Rattle.clap.specs.Walk.{Text}
 use Rattle.mc_model.specs.declared.fault.Fault.{Fault}
 use Rattle.mc_model.specs.declared.fault.Fault.TheVariants.{Memory, Input, Output, BadSettings}
+use Rattle.mc_model.specs.declared.id.Ticket.{Ticket}
 use Rattle.mc_model.specs.declared.shown.Phase.TheVariants.{Idle}
+use Rattle.mc_model.specs.Helping.{BeginsWith}
+use Rattle.mc_model.specs.Legal.{IsLegal, count}
+use Rattle.mc_model.specs.Settings.{Configuration}
 use Rattle.mc_server.specs.Faults.{fault_line}
-use Rattle.mc_server.specs.Listeners.{IsTold}
+use Rattle.mc_server.specs.Listeners.{CountsFrom, IsTold}
 use Rattle.mc_server.specs.NetworkTexts.{cannot_listen_line, done_line, ready_text}
-use Rattle.mc_server.specs.NetworkWords.{AsksForNone, AsksForService, NetworkAsked, network_app}
+use Rattle.mc_server.specs.NetworkWords.{AsksForNone, AsksForService, NetworkAsked, network_app, settings_asked}
 use Rattle.mc_server.specs.Words.{FailsToShow, Shows, TellsMistake}
 use Rattle.mc_server.specs.declared.listeners.Stop.{Stop}
 use Rattle.mc_server.specs.declared.listeners.Stop.TheVariants.{CannotListen, Failed}
 use Rattle.mc_server.specs.declared.network_texts.Listening.{Listening}
 use Rattle.mc_stream.specs.Pushing.{FailsOnce, IsUnfailed, Pushes, PushesFront, PushesOrFails}
 use Rattle.mc_stream.specs.Stream.{Outflow, Streams, both}
+use Rattle.uc_cells.specs.Sighting.{Sighting}
 use Rattle.uc_log.specs.declared.log.Log.{Log}
 use Rattle.uc_log.specs.declared.pass.Pass.{Pass}
 use Rattle.uc_log.specs.Passes.{IsOf, learned, state}
 use Rattle.uc_worker.specs.declared.worker.Worker.{Worker}
-use Rattle.uc_worker.specs.Worker.{history_of}
+use Rattle.uc_worker.specs.Steps.{IsSame}
+use Rattle.uc_worker.specs.Worker.{history_of, seat_of}
 
 -- the pass is of the log, and its worker has done nothing
 pub record IsFresh (log : Log) (pass : Pass) : Type 0 where
@@ -31,9 +37,58 @@ pub record IsFresh (log : Log) (pass : Pass) : Type 0 where
 abbrev pub AreOf : Log → List Worker → Type 0
 AreOf log workers = All (λ worker. worker.log.now ≡ log) workers
 
--- no worker has replayed more than this
-abbrev pub IsAsLongAs : ℕ → List Worker → Type 0
-IsAsLongAs count workers = All (λ worker. length (history_of worker) ≤ count) workers
+-- a worker's number
+abbrev pub number_of : Worker → ℕ
+number_of worker = (seat_of worker).worker
+
+-- the tickets of the commands that it has replayed, in their order
+abbrev pub tickets_of : Worker → List Ticket
+tickets_of worker = map (λ (seen : Sighting). seen.ticket) (history_of worker)
+
+-- it has replayed all that it has learned
+abbrev pub IsUpToDate : Worker → Type 0
+IsUpToDate worker = length (history_of worker) ≡ length (seat_of worker).state.learned
+
+-- The workers of a log with these settings, one for each number.
+pub record AreWorkersOf (settings : Configuration) (log : Log) (workers : List Worker) : Type 0 where
+  pub opened : log.settings ≡ settings
+  pub of : AreOf log workers
+  pub many : length workers ≡ settings.workers
+  pub numbers : CountsFrom 0 (map number_of workers)
+
+-- the same worker later on: it has announced nothing more, and its history goes on
+pub record IsLater (old new : Worker) : Type 0 where
+  pub log : new.log ≡ old.log
+  pub same : IsSame (seat_of old) (seat_of new)
+  pub announced : (seat_of new).state.announced ≡ (seat_of old).state.announced
+  pub history : BeginsWith (history_of new) (history_of old)
+
+-- This worker has met the other: its history begins with the other's, and each command that the other has announced stands in it, but for
+-- one at most, which waits (Herlihy, Wait-Free Synchronization, TOPLAS 1991, the universal construction: all processes agree on one order
+-- of the decided cells, so each knows a front of one list).
+pub record HasMet (one other : Worker) : Type 0 where
+  pub log : other.log.now ≡ one.log.now
+  pub front : BeginsWith (history_of one) (history_of other)
+  pub commands : (seat_of other).state.announced ≤ count (number_of other) (tickets_of one) + 1
+
+-- The workers have met: one of them, later on, has met them all and has replayed all that it has learned; no command stands twice in its
+-- history, which has this length.
+pub record HaveMet (workers : List Worker) (number : ℕ) : Type 0 where
+  pub first : Worker
+  pub among : Contains workers first
+  pub one : Worker
+  pub later : IsLater first one
+  pub met : All (HasMet one) workers
+  pub whole : IsUpToDate one
+  pub once : IsLegal (tickets_of one)
+  pub long : length (history_of one) ≡ number
+
+-- This is the length of the log: the workers of a log with these settings have met, and then so many commands stand in its history.
+pub record IsLengthOfLog (settings : Configuration) (number : ℕ) : Type 0 where
+  pub log : Log
+  pub workers : List Worker
+  pub all : AreWorkersOf settings log workers
+  pub met : HaveMet workers number
 
 -- an output beside no input
 abbrev pub alone : Outflow → Streams
@@ -43,13 +98,14 @@ alone output = both (record { events = []; left = None }) output
 abbrev pub IsReady : List Listening → Outflow → Outflow → Type 0
 IsReady listening before after = Pushes before after (ready_text listening) × IsUnfailed before after
 
--- it was printed how long the log has become
-abbrev pub IsDone : Outflow → Outflow → Type 0
-IsDone before after = (count : ℕ) × Pushes before after (done_line count) × IsUnfailed before after
+-- these workers have met, and it was printed how long their history is
+abbrev pub IsDone : List Worker → Outflow → Outflow → Type 0
+IsDone workers before after = (number : ℕ) × HaveMet workers number × Pushes before after (done_line number) × IsUnfailed before after
 
--- both were, one after the other
-abbrev pub IsServed : List Listening → Outflow → Outflow → Type 0
-IsServed listening before after = (count : ℕ) × Pushes before after (ready_text listening ++ done_line count) × IsUnfailed before after
+-- it was printed who listens where, and then how long the log with these settings has become
+abbrev pub IsServed : Configuration → List Listening → Outflow → Outflow → Type 0
+IsServed settings listening before after =
+    (number : ℕ) × IsLengthOfLog settings number × Pushes before after (ready_text listening ++ done_line number) × IsUnfailed before after
 
 -- what was printed where a fault kept it from being printed who listens where
 abbrev pub StopsAnnouncing : Fault → List Listening → Outflow → Outflow → Type 0
@@ -57,18 +113,19 @@ StopsAnnouncing Memory listening before after = after ≡ before
 StopsAnnouncing Output listening before after = PushesFront (ready_text listening) before after × FailsOnce before after
 StopsAnnouncing fault listening before after = ⊥
 
--- what was printed where a fault kept it from being printed how long the log has become
-abbrev pub StopsFinishing : Fault → Outflow → Outflow → Type 0
-StopsFinishing Memory before after = after ≡ before
-StopsFinishing Output before after = (count : ℕ) × PushesFront (done_line count) before after × FailsOnce before after
-StopsFinishing fault before after = ⊥
+-- what was printed where a fault kept it from being printed how long these workers' log has become
+abbrev pub StopsFinishing : Fault → List Worker → Outflow → Outflow → Type 0
+StopsFinishing Memory workers before after = after ≡ before
+StopsFinishing Output workers before after = (number : ℕ) × HaveMet workers number × PushesFront (done_line number) before after × FailsOnce before after
+StopsFinishing fault workers before after = ⊥
 
 -- what was printed where a fault ended the service: nothing, who listens where, or a front of all that is to be printed
-abbrev pub StopsServing : Fault → List Listening → Outflow → Outflow → Type 0
-StopsServing Memory listening before after = (after ≡ before) ⊎ IsReady listening before after
-StopsServing Input listening before after = IsReady listening before after
-StopsServing Output listening before after = (count : ℕ) × PushesFront (ready_text listening ++ done_line count) before after × FailsOnce before after
-StopsServing fault listening before after = ⊥
+abbrev pub StopsServing : Configuration → Fault → List Listening → Outflow → Outflow → Type 0
+StopsServing settings Memory listening before after = (after ≡ before) ⊎ IsReady listening before after
+StopsServing settings Input listening before after = IsReady listening before after
+StopsServing settings Output listening before after = PushesFront (ready_text listening) before after × FailsOnce before after
+    ⊎ ((number : ℕ) × IsLengthOfLog settings number × PushesFront (ready_text listening ++ done_line number) before after × FailsOnce before after)
+StopsServing settings fault listening before after = ⊥
 
 -- the tenants' names
 abbrev pub names_of : NetworkAsked → List Text
@@ -79,7 +136,7 @@ names_of asked = map (λ tenant. tenant.name) asked.tenants
 abbrev pub StopsRun : NetworkAsked → Stop → Outflow → Outflow → Type 0
 StopsRun asked (CannotListen name) before after = Contains (names_of asked) name.now × (after ≡ before)
 StopsRun asked (Failed fault) before after =
-    (fault ≡ Memory) × (after ≡ before) ⊎ ((listening : List Listening) × AllZip IsTold asked.tenants listening × StopsServing fault listening before after)
+    (fault ≡ Memory) × (after ≡ before) ⊎ ((listening : List Listening) × AllZip IsTold asked.tenants listening × StopsServing (settings_asked asked) fault listening before after)
 
 -- what is told of it
 abbrev pub stop_line : Stop → List ℕ
@@ -92,11 +149,11 @@ pub record FailsToServe (asked : NetworkAsked) (before after errors_before error
   pub stops : StopsRun asked stop before after
   pub told : PushesOrFails (stop_line stop) errors_before errors
 
--- Each tenant was listened for, all connections were served, and that was printed.
+-- Each tenant was listened for, all connections were served, and that was printed, with the length of the log.
 pub record Serves (asked : NetworkAsked) (before after : Outflow) : Type 0 where
   pub listening : List Listening
   pub is_told : AllZip IsTold asked.tenants listening
-  pub served : IsServed listening before after
+  pub served : IsServed (settings_asked asked) listening before after
 
 -- status 0: what the words ask for was served, or help or the version was shown
 abbrev pub EndsWell : List Text → Outflow → Outflow → Type 0

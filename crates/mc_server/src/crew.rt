@@ -1,14 +1,14 @@
 //! The workers of wfmc, before and after they serve.
-ghost use Rattle.std.specs.Prelude.{◌≡◌, ◌<◌, ◌≤◌, IfOk, IsOkUnless, OnOk, length, slice_get, Some, ℕ};
+ghost use Rattle.std.specs.Prelude.{◌≡◌, ◌<◌, All, IfOk, IsOkUnless, OnOk, length, map, slice_get, Some, ℕ};
 ghost use Rattle.mc_model.specs.declared.fault.Fault.TheVariants as faults;
-ghost use Rattle.mc_server.specs.Network.{AreOf, IsAsLongAs};
+ghost use Rattle.mc_server.specs.Listeners.{CountsFrom};
+ghost use Rattle.mc_server.specs.Network.{AreOf, HasMet, HaveMet, IsLater, IsUpToDate, number_of};
 ghost use Rattle.uc_log.specs.Passes.{IsNew};
-ghost use Rattle.uc_worker.specs.Worker.{history_of};
 
 use mc_model::Fault;
 use std::alloc::Global;
 use uc_log::{Log, Pass};
-use uc_worker::Worker;
+use uc_worker::{Open, Worker};
 
 /// A worker for each pass of the log, in the passes' order. Where memory runs out: `Memory`.
 pub(crate) fn open_workers<'a>(
@@ -19,6 +19,7 @@ pub(crate) fn open_workers<'a>(
     requires { (number : ℕ) (pass : _) → slice_get passes.items number ≡ Some pass → IsNew log.now number pass }
     ensures count { IfOk result (λ workers. length workers.items ≡ length passes.items) }
     ensures log { IfOk result (λ workers. AreOf log.now workers.items) }
+    ensures numbers { IfOk result (λ workers. CountsFrom 0 (map number_of workers.items)) }
     ensures memory { IsOkUnless result faults.Memory }
 {
     let mut workers = Vec::with_capacity(alloc, passes.len())?;
@@ -30,9 +31,11 @@ pub(crate) fn open_workers<'a>(
 
 /// Has a worker meet the others. Where memory runs out: `Memory`; then some of them may not have met it.
 fn meet_others<'a>(one: &mut Worker<'a>, others: Vec<Worker<'a>>) -> Result<(), Fault>
-    requires { AreOf one.old.log.now others.items }
-    ensures longest { OnOk result (IsAsLongAs (length (history_of one.new)) others.entry.items) }
-    ensures grown { length (history_of one.old) ≤ length (history_of one.new) }
+    requires log { AreOf one.old.log.now others.items }
+    requires whole { IsUpToDate one.old }
+    ensures met { OnOk result (All (HasMet one.new) others.entry.items) }
+    ensures whole { OnOk result (IsUpToDate one.new) }
+    ensures later { IsLater one.old one.new }
     ensures memory { IsOkUnless result faults.Memory }
 {
     for other in others {
@@ -42,17 +45,19 @@ fn meet_others<'a>(one: &mut Worker<'a>, others: Vec<Worker<'a>>) -> Result<(), 
     Ok(())
 }
 
-/// Has the last worker meet all others, and counts what stands in its history then: all that any of them had. Where memory runs out: `Memory`.
+/// Has the last worker catch up and meet all others, and counts what stands in its history then: all that any of them had. Where memory
+/// runs out: `Memory`.
 pub(crate) fn meet_all(workers: Vec<Worker<'_>>) -> Result<usize, Fault>
     requires log { (log : _) × AreOf log workers.items }
     requires some { 0 < length workers.items }
-    ensures longest { IfOk result (λ count. IsAsLongAs count workers.entry.items) }
+    ensures met { IfOk result (λ count. HaveMet workers.entry.items count) }
     ensures memory { IsOkUnless result faults.Memory }
 {
     let mut others = workers;
     let Some(mut last) = others.pop() else {
         unreachable!()
     };
+    last.catch_up(&mut Open)?;
     meet_others(&mut last, others)?;
     Ok(last.history().len())
 }

@@ -43,8 +43,8 @@ fn announce<R: Wait, O: Output>(
 fn finish<R: Wait, O: Output>(rt: &R, workers: Vec<Worker<'_>>, output: &mut O) -> Result<(), Fault>
     requires log { (log : _) × AreOf log workers.items }
     requires some { 0 < length workers.items }
-    ensures done { OnOk result (IsDone (O.tells output.old) (O.tells output.new)) }
-    ensures stops { IfErr result (λ fault. StopsFinishing fault (O.tells output.old) (O.tells output.new)) }
+    ensures done { OnOk result (IsDone workers.entry.items (O.tells output.old) (O.tells output.new)) }
+    ensures stops { IfErr result (λ fault. StopsFinishing fault workers.entry.items (O.tells output.old) (O.tells output.new)) }
 {
     let count = meet_all(workers)?;
     tell_done(rt, count as u64, output)
@@ -62,8 +62,8 @@ fn serve_tenants<R: Threads + Wait + Net + Sync, O: Output>(
     requires settings { service.now.settings ≡ settings_asked (served_by service.now) }
     requires servable { IsServable (served_by service.now) }
     requires bound { AreListenersOf service.now.tenants.items bound }
-    ensures serves { OnOk result (IsServed bound.entry.told.items (O.tells output.old) (O.tells output.new)) }
-    ensures stops { IfErr result (λ fault. StopsServing fault bound.entry.told.items (O.tells output.old) (O.tells output.new)) }
+    ensures serves { OnOk result (IsServed (settings_asked (served_by service.now)) bound.entry.told.items (O.tells output.old) (O.tells output.new)) }
+    ensures stops { IfErr result (λ fault. StopsServing (settings_asked (served_by service.now)) fault bound.entry.told.items (O.tells output.old) (O.tells output.new)) }
 {
     let Listeners { listeners, told } = bound;
     let (log, passes) = Log::open(alloc, &service.settings)?;

@@ -26,9 +26,11 @@ const DEFAULT_CONNECTIONS: u64 = 0;
 const FORM: &str = "\
 Each TENANT is NAME=ADDR,ITEMS,BYTES:
   NAME   1 to 32 of a to z, 0 to 9, - and _; no name twice
-  ADDR   the IPv4 address and port at which the tenant's clients connect; port 0 takes a free one
+  ADDR   an IPv4 address and a port, as numbers, at which the tenant's clients connect;
+         the port from 0 to 65535, where 0 takes a free one
   ITEMS  how many items the tenant may hold, from 1 to 1048576
   BYTES  how many bytes their keys and data may have, from 1 to 1073741824
+Where a word is of another form, a number out of its range, or a name used twice: wfmc: bad settings.
 
 Example, two tenants apart from each other on two ports:
   wfmc shop=127.0.0.1:11211,1000,1048576 blog=127.0.0.1:11212,1000,1048576";
@@ -59,7 +61,7 @@ fn tenants_argument<'a>(alloc: Global) -> Arg<'a>
         .value_name("TENANT")
         .num_args(1usize..)
         .required(true)
-        .help("A tenant: NAME=ADDR,ITEMS,BYTES, as below")
+        .help("A tenant: NAME=ADDR,ITEMS,BYTES, as below; from 1 to 64 of them")
 }
 
 /// The options that wfmc takes on its command line.
@@ -67,7 +69,7 @@ fn options_command<'a>(alloc: Global) -> Result<Command<'a>, AllocError>
     ensures { IfOk result (λ command. app_of command ≡ options_app) }
 {
     let workers = "How many threads serve, from 1 to 16 [default: 2]";
-    let places = "How many commands are applied, from 1 to 1048576 [default: 65536]";
+    let places = "How many commands of all tenants are applied, from 1 to 1048576 [default: 65536]";
     let connections = "After how many connections it ends; 0 for never [default: 0]";
     Command::new(alloc, "wfmc")
         .no_binary_name(true)

@@ -1,4 +1,5 @@
-//! A client that takes nothing at first: replies are queued up to a bound, and requests wait behind it.
+//! A client that takes nothing at first: replies are queued up to a bound, and requests wait behind it. One that takes long replies in
+//! small pieces.
 use crate::lines::{Line, QUOTAS, ends_of, one_line, opened};
 use mc_conn::State;
 use mc_model::Fault;
@@ -18,6 +19,9 @@ const LINES: usize = 21;
 
 /// How many bytes are owed: for the set 8, and for each get 1,048,602.
 const OWED: usize = 3_145_814;
+
+/// What an item begins with again and again, so that a byte at a wrong place is seen.
+const TEXT: &str = "0123456789 abcdefghijklmnopqrst";
 
 /// A set of the item, and three gets of it.
 fn sent(alloc: Global) -> Result<Vec<u8>, Fault> {
@@ -75,5 +79,59 @@ fn queue_above_its_bound(rt: HostRuntime) -> Result<(), Fail> {
     let mut line = one_line(alloc, &log, passes, ends)?;
     assert!(rt; waits_behind_two(&mut line)?);
     assert!(rt; goes_on(&mut line)?);
+    Ok(())
+}
+
+/// An item in which no two places near each other look alike.
+fn long_item(alloc: Global) -> Result<Vec<u8>, Fault> {
+    let mut bytes = Vec::new(alloc);
+    bytes.extend_from_slice(TEXT.repeat(alloc, ITEM / TEXT.len() + 1)?.as_bytes())?;
+    bytes.truncate(ITEM);
+    Ok(bytes)
+}
+
+/// Sets the item, and gets it once, five times by one line, and once.
+fn long_requests(alloc: Global, item: &[u8]) -> Result<Vec<u8>, Fault> {
+    let mut bytes = Vec::new(alloc);
+    bytes.extend_from_slice(b"set b 0 0 1048576\r\n")?;
+    bytes.extend_from_slice(item)?;
+    bytes.extend_from_slice(b"\r\nget b\r\nget b b b b b\r\nget b\r\n")?;
+    Ok(bytes)
+}
+
+/// What is owed for these.
+fn long_replies(alloc: Global, item: &[u8]) -> Result<Vec<u8>, Fault> {
+    let mut bytes = Vec::from_slice(alloc, b"STORED\r\n")?;
+    for times in [1, 5, 1] {
+        for _ in 0..times {
+            bytes.extend_from_slice(b"VALUE b 0 1048576\r\n")?;
+            bytes.extend_from_slice(item)?;
+            bytes.extend_from_slice(b"\r\n")?;
+        }
+        bytes.extend_from_slice(b"END\r\n")?;
+    }
+    Ok(bytes)
+}
+
+/// Pushes that take a piece and nothing in turn, more than the replies need.
+fn small_pieces(alloc: Global) -> Result<Vec<OutputStep>, Fault> {
+    let mut steps = Vec::new(alloc);
+    for _ in 0..200 {
+        steps.extend_from_slice(&[OutputStep::Take(50_000), OutputStep::Full])?;
+    }
+    Ok(steps)
+}
+
+#[test]
+fn long_replies_in_small_pieces(rt: HostRuntime) -> Result<(), Fail> {
+    let alloc = rt.alloc();
+    let item = long_item(alloc)?;
+    let requests = long_requests(alloc, item.as_slice())?;
+    let pieces = small_pieces(alloc)?;
+    let ends = ends_of(alloc, requests.as_slice(), &[], pieces.as_slice())?;
+    let (log, passes) = opened(alloc, 64, &[QUOTAS])?;
+    let mut line = one_line(alloc, &log, passes, ends)?;
+    assert!(rt; line.comes_to(State::Closed)?);
+    assert!(rt; line.pushed() == long_replies(alloc, item.as_slice())?.as_slice());
     Ok(())
 }

@@ -1,5 +1,5 @@
 -- What a worker's steps do to what its seat knows.
-use Rattle.std.specs.Prelude.{◌≡◌, ◌≢◌, ◌⊎◌, ◌+◌, ◌-◌, ◌<◌, [], ◌∷◌, ◌++◌, length, Some, slice_get}
+use Rattle.std.specs.Prelude.{◌≡◌, ◌≢◌, ◌⊎◌, ◌+◌, ◌-◌, ◌<◌, [], ◌∷◌, ◌++◌, length, Some, None, slice_get}
 use Rattle.mc_model.specs.declared.fault.Fault.{Fault}
 use Rattle.mc_model.specs.declared.fault.Fault.TheVariants.{Memory, LogFull, Taken}
 use Rattle.mc_model.specs.declared.id.Ticket.{Ticket}
@@ -32,6 +32,10 @@ pub record Later (old new : View) : Type 0 where
   pub announced : new.state.announced ≡ old.state.announced
   pub learned : BeginsWith new.state.learned old.state.learned
 
+-- all places are learned, or the next one was empty in the log's state after the seat's last event
+abbrev pub HasReadOn : View → Type 0
+HasReadOn view = (length view.state.learned ≡ view.size.places) ⊎ (slice_get view.last.decided (length view.state.learned) ≡ None)
+
 -- one command is announced, which waits then
 pub record Announced (old new : View) : Type 0 where
   pub same : IsSame old new
@@ -45,12 +49,13 @@ pub record Decided (old new : View) : Type 0 where
   pub more : length old.state.learned < length new.state.learned
   pub last : slice_get new.state.learned (length new.state.learned - 1) ≡ Some (ticket_of old.worker (old.state.announced - 1))
 
--- What a fault leaves. Where memory runs out, at most the call's command is announced, and it may take effect. Where the log is full, all
--- places are learned; the call's command, where it was announced, isn't among them. Where the command's cell holds another value, nothing
--- is announced.
+-- What a fault leaves. Where memory runs out, at most the call's command is announced, and none waits: by the seat's law it stands then
+-- among what is learned, and takes effect. Where the log is full, all places are learned; the call's command, where it was announced,
+-- isn't among them. Where the command's cell holds another value, nothing is announced.
 pub record Leaves (fault : Fault) (old new : View) : Type 0 where
   pub which : (fault ≡ Memory) ⊎ (fault ≡ LogFull) ⊎ (fault ≡ Taken)
   pub announced : (new.state.announced ≡ old.state.announced) ⊎ (new.state.announced ≡ old.state.announced + 1)
+  pub memory : fault ≡ Memory → new.state.phase ≡ Idle
   pub full : fault ≡ LogFull → length new.state.learned ≡ new.size.places
   pub waits : fault ≡ LogFull → new.state.announced ≡ old.state.announced + 1 → new.state.phase ≡ Pending
   pub taken : fault ≡ Taken → (new.state.announced ≡ old.state.announced) × (new.state.phase ≡ Idle)

@@ -47,6 +47,7 @@ pub(crate) fn decide_new<G: Gate>(
     ensures rests { Rests (state pass.new).phase }
     ensures same { IsSame (seat pass.old) (seat pass.new) }
     ensures begins { BeginsWith (learned pass.new) (learned pass.old) }
+    ensures idle { OnOk result ((state pass.new).phase ≡ phase.Idle) }
     ensures announced { OnOk result ((state pass.new).announced ≡ (state pass.old).announced + 1) }
     ensures more { OnOk result (length (learned pass.old) < length (learned pass.new)) }
     ensures last { OnOk result (slice_get (learned pass.new) (length (learned pass.new) - 1) ≡ Some (next_ticket pass.old)) }

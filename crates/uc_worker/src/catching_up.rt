@@ -3,7 +3,7 @@ ghost use Rattle.std.specs.Prelude.{◌≡◌, length, IsOkUnless, OnOk};
 ghost use Rattle.mc_model.specs.declared.fault.Fault.TheVariants as faults;
 ghost use Rattle.mc_model.specs.Helping.{BeginsWith};
 ghost use Rattle.uc_log.specs.Passes.{IsOf, own_sightings, seat, state};
-ghost use Rattle.uc_worker.specs.Steps.{Later, Rests};
+ghost use Rattle.uc_worker.specs.Steps.{HasReadOn, Later, Rests};
 ghost use Rattle.uc_worker.specs.Worker.{history_of, seat_of};
 
 use crate::gate::{Gate, Step};
@@ -20,6 +20,7 @@ fn read_up<G: Gate>(log: &Log, pass: &mut Pass, gate: &mut G)
     ensures rests { Rests (state pass.new).phase }
     ensures own { own_sightings pass.new ≡ own_sightings pass.old }
     ensures later { Later (seat pass.old) (seat pass.new) }
+    ensures read { HasReadOn (seat pass.new) }
 {
     for _place in pass.learned()..pass.places() {
         let found = log.read(pass);
@@ -35,6 +36,8 @@ impl<'a> Worker<'a> {
     /// of it may be replayed then.
     pub fn catch_up<G: Gate>(&mut self, gate: &mut G) -> Result<(), Fault>
         ensures history { BeginsWith (history_of self.new) (history_of self.old) }
+        // Behind what is learned stood nothing, in the log's state after the worker's last event.
+        ensures read { HasReadOn (seat_of self.new) }
         ensures all { OnOk result (length (history_of self.new) ≡ length (seat_of self.new).state.learned) }
         ensures later { Later (seat_of self.old) (seat_of self.new) }
         ensures log { self.new.log ≡ self.old.log }

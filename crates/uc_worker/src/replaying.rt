@@ -14,7 +14,8 @@ use mc_replica::Replica;
 use std::alloc::Global;
 use uc_log::{Log, Pass};
 
-/// Replays what was learned before this place.
+/// Replays what was learned before this place. Nobody waits for an answer there, so none is made: not of an own command either, which an
+/// earlier call has left behind.
 pub(crate) fn replay_to<'a, G: Gate>(
     log: &'a Log,
     alloc: Global,
@@ -40,7 +41,7 @@ pub(crate) fn replay_to<'a, G: Gate>(
 {
     for place in replica.len()..end {
         let seen = log.seen(alloc, pass, place)?;
-        replica.replay(seen)?;
+        replica.advance(seen)?;
         gate.at(Step::Replay);
     }
     Ok(())

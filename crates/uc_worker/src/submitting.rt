@@ -43,7 +43,7 @@ fn ready<'a, G: Gate>(
     ensures follows { Follows log.now replica.new.history (learned pass.new) }
     ensures worker { replica.new.worker ≡ replica.old.worker }
     ensures opened { (replica.new.places ≡ replica.old.places) × (replica.new.openings ≡ replica.old.openings) }
-    ensures faults { IfErr result (λ fault. (fault ≡ faults.Memory)
+    ensures faults { IfErr result (λ fault. ((fault ≡ faults.Memory) × ((state pass.new).phase ≡ phase.Idle))
         ⊎ ((fault ≡ faults.LogFull) × (length (learned pass.new) ≡ (size pass.new).places) × ((state pass.new).phase ≡ phase.Pending))) }
     ensures spent { (state pass.old).phase ≡ phase.Pending → length (learned pass.old) ≡ (size pass.old).places → result ≡ Err faults.LogFull }
     ensures still { (state pass.old).phase ≡ phase.Idle → length replica.old.history ≡ length (learned pass.old) → IsOk result × (pass.new ≡ pass.old) }
@@ -108,7 +108,7 @@ fn answer_new<'a, G: Gate>(
 impl<'a> Worker<'a> {
     /// Submits the tenant's command, and answers it once it stands in the log and all before it is replayed. A command of an earlier
     /// call that still waits is decided and replayed first; its reply is dropped. Where memory runs out: `Memory`; then this command,
-    /// if it was announced, may still take effect. Where all places are learned and the command isn't among them: `LogFull`; it never
+    /// if it was announced, stands in the log and takes effect. Where all places are learned and the command isn't among them: `LogFull`; it never
     /// takes effect. Where its cell holds another value: `Taken`, and it isn't announced. It never waits for another worker.
     pub fn submit<G: Gate>(
         &mut self,

@@ -1,25 +1,50 @@
-use Rattle.std.proofs.Common.{◌≡◌, ◌∙◌, ◌∷◌, [], ◌++◌, length, sym, ap, subst, arith, append_assoc}
-use Rattle.std.proofs.lemmas.List.Elements.{All-head, All-rest}
+use Rattle.std.proofs.Common.{◌≡◌, ◌∙◌, ◌∷◌, [], ◌++◌, All, length, sym, ap, subst, append-nil, append_assoc}
+use Rattle.std.proofs.lemmas.List.{nil_from_length}
+use Rattle.std.proofs.lemmas.List.Elements.{All-head, All-nil, All-rest}
+use Rattle.uc_cells.specs.Sighting.{Sighting}
+use Rattle.mc_model.specs.declared.id.Ticket.{Ticket}
 use Rattle.uc_worker.specs.declared.worker.Worker.{Worker}
-use Rattle.uc_worker.specs.Worker.{history_of}
-use Rattle.mc_server.specs.Network.{AreOf}
-use Rattle.mc_server.proofs.Crews.{is_longer, one_more_met}
+use Rattle.mc_server.specs.Network.{AreOf, HasMet, IsLater, IsUpToDate}
+use Rattle.mc_server.proofs.Meetings.{has_met, later_on, later_self, one_more_met}
 use Rattle.mc_server.proofs.crew.meet_others.Goals as goal
+
+pub loop-other-init : goal.loop-other-init
+loop-other-init c = record {
+  later = later_self c.args.one.now;
+  whole = c.requires.whole;
+  left = subst (AreOf c.args.one.now.log.now) (sym c.into_iter-other-iterator.ensures.into_iter_gives.0) c.requires.log;
+  met = ([], c.into_iter-other-iterator.ensures.into_iter_gives.0, All-nil (HasMet c.args.one.now));
+}
 
 pub meet-requires : goal.meet-requires
 meet-requires c =
-    sym (All-head (λ (other : Worker). other.log.now ≡ c.loop-other.one.log.now) c.in-Some.other _ (subst (AreOf c.loop-other.one.log.now) c.in-Some.ensures.steps.0 c.loop-other.invariant.0))
+    sym (All-head (λ (other : Worker). other.log.now ≡ c.loop-other.one.log.now) c.in-Some.other _ (subst (AreOf c.loop-other.one.log.now) c.in-Some.ensures.steps.0 c.loop-other.invariant.left))
 
 pub loop-other-preserved : goal.loop-other-preserved
 loop-other-preserved c =
-    let left = All-rest (λ (other : Worker). other.log.now ≡ c.loop-other.one.log.now) c.in-Some.other _ _ c.in-Some.ensures.steps.0 c.loop-other.invariant.0 in
+    let before = c.loop-other.invariant in
+    let step : IsLater c.loop-other.one c.meet.new.self = record { log = c.meet.ensures.log.0; same = c.meet.ensures.same.0; announced = c.meet.ensures.announced.0; history = c.meet.ensures.first } in
+    let others : IsLater c.in-Some.other c.meet.new.other = record { log = c.meet.ensures.log.1; same = c.meet.ensures.same.1; announced = c.meet.ensures.announced.1; history = c.meet.ensures.second } in
+    let equal = c.in_ok-meet.ensures.equal in
+    let all = c.in_ok-meet.ensures.all in
+    let whole : IsUpToDate c.meet.new.other = sym (ap (length {A = Sighting}) equal) ∙ (all.0 ∙ ap (length {A = Ticket}) all.1) in
     let same = ap (λ log. log.now) (sym c.meet.ensures.log.0) in
-    let grown = is_longer (history_of c.meet.new.self) (history_of c.loop-other.one) c.meet.ensures.first in
-    let fits = is_longer (history_of c.meet.new.other) (history_of c.in-Some.other) c.meet.ensures.second in
-    let as_long = ap (length {A = Rattle.uc_cells.specs.Sighting.Sighting}) c.in_ok-meet.ensures.equal in
-    let met = c.loop-other.invariant.2.0 in
-    let split = append_assoc met (c.in-Some.other ∷ []) c.next.new.self.rest.items ∙ ap (λ rest. met ++ rest) (sym c.in-Some.ensures.steps.0) ∙ c.loop-other.invariant.2.1 in (
-      subst (λ log. AreOf log c.next.new.self.rest.items) same left,
-      omega (arith, grown, c.loop-other.invariant.1),
-      (met ++ c.in-Some.other ∷ [], split, one_more_met (length (history_of c.loop-other.one)) (length (history_of c.meet.new.self)) met c.in-Some.other c.loop-other.invariant.2.2 grown (omega (arith, fits, as_long))),
-    )
+    let of = All-head (λ (other : Worker). other.log.now ≡ c.loop-other.one.log.now) c.in-Some.other _ (subst (AreOf c.loop-other.one.log.now) c.in-Some.ensures.steps.0 before.left) in
+    let left = All-rest (λ (other : Worker). other.log.now ≡ c.loop-other.one.log.now) c.in-Some.other _ _ c.in-Some.ensures.steps.0 before.left in
+    let now : HasMet c.meet.new.self c.in-Some.other = has_met c.meet.new.self c.in-Some.other c.meet.new.other (of ∙ same) others equal whole in
+    let met = before.met.0 in
+    let split = append_assoc met (c.in-Some.other ∷ []) c.next.new.self.rest.items ∙ ap (λ rest. met ++ rest) (sym c.in-Some.ensures.steps.0) ∙ before.met.1 in
+    record {
+      later = later_on _ _ _ before.later step;
+      whole = all.0;
+      left = subst (λ log. AreOf log c.next.new.self.rest.items) same left;
+      met = (met ++ c.in-Some.other ∷ [], split, one_more_met c.loop-other.one c.meet.new.self c.in-Some.other met before.met.2 step now);
+    }
+
+pub returns-clause-met : goal.returns-clause-met
+returns-clause-met c =
+    let met = c.loop-other.invariant.met in
+    let none : c.loop-other.other-iterator.rest.items ≡ [] =
+    nil_from_length c.loop-other.other-iterator.rest.items (sym c.loop-other.other-iterator.rest.ok.0 ∙ c.in-None.ensures.steps.0) in
+    let all : met.0 ≡ c.args.others.items = sym (append-nil met.0) ∙ (ap (λ rest. met.0 ++ rest) (sym none) ∙ met.1) in
+    subst (All (HasMet c.loop-other.one)) all met.2

@@ -1,11 +1,13 @@
--- Those that have met the one have no more than it, and the others are of its log.
-use Rattle.std.proofs.Common.{◌≡◌, ◌≤◌, ◌++◌, List, length}
-use Rattle.mc_server.specs.Network.{AreOf, IsAsLongAs}
+-- It is up to date and has met those before this one, and the others are of its log.
+use Rattle.std.proofs.Common.{◌≡◌, ◌++◌, All, List}
+use Rattle.mc_server.specs.Network.{AreOf, HasMet, IsLater, IsUpToDate}
 use Rattle.uc_worker.specs.declared.worker.Worker.{Worker}
-use Rattle.uc_worker.specs.Worker.{history_of}
 use Rattle.mc_server.proofs.crew.meet_others.Given as goal
 
 abbrev pub invariant-loop-other : goal.invariant-loop-other
-invariant-loop-other l = AreOf l.one.log.now l.other-iterator.rest.items
-    × (length (history_of l.fn.one) ≤ length (history_of l.one))
-    × ((met : List Worker) × (met ++ l.other-iterator.rest.items ≡ l.fn.others.items) × IsAsLongAs (length (history_of l.one)) met)
+invariant-loop-other l = record {
+  later : IsLater l.fn.one l.one;
+  whole : IsUpToDate l.one;
+  left : AreOf l.one.log.now l.other-iterator.rest.items;
+  met : (met : List Worker) × (met ++ l.other-iterator.rest.items ≡ l.fn.others.items) × All (HasMet l.one) met;
+}

@@ -1,24 +1,55 @@
--- The next pass was never used, and its worker is of the log.
-use Rattle.std.proofs.Common.{◌≡◌, ◌∷◌, [], All, length, ap, subst, arith, length-append, rules}
-use Rattle.std.proofs.lemmas.List.Elements.{All-head, All-push, All-rest}
-use Rattle.mc_server.specs.Network.{IsFresh}
+-- The next pass was never used, and its worker is of the log, under the pass's number.
+use Rattle.std.proofs.Common.{◌≡◌, ◌∙◌, ◌∷◌, [], ◌++◌, All, List, length, map, ap, sym, subst, arith, append_assoc, append-nil, length-append}
+use Rattle.std.proofs.lemmas.List.{nil_from_length}
+use Rattle.std.proofs.lemmas.List.{map-append}
+use Rattle.std.proofs.lemmas.List.Elements.{All-head, All-nil, All-push, All-rest}
+use Rattle.mc_server.specs.Listeners.{CountsFrom}
+use Rattle.mc_server.specs.Network.{IsFresh, number_of}
+use Rattle.uc_log.specs.declared.pass.Pass.{Pass}
+use Rattle.uc_log.specs.Passes.{worker}
+use Rattle.uc_places.specs.declared.view.View.{View}
 use Rattle.uc_worker.specs.declared.worker.Worker.{Worker}
-use Rattle.mc_server.proofs.Crews.{all_fresh}
+use Rattle.mc_server.proofs.Crews.{all_fresh, all_numbered}
 use Rattle.mc_server.proofs.crew.open_workers.Goals as goal
 
 pub loop-pass-init : goal.loop-pass-init
 loop-pass-init c =
+    let gives = c.into_iter-pass-iterator.ensures.into_iter_gives.0 in
     let passes : All (IsFresh c.args.log.now) c.args.passes.items = all_fresh c.args.log.now _ c.requires in
-    search rules
+    let P = λ (worker : Worker). worker.log.now ≡ c.args.log.now in
+    record {
+      of = subst (All P) (sym c.in_ok-workers.ensures.items) (All-nil P);
+      left = subst (All (IsFresh c.args.log.now)) (sym gives) passes;
+      count = omega (arith, ap length c.in_ok-workers.ensures.items, ap length gives);
+      numbers = λ i. map number_of (c.in_ok-workers.ensures.items i) ++ map worker (gives i);
+    }
 
 pub open-requires : goal.open-requires
 open-requires c =
-    let h = All-head (IsFresh c.args.log.now) c.in-Some.pass _ (subst (All (IsFresh c.args.log.now)) c.in-Some.ensures.steps.0 c.loop-pass.invariant.1) in
+    let h = All-head (IsFresh c.args.log.now) c.in-Some.pass _ (subst (All (IsFresh c.args.log.now)) c.in-Some.ensures.steps.0 c.loop-pass.invariant.left) in
     record { of = h.of; idle = h.idle; new = h.new }
 
 pub loop-pass-preserved : goal.loop-pass-preserved
-loop-pass-preserved c = (
-  rw c.in_ok-push.ensures.items (All-push (λ (worker : Worker). worker.log.now ≡ c.args.log.now) _ _ c.loop-pass.invariant.0 c.in_ok-open.ensures.log),
-  All-rest (IsFresh c.args.log.now) c.in-Some.pass _ _ c.in-Some.ensures.steps.0 c.loop-pass.invariant.1,
-  omega (arith, ap length c.in_ok-push.ensures.items, length-append c.loop-pass.workers.items (c.in_ok-open.field-0 ∷ []), ap length c.in-Some.ensures.steps.0, c.loop-pass.invariant.2),
-)
+loop-pass-preserved c =
+    let before = c.loop-pass.invariant in
+    let workers = c.loop-pass.workers.items in
+    let new = c.in_ok-open.field-0 in
+    let left = map worker c.next.new.self.rest.items in
+    record {
+      of = rw c.in_ok-push.ensures.items (All-push (λ (worker : Worker). worker.log.now ≡ c.args.log.now) _ _ before.of c.in_ok-open.ensures.log);
+      left = All-rest (IsFresh c.args.log.now) c.in-Some.pass _ _ c.in-Some.ensures.steps.0 before.left;
+      count = omega (arith, ap length c.in_ok-push.ensures.items, length-append c.loop-pass.workers.items (c.in_ok-open.field-0 ∷ []), ap length c.in-Some.ensures.steps.0, before.count);
+      numbers = ap (λ (workers : List Worker). map number_of workers ++ left) c.in_ok-push.ensures.items ∙ (ap (λ numbers. numbers ++ left) (map-append number_of workers (new ∷ []))
+          ∙ (append_assoc (map number_of workers) (number_of new ∷ []) left
+          ∙ (ap (λ (view : View). map number_of workers ++ view.worker ∷ left) c.in_ok-open.ensures.seat
+          ∙ (ap (λ (passes : List Pass). map number_of workers ++ map worker passes) (sym c.in-Some.ensures.steps.0) ∙ before.numbers))));
+    }
+
+pub returns-clause-numbers : goal.returns-clause-numbers
+returns-clause-numbers c =
+    let none : c.loop-pass.pass-iterator.rest.items ≡ [] =
+    nil_from_length c.loop-pass.pass-iterator.rest.items (sym c.loop-pass.pass-iterator.rest.ok.0 ∙ c.in-None.ensures.steps.0) in
+    let numbers = map number_of c.loop-pass.workers.items in
+    let all : numbers ≡ map worker c.args.passes.items =
+    sym (append-nil numbers) ∙ (ap (λ (passes : List Pass). numbers ++ map worker passes) (sym none) ∙ c.loop-pass.invariant.numbers) in
+    subst (CountsFrom 0) (sym all) (all_numbered c.args.log.now c.args.passes.items c.requires)

@@ -4,8 +4,9 @@ use Rattle.std.proofs.lemmas.Result.{err_from_is_err_and}
 use Rattle.std.proofs.lemmas.Slice.Zip.{AllZip-long}
 use Rattle.mc_conn.specs.Onward.{IsOnward}
 use Rattle.mc_model.specs.Settings.{Configuration}
-use Rattle.mc_server.proofs.NetworkRuns.{announcing_stops, are_tenants, back_of, served, stopped}
+use Rattle.mc_server.proofs.NetworkRuns.{announcing_stops, are_tenants, are_workers, back_of, served, stopped}
 use Rattle.mc_server.specs.Network.{IsReady, StopsAnnouncing}
+use Rattle.mc_server.specs.NetworkWords.{served_by, settings_asked}
 use Rattle.mc_server.specs.TenantWord.{asked_of}
 use Rattle.mc_server.specs.declared.network_texts.Listening.{Listening}
 use Rattle.mc_server.proofs.network.serve_tenants.Goals as goal
@@ -13,7 +14,7 @@ use Rattle.mc_server.proofs.network.serve_tenants.Goals as goal
 pub returns-in_err-announce-clause-stops : goal.returns-in_err-announce-clause-stops
 returns-in_err-announce-clause-stops g c =
     let P : List Listening → Type 0 = λ told. StopsAnnouncing c.in_err-announce.field-0.0 told (g.O.Output.tells c.args.output.now) (g.O.Output.tells c.announce.new.output) in
-    let stops = announcing_stops c.in_err-announce.field-0.0 c.args.bound.told.items (g.O.Output.tells c.args.output.now) (g.O.Output.tells c.announce.new.output) (subst P c.deref.ensures.value c.in_err-announce.ensures.stops) in
+    let stops = announcing_stops _ c.in_err-announce.field-0.0 c.args.bound.told.items (g.O.Output.tells c.args.output.now) (g.O.Output.tells c.announce.new.output) (subst P c.deref.ensures.value c.in_err-announce.ensures.stops) in
     let left = err_from_is_err_and c.from_residual-in_err-announce.result c.from_residual-in_err-announce.ensures.1 in
     rw (left.1, left.2) stops
 
@@ -35,9 +36,19 @@ finish-requires-clause-some g c =
 pub returns-clause-serves : goal.returns-clause-serves
 returns-clause-serves g c =
     let ready = subst (λ (told : List Listening). IsReady told (g.O.Output.tells c.args.output.now) (g.O.Output.tells c.announce.new.output)) c.deref.ensures.value c.in_ok-announce.ensures.ready in
-    served c.finish.result c.args.bound.told.items (g.O.Output.tells c.args.output.now) (g.O.Output.tells c.announce.new.output) (g.O.Output.tells c.finish.new.output) ready c.finish.ensures.done
+    let workers = ap (λ (settings : Configuration). settings.workers) c.requires.settings in
+    let all = are_workers (settings_asked (served_by c.args.service.now)) c.in_ok-log.log _ c.in_ok-workers-2.workers.items c.in_ok-workers-2.ensures.back
+    (c.in_ok-log.ensures.settings ∙ c.requires.settings) c.in_ok-workers.ensures.log (omega (arith, c.in_ok-workers.ensures.count, c.in_ok-log.ensures.count, workers))
+    c.in_ok-workers.ensures.numbers
+    in
+    served _ c.in_ok-log.log c.in_ok-workers-2.workers.items all c.finish.result c.args.bound.told.items (g.O.Output.tells c.args.output.now) (g.O.Output.tells c.announce.new.output) (g.O.Output.tells c.finish.new.output) ready c.finish.ensures.done
 
 pub returns-clause-stops : goal.returns-clause-stops
 returns-clause-stops g c =
     let ready = subst (λ (told : List Listening). IsReady told (g.O.Output.tells c.args.output.now) (g.O.Output.tells c.announce.new.output)) c.deref.ensures.value c.in_ok-announce.ensures.ready in
-    stopped c.finish.result c.args.bound.told.items (g.O.Output.tells c.args.output.now) (g.O.Output.tells c.announce.new.output) (g.O.Output.tells c.finish.new.output) ready c.finish.ensures.stops
+    let workers = ap (λ (settings : Configuration). settings.workers) c.requires.settings in
+    let all = are_workers (settings_asked (served_by c.args.service.now)) c.in_ok-log.log _ c.in_ok-workers-2.workers.items c.in_ok-workers-2.ensures.back
+    (c.in_ok-log.ensures.settings ∙ c.requires.settings) c.in_ok-workers.ensures.log (omega (arith, c.in_ok-workers.ensures.count, c.in_ok-log.ensures.count, workers))
+    c.in_ok-workers.ensures.numbers
+    in
+    stopped _ c.in_ok-log.log c.in_ok-workers-2.workers.items all c.finish.result c.args.bound.told.items (g.O.Output.tells c.args.output.now) (g.O.Output.tells c.announce.new.output) (g.O.Output.tells c.finish.new.output) ready c.finish.ensures.stops

@@ -38,7 +38,7 @@ returns-in_err-pulled-clause-late g c =
     let none =
     none_held c.args.self.now c.push.new.self c.is_some.result _ c.args.self.now.has_ended c.in_ok-pushed.ensures.holding c.requires.held c.is_some.ensures c.if-is_some-len.false
     in
-    let left = still_on (queue_of c.push.new.self) _ c.push.new.self.is_over c.is_empty.result _ c.push.new.self.queue.ok.0 c.is_empty.ensures c.if-self-is_empty.false c.in_ok-pushed.ensures.left in
+    let left = still_on (queue_of c.push.new.self) c.push.new.self.is_over c.is_empty.result _ c.is_empty.ensures c.if-self-is_empty.false c.in_ok-pushed.ensures.left in
     pulls_late _ (scene c.push.new.self c.args.worker.now (both (g.I.Input.tells c.args.input.now) (g.O.Output.tells c.push.new.output))) _ (c.in_ok-pushed.ensures.does _ _).takes
     none left c.pull.ensures.once.0 c.pull.ensures.once.1 c.pull.ensures.short refl
 
@@ -47,7 +47,7 @@ returns-in_err-taken-clause-late g c =
     let none =
     none_held c.args.self.now c.push.new.self c.is_some.result _ c.args.self.now.has_ended c.in_ok-pushed.ensures.holding c.requires.held c.is_some.ensures c.if-is_some-len.false
     in
-    let left = still_on (queue_of c.push.new.self) _ c.push.new.self.is_over c.is_empty.result _ c.push.new.self.queue.ok.0 c.is_empty.ensures c.if-self-is_empty.false c.in_ok-pushed.ensures.left in
+    let left = still_on (queue_of c.push.new.self) c.push.new.self.is_over c.is_empty.result _ c.is_empty.ensures c.if-self-is_empty.false c.in_ok-pushed.ensures.left in
     pulls_late _ (scene c.push.new.self c.args.worker.now (both (g.I.Input.tells c.args.input.now) (g.O.Output.tells c.push.new.output))) _ (c.in_ok-pushed.ensures.does _ _).takes
     none left c.pull.ensures.once.0 c.pull.ensures.once.1 c.pull.ensures.short refl
 
@@ -56,6 +56,6 @@ returns-clause-late g c =
     let none =
     none_held c.args.self.now c.push.new.self c.is_some.result _ c.args.self.now.has_ended c.in_ok-pushed.ensures.holding c.requires.held c.is_some.ensures c.if-is_some-len.false
     in
-    let left = still_on (queue_of c.push.new.self) _ c.push.new.self.is_over c.is_empty.result _ c.push.new.self.queue.ok.0 c.is_empty.ensures c.if-self-is_empty.false c.in_ok-pushed.ensures.left in
+    let left = still_on (queue_of c.push.new.self) c.push.new.self.is_over c.is_empty.result _ c.is_empty.ensures c.if-self-is_empty.false c.in_ok-pushed.ensures.left in
     pulls_late _ (scene c.push.new.self c.args.worker.now (both (g.I.Input.tells c.args.input.now) (g.O.Output.tells c.push.new.output))) _ (c.in_ok-pushed.ensures.does _ _).takes
     none left c.pull.ensures.once.0 c.pull.ensures.once.1 c.pull.ensures.short refl

@@ -1,0 +1,409 @@
+#!/usr/bin/env python3
+"""Prints the tables that docs/OPERATING.md shows of wfmc as built: what it takes in memory at the start, for each command, item and
+connection; what clients are answered when the log is full; what one reply of gigabytes costs without and with a limit on the process,
+and what its neighbours feel; a client that doesn't read; and the line that each mistake prints.
+
+Usage: bench/operating.py [BINARY [TABLE...]]; the binary is crates/wfmc/out/wfmc and all tables are printed where none is named.
+It takes some minutes, up to 4 GB of memory and ports of the system's choice, and ends what it starts.
+"""
+
+import os
+import pathlib
+import signal
+import socket
+import subprocess
+import sys
+import time
+
+sys.path.insert(0, str(pathlib.Path(__file__).parent))
+from served import Client, Pace, Served
+
+PROGRAM = "crates/wfmc/out/wfmc"
+MEBIBYTE = 1 << 20
+PLACES = ["--places", "1048576"]
+
+
+def heading(text):
+    print(f"\n{text}\n", flush=True)
+
+
+def row(*cells):
+    print("| " + " | ".join(str(cell) for cell in cells) + " |", flush=True)
+
+
+def table(*names):
+    row(*names)
+    row(*["---"] * len(names))
+
+
+def mebibytes(size):
+    return f"{size / MEBIBYTE:,.1f}" if size < 100 * MEBIBYTE else f"{size / MEBIBYTE:,.0f}"
+
+
+def names(count):
+    return [f"t{number}" for number in range(count)] if count > 1 else ["a"]
+
+
+def data(size):
+    return b"v" * size
+
+
+def a_set(key, size, tail=b""):
+    return b"set %b 0 0 %d%b\r\n%b\r\n" % (key, size, tail, data(size))
+
+
+def pieces(request, count, step=100):
+    """A request so many times, in pieces with their numbers of requests: a function of the number where it is one."""
+    make = request if callable(request) else lambda _: request
+    for first in range(0, count, step):
+        here = range(first, min(first + step, count))
+        yield b"".join(make(at) for at in here), len(here)
+
+
+def show_start():
+    """Every worker has a list of places, and a table for each tenant; each thread has an arena of addresses that it may never use."""
+    heading("start: before a command (MiB; address space counts for LimitAS)")
+    table("workers", "places", "tenants", "resident", "address space", "descriptors", "threads")
+    for workers, places, tenants in [(1, 65536, 1), (2, 65536, 2), (2, 1048576, 2), (4, 1048576, 2), (16, 1048576, 2), (16, 1048576, 64)]:
+        options = ["--workers", str(workers), "--places", str(places)]
+        with Served(PROGRAM, options, names(tenants), (1000, 1_000_000)) as server:
+            server_row = mebibytes(server.resident()), mebibytes(server.figure("VmSize")), server.descriptors(), server.figure("Threads")
+            row(workers, f"{places:,}", tenants, *server_row)
+
+
+def growth(workers, request, count, lines, before):
+    """By how many bytes resident memory grows a request, once all workers have replayed it."""
+    with Served(PROGRAM, ["--workers", str(workers), *PLACES]) as server:
+        with server.client(worker=0) as client:
+            if before:
+                client.line(before)
+            # The first commands take what is taken once.
+            client.stream(pieces(request, 2000), lines)
+            server.catch_up()
+            then = server.resident()
+            client.stream(pieces(request if not callable(request) else lambda at: request(at + 2000), count), lines)
+            server.catch_up()
+            return (server.resident() - then) / count
+
+
+COMMANDS = [
+    ("`get` of a key of 16 bytes that isn't held", b"get 0123456789abcdef\r\n", 100_000, 1, None),
+    ("`get` of one that is held, 100 bytes of data", b"get 0123456789abcdef\r\n", 100_000, 3, a_set(b"0123456789abcdef", 100)),
+    ("`set` of a held key, 100 bytes of data", a_set(b"0123456789abcdef", 100), 100_000, 1, a_set(b"0123456789abcdef", 100)),
+    ("`set` of a held key, 1,000 bytes", a_set(b"0123456789abcdef", 1000), 50_000, 1, a_set(b"0123456789abcdef", 1000)),
+    ("`set` of a held key, 10,000 bytes", a_set(b"0123456789abcdef", 10_000), 20_000, 1, a_set(b"0123456789abcdef", 10_000)),
+    ("`incr` of a key of 16 bytes", b"incr 0123456789abcdef 1\r\n", 100_000, 1, b"set 0123456789abcdef 0 0 1\r\n1\r\n"),
+    ("`set` of a new key of 16 bytes, 100 bytes", lambda at: a_set(b"%016d" % at, 100), 100_000, 1, None),
+    ("`set` of a new key, 1,000 bytes", lambda at: a_set(b"%016d" % at, 1000), 50_000, 1, None),
+    ("`set` of a new key, 10,000 bytes", lambda at: a_set(b"%016d" % at, 10_000), 20_000, 1, None),
+]
+
+
+def show_commands():
+    heading("commands: bytes of memory that stay for each, once every worker has replayed it")
+    table("command", "1 worker", "2 workers", "4 workers")
+    for what, request, count, lines, before in COMMANDS:
+        row(what, *(f"{growth(workers, request, count, lines, before):,.0f}" for workers in (1, 2, 4)))
+
+
+def show_connections():
+    """Each has sent one command and waits; or has sent half of a block; or asks for more than it reads."""
+    heading("connections: bytes of the process's memory for each of 500, without the kernel's own")
+    table("what it does", "bytes")
+    for what, sent, taken in [
+        ("idle behind a `get`", b"get -\r\n", b"END\r\n"),
+        ("idle behind a `set` of 1,000,000 bytes", a_set(b"k", 1_000_000), b"STORED\r\n"),
+        ("in the middle of a block of 1,000,000 bytes", a_set(b"k", 1_000_000)[:-10], None),
+        ("idle behind a reply of 1,000,000 bytes", b"get big\r\n", b"END\r\n"),
+    ]:
+        with Served(PROGRAM, ["--workers", "1"]) as server:
+            with server.client() as client:
+                client.ask(a_set(b"big", 1_000_000), b"\r\n")
+                once = per_command(server, client, sent, taken)
+            clients = [server.client() for _ in range(500)]
+            then = server.resident()
+            for client in clients:
+                if taken:
+                    client.ask(sent, taken)
+                else:
+                    client.send(sent)
+            time.sleep(2)
+            row(what, f"{(server.resident() - then) / 500 - once:,.0f}")
+            for client in clients:
+                client.close()
+
+
+def per_command(server, client, sent, taken):
+    """What the log keeps of each such command, which isn't the connection's."""
+    if not taken:
+        return 0
+    client.ask(sent, taken)
+    then = server.resident()
+    for _ in range(50):
+        client.ask(sent, taken)
+    return (server.resident() - then) / 50
+
+
+def show_lag():
+    """A worker replays with its next command all that others have brought into the log since its last."""
+    heading("lag: a worker whose connections were silent, at its next command")
+    table("commands since", "milliseconds until it is answered", "the one after")
+    for count in (1000, 100_000, 1_000_000):
+        with Served(PROGRAM, ["--workers", "2", *PLACES]) as server:
+            with server.client(worker=0) as busy, server.client(worker=1) as silent:
+                silent.ask(b"get -\r\n", b"END\r\n")
+                busy.stream(pieces(a_set(b"0123456789abcdef", 100), count), 1)
+                times = []
+                for _ in range(2):
+                    began = time.monotonic()
+                    silent.ask(b"get -\r\n", b"END\r\n")
+                    times.append(1000 * (time.monotonic() - began))
+                row(f"{count:,}", *(f"{it:,.1f}" for it in times))
+
+
+REQUESTS = [
+    (b"set b 0 0 1\r\nx\r\n", "`set`"),
+    (b"get a\r\n", "`get` of an item that is held"),
+    (b"incr n 1\r\n", "`incr`"),
+    (b"delete a\r\n", "`delete`"),
+    (b"flush_all\r\n", "`flush_all`"),
+    (b"set b 0 0 1 noreply\r\nx\r\nversion\r\n", "`set` with `noreply`, then `version`"),
+    (b"version\r\n", "`version`"),
+    (b"stats\r\n", "`stats`, or any other name"),
+    (b"set b 0 60 1\r\nx\r\n", "`set` with an exptime"),
+    (b"get \x01\r\n", "`get` of an unlawful key"),
+]
+
+
+def show_full():
+    heading("full: what is answered before and behind the last place of the log")
+    table("request", "before", "log full")
+    for request, what in REQUESTS:
+        lines = []
+        for fills in (0, 20):
+            with Served(PROGRAM, ["--places", "20"]) as server, server.client() as client:
+                client.line(b"set a 0 0 1\r\nx\r\n")
+                client.line(b"set n 0 0 1\r\n1\r\n")
+                for _ in range(fills):
+                    client.line(b"get -\r\n")
+                lines.append(client.line(request))
+        row(what, *("`" + it.replace("\n", " ").replace("\r", "") + "`" for it in lines))
+
+
+def many_names(count, key=b"b"):
+    return b"get" + (b" " + key) * count + b"\r\n"
+
+
+def show_replies():
+    """One line over an item of 1 MiB; the client reads as fast as it can, and two others go on, one at the same worker."""
+    heading("replies: one line `get b b b ...` over an item of 1 MiB, no limit; others ask for a small item meanwhile")
+    table("names", "reply, MiB", "memory at its greatest, MiB more", "MiB kept afterwards", "seconds", "the longest wait at the same worker, ms", "at the other, ms")
+    for count in (1, 10, 100, 1000):
+        with Served(PROGRAM, ["--workers", "2", *PLACES]) as server:
+            paces, hog = others_and_hog(server)
+            server.forget_peak()
+            then = server.resident()
+            began = time.monotonic()
+            hog.send(many_names(count) + b"quit\r\n")
+            size, _ = hog.count()
+            took = time.monotonic() - began
+            more = server.peak() - then
+            time.sleep(0.5)
+            kept = server.resident() - then
+            (_, _, same, wrong), (_, _, other, also_wrong) = (pace.stop() for pace in paces)
+            assert not wrong and not also_wrong, (wrong, also_wrong)
+            row(f"{count:,}", mebibytes(size), mebibytes(more), mebibytes(kept), f"{took:.2f}", f"{same:,.0f}", f"{other:,.0f}")
+
+
+def others_and_hog(server):
+    """A client at each of two workers that asks again and again, and one more at the first, with an item of 1 MiB in the table."""
+    with server.client(worker=0) as first:
+        first.ask(a_set(b"small", 10), b"\r\n")
+        first.ask(a_set(b"b", MEBIBYTE), b"\r\n")
+    server.catch_up()
+    paces = [Pace(server.client(worker=worker)) for worker in (0, 1)]
+    hog = server.client(worker=0)
+    time.sleep(0.3)
+    return paces, hog
+
+
+def start_size(options, tenants=("a",)):
+    with Served(PROGRAM, options, tenants) as server:
+        return server.figure("VmSize")
+
+
+def show_limits():
+    """The same under a limit on the address space, the start's size and so much more; three such clients one after another."""
+    heading("limits: a reply of 3,000 MiB under a limit on the address space (`prlimit --as`, `LimitAS=`)")
+    options = ["--workers", "2", *PLACES]
+    least = start_size(options)
+    table("limit: MiB above the start", "what each of three such clients gets", "MiB resident then, at most", "neighbours' longest wait, ms", "wfmc afterwards")
+    for more in (64, 256, 1024):
+        with Served(PROGRAM, options, address_space=least + more * MEBIBYTE) as server:
+            paces, hog = others_and_hog(server)
+            gets = []
+            for _ in range(3):
+                hog.send(many_names(3000))
+                size, last = hog.count()
+                gets.append("`SERVER_ERROR out of memory`, closed" if last.endswith(b"SERVER_ERROR out of memory\r\n") else f"closed behind {size:,} bytes")
+                hog = server.client(worker=0)
+            waits = [pace.stop() for pace in paces]
+            wrong = [it for wait in waits for it in wait[3]]
+            after = "serves" if server.is_alive() and not wrong and server.client().line(b"version\r\n").startswith("VERSION") else f"{wrong} {server.end()}"
+            row(more, "; ".join(sorted(set(gets))), mebibytes(server.peak()) if server.is_alive() else "", f"{max(wait[2] for wait in waits):,.0f}", after)
+
+
+def show_used():
+    """One tenant's commands take all memory that is allowed; then another's, one connection after another, at each worker by turns."""
+    heading("used: one tenant sets 1 MiB again and again until it is refused, 400 MiB of address space allowed; then another asks by new connections")
+    with Served(PROGRAM, ["--workers", "2", *PLACES], ("a", "b"), address_space=400 * MEBIBYTE) as server:
+        sets, counts = 0, {}
+        with server.client("a", worker=0) as greedy:
+            while (line := greedy.line(a_set(b"big", MEBIBYTE))) == "STORED":
+                sets += 1
+        for _ in range(100):
+            with server.client("b") as other:
+                said = " ".join(other.line(b"set k 0 0 1\r\ny\r\n").split()[:4])
+            counts[said] = counts.get(said, 0) + 1
+        table("sets until it is refused", "told then", "100 small sets of the other tenant", "wfmc afterwards")
+        answers = ", ".join(f"{count} `{said}`" for said, count in counts.items())
+        row(sets, f"`{line}`, closed", answers, "serves" if server.client("b").line(b"version\r\n").startswith("VERSION") else server.end())
+
+
+def paced(wait):
+    """The median and the longest wait of a client, or what came in place of an answer."""
+    _, median, longest, wrong = wait
+    return wrong[0].decode(errors="replace") if wrong else f"{median:.2f}, {longest:.1f}"
+
+
+def show_slow():
+    """Clients that ask for much and read nothing, and others beside them."""
+    heading("slow: clients that ask for 100 MiB in 1,000 `get`s of 100 KiB each and read nothing, others asking meanwhile")
+    table("such clients", "MiB resident more for each", "answers beside them at the same worker: median, longest, ms", "at the other: median, longest, ms", "processor use, in 100")
+    for count in (0, 1, 10, 100):
+        with Served(PROGRAM, ["--workers", "2", *PLACES]) as server:
+            with server.client(worker=0) as first:
+                first.ask(a_set(b"small", 10), b"\r\n")
+                first.ask(a_set(b"large", 100 << 10), b"\r\n")
+            server.catch_up()
+            then = server.resident()
+            slow = [server.client(worker=0, receive_buffer=4096) for _ in range(count)]
+            for client in slow:
+                client.send(b"get large\r\n" * 1000)
+            time.sleep(3)
+            more = (server.resident() - then) / max(count, 1)
+            paces = [Pace(server.client(worker=worker)) for worker in (0, 1)]
+            began = server.processor()
+            time.sleep(3)
+            used = 100 * (server.processor() - began) / 3
+            waits = [pace.stop() for pace in paces]
+            row(count, mebibytes(more) if count else "-", *(paced(wait) for wait in waits), f"{used:.0f}")
+            for client in slow:
+                client.close()
+
+
+def lines_of(words, **limits):
+    """How it ends by these words, and what stands on standard error then; behind "ready" too, where it has come so far."""
+    with Served(PROGRAM, words, (), **limits) as server:
+        try:
+            status = server.process.wait(timeout=20)
+        except subprocess.TimeoutExpired:
+            return "goes on", []
+        front = ["ready"] if "ready\n" in server.lines else []
+        return status, front + server.process.stderr.read().decode().splitlines()
+
+
+def tenant(name="a", address="127.0.0.1:0", items="1000", size="1000000"):
+    return f"{name}={address},{items},{size}"
+
+
+def show_errors():
+    """Each mistake that people make with the words, and what it prints."""
+    heading("errors: the line that each mistake prints, and the status")
+    table("mistake", "on standard error", "status")
+    with socket.socket() as taken:
+        taken.bind(("127.0.0.1", 0))
+        taken.listen()
+        port = taken.getsockname()[1]
+        many = [tenant(f"t{number}") for number in range(65)]
+        mistakes = [
+            ("a port in use", [tenant(address=f"127.0.0.1:{port}")], {}),
+            ("the same port for two tenants", [tenant(address=f"127.0.0.2:{port}"), tenant("b", f"127.0.0.2:{port}")], {}),
+            ("an address that isn't this machine's", [tenant(address="192.0.2.1:11211")], {}),
+            ("a name or an IPv6 address in its place", [tenant(address="localhost:11211")], {}),
+            ("no port", [tenant(address="127.0.0.1")], {}),
+            ("too few descriptors for the listeners", many[:64], {"descriptors": 40}),
+            ("too few descriptors for the workers", ["--workers", "16", tenant()], {"descriptors": 20}),
+            ("too little address space", [tenant()], {"address_space": 8 << 20}),
+            ("a quota of 0", [tenant(items="0")], {}),
+            ("a quota above 1 GiB", [tenant(size="2000000000")], {}),
+            ("a size with a unit", [tenant(size="64M")], {}),
+            ("a name used twice", [tenant(), tenant()], {}),
+            ("a name in capitals", [tenant("Shop")], {}),
+            ("65 tenants", many, {}),
+            ("17 workers", ["--workers", "17", tenant()], {}),
+            ("more than 1,048,576 places", ["--places", "2000000", tenant()], {}),
+            ("no number", ["--places", "many", tenant()], {}),
+            ("an unknown option", ["--port", "11211", tenant()], {}),
+            ("no tenant", [], {}),
+        ]
+        for what, words, limits in mistakes:
+            status, lines = lines_of(words, **limits)
+            row(what, "`" + "`, `".join(lines[:2] if lines[:1] == ["ready"] else lines[:1]) + "`", status)
+
+
+def show_descriptors():
+    """So many clients connect that no descriptor is left, and then one leaves."""
+    heading("descriptors: 64 are allowed, and 80 clients connect to 2 workers and 1 tenant")
+    with Served(PROGRAM, ["--workers", "2"], descriptors=64) as server:
+        clients = [server.client() for _ in range(80)]
+        answered = 0
+        for client in clients:
+            client.socket.settimeout(0.3)
+            try:
+                answered += client.line(b"version\r\n").startswith("VERSION")
+            except TimeoutError:
+                pass
+        began = server.processor()
+        time.sleep(2)
+        used = 100 * (server.processor() - began) / 2
+        waiting = clients[answered]
+        clients[0].close()
+        waiting.socket.settimeout(5)
+        waited = waiting.socket.recv(100)
+        table("answered", "wait without an answer", "processor use meanwhile, in 100", "the first that waits, once another has left", "wfmc afterwards")
+        row(answered, 80 - answered, f"{used:.1f}", f"`{waited.decode().strip()}`", "serves" if server.is_alive() else server.end())
+
+
+def show_signals():
+    heading("signals: how it ends with a client connected, and whether a new one can listen at the same port at once")
+    table("signal", "status", "on standard error", "the client", "a new wfmc at the same port")
+    for how in (signal.SIGTERM, signal.SIGINT, signal.SIGHUP):
+        with Served(PROGRAM) as server, server.client() as client:
+            client.line(b"set a 0 0 1\r\nx\r\n")
+            status, errors = server.end(how)
+            left = client.line(b"get a\r\n")
+            words = [f"a=127.0.0.1:{server.ports['a']},1000,1000"]
+            with Served(PROGRAM, words, ()) as new:
+                listens = "listens, with an empty table" if new.lines and Client(server.ports["a"]).line(b"get a\r\n") == "END" else new.end()
+            row(how.name, status, errors or "nothing", left, listens)
+
+
+TABLES = {name[5:]: show for name, show in list(globals().items()) if name.startswith("show_")}
+
+
+def main():
+    global PROGRAM
+    os.chdir(pathlib.Path(__file__).parent.parent)
+    if len(sys.argv) > 1:
+        PROGRAM = sys.argv[1]
+    if not os.access(PROGRAM, os.X_OK):
+        sys.exit(f"{PROGRAM} isn't built: make build")
+    unknown = [name for name in sys.argv[2:] if name not in TABLES]
+    if unknown:
+        sys.exit(f"no table {unknown[0]}; there are {', '.join(TABLES)}")
+    for name in sys.argv[2:] or TABLES:
+        TABLES[name]()
+
+
+main()

@@ -1,0 +1,90 @@
+//! Tenants over sockets: each has a table of its own, and a client is the tenant's at whose listener it connected.
+use crate::clients::Act;
+use crate::visits::{Outcome, Visit, outcome_of};
+use mc_model::Limits;
+use std::test::Fail;
+
+/// Each of two tenants' clients sets the same key.
+const SAME_KEY: [Act<'static>; 6] = [
+    Act::Connect(0),
+    Act::Send(0, b"set a 0 0 1\r\nx\r\ngets a\r\nquit\r\n"),
+    Act::Connect(1),
+    Act::Send(1, b"gets a\r\nset a 0 0 1\r\ny\r\ngets a\r\nquit\r\n"),
+    Act::Finish(0, b"STORED\r\nVALUE a 0 1 1\r\nx\r\nEND\r\n"),
+    Act::Finish(1, b"END\r\nSTORED\r\nVALUE a 0 1 1\r\ny\r\nEND\r\n"),
+];
+
+/// At each of three listeners one client sets three keys, and another, at another worker, reads the first. All are there before any
+/// has sent a block, and what is stored tells by the quotas whose client each is.
+const CROSSED: [Act<'static>; 21] = [
+    Act::Connect(0),
+    Act::Connect(1),
+    Act::Connect(2),
+    Act::Connect(0),
+    Act::Connect(1),
+    Act::Connect(2),
+    Act::Send(0, b"set a 0 0 1\r\n"),
+    Act::Send(1, b"set a 0 0 1\r\n"),
+    Act::Send(2, b"set a 0 0 1\r\n"),
+    Act::Send(0, b"x\r\nset b 0 0 0\r\n\r\nset c 0 0 0\r\n\r\nquit\r\n"),
+    Act::Send(1, b"y\r\nset b 0 0 0\r\n\r\nset c 0 0 0\r\n\r\nquit\r\n"),
+    Act::Send(2, b"z\r\nset b 0 0 0\r\n\r\nset c 0 0 0\r\n\r\nquit\r\n"),
+    Act::Finish(0, b"STORED\r\nSTORED\r\nSTORED\r\n"),
+    Act::Finish(
+        1,
+        b"STORED\r\nSERVER_ERROR out of memory storing object\r\nSERVER_ERROR out of memory storing object\r\n",
+    ),
+    Act::Finish(
+        2,
+        b"STORED\r\nSTORED\r\nSERVER_ERROR out of memory storing object\r\n",
+    ),
+    Act::Send(3, b"get a\r\nquit\r\n"),
+    Act::Send(4, b"get a\r\nquit\r\n"),
+    Act::Send(5, b"get a\r\nquit\r\n"),
+    Act::Finish(3, b"VALUE a 0 1\r\nx\r\nEND\r\n"),
+    Act::Finish(4, b"VALUE a 0 1\r\ny\r\nEND\r\n"),
+    Act::Finish(5, b"VALUE a 0 1\r\nz\r\nEND\r\n"),
+];
+
+/// Quotas of so many items.
+fn items(items: u64) -> Limits {
+    Limits { items, bytes: 100 }
+}
+
+/// How many of the entries are this tenant's.
+fn count_of(tenants: &[u8], tenant: u8) -> usize {
+    tenants.iter().filter(|other| **other == tenant).count()
+}
+
+#[test]
+fn two_tenants_two_connections(rt: HostRuntime) -> Result<(), Fail> {
+    let visit = Visit {
+        quotas: &[items(4), items(4)],
+        listeners: &[0, 1],
+        workers: 2,
+        acts: &SAME_KEY,
+    };
+    let Outcome { failed, tenants } = outcome_of(&rt, rt.alloc(), visit, false)?;
+    assert_eq!(rt; failed, None);
+    let tenants = tenants?;
+    assert_eq!(rt; [count_of(&tenants, 0), count_of(&tenants, 1)], [2, 3]);
+    Ok(())
+}
+
+#[test]
+fn clients_are_their_listeners_tenants(rt: HostRuntime) -> Result<(), Fail> {
+    let visit = Visit {
+        quotas: &[items(1), items(2), items(3)],
+        listeners: &[2, 0, 1],
+        workers: 2,
+        acts: &CROSSED,
+    };
+    let Outcome { failed, tenants } = outcome_of(&rt, rt.alloc(), visit, false)?;
+    assert_eq!(rt; failed, None);
+    let tenants = tenants?;
+    assert_eq!(rt; tenants.len(), 12);
+    for tenant in 0..3u8 {
+        assert_eq!(rt; count_of(&tenants, tenant), 4);
+    }
+    Ok(())
+}

@@ -1,0 +1,154 @@
+//! Clients over sockets, who do one thing after another.
+use crate::signals::Signals;
+use std::alloc::Global;
+use std::io;
+use std::io::{ErrorKind, Read, Write};
+use std::net::{Net, SocketAddr, TcpListener, TcpStream};
+use std::time::Duration;
+
+/// How long a client waits for bytes before they are given up, in seconds.
+const SECONDS: u64 = 20;
+
+/// How long a client waits until it is sure that nothing more is taken, in milliseconds.
+const TAKEN_MILLIS: u64 = 100;
+
+/// What a client does. They are numbered as they connect.
+#[derive(Clone, Copy)]
+pub(crate) enum Act<'a> {
+    /// One more connects at the listener of this number.
+    Connect(usize),
+    /// One sends this.
+    Send(usize, &'a [u8]),
+    /// One sends this again and again, and reads nothing, until nothing more is taken.
+    Flood(usize, &'a [u8]),
+    /// One reads this.
+    Read(usize, &'a [u8]),
+    /// One reads this, and then the end.
+    Finish(usize, &'a [u8]),
+    /// One leaves. Where it hasn't read all that came, its connection is reset.
+    Leave(usize),
+    /// All wait until a worker is held.
+    AwaitHeld,
+    /// The worker, which must have been held until now, may go on.
+    Free,
+}
+
+/// The clients so far, without those that have left.
+#[derive(Drop)]
+struct Crowd<'a> {
+    alloc: Global,
+    signals: &'a Signals,
+    addresses: &'a [SocketAddr],
+    clients: Vec<Option<TcpStream>>,
+}
+
+fn demand(holds: bool) -> io::Result<()> {
+    if holds {
+        Ok(())
+    } else {
+        Err(io::Error::from(ErrorKind::InvalidData))
+    }
+}
+
+/// Sends this again and again, until nothing more is taken.
+fn flood(client: &mut TcpStream, bytes: &[u8]) -> io::Result<()> {
+    client.set_write_timeout(Some(Duration::from_millis(TAKEN_MILLIS)))?;
+    for _ in 0..u32::MAX {
+        match client.write(bytes) {
+            Ok(_) => {}
+            Err(error) if error.kind() == ErrorKind::WouldBlock => return Ok(()),
+            Err(error) => return Err(error),
+        }
+    }
+    demand(false)
+}
+
+impl Crowd<'_> {
+    fn connect<R: Net<Listener = TcpListener, Stream = TcpStream>>(
+        &mut self,
+        rt: &R,
+        listener: usize,
+    ) -> io::Result<()> {
+        let Some(address) = self.addresses.get(listener) else {
+            return demand(false);
+        };
+        let client = TcpStream::connect(rt, *address)?;
+        client.set_read_timeout(Some(Duration::from_secs(SECONDS)))?;
+        self.clients.push(Some(client))?;
+        Ok(())
+    }
+
+    /// The client of this number, if it is there.
+    fn client(&mut self, number: usize) -> io::Result<&mut TcpStream> {
+        match self.clients.get_mut(number) {
+            Some(Some(client)) => Ok(client),
+            _ => Err(io::Error::from(ErrorKind::NotConnected)),
+        }
+    }
+
+    /// Reads as many bytes as these are, which must be these.
+    fn read(&mut self, number: usize, want: &[u8]) -> io::Result<()> {
+        let mut bytes = vec![in self.alloc; 0u8; want.len()]?;
+        self.client(number)?.read_exact(&mut bytes)?;
+        demand(bytes.as_slice() == want)
+    }
+
+    /// Reads to the end, which must be these bytes.
+    fn finish(&mut self, number: usize, want: &[u8]) -> io::Result<()> {
+        let mut bytes = Vec::new(self.alloc);
+        self.client(number)?.read_to_end(&mut bytes)?;
+        demand(bytes.as_slice() == want)
+    }
+
+    fn leave(&mut self, number: usize) -> io::Result<()> {
+        self.client(number)?;
+        if let Some(client) = self.clients.get_mut(number) {
+            *client = None;
+        }
+        Ok(())
+    }
+
+    fn act<R: Net<Listener = TcpListener, Stream = TcpStream>>(
+        &mut self,
+        rt: &R,
+        act: Act,
+    ) -> io::Result<()> {
+        match act {
+            Act::Connect(listener) => self.connect(rt, listener),
+            Act::Send(number, bytes) => self.client(number)?.write_all(bytes),
+            Act::Flood(number, bytes) => flood(self.client(number)?, bytes),
+            Act::Read(number, want) => self.read(number, want),
+            Act::Finish(number, want) => self.finish(number, want),
+            Act::Leave(number) => self.leave(number),
+            Act::AwaitHeld => demand(self.signals.holds()),
+            Act::Free => demand(self.signals.free()),
+        }
+    }
+}
+
+/// Does these acts at the listeners with these addresses. Says which failed first, if any did; after it connections alone are made, so that
+/// as many come as are to be served.
+pub(crate) fn first_failure<R: Net<Listener = TcpListener, Stream = TcpStream>>(
+    rt: &R,
+    alloc: Global,
+    signals: &Signals,
+    addresses: &[SocketAddr],
+    acts: &[Act],
+) -> Option<usize> {
+    let mut crowd = Crowd {
+        alloc,
+        signals,
+        addresses,
+        clients: Vec::new(alloc),
+    };
+    let mut failed = None;
+    for (number, act) in acts.iter().enumerate() {
+        if failed.is_some() && !matches!(act, Act::Connect(_)) {
+            continue;
+        }
+        if crowd.act(rt, *act).is_err() && failed.is_none() {
+            failed = Some(number);
+        }
+    }
+    failed
+}

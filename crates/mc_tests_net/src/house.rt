@@ -1,0 +1,127 @@
+//! Tenants who are served over sockets on loopback.
+ghost use Rattle.std.specs.Prelude.{◌≡◌, ◌<◌, ℕ, All, IfOk, Some, length, slice_get};
+ghost use Rattle.uc_log.specs.Passes.{IsNew};
+
+use crate::signals::Holding;
+use mc_model::{Fault, Limits, Settings, TenantId};
+use mc_net::serve;
+use mio::net::TcpListener;
+use std::alloc::{AllocError, Global};
+use std::io;
+use std::io::ErrorKind;
+use std::net::{Ipv4Addr, Net, SocketAddr};
+use std::sync::Wait;
+use std::thread::Threads;
+use uc_cells::Seen;
+use uc_log::{Log, Pass};
+use uc_worker::Worker;
+
+/// How many places each log has.
+const PLACES: u64 = 1_024;
+
+/// The quotas of all tenants, and the listeners of each that has any.
+#[derive(Drop)]
+pub(crate) struct House {
+    quotas: Vec<Limits>,
+    listeners: Vec<(TenantId, TcpListener)>,
+    ghost known: { All (λ listener. listener.0 < length quotas.items) listeners.items },
+}
+
+impl House {
+    /// A house of tenants with these quotas and no listener.
+    pub(crate) fn new(alloc: Global, quotas: &[Limits]) -> Result<House, AllocError> {
+        Ok(House {
+            quotas: Vec::from_slice(alloc, quotas)?,
+            listeners: Vec::new(alloc),
+        })
+    }
+
+    /// Listens for the tenant of this number, if there is one, at a free port, and says at which address.
+    pub(crate) fn listen<R: Net>(&mut self, rt: &R, number: u8) -> io::Result<SocketAddr> {
+        let tenant = match TenantId::new(number) {
+            Some(tenant) if usize::from(number) < self.quotas.len() => tenant,
+            _ => return Err(io::Error::from(ErrorKind::InvalidInput)),
+        };
+        let any = SocketAddr::from((Ipv4Addr::LOCALHOST, 0));
+        let listener = TcpListener::bind(rt, any)?;
+        let address = listener.local_addr()?;
+        self.listeners.push((tenant, listener))?;
+        Ok(address)
+    }
+}
+
+/// A worker for each pass of the log.
+fn open_workers<'a>(
+    alloc: Global,
+    log: &'a Log,
+    passes: Vec<Pass>,
+) -> Result<Vec<Worker<'a>>, Fault>
+    requires { (number : ℕ) (pass : _) → slice_get passes.items number ≡ Some pass → IsNew log.now number pass }
+    ensures { IfOk result (λ workers. All (λ worker. worker.log.now ≡ log.now) workers.items) }
+{
+    let mut workers = Vec::new(alloc);
+    for pass in passes {
+        workers.push(Worker::open(alloc, log, pass)?)?;
+    }
+    Ok(workers)
+}
+
+/// Whether both histories are equal, place by place.
+fn are_equal(ones: &[Seen<'_>], others: &[Seen<'_>]) -> bool {
+    ones.len() == others.len()
+        && ones.iter().zip(others).all(|(one, other)| one.ticket() == other.ticket()
+            && one.entry() == other.entry())
+}
+
+/// Has a worker meet the others, each of whom must have its history then.
+fn meet_others<'a>(one: &mut Worker<'a>, others: Vec<Worker<'a>>) -> Result<(), Fault>
+    requires { All (λ worker. worker.log.now ≡ one.old.log.now) others.items }
+{
+    for other in others {
+        let mut other = other;
+        one.meet(&mut other)?;
+        if !are_equal(one.history(), other.history()) {
+            return Err(Fault::BadEvent);
+        }
+    }
+    Ok(())
+}
+
+/// Has the workers meet, and gives the number of each entry's tenant, in the log's order.
+fn tenants_of_all<'a>(
+    alloc: Global,
+    log: &'a Log,
+    workers: Vec<Worker<'a>>,
+) -> Result<Vec<u8>, Fault>
+    requires { All (λ worker. worker.log.now ≡ log.now) workers.items }
+{
+    let mut others = workers;
+    let mut tenants = Vec::new(alloc);
+    if let Some(mut last) = others.pop() {
+        meet_others(&mut last, others)?;
+        for seen in last.history() {
+            let entry = seen.entry().ok_or(Fault::BadEvent)?;
+            tenants.push(entry.tenant.number())?;
+        }
+    }
+    Ok(tenants)
+}
+
+/// Serves so many connections by as many workers as there are gates, and gives the number of each entry's tenant, in the log's order.
+pub(crate) fn served<R: Threads + Wait + Net + Sync>(
+    rt: &R,
+    alloc: Global,
+    house: House,
+    connections: u64,
+    gates: Vec<Holding<'_>>,
+) -> Result<Vec<u8>, Fault> {
+    let House { quotas, listeners } = house;
+    let settings = Settings::check(gates.len() as u64, PLACES, quotas)?;
+    let (log, passes) = Log::open(alloc, &settings)?;
+    let workers = open_workers(alloc, &log, passes)?;
+    if listeners.is_empty() || workers.is_empty() || workers.len() != gates.len() {
+        return Err(Fault::BadSettings);
+    }
+    let workers = serve(rt, alloc, &log, workers, listeners, connections, gates)?;
+    tenants_of_all(alloc, &log, workers)
+}

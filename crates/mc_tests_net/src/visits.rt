@@ -1,0 +1,85 @@
+//! Clients beside the workers that serve them.
+use crate::clients::{Act, first_failure};
+use crate::house::{House, served};
+use crate::signals::{Holding, Signals};
+use mc_model::{Fault, Limits};
+use std::alloc::{AllocError, Global};
+use std::io;
+use std::net::{Net, SocketAddr, TcpListener, TcpStream};
+use std::sync::Wait;
+use std::thread::{Threads, join};
+
+/// Enough for all that most tests store.
+pub(crate) const QUOTAS: Limits = Limits {
+    items: 100,
+    bytes: 1_000_000,
+};
+
+/// Who is served, by how many workers, and what the clients do.
+#[derive(Clone, Copy)]
+pub(crate) struct Visit<'a> {
+    pub(crate) quotas: &'a [Limits],
+    /// Whose each listener is.
+    pub(crate) listeners: &'a [u8],
+    pub(crate) workers: usize,
+    pub(crate) acts: &'a [Act<'a>],
+}
+
+/// What came of a visit.
+#[derive(Drop)]
+pub(crate) struct Outcome {
+    /// Which act failed first, if any did.
+    pub(crate) failed: Option<usize>,
+    /// The number of each entry's tenant, in the log's order.
+    pub(crate) tenants: Result<Vec<u8>, Fault>,
+}
+
+/// The first gate holds its worker by these signals, where it is to, and all others nobody.
+fn gates_of<'a>(
+    alloc: Global,
+    count: usize,
+    signals: Option<&'a Signals>,
+) -> Result<Vec<Holding<'a>>, AllocError> {
+    let mut gates = Vec::new(alloc);
+    for number in 0..count {
+        let signals = if number == 0 { signals } else { None };
+        gates.push(Holding { signals })?;
+    }
+    Ok(gates)
+}
+
+/// The house of a visit, and at which address each listener is.
+fn opened<R: Net>(rt: &R, alloc: Global, visit: Visit) -> io::Result<(House, Vec<SocketAddr>)> {
+    let mut house = House::new(alloc, visit.quotas)?;
+    let mut addresses = Vec::new(alloc);
+    for tenant in visit.listeners {
+        addresses.push(house.listen(rt, *tenant)?)?;
+    }
+    Ok((house, addresses))
+}
+
+/// Serves the clients while they act. The first worker is held by the signals where it is to be.
+pub(crate) fn outcome_of<R>(
+    rt: &R,
+    alloc: Global,
+    visit: Visit,
+    is_held: bool,
+) -> io::Result<Outcome>
+where
+    R: Threads + Wait + Net<Listener = TcpListener, Stream = TcpStream> + Sync,
+{
+    let (house, addresses) = opened(rt, alloc, visit)?;
+    let signals = Signals::new();
+    let gates = gates_of(alloc, visit.workers, is_held.then_some(&signals))?;
+    let connections = visit
+        .acts
+        .iter()
+        .filter(|act| matches!(act, Act::Connect(_)))
+        .count();
+    let (tenants, failed) = join(
+        rt,
+        || served(rt, alloc, house, connections as u64, gates),
+        || first_failure(rt, alloc, &signals, &addresses, visit.acts),
+    );
+    Ok(Outcome { failed, tenants })
+}
