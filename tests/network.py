@@ -118,6 +118,7 @@ def check_others_unfelt():
         block = b"v" * 100_000
         lazy = server.connect("a")
         lazy.sendall(b"set big 0 0 100000\r\n" + block + b"\r\n")
+        check("a client before it stops reading", lazy.recv(8, socket.MSG_WAITALL) == b"STORED\r\n")
         lazy.setblocking(False)
         try:
             while True:
