@@ -12,7 +12,6 @@ help:
 	@echo 'make edits    tries all edits that must be refused; make edits CRATES="mc_items mc_read" those of some crates'
 	@echo 'make network  tries wfmc over sockets: the worked rows of mc_stdin, and clients that others must not feel; in the gate too'
 	@echo 'make clients  tries wfmc, and mc_stdin behind a relay, by four clients beside memcached; installs what it wants where it may'
-
 	@echo 'make attack   attacks wfmc over sockets at random for MINUTES (2), and looks whether one order of commands explains all replies'
 	@echo 'make memory   runs the programs, and the tests of the cells, with each allocation refused in turn, mc_stdin with less and less memory too, and looks at what they answer'
 	@echo 'make model    compares mc_schedule with an independent model on lists made at random'
