@@ -1,8 +1,9 @@
 //! A worker takes connections in and serves them.
 ghost use Rattle.std.specs.Prelude.{◌≡◌, ◌<◌, length, None, IfNone, IfSome};
-ghost use Rattle.mc_conn.specs.declared.conn.State.TheVariants as states;
 ghost use Rattle.mc_conn.specs.Onward.{IsOnward};
-ghost use Rattle.mc_net.specs.Serving.{Admits, HasEnded, IsLater, Serves, connection_at};
+ghost use Rattle.mc_conn.specs.Turn.{scene};
+ghost use Rattle.mc_net.specs.Serving.{Admits, Becomes, HasTurns, IsLater, IsServed, Serves, Stands};
+ghost use Rattle.mc_stream.specs.Stream.{both};
 ghost use Rattle.slab.specs.Slab.{Updates};
 ghost use Rattle.uc_worker.specs.Worker.{tenants_of};
 
@@ -29,9 +30,11 @@ fn turn<I: Input, O: Output, G: Gate>(
     buffer: &mut [u8; PULL_BYTES],
 ) -> State
     requires { conn.old.tenant < length (tenants_of worker.old) }
+    ensures served { IsServed (scene conn.old worker.old (both (I.tells input.old) (O.tells output.old)))
+        (scene conn.new worker.new (both (I.tells input.new) (O.tells output.new))) }
+    ensures stands { Stands (scene conn.new worker.new (both (I.tells input.new) (O.tells output.new))) result }
     ensures tenant { conn.new.tenant ≡ conn.old.tenant }
     ensures onward { IsOnward worker.old worker.new }
-    ensures ended { result ≡ states.Closed → HasEnded conn.new }
 {
     match conn.turn(worker, input, output, gate, buffer) {
         Ok(state) => state,
@@ -39,9 +42,34 @@ fn turn<I: Input, O: Output, G: Gate>(
     }
 }
 
+/// Turns, until nothing is left to do or so many were made. Says how the connection stands then.
+fn turns<I: Input, O: Output, G: Gate>(
+    conn: &mut Conn,
+    worker: &mut Worker<'_>,
+    input: &mut I,
+    output: &mut O,
+    gate: &mut G,
+    buffer: &mut [u8; PULL_BYTES],
+) -> State
+    requires { conn.old.tenant < length (tenants_of worker.old) }
+    ensures served { IsServed (scene conn.old worker.old (both (I.tells input.old) (O.tells output.old)))
+        (scene conn.new worker.new (both (I.tells input.new) (O.tells output.new))) }
+    ensures stands { Stands (scene conn.new worker.new (both (I.tells input.new) (O.tells output.new))) result }
+    ensures tenant { conn.new.tenant ≡ conn.old.tenant }
+    ensures onward { IsOnward worker.old worker.new }
+{
+    for _ in 1..TURNS {
+        let state = turn(conn, worker, input, output, gate, buffer);
+        if state != State::Busy {
+            return state;
+        }
+    }
+    turn(conn, worker, input, output, gate, buffer)
+}
+
 impl Connection {
-    /// Turns, until nothing is left to do or so many were made. Says how the connection stands then.
-    fn turns<G: Gate>(
+    /// Turns over the connection's stream. Says how the connection stands then.
+    fn serve<G: Gate>(
         &mut self,
         worker: &mut Worker<'_>,
         gate: &mut G,
@@ -49,20 +77,13 @@ impl Connection {
         stops_short: bool,
     ) -> State
         requires { self.old.conn.tenant < length (tenants_of worker.old) }
-        ensures later { IsLater self.old self.new }
+        ensures later { IsLater worker.old worker.new self.old self.new result }
         ensures onward { IsOnward worker.old worker.new }
-        ensures ended { result ≡ states.Closed → HasEnded self.new.conn }
     {
         let Connection { stream, conn } = self;
         let mut input = ReadInput::new(SocketReader::new(stream, stops_short));
         let mut output = WriteOutput::new(SocketWriter::new(stream));
-        for _ in 0..TURNS {
-            let state = turn(conn, worker, &mut input, &mut output, gate, buffer);
-            if state != State::Busy {
-                return state;
-            }
-        }
-        State::Busy
+        turns(conn, worker, &mut input, &mut output, gate, buffer)
     }
 }
 
@@ -105,12 +126,11 @@ impl Table {
         stops_short: bool,
     ) -> State
         requires { self.old.tenants ≡ length (tenants_of worker.old) }
-        ensures serves { Serves self.old self.new key }
-        ensures ended { result ≡ states.Closed → IfSome (connection_at self.new key) (λ connection. HasEnded connection.conn) }
+        ensures serves { Serves (HasTurns (IsLater worker.old worker.new) (worker.new ≡ worker.old) result) self.old self.new key }
         ensures onward { IsOnward worker.old worker.new }
     {
         match self.connections.get_mut(key) {
-            Some(connection) => connection.turns(worker, gate, buffer, stops_short),
+            Some(connection) => connection.serve(worker, gate, buffer, stops_short),
             None => State::Idle,
         }
     }
@@ -134,7 +154,7 @@ impl Table {
         stops_short: bool,
     ) -> bool
         requires { self.old.tenants ≡ length (tenants_of worker.old) }
-        ensures serves { Serves self.old self.new key }
+        ensures serves { Serves (Becomes (IsLater worker.old worker.new) (worker.new ≡ worker.old) result) self.old self.new key }
         ensures onward { IsOnward worker.old worker.new }
     {
         match self.turns_at(worker, gate, buffer, key, stops_short) {

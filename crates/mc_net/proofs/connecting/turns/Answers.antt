@@ -1,0 +1,28 @@
+use Rattle.std.proofs.Common.{refl, rules, ◌∙◌}
+use Rattle.mc_conn.proofs.Owings.{onward_self, onward_trans}
+use Rattle.mc_conn.proofs.Takings.{takes_self}
+use Rattle.mc_net.proofs.Servings.{going_later, served_later, still_going}
+use Rattle.mc_net.proofs.connecting.turns.Goals as goal
+
+pub loop-init : goal.loop-init
+loop-init g c = record { going = (takes_self _, refl); tenant = refl; onward = onward_self _ }
+
+pub returns-then-ne-clause-served : goal.returns-then-ne-clause-served
+returns-then-ne-clause-served g c = served_later _ _ _ c.loop.invariant.going c.turn-state.ensures.served
+
+pub returns-then-ne-clause-onward : goal.returns-then-ne-clause-onward
+returns-then-ne-clause-onward g c = onward_trans _ _ _ c.loop.invariant.onward c.turn-state.ensures.onward
+
+-- the turn of this round ended as busy, so that it met no fault
+pub loop-preserved : goal.loop-preserved
+loop-preserved g c = record {
+  going = going_later _ _ _ c.loop.invariant.going (still_going _ _ c.turn-state.result (search rules) c.turn-state.ensures.stands c.turn-state.ensures.served);
+  tenant = c.turn-state.ensures.tenant ∙ c.loop.invariant.tenant;
+  onward = onward_trans _ _ _ c.loop.invariant.onward c.turn-state.ensures.onward;
+}
+
+pub returns-clause-served : goal.returns-clause-served
+returns-clause-served g c = served_later _ _ _ c.loop.invariant.going c.turn.ensures.served
+
+pub returns-clause-onward : goal.returns-clause-onward
+returns-clause-onward g c = onward_trans _ _ _ c.loop.invariant.onward c.turn.ensures.onward

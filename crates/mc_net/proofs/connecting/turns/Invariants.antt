@@ -1,0 +1,16 @@
+-- The turns so far went well, kept the connection's tenant, and led the worker onward.
+use Rattle.std.proofs.Common.{◌≡◌}
+use Rattle.mc_conn.specs.Onward.{IsOnward}
+use Rattle.mc_conn.specs.Turn.{Takes, scene}
+use Rattle.mc_stream.specs.Stream.{both}
+use Rattle.mc_net.proofs.connecting.turns.Given as goal
+
+abbrev pub invariant-loop : goal.invariant-loop
+invariant-loop g l = record {
+  going :
+      Takes (scene l.fn.conn l.fn.worker (both (g.I.Input.tells l.fn.input) (g.O.Output.tells l.fn.output)))
+      (scene l.conn l.worker (both (g.I.Input.tells l.input) (g.O.Output.tells l.output)))
+      × (l.conn.is_closed ≡ l.fn.conn.is_closed);
+  tenant : l.conn.tenant ≡ l.fn.conn.tenant;
+  onward : IsOnward l.fn.worker l.worker;
+}
