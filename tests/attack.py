@@ -96,7 +96,10 @@ def killed(port, seed, number):
     replies, ending = bytes(client.received), client.ending
     reset(client.client) if chance.random() < 0.5 else client.close()
     reading = protocol.Reading(protocol.Table(*LARGE), replies, is_cut=True, masks_uniques=True)
-    wrong = judged(replies, None, protocol.requests(sent), reading) if ending in (None, "late") else f"it ended so: {ending}"
+    asked = protocol.requests(sent)
+    # Behind a request that ends the stream the server may have closed it first.
+    is_early = ending in ("end", "reset") and not (asked and asked[-1].ends_stream)
+    wrong = f"it ended so: {ending}" if is_early else judged(replies, None, asked, reading)
     return [("killed at any byte", wrong)], (number, seed, sent)
 
 
