@@ -8,6 +8,7 @@ ghost use Rattle.std.specs.Prelude.{◌≡◌, ◌≢◌, ℕ, ◌<◌, ◌≤�
 ghost use Rattle.mc_model.specs.Key.{is_key_byte, is_lawful_key, key_of};
 
 use crate::Fault;
+use smallvec::SmallVec;
 use std::alloc::Global;
 use std::cmp::Ordering;
 use std::marker::Model;
@@ -15,10 +16,13 @@ use std::marker::Model;
 /// How many bytes a key may have.
 pub const KEY_BYTES: usize = 250;
 
+/// How many bytes a key keeps in itself. A longer one has memory of its own.
+const INLINE_BYTES: usize = 32;
+
 /// A lawful key: 1 to `KEY_BYTES` bytes, none of them a control character or a space.
 #[derive(Debug, Drop)]
 pub struct Key {
-    bytes: Vec<u8>,
+    bytes: SmallVec<u8, INLINE_BYTES>,
 }
 
 impl Model for Key {
@@ -47,7 +51,7 @@ impl Key {
             return Ok(None);
         }
         Ok(Some(Key {
-            bytes: Vec::from_slice(alloc, bytes)?,
+            bytes: SmallVec::from_slice(alloc, bytes)?,
         }))
     }
 
@@ -70,7 +74,7 @@ impl Key {
         ensures memory { IsOkUnless result Fault.Memory }
     {
         Ok(Key {
-            bytes: Vec::from_slice(*self.bytes.allocator(), &self.bytes)?,
+            bytes: SmallVec::from_slice(*self.bytes.allocator(), self.bytes.as_slice())?,
         })
     }
 }
