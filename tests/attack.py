@@ -212,16 +212,20 @@ def at_rest(server, workers):
 
 
 def settled(server, base):
-    """What a server still holds or does once all its clients are gone: wrong words, or nothing."""
+    """What a server still holds or does, a while after all its clients are gone: wrong words, or nothing. What waits at its listeners then
+    is accepted and closed first, which takes its time on a busy machine."""
     until = time.monotonic() + LATE
-    while server.descriptors() > base[0] and time.monotonic() < until:
-        time.sleep(0.05)
-    if (server.descriptors(), server.threads()) != base:
-        return f"descriptors and threads were {base}, and are {(server.descriptors(), server.threads())}"
-    used = server.processor()
-    time.sleep(0.5)
-    used = server.processor() - used
-    return f"the idle server used {used:.2f} seconds of a processor in half a second" if used > 0.1 else None
+    while True:
+        used = server.processor()
+        time.sleep(0.5)
+        used, now = server.processor() - used, (server.descriptors(), server.threads())
+        if now == base and used <= 0.1:
+            return None
+        if time.monotonic() > until:
+            break
+    if now != base:
+        return f"descriptors and threads were {base}, and are {now}"
+    return f"the idle server used {used:.2f} seconds of a processor in half a second"
 
 
 class Round:
