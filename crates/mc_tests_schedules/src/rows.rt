@@ -117,24 +117,14 @@ fn steps_are_events(rt: HostRuntime) -> Result<(), Fail> {
     assert_asks(&rt, alloc, "stop 16", &Action::Event(Event::Stop(16)))
 }
 
-/// A line that submits the command asks for it as a client of memcached writes it so.
-fn assert_submitted(rt: &impl Abort, alloc: Global, words: &str, sent: &str) -> Result<(), Fail> {
+/// The command is read as a client of memcached writes it so.
+fn assert_command(rt: &impl Abort, alloc: Global, words: &str, sent: &str) -> Result<(), Fail> {
     let line = format!(in alloc; "submit 3 64 {words}")?;
     let action = Action::Submit(3, 64, command_of(alloc, sent)?);
-    assert_asks(rt, alloc, line.as_str(), &action)
-}
-
-/// A line that announces the command asks for it as a client of memcached writes it so.
-fn assert_announced(rt: &impl Abort, alloc: Global, words: &str, sent: &str) -> Result<(), Fail> {
+    assert_asks(rt, alloc, line.as_str(), &action)?;
     let line = format!(in alloc; "announce 3 64 {words}")?;
     let action = Action::Event(Event::Announce(3, 64, command_of(alloc, sent)?));
     assert_asks(rt, alloc, line.as_str(), &action)
-}
-
-/// The command is read as a client of memcached writes it so.
-fn assert_command(rt: &impl Abort, alloc: Global, words: &str, sent: &str) -> Result<(), Fail> {
-    assert_submitted(rt, alloc, words, sent)?;
-    assert_announced(rt, alloc, words, sent)
 }
 
 #[test]
