@@ -8,7 +8,6 @@ ghost use Rattle.std.specs.Prelude.{◌≡◌, ◌≢◌, ℕ, ◌<◌, ◌≤�
 ghost use Rattle.mc_model.specs.Key.{is_key_byte, is_lawful_key, key_of};
 
 use crate::Fault;
-use smallvec::SmallVec;
 use std::alloc::Global;
 use std::cmp::Ordering;
 use std::marker::Model;
@@ -16,13 +15,10 @@ use std::marker::Model;
 /// How many bytes a key may have.
 pub const KEY_BYTES: usize = 250;
 
-/// How many bytes a key keeps in itself. A longer one has memory of its own.
-const INLINE_BYTES: usize = 32;
-
 /// A lawful key: 1 to `KEY_BYTES` bytes, none of them a control character or a space.
 #[derive(Debug, Drop)]
 pub struct Key {
-    bytes: SmallVec<u8, INLINE_BYTES>,
+    bytes: Vec<u8>,
 }
 
 impl Model for Key {
@@ -51,7 +47,7 @@ impl Key {
             return Ok(None);
         }
         Ok(Some(Key {
-            bytes: SmallVec::from_slice(alloc, bytes)?,
+            bytes: Vec::from_slice(alloc, bytes)?,
         }))
     }
 
@@ -74,7 +70,7 @@ impl Key {
         ensures memory { IsOkUnless result Fault.Memory }
     {
         Ok(Key {
-            bytes: SmallVec::from_slice(*self.bytes.allocator(), self.bytes.as_slice())?,
+            bytes: Vec::from_slice(*self.bytes.allocator(), &self.bytes)?,
         })
     }
 }
