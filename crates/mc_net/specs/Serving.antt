@@ -44,15 +44,15 @@ IsServed before after =
 abbrev pub HasEnded : Conn → Type 0
 HasEnded conn = (conn.is_closed ≡ true) ⊎ IsDone conn
 
--- how a connection stands after its turns: it has ended; or the last turn found nothing that can be done now; or it did something, and there
--- may be more to do
+-- how a connection stands after its turns: it has ended; or it hasn't, and from some scene a turn leads here that found nothing to do, or that
+-- did something
 abbrev pub Stands : Scene → State → Type 0
 Stands after Closed = HasEnded after.conn
 Stands after Idle = ¬ (HasEnded after.conn) × (before : Scene) × Turns before after Idle
 Stands after Busy = ¬ (HasEnded after.conn) × (before : Scene) × Turns before after Busy
 
--- the same connection later on: it was served by the worker over streams of which nothing is known but what was pulled and pushed, and
--- stands as the state says
+-- the same connection later on: it was served by the worker over some streams, which nothing ties to the system's, and stands as the state
+-- says
 pub record IsLater (before after : Worker) (old new : Connection) (state : State) : Type 0 where
   pub stream : new.stream ≡ old.stream
   pub tenant : new.conn.tenant ≡ old.conn.tenant
@@ -67,7 +67,7 @@ HasTurns Later Still state None new = (new ≡ None) × Still × (state ≡ Idle
 HasTurns Later Still state (Some old) None = ⊥
 HasTurns Later Still state (Some old) (Some new) = Later old new state
 
--- what was served stays, to be served again where there may be more to do; or it has ended, and goes
+-- what was served stays, to be served again or not as its state says; or it goes, where some last state of it has ended
 abbrev pub Becomes : {C : Type 0} → (C → C → State → Type 0) → Type 0 → Bool → Option C → Option C → Type 0
 Becomes Later Still again None new = (new ≡ None) × Still × (again ≡ false)
 Becomes Later Still again (Some old) (Some new) = Later old new (if again then Busy else Idle)
