@@ -1,3 +1,4 @@
 pub mod Servings
 pub mod Seatings
 pub mod Stopped
+pub mod Workings

@@ -1,10 +1,11 @@
 -- What a turn leaves of its connection, turns behind turns, and a connection that has ended goes.
-use Rattle.std.proofs.Common.{◌≡◌, ◌⊎◌, ℕ, Bool, true, false, Option, Some, None, Result, Ok, Err, ⊎_elim, inl, inr, refl, sym, subst, ◌∙◌}
-use Rattle.slab.specs.Slab.{Updates}
+use Rattle.std.proofs.Common.{◌≡◌, ◌⊎◌, ℕ, Bool, true, false, Option, Some, Result, Ok, Err, IsSome, ⊎_elim, inl, inr, refl, sym, subst, ◌∙◌}
+use Rattle.slab.specs.Slab.{Updates, with_value}
+use Rattle.slab.proofs.SlabLemmas.{Updates-with_value}
 use Rattle.mc_conn.specs.declared.conn.Conn.{Conn}
 use Rattle.mc_conn.specs.declared.conn.State.{State}
 use Rattle.mc_conn.specs.declared.conn.State.TheVariants.{Closed, Idle, Busy}
-use Rattle.mc_conn.specs.Ending.{IsDone, Stops, Turns}
+use Rattle.mc_conn.specs.Ending.{IsDone, PullsOnce, Stops, Turns}
 use Rattle.mc_conn.specs.Turn.{Scene, Takes, scene}
 use Rattle.mc_conn.proofs.Endings.{stops_later}
 use Rattle.mc_conn.proofs.Takings.{takes_self, takes_trans}
@@ -13,7 +14,7 @@ use Rattle.mc_stream.specs.Stream.{Streams}
 use Rattle.uc_worker.specs.declared.worker.Worker.{Worker}
 use Rattle.mc_net.specs.declared.table.Connection.{Connection}
 use Rattle.mc_net.specs.declared.table.Table.{Table}
-use Rattle.mc_net.specs.Serving.{Becomes, HasEnded, HasTurns, IsServed, Serves, Stands, connection_at}
+use Rattle.mc_net.specs.Serving.{HasEnded, HasTurns, IsServed, Serves, Stands, Stays, connection_at}
 
 true_or_false : (is : Bool) → (is ≡ true) ⊎ (is ≡ false)
 true_or_false true = inl refl
@@ -29,18 +30,19 @@ takes_same a conn worker streams one two three =
 not_ended : (b : Scene) → b.conn.is_closed ≡ false → ¬ (IsDone b.conn) → ¬ (HasEnded b.conn)
 not_ended b opened going = ⊎_elim (λ (closed : b.conn.is_closed ≡ true). let no : true ≡ false = sym closed ∙ opened in cc) going
 
-stands_going : (a b : Scene) (state : State) → b.conn.is_closed ≡ false → Turns a b state → Stands b state
-stands_going a b Closed opened turns = inr turns.state_is
-stands_going a b Idle opened turns = (not_ended b opened turns.state_is.0, a, turns)
-stands_going a b Busy opened turns = (not_ended b opened turns.state_is.0, a, turns)
+stands_going : (a b : Scene) (state : State) → b.conn.is_closed ≡ false → PullsOnce a.streams.input b.streams.input → Turns a b state → Stands a b state
+stands_going a b Closed opened once turns = inr turns.state_is
+stands_going a b Idle opened once turns = record { going = not_ended b opened turns.state_is.0; between = a; earlier = takes_self a; once = once; last = turns }
+stands_going a b Busy opened once turns = record { going = not_ended b opened turns.state_is.0; between = a; earlier = takes_self a; once = once; last = turns }
 
 -- the state that a turn answered
-abbrev pub state_of : Result State Fault → State
-state_of (Ok state) = state
-state_of (Err fault) = Closed
+abbrev pub state_answered : Result State Fault → State
+state_answered (Ok state) = state
+state_answered (Err fault) = Closed
 
 -- a turn without a fault
 module _ (a : Scene) (conn : Conn) (worker : Worker) (streams : Streams) (state : State) (shut : conn.is_closed ≡ a.conn.is_closed)
+    (once : PullsOnce a.streams.input streams.input)
     (opened : a.conn.is_closed ≡ false → Turns a (scene conn worker streams) state)
     (closed : a.conn.is_closed ≡ true → (state ≡ Closed) × (conn ≡ a.conn) × (worker ≡ a.worker) × (streams ≡ a.streams)) where
   pub served_turn : IsServed a (scene conn worker streams)
@@ -50,17 +52,17 @@ module _ (a : Scene) (conn : Conn) (worker : Worker) (streams : Streams) (state 
       (λ (is : a.conn.is_closed ≡ false). inl ((opened is).takes, shut))
       (true_or_false a.conn.is_closed)
 
-  pub stands_turn : Stands (scene conn worker streams) state
+  pub stands_turn : Stands a (scene conn worker streams) state
   stands_turn =
       ⊎_elim
-      (λ (is : a.conn.is_closed ≡ true). subst (Stands (scene conn worker streams)) (sym (closed is).0) (inl (shut ∙ is)))
-      (λ (is : a.conn.is_closed ≡ false). stands_going a (scene conn worker streams) state (shut ∙ is) (opened is))
+      (λ (is : a.conn.is_closed ≡ true). subst (Stands a (scene conn worker streams)) (sym (closed is).0) (inl (shut ∙ is)))
+      (λ (is : a.conn.is_closed ≡ false). stands_going a (scene conn worker streams) state (shut ∙ is) once (opened is))
       (true_or_false a.conn.is_closed)
 
 -- a connection that may have more to do met no fault
-pub still_going : (a b : Scene) (state : State) → state ≡ Busy → Stands b state → IsServed a b → Takes a b × (b.conn.is_closed ≡ a.conn.is_closed)
+pub still_going : (a b : Scene) (state : State) → state ≡ Busy → Stands a b state → IsServed a b → Takes a b × (b.conn.is_closed ≡ a.conn.is_closed)
 still_going a b state busy stands served =
-    let going : ¬ (HasEnded b.conn) = (subst (Stands b) busy stands).0 in
+    let going : ¬ (HasEnded b.conn) = (subst (Stands a b) busy stands).going in
     ⊎_elim
     (λ (takes : Takes a b × (b.conn.is_closed ≡ a.conn.is_closed)). takes)
     (λ (stopped : (fault : Fault) × Stops fault a b × (b.conn.is_closed ≡ true)). absurd (going (inl stopped.2)))
@@ -78,44 +80,30 @@ pub going_later : (a b c : Scene) → Takes a b × (b.conn.is_closed ≡ a.conn.
     Takes a c × (c.conn.is_closed ≡ a.conn.is_closed)
 going_later a b c one two = (takes_trans a b c one.0 two.0, two.1 ∙ one.1)
 
-module _ {C : Type 0} (Later : C → C → State → Type 0) (Still : Type 0) where
-  stays_busy : (old new : Option C) → HasTurns Later Still Busy old new → Becomes Later Still true old new
-  stays_busy None new has = let no : Busy ≡ Idle = has.2 in cc
-  stays_busy (Some old) None has = absurd has
-  stays_busy (Some old) (Some new) has = has
+stays_later : (a b c : Scene) (state : State) → Takes a b → Stays b c state → Stays a c state
+stays_later a b c state takes stays = record {
+  going = stays.going;
+  between = stays.between;
+  earlier = takes_trans a b stays.between takes stays.earlier;
+  once = stays.once;
+  last = stays.last;
+}
 
-  stays_idle : (old new : Option C) → HasTurns Later Still Idle old new → Becomes Later Still false old new
-  stays_idle None new has = (has.0, has.1, refl)
-  stays_idle (Some old) None has = absurd has
-  stays_idle (Some old) (Some new) has = has
+pub stands_later : (a b c : Scene) (state : State) → Takes a b × (b.conn.is_closed ≡ a.conn.is_closed) → IsServed b c → Stands b c state → Stands a c state
+stands_later a b c Closed one two stands = stands
+stands_later a b c Idle one two stands = stays_later a b c Idle one.0 stands
+stands_later a b c Busy one two stands = stays_later a b c Busy one.0 stands
 
-  goes : (old middle after : Option C) → HasTurns Later Still Closed old middle → after ≡ None → Becomes Later Still false old after
-  goes None middle after has none = let no : Closed ≡ Idle = has.2 in cc
-  goes (Some old) None after has none = absurd has
-  goes (Some old) (Some last) after has none = subst (Becomes Later Still false (Some old)) (sym none) (last, has, refl)
-
--- a connection that may have more to do, or has nothing to do now, stays; one that has ended goes
+-- a connection had its turns in its place
 module _ (Later : Connection → Connection → State → Type 0) (Still : Type 0) (state : State) where
-  pub serves_busy : (before after : Table) (key : ℕ) → state ≡ Busy → Serves (HasTurns Later Still state) before after key →
-      Serves (Becomes Later Still true) before after key
-  serves_busy before after key is serves = record {
-    becomes = stays_busy Later Still _ _ (subst (λ state. HasTurns Later Still state (connection_at before key) (connection_at after key)) is serves.becomes);
-    others = serves.others;
-    tenants = serves.tenants;
-  }
-
-  pub serves_idle : (before after : Table) (key : ℕ) → state ≡ Idle → Serves (HasTurns Later Still state) before after key →
-      Serves (Becomes Later Still false) before after key
-  serves_idle before after key is serves = record {
-    becomes = stays_idle Later Still _ _ (subst (λ state. HasTurns Later Still state (connection_at before key) (connection_at after key)) is serves.becomes);
-    others = serves.others;
-    tenants = serves.tenants;
-  }
-
-  pub serves_end : (before middle after : Table) (key : ℕ) → state ≡ Closed → Serves (HasTurns Later Still state) before middle key →
-      Updates middle.connections after.connections key None → after.tenants ≡ middle.tenants → Serves (Becomes Later Still false) before after key
-  serves_end before middle after key is serves updates tenants = record {
-    becomes = goes Later Still _ _ _ (subst (λ state. HasTurns Later Still state (connection_at before key) (connection_at middle key)) is serves.becomes) updates.changed;
-    others = λ other differs. updates.others other differs ∙ serves.others other differs;
-    tenants = tenants ∙ serves.tenants;
-  }
+  pub serves_in_place : (before after : Table) (key : ℕ) (old new : Connection) → connection_at before key ≡ Some old →
+      after.connections ≡ with_value before.connections key new → after.tenants ≡ before.tenants → Later old new state → Serves (HasTurns Later Still state) before after key
+  serves_in_place before after key old new there is tenants later =
+      let updates : Updates before.connections after.connections key (Some new) =
+      subst (λ slab. Updates before.connections slab key (Some new)) (sym is) (Updates-with_value before.connections key new (subst IsSome (sym there) refl)) in
+      record {
+        becomes = subst (λ (slot : Option Connection). HasTurns Later Still state slot (connection_at after key)) (sym there)
+            (subst (λ (slot : Option Connection). HasTurns Later Still state (Some old) slot) (sym updates.changed) later);
+        others = updates.others;
+        tenants = tenants;
+      }

@@ -1,3 +1,4 @@
 pub mod Handing
 pub mod Serving
 pub mod Seating
+pub mod Working

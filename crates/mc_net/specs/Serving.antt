@@ -1,31 +1,39 @@
 -- What becomes of the connections of a worker; this project's profile.
-use Rattle.std.specs.Prelude.{◌≡◌, ◌≢◌, ◌⊎◌, ℕ, Bool, true, false, if◌then◌else◌, [], Option, Some, None}
+use Rattle.std.specs.Prelude.{◌≡◌, ◌≢◌, ◌⊎◌, ℕ, true, false, [], Option, Some, None}
 use Rattle.slab.specs.Slab.{Updates, get}
 use Rattle.mc_conn.specs.declared.conn.Conn.{Conn}
 use Rattle.mc_conn.specs.declared.conn.State.{State}
 use Rattle.mc_conn.specs.declared.conn.State.TheVariants.{Closed, Idle, Busy}
-use Rattle.mc_conn.specs.Ending.{IsDone, Stops, Turns}
+use Rattle.mc_conn.specs.Ending.{IsDone, PullsOnce, Stops, Turns}
 use Rattle.mc_conn.specs.Turn.{Scene, Takes, holding_of, queue_of, scene}
 use Rattle.mc_model.specs.declared.fault.Fault.{Fault}
 use Rattle.mc_model.specs.declared.fault.Fault.TheVariants.{Memory, Input}
 use Rattle.mc_net.specs.declared.door.Arrival.{Arrival}
 use Rattle.mc_net.specs.declared.table.Connection.{Connection}
+use Rattle.mc_net.specs.declared.table.Served.{Served}
+use Rattle.mc_net.specs.declared.table.Served.TheVariants.{Again, Waits, Gone}
 use Rattle.mc_net.specs.declared.table.Table.{Table}
 use Rattle.mc_read.specs.Reading.{Kept}
-use Rattle.mc_stream.specs.Stream.{Streams}
+use Rattle.mc_stream.specs.Stream.{both}
 use Rattle.uc_worker.specs.declared.worker.Worker.{Worker}
 
 -- the connection under a key
 abbrev pub connection_at : Table → ℕ → Option Connection
 connection_at table key = get table.connections key
 
--- the arrival's connection, on which nothing has come
+-- all that a turn sees of a connection: what the reads and the writes of its stream did so far is on its tapes
+abbrev pub scene_of : Connection → Worker → Scene
+scene_of connection worker =
+    scene connection.conn worker (both (record { events = connection.received.events; left = None }) (record { events = connection.sent.events }))
+
+-- the arrival's connection, on which nothing has come and nothing was sent
 pub record IsFresh (connection : Connection) (arrival : Arrival _) : Type 0 where
   pub stream : connection.stream ≡ arrival.stream
   pub tenant : connection.conn.tenant ≡ arrival.tenant
   pub holding : holding_of connection.conn ≡ record { waiting = None; held = Kept [] }
   pub queue : queue_of connection.conn ≡ []
-  pub going : (connection.conn.has_ended ≡ false) × (connection.conn.is_closed ≡ false)
+  pub going : (connection.conn.has_ended ≡ false) × (connection.conn.is_over ≡ false) × (connection.conn.is_closed ≡ false)
+  pub tapes : (connection.received.events ≡ []) × (connection.sent.events ≡ [])
 
 -- the arrival's connection stands under a key that was free, and every other key is as it was
 pub record Admits (before after : Table) (arrival : Arrival _) (key : ℕ) : Type 0 where
@@ -44,22 +52,26 @@ IsServed before after =
 abbrev pub HasEnded : Conn → Type 0
 HasEnded conn = (conn.is_closed ≡ true) ⊎ IsDone conn
 
--- how a connection stands after its turns: it has ended; or it hasn't, and from some scene a turn leads here that found nothing to do, or that
--- did something
-abbrev pub Stands : Scene → State → Type 0
-Stands after Closed = HasEnded after.conn
-Stands after Idle = ¬ (HasEnded after.conn) × (before : Scene) × Turns before after Idle
-Stands after Busy = ¬ (HasEnded after.conn) × (before : Scene) × Turns before after Busy
+-- turns without a fault that haven't ended the connection, the last of which answered this state
+pub record Stays (before after : Scene) (state : State) : Type 0 where
+  pub going : ¬ (HasEnded after.conn)
+  pub between : Scene
+  pub earlier : Takes before between
+  pub once : PullsOnce between.streams.input after.streams.input
+  pub last : Turns between after state
 
--- the same connection later on: it was served by the worker over some streams, which nothing ties to the system's, and stands as the state
--- says
+-- how a connection stands after its turns: it has ended; or it hasn't, and the last of them found nothing to do, or did something
+abbrev pub Stands : Scene → Scene → State → Type 0
+Stands before after Closed = HasEnded after.conn
+Stands before after Idle = Stays before after Idle
+Stands before after Busy = Stays before after Busy
+
+-- the same connection later on: it was served by the worker over its own stream, and stands as the state says
 pub record IsLater (before after : Worker) (old new : Connection) (state : State) : Type 0 where
   pub stream : new.stream ≡ old.stream
   pub tenant : new.conn.tenant ≡ old.conn.tenant
-  pub from : Streams
-  pub to : Streams
-  pub served : IsServed (scene old.conn before from) (scene new.conn after to)
-  pub stands : Stands (scene new.conn after to) state
+  pub served : IsServed (scene_of old before) (scene_of new after)
+  pub stands : Stands (scene_of old before) (scene_of new after) state
 
 -- where something is, it had its turns, after which it is the same later on; where nothing is, nothing was done
 abbrev pub HasTurns : {C : Type 0} → (C → C → State → Type 0) → Type 0 → State → Option C → Option C → Type 0
@@ -67,11 +79,23 @@ HasTurns Later Still state None new = (new ≡ None) × Still × (state ≡ Idle
 HasTurns Later Still state (Some old) None = ⊥
 HasTurns Later Still state (Some old) (Some new) = Later old new state
 
--- what was served stays, to be served again or not as its state says; or it goes, where some last state of it has ended
-abbrev pub Becomes : {C : Type 0} → (C → C → State → Type 0) → Type 0 → Bool → Option C → Option C → Type 0
-Becomes Later Still again None new = (new ≡ None) × Still × (again ≡ false)
-Becomes Later Still again (Some old) (Some new) = Later old new (if again then Busy else Idle)
-Becomes Later Still again (Some old) None = (last : _) × Later old last Closed × (again ≡ false)
+-- how what was served stands
+abbrev pub state_of : Served → State
+state_of Again = Busy
+state_of Waits = Idle
+state_of (Gone last) = Closed
+
+-- what was served and is handed out
+abbrev pub gone_of : Served → Option Connection
+gone_of Again = None
+gone_of Waits = None
+gone_of (Gone last) = Some last
+
+-- what was served stays, and stands as the state says; or it has ended, and is handed out as it is then; where nothing is, nothing was done
+abbrev pub Becomes : {C : Type 0} → (C → C → State → Type 0) → Type 0 → State → Option C → Option C → Option C → Type 0
+Becomes Later Still state gone None new = (new ≡ None) × Still × (state ≡ Idle) × (gone ≡ None)
+Becomes Later Still state gone (Some old) (Some new) = Later old new state × (gone ≡ None)
+Becomes Later Still state gone (Some old) None = (last : _) × (gone ≡ Some last) × Later old last Closed × (state ≡ Closed)
 
 -- this became of the connection under this key, and every other key is as it was
 pub record Serves (Step : Option Connection → Option Connection → Type 0) (before after : Table) (key : ℕ) : Type 0 where

@@ -2,19 +2,20 @@
 ghost use Rattle.std.specs.Prelude.{◌≡◌, ◌<◌, length, None, IfNone, IfSome};
 ghost use Rattle.mc_conn.specs.Onward.{IsOnward};
 ghost use Rattle.mc_conn.specs.Turn.{scene};
-ghost use Rattle.mc_net.specs.Serving.{Admits, Becomes, HasTurns, IsLater, IsServed, Serves, Stands};
+ghost use Rattle.mc_net.specs.Serving.{Admits, Becomes, HasTurns, IsLater, IsServed, Serves, Stands, connection_at, gone_of, state_of};
 ghost use Rattle.mc_stream.specs.Stream.{both};
 ghost use Rattle.slab.specs.Slab.{Updates};
 ghost use Rattle.uc_worker.specs.Worker.{tenants_of};
 
 use crate::door::Arrival;
 use crate::socket::{SocketReader, SocketWriter};
-use crate::table::{Connection, MOST_CONNECTIONS, Table};
+use crate::table::{Connection, MOST_CONNECTIONS, Served, Table};
 use mc_conn::{Conn, PULL_BYTES, State};
-use mc_stream::{Input, Output, ReadInput, WriteOutput};
+use mc_stream::{Input, Output, ReadInput, Tape, WriteOutput};
 use mio::net::TcpStream;
 use mio::{Interest, Registry, Token};
 use std::alloc::Global;
+use std::mem;
 use uc_worker::{Gate, Worker};
 
 /// How many turns a connection has for one event at most, so that others have theirs soon: a turn takes at most a buffer of bytes.
@@ -32,7 +33,8 @@ fn turn<I: Input, O: Output, G: Gate>(
     requires { conn.old.tenant < length (tenants_of worker.old) }
     ensures served { IsServed (scene conn.old worker.old (both (I.tells input.old) (O.tells output.old)))
         (scene conn.new worker.new (both (I.tells input.new) (O.tells output.new))) }
-    ensures stands { Stands (scene conn.new worker.new (both (I.tells input.new) (O.tells output.new))) result }
+    ensures stands { Stands (scene conn.old worker.old (both (I.tells input.old) (O.tells output.old)))
+        (scene conn.new worker.new (both (I.tells input.new) (O.tells output.new))) result }
     ensures tenant { conn.new.tenant ≡ conn.old.tenant }
     ensures onward { IsOnward worker.old worker.new }
 {
@@ -54,7 +56,8 @@ fn turns<I: Input, O: Output, G: Gate>(
     requires { conn.old.tenant < length (tenants_of worker.old) }
     ensures served { IsServed (scene conn.old worker.old (both (I.tells input.old) (O.tells output.old)))
         (scene conn.new worker.new (both (I.tells input.new) (O.tells output.new))) }
-    ensures stands { Stands (scene conn.new worker.new (both (I.tells input.new) (O.tells output.new))) result }
+    ensures stands { Stands (scene conn.old worker.old (both (I.tells input.old) (O.tells output.old)))
+        (scene conn.new worker.new (both (I.tells input.new) (O.tells output.new))) result }
     ensures tenant { conn.new.tenant ≡ conn.old.tenant }
     ensures onward { IsOnward worker.old worker.new }
 {
@@ -80,10 +83,20 @@ impl Connection {
         ensures later { IsLater worker.old worker.new self.old self.new result }
         ensures onward { IsOnward worker.old worker.new }
     {
-        let Connection { stream, conn } = self;
-        let mut input = ReadInput::new(SocketReader::new(stream, stops_short));
-        let mut output = WriteOutput::new(SocketWriter::new(stream));
-        turns(conn, worker, &mut input, &mut output, gate, buffer)
+        let Connection {
+            stream,
+            conn,
+            received,
+            sent,
+        } = self;
+        let reader = SocketReader::new(stream, stops_short);
+        let writer = SocketWriter::new(stream);
+        let mut input = ReadInput::resume(reader, mem::replace(received, Tape::new()));
+        let mut output = WriteOutput::resume(writer, mem::replace(sent, Tape::new()));
+        let state = turns(conn, worker, &mut input, &mut output, gate, buffer);
+        *received = input.into_tape();
+        *sent = output.into_tape();
+        state
     }
 }
 
@@ -111,8 +124,12 @@ impl Table {
         if registry.register(&mut stream, token, both).is_err() {
             return None;
         }
-        let conn = Conn::new(alloc, tenant);
-        let connection = Connection { stream, conn };
+        let connection = Connection {
+            stream,
+            conn: Conn::new(alloc, tenant),
+            received: Tape::new(),
+            sent: Tape::new(),
+        };
         Some(self.connections.insert_reserved(connection))
     }
 
@@ -135,16 +152,16 @@ impl Table {
         }
     }
 
-    /// Drops the connection under a key.
-    fn remove(&mut self, key: usize)
+    /// Takes the connection under a key out, if there is one.
+    fn remove(&mut self, key: usize) -> Option<Connection>
+        ensures value { result ≡ connection_at self.old key }
         ensures updates { Updates self.old.connections self.new.connections key None }
         ensures tenants { self.new.tenants ≡ self.old.tenants }
     {
-        self.connections.try_remove(key);
+        self.connections.try_remove(key)
     }
 
-    /// Serves the connection under a key, if there is one, and drops it where it has ended. Says whether it is to be served again though
-    /// no event tells of it.
+    /// Serves the connection under a key, if there is one. It is taken out of the table and handed out where it has ended.
     pub(crate) fn serve<G: Gate>(
         &mut self,
         worker: &mut Worker<'_>,
@@ -152,17 +169,19 @@ impl Table {
         buffer: &mut [u8; PULL_BYTES],
         key: usize,
         stops_short: bool,
-    ) -> bool
+    ) -> Served
         requires { self.old.tenants ≡ length (tenants_of worker.old) }
-        ensures serves { Serves (Becomes (IsLater worker.old worker.new) (worker.new ≡ worker.old) result) self.old self.new key }
+        ensures serves { Serves (Becomes (IsLater worker.old worker.new) (worker.new ≡ worker.old) (state_of result) (gone_of result)) self.old self.new key }
         ensures onward { IsOnward worker.old worker.new }
     {
         match self.turns_at(worker, gate, buffer, key, stops_short) {
-            State::Busy => true,
-            State::Idle => false,
+            State::Busy => Served::Again,
+            State::Idle => Served::Waits,
             State::Closed => {
-                self.remove(key);
-                false
+                let Some(connection) = self.remove(key) else {
+                    unreachable!();
+                };
+                Served::Gone(connection)
             }
         }
     }

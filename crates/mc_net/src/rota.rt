@@ -1,11 +1,12 @@
 //! Whose turn it is among the connections of a worker.
 ghost use Rattle.std.specs.Prelude.{◌≡◌, length, IfOk};
 ghost use Rattle.mc_conn.specs.Onward.{IsOnward};
+ghost use Rattle.mc_net.specs.Working.{Works, standing};
 ghost use Rattle.uc_worker.specs.Worker.{tenants_of};
 
 use crate::halt::Halt;
 use crate::station::WAKER;
-use crate::table::{MOST_CONNECTIONS, Table};
+use crate::table::{MOST_CONNECTIONS, Served, Table};
 use mc_conn::PULL_BYTES;
 use mio::Events;
 use mio::event::Event;
@@ -56,13 +57,14 @@ impl Rota {
         stops_short: bool,
     ) -> Result<(), Halt>
         requires { self.old.table.tenants ≡ length (tenants_of worker.old) }
+        ensures works { Works (standing worker.old self.old.table) (standing worker.new self.new.table) }
         ensures onward { IsOnward worker.old worker.new }
         ensures tenants { self.new.table.tenants ≡ self.old.table.tenants }
     {
-        if self.table.serve(worker, gate, buffer, key, stops_short) {
-            self.next.push(key)?;
-        }
-        Ok(())
+        let Served::Again = self.table.serve(worker, gate, buffer, key, stops_short) else {
+            return Ok(());
+        };
+        Ok(self.next.push(key)?)
     }
 
     /// Serves those that are to be served again.
@@ -73,6 +75,7 @@ impl Rota {
         buffer: &mut [u8; PULL_BYTES],
     ) -> Result<(), Halt>
         requires { self.old.table.tenants ≡ length (tenants_of worker.old) }
+        ensures works { Works (standing worker.old self.old.table) (standing worker.new self.new.table) }
         ensures onward { IsOnward worker.old worker.new }
         ensures tenants { self.new.table.tenants ≡ self.old.table.tenants }
     {
@@ -94,6 +97,7 @@ impl Rota {
         events: &Events,
     ) -> Result<bool, Halt>
         requires { self.old.table.tenants ≡ length (tenants_of worker.old) }
+        ensures works { Works (standing worker.old self.old.table) (standing worker.new self.new.table) }
         ensures onward { IsOnward worker.old worker.new }
         ensures tenants { self.new.table.tenants ≡ self.old.table.tenants }
     {
@@ -119,6 +123,7 @@ impl Rota {
         events: &Events,
     ) -> Result<bool, Halt>
         requires { self.old.table.tenants ≡ length (tenants_of worker.old) }
+        ensures works { Works (standing worker.old self.old.table) (standing worker.new self.new.table) }
         ensures onward { IsOnward worker.old worker.new }
         ensures tenants { self.new.table.tenants ≡ self.old.table.tenants }
     {

@@ -36,7 +36,9 @@ fn run_seat<R: Wait, G: Gate>(rt: &R, hall: &Hall, number: usize, seat: &mut Sea
         desk,
         outcome,
     } = seat;
-    *outcome = desk.work(rt, worker, gate, station);
+    *outcome = desk
+        .work(rt, worker, gate, station)
+        .map(|_all_have_ended| ());
     if outcome.is_err() {
         hall.halt(rt);
     }

@@ -1,10 +1,11 @@
 //! The connections of a worker.
-ghost use Rattle.std.specs.Prelude.{◌≡◌, ◌<◌, ◌≤◌, ℕ, IfOk, Some};
+ghost use Rattle.std.specs.Prelude.{◌≡◌, ◌==◌, ◌<◌, ◌≤◌, ℕ, IfOk, Some, true};
 ghost use Rattle.mc_net.specs.declared.table.TheConstants.{MOST_CONNECTIONS};
-ghost use Rattle.slab.specs.Slab.{get};
+ghost use Rattle.slab.specs.Slab.{get, slab_len};
 
 use crate::halt::Halt;
 use mc_conn::Conn;
+use mc_stream::Tape;
 use mio::net::TcpStream;
 use slab::Slab;
 use std::alloc::Global;
@@ -17,6 +18,21 @@ pub(crate) const MOST_CONNECTIONS: usize = 1_024;
 pub(crate) struct Connection {
     pub(crate) stream: TcpStream,
     pub(crate) conn: Conn,
+    /// What the reads of the stream did, for clauses alone.
+    pub(crate) received: Tape,
+    /// What its writes did, for clauses alone.
+    pub(crate) sent: Tape,
+}
+
+/// What became of a connection that was to be served.
+#[derive(Drop)]
+pub(crate) enum Served {
+    /// It is to be served again, though no event may tell of it.
+    Again,
+    /// It waits for an event, or there is none.
+    Waits,
+    /// It has ended, and stands in the table no more.
+    Gone(Connection),
 }
 
 /// The connections of a worker under their keys, each of a tenant of the log.
@@ -42,13 +58,16 @@ impl Table {
         })
     }
 
-    pub(crate) fn is_empty(&self) -> bool {
+    pub(crate) fn is_empty(&self) -> bool
+        ensures { result ≡ (slab_len self.now.connections == 0) }
+    {
         self.connections.is_empty()
     }
 
     /// Closes every connection.
     pub(crate) fn clear(&mut self)
-        ensures { self.new.tenants ≡ self.old.tenants }
+        ensures empty { (slab_len self.new.connections == 0) ≡ true }
+        ensures tenants { self.new.tenants ≡ self.old.tenants }
     {
         self.connections.clear();
     }

@@ -1,7 +1,10 @@
 //! A worker's loop.
-ghost use Rattle.std.specs.Prelude.{◌≡◌, length, IfOk};
+ghost use Rattle.std.specs.Prelude.{◌≡◌, length, IfOk, MatchResult};
 ghost use Rattle.mc_conn.specs.Onward.{IsOnward};
+ghost use Rattle.mc_net.specs.Working.{Leaves, Works, standing};
+ghost use Rattle.mc_net.specs.declared.table.Table.{Table};
 ghost use Rattle.uc_worker.specs.Worker.{tenants_of};
+ghost use Rattle.uc_worker.specs.declared.worker.Worker.{Worker};
 
 use crate::halt::Halt;
 use crate::rota::Rota;
@@ -59,7 +62,8 @@ impl Desk {
 
     /// Takes in what the acceptor left, but no more than so many.
     fn take_in<R: Wait>(&mut self, rt: &R, station: &Station) -> Order
-        ensures { self.new.rota.table.tenants ≡ self.old.rota.table.tenants }
+        ensures works { (worker : Worker) → Works (standing worker self.old.rota.table) (standing worker self.new.rota.table) }
+        ensures tenants { self.new.rota.table.tenants ≡ self.old.rota.table.tenants }
     {
         for _ in 0..ARRIVALS {
             match station.next(rt) {
@@ -85,6 +89,7 @@ impl Desk {
         order: Order,
     ) -> Result<bool, Halt>
         requires { self.old.rota.table.tenants ≡ length (tenants_of worker.old) }
+        ensures works { Works (standing worker.old self.old.rota.table) (standing worker.new self.new.rota.table) }
         ensures onward { IsOnward worker.old worker.new }
         ensures tenants { self.new.rota.table.tenants ≡ self.old.rota.table.tenants }
     {
@@ -100,15 +105,18 @@ impl Desk {
     }
 
     /// Serves what the acceptor leaves at the station, until no more comes and every connection has ended, or until another loop has
-    /// failed; the connections are closed then. Where memory runs out: `Memory`; where a poll fails: `Poll`.
+    /// failed; the connections are closed then. Says whether every connection has ended. Where memory runs out: `Memory`; where a poll
+    /// fails: `Poll`.
     pub(crate) fn work<R: Wait, G: Gate>(
         &mut self,
         rt: &R,
         worker: &mut Worker<'_>,
         gate: &mut G,
         station: &Station,
-    ) -> Result<(), Halt>
+    ) -> Result<bool, Halt>
         requires { self.old.rota.table.tenants ≡ length (tenants_of worker.old) }
+        ensures works { (last : Table) × Works (standing worker.old self.old.rota.table) (standing worker.new last)
+            × MatchResult result (Leaves last self.new.rota.table) (λ _. self.new.rota.table ≡ last) }
         ensures onward { IsOnward worker.old worker.new }
         ensures tenants { self.new.rota.table.tenants ≡ self.old.rota.table.tenants }
     {
@@ -118,10 +126,10 @@ impl Desk {
         for _ in rt.forever() {
             if order == Order::Halt {
                 self.rota.table.clear();
-                return Ok(());
+                return Ok(false);
             }
             if order == Order::Finish && self.rota.table.is_empty() {
-                return Ok(());
+                return Ok(true);
             }
             let is_woken = self.go_round(worker, gate, &mut buffer, order)?;
             if is_woken || order == Order::LookAgain {

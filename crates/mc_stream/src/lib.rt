@@ -8,9 +8,10 @@ pub use memory::{InputStep, MemoryInput, MemoryOutput, OutputStep};
 pub use pushing::{Stop, push_front, push_while_taken};
 pub use standard::{ReadInput, WriteOutput};
 pub use stream::{Input, Output, Pull, Push};
+pub use tape::Tape;
 
 pub mod memory;
 pub mod pushing;
 pub mod standard;
 pub mod stream;
-mod tape;
+pub mod tape;

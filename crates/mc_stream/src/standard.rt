@@ -69,10 +69,24 @@ impl<R: Read> ReadInput<R> {
         ensures reader { reader_of result ≡ reader }
         ensures tells { read_of R.remaining result ≡ record { events = []; left = R.remaining reader } }
     {
-        ReadInput {
-            reader,
-            tape: Tape::new(),
-        }
+        ReadInput::resume(reader, Tape::new())
+    }
+
+    /// The input over this reader, whose pulls go on the tape that an earlier input left.
+    pub fn resume(reader: R, tape: Tape) -> ReadInput<R>
+        ensures reader { reader_of result ≡ reader }
+        ensures tells { read_of R.remaining result ≡ record { events = tape.events; left = R.remaining reader } }
+    {
+        ReadInput { reader, tape }
+    }
+
+    /// The tape, for an input that goes on where this one ends.
+    pub fn into_tape(self) -> Tape
+    where
+        R: Drop,
+        ensures { result.events ≡ (read_of R.remaining self).events }
+    {
+        self.tape
     }
 }
 
@@ -113,10 +127,24 @@ impl<W> WriteOutput<W> {
         ensures writer { writer_of result ≡ writer }
         ensures tells { written_of result ≡ record { events = [] } }
     {
-        WriteOutput {
-            writer,
-            tape: Tape::new(),
-        }
+        WriteOutput::resume(writer, Tape::new())
+    }
+
+    /// The output over this writer, whose pushes go on the tape that an earlier output left.
+    pub fn resume(writer: W, tape: Tape) -> WriteOutput<W>
+        ensures writer { writer_of result ≡ writer }
+        ensures tells { written_of result ≡ record { events = tape.events } }
+    {
+        WriteOutput { writer, tape }
+    }
+
+    /// The tape, for an output that goes on where this one ends.
+    pub fn into_tape(self) -> Tape
+    where
+        W: Drop,
+        ensures { result.events ≡ (written_of self).events }
+    {
+        self.tape
     }
 }
 

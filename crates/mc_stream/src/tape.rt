@@ -5,7 +5,8 @@ ghost use Rattle.std.specs.Prelude.{◌≡◌, List, [], ◌∷◌};
 
 use std::marker::Model;
 
-/// Events, the latest first. It takes no memory, and its methods do nothing at run time.
+/// What every pull of an input or every push of an output did, the latest first. It takes no memory, and its methods do nothing at run time.
+/// Only the inputs and outputs of this crate write on it.
 #[derive(Drop)]
 pub struct Tape {
     pub ghost events: { List Event },
@@ -24,22 +25,24 @@ impl Tape {
     }
 
     /// These bytes went over.
-    pub fn moves(&mut self, _bytes: &[u8])
+    pub(crate) fn moves(&mut self, _bytes: &[u8])
         ensures { self.new ≡ record { events = Moves _bytes.now ∷ self.old.events } }
     {}
 
     /// Nothing could go over.
-    pub fn waits(&mut self)
+    pub(crate) fn waits(&mut self)
         ensures { self.new ≡ record { events = Waits ∷ self.old.events } }
     {}
 
     /// The end was found.
-    pub fn ends(&mut self)
+    pub(crate) fn ends(&mut self)
         ensures { self.new ≡ record { events = Ends ∷ self.old.events } }
     {}
 
     /// It failed.
-    pub fn fails(&mut self)
+    pub(crate) fn fails(&mut self)
         ensures { self.new ≡ record { events = Fails ∷ self.old.events } }
     {}
 }
+
+unsafe impl Send for Tape {}

@@ -1,6 +1,6 @@
 use Rattle.std.proofs.Common.{ap, inl, inr, sym, ◌∙◌}
 use Rattle.mc_stream.specs.Stream.{both}
-use Rattle.mc_net.proofs.Servings.{served_turn, stands_turn, state_of}
+use Rattle.mc_net.proofs.Servings.{served_turn, stands_turn, state_answered}
 use Rattle.mc_net.proofs.Stopped.{stops_onward}
 use Rattle.mc_net.proofs.connecting.turn.Goals as goal
 
@@ -15,11 +15,11 @@ returns-in-Err-clause-stands g c = inl c.in-Err.ensures.shut
 
 -- where it was closed, nothing was done
 pub returns-in-Ok-clause-served : goal.returns-in-Ok-clause-served
-returns-in-Ok-clause-served g c = served_turn _ _ _ _ c.in-Ok.state c.in-Ok.ensures.shut c.in-Ok.ensures.turns (λ is.
+returns-in-Ok-clause-served g c = served_turn _ _ _ _ c.in-Ok.state c.in-Ok.ensures.shut c.turn.ensures.once c.in-Ok.ensures.turns (λ is.
     let all = c.turn.ensures.closed is in
-    (sym (ap state_of c.in-Ok.is) ∙ ap state_of all.0, all.1, all.2, λ i. both (g.I.Input.tells (all.3 i)) (g.O.Output.tells (all.4 i))))
+    (sym (ap state_answered c.in-Ok.is) ∙ ap state_answered all.0, all.1, all.2, λ i. both (g.I.Input.tells (all.3 i)) (g.O.Output.tells (all.4 i))))
 
 pub returns-in-Ok-clause-stands : goal.returns-in-Ok-clause-stands
-returns-in-Ok-clause-stands g c = stands_turn _ _ _ _ c.in-Ok.state c.in-Ok.ensures.shut c.in-Ok.ensures.turns (λ is.
+returns-in-Ok-clause-stands g c = stands_turn _ _ _ _ c.in-Ok.state c.in-Ok.ensures.shut c.turn.ensures.once c.in-Ok.ensures.turns (λ is.
     let all = c.turn.ensures.closed is in
-    (sym (ap state_of c.in-Ok.is) ∙ ap state_of all.0, all.1, all.2, λ i. both (g.I.Input.tells (all.3 i)) (g.O.Output.tells (all.4 i))))
+    (sym (ap state_answered c.in-Ok.is) ∙ ap state_answered all.0, all.1, all.2, λ i. both (g.I.Input.tells (all.3 i)) (g.O.Output.tells (all.4 i))))

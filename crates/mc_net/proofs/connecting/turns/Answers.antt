@@ -1,7 +1,7 @@
 use Rattle.std.proofs.Common.{refl, rules, ◌∙◌}
 use Rattle.mc_conn.proofs.Owings.{onward_self, onward_trans}
 use Rattle.mc_conn.proofs.Takings.{takes_self}
-use Rattle.mc_net.proofs.Servings.{going_later, served_later, still_going}
+use Rattle.mc_net.proofs.Servings.{going_later, served_later, stands_later, still_going}
 use Rattle.mc_net.proofs.connecting.turns.Goals as goal
 
 pub loop-init : goal.loop-init
@@ -9,6 +9,9 @@ loop-init g c = record { going = (takes_self _, refl); tenant = refl; onward = o
 
 pub returns-then-ne-clause-served : goal.returns-then-ne-clause-served
 returns-then-ne-clause-served g c = served_later _ _ _ c.loop.invariant.going c.turn-state.ensures.served
+
+pub returns-then-ne-clause-stands : goal.returns-then-ne-clause-stands
+returns-then-ne-clause-stands g c = stands_later _ _ _ c.turn-state.result c.loop.invariant.going c.turn-state.ensures.served c.turn-state.ensures.stands
 
 pub returns-then-ne-clause-onward : goal.returns-then-ne-clause-onward
 returns-then-ne-clause-onward g c = onward_trans _ _ _ c.loop.invariant.onward c.turn-state.ensures.onward
@@ -23,6 +26,9 @@ loop-preserved g c = record {
 
 pub returns-clause-served : goal.returns-clause-served
 returns-clause-served g c = served_later _ _ _ c.loop.invariant.going c.turn.ensures.served
+
+pub returns-clause-stands : goal.returns-clause-stands
+returns-clause-stands g c = stands_later _ _ _ c.turn.result c.loop.invariant.going c.turn.ensures.served c.turn.ensures.stands
 
 pub returns-clause-onward : goal.returns-clause-onward
 returns-clause-onward g c = onward_trans _ _ _ c.loop.invariant.onward c.turn.ensures.onward

@@ -1,11 +1,16 @@
--- The worker has gone onward, and the table is for its log's tenants still.
+-- The worker has gone onward and worked, and the table is for its log's tenants still.
 use Rattle.std.proofs.Common.{◌≡◌, length}
 use Rattle.mc_conn.specs.Onward.{IsOnward}
+use Rattle.mc_net.specs.Working.{Works, standing}
 use Rattle.uc_worker.specs.Worker.{tenants_of}
 use Rattle.mc_net.proofs.rota.Rota.serve_events.Given as goal
 
 abbrev pub invariant-loop-event : goal.invariant-loop-event
-invariant-loop-event g l =
-    (goal.iterator-loop-event g).can_next l.event-iterator ×
-    (goal.iterator-loop-event g).is_finite l.event-iterator ×
-    (l.self.table.tenants ≡ l.fn.self.table.tenants) × (l.self.table.tenants ≡ length (tenants_of l.worker)) × IsOnward l.fn.worker l.worker
+invariant-loop-event g l = record {
+  next : (goal.iterator-loop-event g).can_next l.event-iterator;
+  finite : (goal.iterator-loop-event g).is_finite l.event-iterator;
+  tenants : l.self.table.tenants ≡ l.fn.self.table.tenants;
+  known : l.self.table.tenants ≡ length (tenants_of l.worker);
+  onward : IsOnward l.fn.worker l.worker;
+  works : Works (standing l.fn.worker l.fn.self.table) (standing l.worker l.self.table);
+}
