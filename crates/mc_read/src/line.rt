@@ -1,10 +1,11 @@
 //! What a line asks for, by its words.
-ghost use Rattle.std.specs.Prelude.{◌≡◌, IfOk, IsOkUnless};
+ghost use Rattle.std.specs.Prelude.{◌≡◌, IfOk, IsOkUnless, codes};
 ghost use Rattle.mc_read.specs.Line.{HasLawfulBlock, asked, is_quiet_refusal, malformed, no_command, refused, verb_named};
 ghost use Rattle.mc_read.specs.Text.{storing};
+ghost use Rattle.mc_read.specs.Word.{is_word};
 
 use crate::storage::{ask_cas, ask_storage};
-use crate::without_block::ask_without_block;
+use crate::without_block::{ask_retrieval, ask_without_block};
 use crate::words::{is_word, words};
 use mc_model::{Command, Data, Fault, Key, Reply, Request, Verb, WireNo};
 use std::alloc::Global;
@@ -130,6 +131,13 @@ fn verb_named(name: &[u8]) -> Option<Verb>
     }
 }
 
+/// Whether the name is that of a retrieval without uniques.
+fn is_get(name: &[u8]) -> bool
+    ensures { result ≡ is_word name.now (codes "get") }
+{
+    matches!(name, b"get")
+}
+
 /// What a line asks for; the line is without its line feed.
 pub fn ask(alloc: Global, line: &[u8]) -> Result<Asked, Fault>
     ensures asked { IfOk result (λ result. result ≡ asked line.now) }
@@ -140,7 +148,10 @@ pub fn ask(alloc: Global, line: &[u8]) -> Result<Asked, Fault>
     let Some((name, arguments)) = found.split_first() else {
         return Ok(no_command());
     };
-    if let Some(verb) = verb_named(name) {
+    // First, since most lines are of this name.
+    if is_get(name) {
+        ask_retrieval(alloc, false, arguments)
+    } else if let Some(verb) = verb_named(name) {
         ask_storage(alloc, verb, arguments)
     } else if is_word(name, b"cas") {
         ask_cas(alloc, arguments)

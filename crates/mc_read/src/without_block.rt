@@ -1,6 +1,6 @@
 //! Lines without a block: `get`, `gets`, `delete`, `incr`, `decr`, `flush_all`, and names with no words after them.
 ghost use Rattle.std.specs.List.{list_all};
-ghost use Rattle.std.specs.Prelude.{◌≡◌, [], ◌∷◌, IfOk, IfSome, IsOkUnless, is_some, map};
+ghost use Rattle.std.specs.Prelude.{◌≡◌, [], ◌∷◌, false, IfOk, IfSome, IsOkUnless, codes, is_some, map};
 ghost use Rattle.mc_model.specs.declared.command.Command.TheVariants.{Delete, Flush};
 ghost use Rattle.mc_model.specs.declared.reply.WireNo.TheVariants.{E2};
 ghost use Rattle.mc_model.specs.declared.request.Request.TheVariants.{Logged};
@@ -8,6 +8,7 @@ ghost use Rattle.mc_model.specs.Key.{is_lawful_key};
 ghost use Rattle.mc_model.specs.Number.{number_up_to};
 ghost use Rattle.mc_read.specs.declared.line.Asked.TheVariants.{LineOnly};
 ghost use Rattle.mc_read.specs.Line.{HasLawfulBlock, asked_after, asked_of_change, asked_of_delete, asked_of_delta, asked_of_flush, asked_of_name, asked_of_others, asked_of_retrieval, asked_without_block, changed, exptime_checks};
+ghost use Rattle.mc_read.specs.Word.{is_word};
 
 use crate::line::{Asked, DELTA, malformed, no_command, refused};
 use crate::words::{is_exptime, is_noreply, is_word, is_zero};
@@ -38,7 +39,7 @@ fn read_keys(alloc: Global, words: &[&[u8]]) -> Result<Option<Vec<Key>>, Fault>
 }
 
 /// What a retrieval asks for, by the words after its name.
-fn ask_retrieval(alloc: Global, uniques: bool, arguments: &[&[u8]]) -> Result<Asked, Fault>
+pub fn ask_retrieval(alloc: Global, uniques: bool, arguments: &[&[u8]]) -> Result<Asked, Fault>
     ensures asked { IfOk result (λ asked. asked ≡ asked_of_retrieval uniques (map (λ word. word.now) arguments.now)) }
     ensures memory { IsOkUnless result Fault.Memory }
 {
@@ -207,15 +208,14 @@ fn ask_others(alloc: Global, name: &[u8], arguments: &[&[u8]]) -> Result<Asked, 
     }
 }
 
-/// What a line asks for whose name stores nothing, by the words after it.
+/// What a line asks for whose name stores nothing and isn't `get`, by the words after it.
 pub fn ask_without_block(alloc: Global, name: &[u8], arguments: &[&[u8]]) -> Result<Asked, Fault>
+    requires { is_word name.now (codes "get") ≡ false }
     ensures asked { IfOk result (λ asked. asked ≡ asked_without_block name.now (map (λ word. word.now) arguments.now)) }
     ensures lawful { IfOk result HasLawfulBlock }
     ensures memory { IsOkUnless result Fault.Memory }
 {
-    if is_word(name, b"get") {
-        ask_retrieval(alloc, false, arguments)
-    } else if is_word(name, b"gets") {
+    if is_word(name, b"gets") {
         ask_retrieval(alloc, true, arguments)
     } else if is_word(name, b"incr") {
         ask_change(alloc, Change::Incr, arguments)

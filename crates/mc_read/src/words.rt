@@ -6,6 +6,7 @@ ghost use Rattle.mc_read.specs.Word.{is_exptime, is_noreply, is_space, is_word, 
 
 use mc_model::Fault;
 use memchr::memchr;
+use smallvec::SmallVec;
 use std::alloc::Global;
 
 /// The line without the one carriage return that may stand at its end.
@@ -30,14 +31,14 @@ fn split_at_space(text: &[u8]) -> (&[u8], &[u8])
 }
 
 /// How many words the longest line has that isn't a retrieval; one has as many as it will.
-const STORAGE_WORDS: usize = 7;
+pub const STORAGE_WORDS: usize = 7;
 
-/// The line's words, which runs of spaces separate.
-pub fn words(alloc: Global, line: &[u8]) -> Result<Vec<&[u8]>, Fault>
+/// The line's words, which runs of spaces separate. So many as a storage line has need no memory.
+pub fn words(alloc: Global, line: &[u8]) -> Result<SmallVec<&[u8], STORAGE_WORDS>, Fault>
     ensures words { IfOk result (λ found. map (λ word. word.now) found.items ≡ words line.now) }
     ensures memory { IsOkUnless result Fault.Memory }
 {
-    let mut found = Vec::with_capacity(alloc, STORAGE_WORDS)?;
+    let mut found = SmallVec::new(alloc);
     let mut rest = without_return(line);
     while !rest.is_empty() {
         let (word, others) = split_at_space(rest);

@@ -111,9 +111,21 @@ fn append_block(block: &[u8], out: &mut Vec<u8>) -> Result<(), AllocError>
     ensures room { vec_len out.old + length (codes "\r\n" ++ block.now ++ codes "\r\n") ≤ vec_capacity out.old → IsOk result }
     ensures capacity { vec_capacity out.old ≤ vec_capacity out.new }
 {
-    out.extend_from_slice(b"\r\n")?;
+    append_line_end(out)?;
     out.extend_from_slice(block)?;
-    out.extend_from_slice(b"\r\n")
+    append_line_end(out)
+}
+
+/// A carriage return and a line feed, each by itself: two pushes cost less than a copy of two bytes.
+fn append_line_end(out: &mut Vec<u8>) -> Result<(), AllocError>
+    ensures text { OnOk result (out.new.items ≡ out.old.items ++ codes "\r\n") }
+    ensures begun { StartsWith out.new.items out.old.items }
+    ensures room { vec_len out.old + 2 ≤ vec_capacity out.old → IsOk result }
+    ensures capacity { vec_capacity out.old ≤ vec_capacity out.new }
+{
+    out.push(b'\r')?;
+    out.push(b'\n')?;
+    Ok(())
 }
 
 /// A space, and the number in decimal digits.
@@ -123,16 +135,21 @@ fn append_number(number: u64, out: &mut Vec<u8>) -> Result<(), AllocError>
     ensures room { vec_len out.old + length (codes " " ++ decimal number) ≤ vec_capacity out.old → IsOk result }
     ensures capacity { vec_capacity out.old ≤ vec_capacity out.new }
 {
-    out.extend_from_slice(b" ")?;
+    out.push(b' ')?;
     append_digits(number, out)
 }
 
+/// The number in decimal digits. One of a single digit, as most flags are, is pushed without a search for its digits.
 fn append_digits(number: u64, out: &mut Vec<u8>) -> Result<(), AllocError>
     ensures text { OnOk result (out.new.items ≡ out.old.items ++ decimal number) }
     ensures begun { StartsWith out.new.items out.old.items }
     ensures room { vec_len out.old + length (decimal number) ≤ vec_capacity out.old → IsOk result }
     ensures capacity { vec_capacity out.old ≤ vec_capacity out.new }
 {
+    if number < 10 {
+        out.push(b'0' + number as u8)?;
+        return Ok(());
+    }
     let mut digits = Buffer::new();
     out.extend_from_slice(digits.format(number).as_bytes())
 }

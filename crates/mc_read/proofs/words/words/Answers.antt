@@ -8,4 +8,4 @@ pub loop-rest-preserved-in_ok-push : goal.loop-rest-preserved-in_ok-push
 loop-rest-preserved-in_ok-push c =
     let some : 0 < length c.split_at_space.result.0.now = search rules in
     let others = spaced_words c.split_at_space.result.1.now in
-    rw c.in_ok-push.ensures.items (rw map-append (word_joins (map (λ word. word.now) c.loop-rest.found.items) c.loop-rest.rest.now c.split_at_space.result.0.now c.split_at_space.result.1.now c.split_at_space.ensures.front c.split_at_space.ensures.back some ∙ c.loop-rest.invariant))
+    rw c.in_ok-push.ensures.ok (rw map-append (word_joins (map (λ word. word.now) c.loop-rest.found.items) c.loop-rest.rest.now c.split_at_space.result.0.now c.split_at_space.result.1.now c.split_at_space.ensures.front c.split_at_space.ensures.back some ∙ c.loop-rest.invariant))
