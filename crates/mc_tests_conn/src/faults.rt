@@ -53,6 +53,12 @@ fn closes_by(line: &mut Line<'_>, fault: Fault) -> Result<bool, Fault> {
     Ok(is_broken && stays_closed(line)? && STREAM.1.as_bytes().starts_with(line.pushed()))
 }
 
+/// Whether the line is closed for good by this fault, and the steps after the fault are these.
+fn closes_before(mut line: Line<'_>, fault: Fault, next: (Pull, Push)) -> Result<bool, Fault> {
+    let is_closed = closes_by(&mut line, fault)?;
+    Ok(is_closed && line.next_pull() == next.0 && line.next_push() == next.1)
+}
+
 /// Whether the line that sends the stream by these steps is closed for good by this fault, and the steps after the fault are these.
 fn closes(
     alloc: Global,
@@ -63,9 +69,7 @@ fn closes(
 ) -> Result<bool, Fault> {
     let ends = ends_of(alloc, STREAM.0.as_bytes(), pulls, pushes)?;
     let (log, passes) = opened(alloc, 64, &[QUOTAS])?;
-    let mut line = one_line(alloc, &log, passes, ends)?;
-    let is_closed = closes_by(&mut line, fault)?;
-    Ok(is_closed && line.next_pull() == next.0 && line.next_push() == next.1)
+    closes_before(one_line(alloc, &log, passes, ends)?, fault, next)
 }
 
 /// Whether a pull that fails after so many bytes closes the connection for good.

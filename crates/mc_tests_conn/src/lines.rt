@@ -53,11 +53,14 @@ impl<'a> Line<'a> {
         alloc: Global,
         log: &'a Log,
         pass: Pass,
-        tenant: TenantId,
+        tenant: u8,
         ends: (MemoryInput, MemoryOutput),
     ) -> Result<Line<'a>, Fault>
         requires { IsFresh log.now pass }
     {
+        let Some(tenant) = TenantId::new(tenant) else {
+            return Err(Fault::BadEvent);
+        };
         let worker = Worker::open(alloc, log, pass)?;
         let conn = Conn::new(alloc, tenant);
         let (input, output) = ends;
@@ -105,6 +108,11 @@ impl<'a> Line<'a> {
             }
         }
         Ok(true)
+    }
+
+    /// Whether the line comes to its end, and has pushed this then.
+    pub(crate) fn closes_with(mut self, want: &[u8]) -> Result<bool, Fault> {
+        Ok(self.comes_to(State::Closed)? && self.pushed() == want)
     }
 
     /// What was pushed.
@@ -180,10 +188,7 @@ pub(crate) fn one_line<'a>(
     let Some((first, _idle)) = both_passes(log, passes) else {
         return Err(Fault::BadEvent);
     };
-    let Some(tenant) = TenantId::new(0) else {
-        return Err(Fault::BadEvent);
-    };
-    Line::open(alloc, log, first, tenant, ends)
+    Line::open(alloc, log, first, 0, ends)
 }
 
 /// The lines of the first tenant and worker 0, and of the second tenant and worker 1.
@@ -199,10 +204,18 @@ pub(crate) fn both_lines<'a>(
     let Some((first, second)) = both_passes(log, passes) else {
         return Err(Fault::BadEvent);
     };
-    let (Some(one), Some(other)) = (TenantId::new(0), TenantId::new(1)) else {
-        return Err(Fault::BadEvent);
-    };
-    let first = Line::open(alloc, log, first, one, ends)?;
-    let second = Line::open(alloc, log, second, other, others)?;
+    let first = Line::open(alloc, log, first, 0, ends)?;
+    let second = Line::open(alloc, log, second, 1, others)?;
     Ok((first, second))
+}
+
+/// Whether a client with these ends reads this, where a new log is of so many places.
+pub(crate) fn reads(
+    alloc: Global,
+    places: u64,
+    ends: (MemoryInput, MemoryOutput),
+    want: &[u8],
+) -> Result<bool, Fault> {
+    let (log, passes) = opened(alloc, places, &[QUOTAS])?;
+    one_line(alloc, &log, passes, ends)?.closes_with(want)
 }

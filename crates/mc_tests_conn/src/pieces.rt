@@ -1,6 +1,5 @@
 //! Worked streams in pieces: what a client sends comes, and what it is owed goes, however both are cut.
-use crate::lines::{QUOTAS, ends_of, one_line, opened};
-use mc_conn::State;
+use crate::lines::{ends_of, reads};
 use mc_model::Fault;
 use mc_stream::{InputStep, OutputStep};
 use std::alloc::Global;
@@ -34,9 +33,7 @@ fn is_served(
     pushes: &[OutputStep],
 ) -> Result<bool, Fault> {
     let ends = ends_of(alloc, sent.as_bytes(), pulls, pushes)?;
-    let (log, passes) = opened(alloc, places, &[QUOTAS])?;
-    let mut line = one_line(alloc, &log, passes, ends)?;
-    Ok(line.comes_to(State::Closed)? && line.pushed() == want.as_bytes())
+    reads(alloc, places, ends, want.as_bytes())
 }
 
 /// So many single bytes, with an empty pull before each.

@@ -1,10 +1,11 @@
 //! A client that takes nothing at first: replies are queued up to a bound, and requests wait behind it. One that takes long replies in
 //! small pieces.
-use crate::lines::{Line, QUOTAS, ends_of, one_line, opened};
+use crate::lines::{Line, QUOTAS, ends_of, one_line, opened, reads};
 use mc_conn::State;
 use mc_model::Fault;
 use mc_stream::{InputStep, MemoryInput, MemoryOutput, OutputStep};
 use std::alloc::Global;
+use std::process::Abort;
 use std::test::Fail;
 
 /// How many bytes the item has, and how many a pull gives at most.
@@ -71,14 +72,19 @@ fn goes_on(line: &mut Line<'_>) -> Result<bool, Fault> {
     Ok(line.comes_to(State::Closed)? && line.replayed() == 4 && line.pushed().len() == OWED)
 }
 
+/// The line waits behind two replies, and goes on once the output takes them.
+fn assert_queue(rt: &impl Abort, mut line: Line<'_>) -> Result<(), Fault> {
+    assert!(rt; waits_behind_two(&mut line)?);
+    assert!(rt; goes_on(&mut line)?);
+    Ok(())
+}
+
 #[test]
 fn queue_above_its_bound(rt: HostRuntime) -> Result<(), Fail> {
     let alloc = rt.alloc();
     let ends = ends(alloc)?;
     let (log, passes) = opened(alloc, 64, &[QUOTAS])?;
-    let mut line = one_line(alloc, &log, passes, ends)?;
-    assert!(rt; waits_behind_two(&mut line)?);
-    assert!(rt; goes_on(&mut line)?);
+    assert_queue(&rt, one_line(alloc, &log, passes, ends)?)?;
     Ok(())
 }
 
@@ -122,16 +128,19 @@ fn small_pieces(alloc: Global) -> Result<Vec<OutputStep>, Fault> {
     Ok(steps)
 }
 
+/// The input and the output of a client that asks for the item so, and takes the replies in small pieces.
+fn long_ends(alloc: Global, item: &[u8]) -> Result<(MemoryInput, MemoryOutput), Fault> {
+    let requests = long_requests(alloc, item)?;
+    let pieces = small_pieces(alloc)?;
+    ends_of(alloc, &requests, &[], &pieces)
+}
+
 #[test]
 fn long_replies_in_small_pieces(rt: HostRuntime) -> Result<(), Fail> {
     let alloc = rt.alloc();
     let item = long_item(alloc)?;
-    let requests = long_requests(alloc, item.as_slice())?;
-    let pieces = small_pieces(alloc)?;
-    let ends = ends_of(alloc, requests.as_slice(), &[], pieces.as_slice())?;
-    let (log, passes) = opened(alloc, 64, &[QUOTAS])?;
-    let mut line = one_line(alloc, &log, passes, ends)?;
-    assert!(rt; line.comes_to(State::Closed)?);
-    assert!(rt; line.pushed() == long_replies(alloc, item.as_slice())?.as_slice());
+    let ends = long_ends(alloc, item.as_slice())?;
+    let want = long_replies(alloc, item.as_slice())?;
+    assert!(rt; reads(alloc, 64, ends, want.as_slice())?);
     Ok(())
 }

@@ -85,14 +85,19 @@ fn are_served(first: &Line<'_>, second: &Line<'_>) -> bool {
         && first.replayed().max(second.replayed()) == 6
 }
 
+/// Whether both are served where their turns come in this order.
+fn are_served_in(mut first: Line<'_>, mut second: Line<'_>, order: &[bool]) -> Result<bool, Fault> {
+    let are_all_busy = are_busy(&mut first, &mut second, order)?;
+    Ok(are_all_busy && are_served(&first, &second))
+}
+
 /// Whether both tenants are served as alone where their turns come in this order.
 fn are_apart(alloc: Global, order: &[bool]) -> Result<bool, Fault> {
     let one = ends(alloc, &SCRIPTS[0].0)?;
     let other = ends(alloc, &SCRIPTS[1].0)?;
     let (log, passes) = opened(alloc, 64, &[QUOTAS, QUOTAS])?;
-    let (mut first, mut second) = both_lines(alloc, &log, passes, one, other)?;
-    let are_all_busy = are_busy(&mut first, &mut second, order)?;
-    Ok(are_all_busy && are_served(&first, &second))
+    let (first, second) = both_lines(alloc, &log, passes, one, other)?;
+    are_served_in(first, second, order)
 }
 
 #[test]

@@ -24,6 +24,20 @@ const TICKETS: [(u8, u64); 4] = [(0, 0), (1, 0), (0, 1), (1, 1)];
 /// How often each worker asks for more.
 const AGAIN: u32 = 100;
 
+/// Whether the round is answered so.
+fn is_answered(
+    alloc: Global,
+    first: &mut Client<'_>,
+    second: &mut Client<'_>,
+    round: &(&str, &str, &str),
+) -> Result<bool, Fault>
+    ensures one { first.new.log ≡ first.old.log }
+    ensures two { second.new.log ≡ second.old.log }
+{
+    let (text, want, value) = *round;
+    Ok(first.says(alloc, text, want)? && second.says(alloc, "get a\r\n", value)?)
+}
+
 /// Whether the rounds are answered so.
 fn are_answered(
     alloc: Global,
@@ -33,11 +47,8 @@ fn are_answered(
     ensures one { first.new.log ≡ first.old.log }
     ensures two { second.new.log ≡ second.old.log }
 {
-    for (text, want, value) in ROUNDS {
-        if !first.says(alloc, text, want)? {
-            return Ok(false);
-        }
-        if !second.says(alloc, "get a\r\n", value)? {
+    for round in &ROUNDS {
+        if !is_answered(alloc, first, second, round)? {
             return Ok(false);
         }
     }

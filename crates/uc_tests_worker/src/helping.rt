@@ -83,6 +83,9 @@ impl<'f> Gate for Held<'f> {
     }
 }
 
+/// How the commands of the two threads stand: pairs of a worker and a number.
+const TICKETS: [(u8, u64); 4] = [(1, 0), (1, 1), (0, 0), (1, 2)];
+
 /// What the two threads tell each other.
 #[derive(Drop)]
 struct Flags {
@@ -154,6 +157,26 @@ fn both_ended<'a, R: Threads + Sync>(
     )
 }
 
+/// Whether both have the same history once they have met.
+fn have_met<'a>(mut first: Client<'a>, mut second: Client<'a>) -> Result<bool, Fault>
+    requires { first.log.now ≡ second.log.now }
+{
+    first.meet(&mut second)?;
+    Ok(has_tickets(first.history(), &TICKETS) && are_equal(first.history(), second.history()))
+}
+
+/// Whether the answer came after so many proposals, has this place, and its reply is read so.
+fn is_proposed(
+    alloc: Global,
+    answer: Result<Answer, Fault>,
+    proposals: u64,
+    place: usize,
+    want: &str,
+) -> Result<bool, Fault> {
+    let answer = answer?;
+    Ok(answer.proposals == proposals && is_answer(alloc, &answer, place, want)?)
+}
+
 /// A look that is old by the time of the proposal: the other's announcement is helped at a later place.
 #[test]
 fn help_on_two_threads(rt: HostRuntime) -> Result<(), Fail> {
@@ -165,15 +188,9 @@ fn help_on_two_threads(rt: HostRuntime) -> Result<(), Fail> {
         read: AtomicBool::new(false),
         ended: AtomicBool::new(false),
     };
-    let ((mut first, one), (mut second, other)) = both_ended(&rt, alloc, first, second, &flags);
-    first.meet(&mut second)?;
-    assert!(rt; has_tickets(first.history(), &[(1, 0), (1, 1), (0, 0), (1, 2)]));
-    assert!(rt; are_equal(first.history(), second.history()));
-    let one = one?;
-    assert!(rt; one.proposals == 3 && is_answer(alloc, &one, 2, "STORED\r\n")?);
-    let other = other?;
-    assert!(rt;
-        other.proposals == 2 && is_answer(alloc, &other, 3, "VALUE b 0 1\r\ny\r\nEND\r\n")?
-    );
+    let ((first, one), (second, other)) = both_ended(&rt, alloc, first, second, &flags);
+    assert!(rt; have_met(first, second)?);
+    assert!(rt; is_proposed(alloc, one, 3, 2, "STORED\r\n")?);
+    assert!(rt; is_proposed(alloc, other, 2, 3, "VALUE b 0 1\r\ny\r\nEND\r\n")?);
     Ok(())
 }

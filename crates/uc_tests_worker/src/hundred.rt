@@ -98,7 +98,10 @@ fn worked_both<'a, R: Threads + Sync>(
 /// Whether the command that was seen is the one that a client writes so.
 fn is_command(alloc: Global, seen: &Seen<'_>, text: &str) -> Result<bool, Fault> {
     let command = command_of(alloc, text)?;
-    Ok(seen.entry().is_some_and(|entry| entry.command == command))
+    Ok(match seen.entry() {
+        Some(entry) => entry.command == command,
+        None => false,
+    })
 }
 
 /// What the worker submits, in its order.

@@ -14,6 +14,17 @@ pub(crate) struct Ended<'a> {
     pub(crate) asked: Result<Vec<Asked>, Fault>,
 }
 
+/// The other, once the one has met it.
+fn met<'a>(log: &Log, one: &mut Ended<'a>, mut other: Ended<'a>) -> Result<Ended<'a>, Fault>
+    requires one { one.old.client.log.now ≡ log.now }
+    requires other { other.client.log.now ≡ log.now }
+    ensures one { one.new.client.log.now ≡ log.now }
+    ensures other { IfOk result (λ other. other.client.log.now ≡ log.now) }
+{
+    one.client.meet(&mut other.client)?;
+    Ok(other)
+}
+
 /// One meets each of the others.
 fn meet_each<'a>(
     alloc: Global,
@@ -26,13 +37,11 @@ fn meet_each<'a>(
     ensures one { one.new.client.log.now ≡ log.now }
     ensures others { IfOk result (λ met. All (λ other. other.client.log.now ≡ log.now) met.items) }
 {
-    let mut met = Vec::new(alloc);
+    let mut all = Vec::new(alloc);
     for other in others {
-        let mut other = other;
-        one.client.meet(&mut other.client)?;
-        met.push(other)?;
+        all.push(met(log, one, other)?)?;
     }
-    Ok(met)
+    Ok(all)
 }
 
 /// The last one meets each of the others twice: first it learns all that they have, and then they do.

@@ -55,6 +55,31 @@ impl<'a> Gate for Beside<'a> {
     }
 }
 
+impl<'a> Beside<'a> {
+    /// After so many steps.
+    fn after(alloc: Global, other: Client<'a>, left: u32) -> Beside<'a> {
+        Beside {
+            alloc,
+            other,
+            left,
+            held: None,
+            is_right: false,
+        }
+    }
+
+    /// After which step its worker was held, if it has so many; then the other was answered right, and both came to the same.
+    fn held(&mut self, first: &mut Client<'_>, proposals: u64) -> Result<Option<Step>, Fault> {
+        if self.held.is_none() {
+            return Ok(None);
+        }
+        if agree_on(first, &mut self.other, 104)? && self.is_right && proposals <= 3 {
+            Ok(self.held)
+        } else {
+            Err(Fault::BadEvent)
+        }
+    }
+}
+
 /// Both have replayed the same, so many commands.
 fn agree_on(first: &mut Client<'_>, second: &mut Client<'_>, count: usize) -> Result<bool, Fault> {
     first.catch_up()?;
@@ -69,23 +94,9 @@ fn held_between(
     other: Client<'_>,
     left: u32,
 ) -> Result<Option<Step>, Fault> {
-    let mut gate = Beside {
-        alloc,
-        other,
-        left,
-        held: None,
-        is_right: false,
-    };
+    let mut gate = Beside::after(alloc, other, left);
     let answer = first.ask(alloc, 0, "set a 0 0 1\r\nx\r\n", &mut gate)?;
-    if gate.held.is_none() {
-        return Ok(None);
-    }
-    let is_same = agree_on(&mut first, &mut gate.other, 104)?;
-    if gate.is_right && is_same && answer.proposals <= 3 {
-        Ok(gate.held)
-    } else {
-        Err(Fault::BadEvent)
-    }
+    gate.held(&mut first, answer.proposals)
 }
 
 /// After which step a worker was held on a new log, if its submit has so many.

@@ -1,6 +1,6 @@
--- The next one is of the log, and stays so as the two meet.
-use Rattle.std.proofs.Common.{◌≡◌, All, subst}
-use Rattle.std.proofs.lemmas.List.Elements.{All-head, All-push, All-rest}
+-- The next one is of the log, and stays so once it was met.
+use Rattle.std.proofs.Common.{◌≡◌}
+use Rattle.std.proofs.lemmas.List.Elements.{All-push, All-rest}
 use Rattle.uc_tests_worker.specs.declared.meeting.Ended.{Ended}
 use Rattle.uc_tests_worker.proofs.meeting.meet_each.Goals as goal
 
@@ -10,6 +10,4 @@ loop-other-preserved c =
     let steps = c.in-Some.ensures.steps.0 in
     let before = c.loop-other.invariant in
     let left = All-rest P c.in-Some.other _ _ steps before.2 in
-    let here = All-head P c.in-Some.other _ (subst (All P) steps before.2) in
-    let met : c.meet.new.other.log.now ≡ c.args.log.now = rw c.meet.ensures.two here in
-    (rw c.meet.ensures.one before.0, rw c.in_ok-push.ensures.items (All-push P _ _ before.1 met), left)
+    (c.in_ok-met.ensures.one, rw c.in_ok-push.ensures.items (All-push P _ _ before.1 c.in_ok-met.ensures.other), left)

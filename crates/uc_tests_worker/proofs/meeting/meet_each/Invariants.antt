@@ -5,5 +5,5 @@ use Rattle.uc_tests_worker.proofs.meeting.meet_each.Given as goal
 
 abbrev pub invariant-loop-other : goal.invariant-loop-other
 invariant-loop-other l = (l.one.client.log.now ≡ l.log)
-    × All (λ (other : Ended). other.client.log.now ≡ l.log) l.met.items
+    × All (λ (other : Ended). other.client.log.now ≡ l.log) l.all.items
     × All (λ (other : Ended). other.client.log.now ≡ l.log) l.other-iterator.rest.items
