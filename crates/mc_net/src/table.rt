@@ -29,7 +29,7 @@ pub(crate) struct Connection {
 pub(crate) enum Served {
     /// It is to be served again, though no event may tell of it.
     Again,
-    /// It waits for an event, or there is none.
+    /// It waits for an event, or no connection stands under the key.
     Waits,
     /// It has ended, and stands in the table no more.
     Gone(Connection),
