@@ -15,7 +15,7 @@ HEADLINE = (
     "uc_worker::submit",
     "uc_worker::meet",
     "mc_conn::turn",
-    "mc_net::work",
+    "mc_net::serve",
     "uc_core::laws",
     "uc_core::two_worlds",
     "uc_core::runs_do_what_is_asked",

@@ -1,5 +1,5 @@
 -- What a worker's loop does with its connections; this project's profile.
-use Rattle.std.specs.Prelude.{◌≡◌, ◌==◌, ◌⊎◌, ℕ, Bool, true, false}
+use Rattle.std.specs.Prelude.{◌≡◌, ◌==◌, ◌⊎◌, ℕ, true}
 use Rattle.slab.specs.Slab.{slab_len}
 use Rattle.mc_net.specs.Serving.{Admits, Becomes, IsLater, Serves, gone_of, state_of}
 use Rattle.mc_net.specs.declared.door.Arrival.{Arrival}
@@ -28,7 +28,8 @@ pub record ServesOne (before after : Standing) : Type 0 where
   pub served : Served
   pub serves : Serves (Becomes (IsLater before.worker after.worker) (after.worker ≡ before.worker) (state_of served) (gone_of served)) before.table after.table key
 
--- arrivals were taken in and connections served, one after another, and nothing else became of any connection
+-- Arrivals were taken in and connections served, one after another. What stands in the last table is actual, and so are its tapes: each of its
+-- connections is what one of the first, or an arrival, became by being served. What went in between is told of by this relation alone.
 pub data Works (first : Standing) : Standing → Type 0 where
   begins : Works first first
   goes_on : (between last : Standing) → Works first between → TakesIn between last ⊎ ServesOne between last → Works first last
@@ -36,8 +37,3 @@ pub data Works (first : Standing) : Standing → Type 0 where
 -- no connection stands in the table
 abbrev pub IsEmpty : Table → Type 0
 IsEmpty table = (slab_len table.connections == 0) ≡ true
-
--- what becomes of the last connections: all have ended; or they are closed, since another loop has failed
-abbrev pub Leaves : Table → Table → Bool → Type 0
-Leaves last after true = (after ≡ last) × IsEmpty last
-Leaves last after false = IsEmpty after

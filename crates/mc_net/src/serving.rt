@@ -36,9 +36,7 @@ fn run_seat<R: Wait, G: Gate>(rt: &R, hall: &Hall, number: usize, seat: &mut Sea
         desk,
         outcome,
     } = seat;
-    *outcome = desk
-        .work(rt, worker, gate, station)
-        .map(|_all_have_ended| ());
+    *outcome = desk.work(rt, worker, gate, station);
     if outcome.is_err() {
         hall.halt(rt);
     }

@@ -1,8 +1,7 @@
 //! A worker's loop.
-ghost use Rattle.std.specs.Prelude.{◌≡◌, length, IfOk, MatchResult};
+ghost use Rattle.std.specs.Prelude.{◌≡◌, length, IfOk};
 ghost use Rattle.mc_conn.specs.Onward.{IsOnward};
-ghost use Rattle.mc_net.specs.Working.{Leaves, Works, standing};
-ghost use Rattle.mc_net.specs.declared.table.Table.{Table};
+ghost use Rattle.mc_net.specs.Working.{IsEmpty, Works, standing};
 ghost use Rattle.uc_worker.specs.Worker.{tenants_of};
 ghost use Rattle.uc_worker.specs.declared.worker.Worker.{Worker};
 
@@ -105,18 +104,16 @@ impl Desk {
     }
 
     /// Serves what the acceptor leaves at the station, until no more comes and every connection has ended, or until another loop has
-    /// failed; the connections are closed then. Says whether every connection has ended. Where memory runs out: `Memory`; where a poll
-    /// fails: `Poll`.
+    /// failed; the connections are closed then. Where memory runs out: `Memory`; where a poll fails: `Poll`.
     pub(crate) fn work<R: Wait, G: Gate>(
         &mut self,
         rt: &R,
         worker: &mut Worker<'_>,
         gate: &mut G,
         station: &Station,
-    ) -> Result<bool, Halt>
+    ) -> Result<(), Halt>
         requires { self.old.rota.table.tenants ≡ length (tenants_of worker.old) }
-        ensures works { (last : Table) × Works (standing worker.old self.old.rota.table) (standing worker.new last)
-            × MatchResult result (Leaves last self.new.rota.table) (λ _. self.new.rota.table ≡ last) }
+        ensures empty { IfOk result (λ _. IsEmpty self.new.rota.table) }
         ensures onward { IsOnward worker.old worker.new }
         ensures tenants { self.new.rota.table.tenants ≡ self.old.rota.table.tenants }
     {
@@ -126,10 +123,10 @@ impl Desk {
         for _ in rt.forever() {
             if order == Order::Halt {
                 self.rota.table.clear();
-                return Ok(false);
+                return Ok(());
             }
             if order == Order::Finish && self.rota.table.is_empty() {
-                return Ok(true);
+                return Ok(());
             }
             let is_woken = self.go_round(worker, gate, &mut buffer, order)?;
             if is_woken || order == Order::LookAgain {
