@@ -1,1 +1,2 @@
 mod Numerals
+mod Places

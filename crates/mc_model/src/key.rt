@@ -8,6 +8,7 @@ ghost use Rattle.std.specs.Prelude.{◌≡◌, ◌≢◌, ℕ, ◌<◌, ◌≤�
 ghost use Rattle.mc_model.specs.Key.{is_key_byte, is_lawful_key, key_of};
 
 use crate::Fault;
+use crate::compare::compare;
 use std::alloc::Global;
 use std::cmp::Ordering;
 use std::marker::Model;
@@ -117,7 +118,7 @@ impl Ord for Key {
     ghost matches_eq = { texts_ties };
 
     fn cmp(&self, other: &Key) -> Ordering {
-        self.bytes.cmp(&other.bytes)
+        compare(&self.bytes, &other.bytes)
     }
 }
 

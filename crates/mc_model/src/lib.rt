@@ -16,6 +16,7 @@ pub use settings::{Limits, Settings};
 pub use shown::{LogSize, Phase, ShownState, WorkerState};
 
 pub mod command;
+mod compare;
 pub mod fault;
 pub mod id;
 pub mod item;
