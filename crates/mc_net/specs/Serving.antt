@@ -66,7 +66,7 @@ Stands before after Closed = HasEnded after.conn
 Stands before after Idle = Stays before after Idle
 Stands before after Busy = Stays before after Busy
 
--- the same connection later on: it was served by the worker over its own stream, and stands as the state says
+-- the same connection later on: the worker served it, from what its tapes had to what they have, and it stands as the state says
 pub record IsLater (before after : Worker) (old new : Connection) (state : State) : Type 0 where
   pub stream : new.stream ≡ old.stream
   pub tenant : new.conn.tenant ≡ old.conn.tenant

@@ -1,6 +1,6 @@
 //! The network: an acceptor takes the streams of each tenant's listeners and hands them to workers in turn, each worker in a thread of its
-//! own serves its connections until they end, and the workers come back. `specs/Handing.antt` says which stream goes where, and
-//! `specs/Serving.antt` what becomes of the connections of a worker.
+//! own serves its connections until they end, and the workers come back. `specs/Handing.antt` says which stream goes where,
+//! `specs/Serving.antt` what becomes of a connection that is served, and `specs/Working.antt` what a round leaves of a worker's table.
 #![tactic(auto)]
 
 pub use door::{Arrival, Door, Listen};
