@@ -2,3 +2,4 @@ pub mod Servings
 pub mod Seatings
 pub mod Stopped
 pub mod Workings
+pub mod Lives

@@ -1,27 +1,71 @@
 -- Seats and their workers, place by place.
-use Rattle.std.proofs.Common.{◌≡◌, ℕ, ◌<◌, suc, List, [], ◌∷◌, length, ap, refl, ◌++◌, arith, slice_index_or, All, Bor, ◌∙◌}
+use Rattle.std.proofs.Common.{◌≡◌, ℕ, ◌<◌, suc, List, [], ◌∷◌, length, map, ap, refl, sym, subst, ◌++◌, arith, slice_index_or, All, Bor, ◌∙◌, Result, Ok, IfOk}
 use Rattle.std.specs.List.{AllZip}
-use Rattle.std.proofs.lemmas.List.Elements.{AllZip-get_or, length_all_zip}
+use Rattle.std.proofs.lemmas.List.Elements.{All-head, All-rest, AllZip-get_or, length_all_zip}
 use Rattle.uc_log.specs.declared.log.Log.{Log}
 use Rattle.mc_conn.specs.Onward.{IsOnward}
+use Rattle.mc_net.specs.declared.halt.Halt.{Halt}
+use Rattle.mc_net.specs.declared.past.Past.{Past}
+use Rattle.mc_net.specs.declared.seat.Returned.{Returned}
 use Rattle.mc_net.specs.declared.seat.Seat.{Seat}
+use Rattle.mc_net.specs.declared.table.Table.{Table}
 use Rattle.uc_worker.specs.declared.worker.Worker.{Worker}
-use Rattle.mc_net.specs.Seating.{GoOnward, workers_of}
+use Rattle.mc_net.specs.Seating.{HasRun, HasWorked, HaveRun, IsReturned, worker_of, workers_of}
+use Rattle.mc_net.specs.Working.{HasServed, IsNew, Works, standing}
 
-all_zip : {G : Type 0} (old new : List (Seat G)) → length new ≡ length old →
-    ((i : ℕ) (d : Seat G) → i < length old → IsOnward (slice_index_or old i d).worker (slice_index_or new i d).worker) → AllZip IsOnward (workers_of old) (workers_of new)
-all_zip [] [] long each = tt
-all_zip [] (y ∷ ys) long each = let no : ⊥ = omega arith in absurd no
-all_zip (x ∷ xs) [] long each = let no : ⊥ = omega arith in absurd no
-all_zip (x ∷ xs) (y ∷ ys) long each = (each 0 x (omega arith), all_zip xs ys (omega arith) (λ i d inside. each (suc i) d (omega arith)))
+all_onward_of : {G : Type 0} (old new : List (Seat G)) → length new ≡ length old →
+    ((i : ℕ) (d : Seat G) → i < length old → HasRun (slice_index_or old i d) (slice_index_or new i d)) → AllZip IsOnward (workers_of old) (workers_of new)
+all_onward_of [] [] long each = tt
+all_onward_of [] (y ∷ ys) long each = let no : ⊥ = omega arith in absurd no
+all_onward_of (x ∷ xs) [] long each = let no : ⊥ = omega arith in absurd no
+all_onward_of (x ∷ xs) (y ∷ ys) long each = ((each 0 x (omega arith)).onward, all_onward_of xs ys (omega arith) (λ i d inside. each (suc i) d (omega arith)))
+
+pub all_onward : {G : Type 0} (old new : List (Seat G)) → HaveRun old new → AllZip IsOnward (workers_of old) (workers_of new)
+all_onward old new run = all_onward_of old new run.long run.each
 
 -- one more seat, in front of the workers that are left
 pub one_more : {G : Type 0} (seats : List (Seat G)) (seat : Seat G) (left : List Worker) → workers_of (seats ++ seat ∷ []) ++ left ≡ workers_of seats ++ seat.worker ∷ left
 one_more [] seat left = refl
 one_more (first ∷ seats) seat left = ap (λ (list : List Worker). first.worker ∷ list) (one_more seats seat left)
 
-pub all_onward : {G : Type 0} (old new : List (Seat G)) → GoOnward old new → AllZip IsOnward (workers_of old) (workers_of new)
-all_onward old new go = all_zip old new go.long go.each
+-- what came back has the seats' workers
+pub returned_workers : {G : Type 0} (seats : List (Seat G)) (back : List Returned) → AllZip IsReturned seats back → map worker_of back ≡ workers_of seats
+returned_workers [] [] are = refl
+returned_workers [] (z ∷ zs) are = absurd are
+returned_workers (y ∷ ys) [] are = absurd are
+returned_workers (y ∷ ys) (z ∷ zs) are =
+    ap (λ (worker : Worker). worker ∷ map worker_of zs) are.0.worker ∙ ap (λ (list : List Worker). y.worker ∷ list) (returned_workers ys zs are.1)
+
+-- a worker that came back of a loop that has ended well
+served_by : {G : Type 0} (old new : Seat G) (back : Returned) → HasRun old new → IsNew old.desk.rota.table → IsReturned new back → HasServed old.worker back
+served_by {G} old new back run fresh is =
+    let worked : HasWorked old new = subst (λ (outcome : Result (Unit {0}) Halt). IfOk outcome (λ _. HasWorked old new)) is.well run.worked in
+    record {
+      onward = subst (IsOnward old.worker) (sym is.worker) run.onward;
+      first = old.desk.rota.table;
+      last = new.desk.rota.table;
+      new = fresh;
+      works = subst (λ (worker : Worker). Works (standing old.worker old.desk.rota.table) (standing worker new.desk.rota.table)) (sym is.worker) worked.works;
+      over = worked.over;
+      past = sym is.past;
+    }
+
+all_served_of : {G : Type 0} (old new : List (Seat G)) (back : List Returned) → length new ≡ length old →
+    ((i : ℕ) (d : Seat G) → i < length old → HasRun (slice_index_or old i d) (slice_index_or new i d)) →
+    All (λ (seat : Seat G). IsNew seat.desk.rota.table) old → AllZip IsReturned new back → AllZip HasServed (workers_of old) back
+all_served_of [] [] [] long each fresh are = tt
+all_served_of [] [] (z ∷ zs) long each fresh are = absurd are
+all_served_of [] (y ∷ ys) back long each fresh are = let no : ⊥ = omega arith in absurd no
+all_served_of (x ∷ xs) [] back long each fresh are = let no : ⊥ = omega arith in absurd no
+all_served_of (x ∷ xs) (y ∷ ys) [] long each fresh are = absurd are
+all_served_of (x ∷ xs) (y ∷ ys) (z ∷ zs) long each fresh are = (
+  served_by x y z (each 0 x (omega arith)) (fresh 0 x (omega arith)) are.0,
+  all_served_of xs ys zs (omega arith) (λ i d inside. each (suc i) d (omega arith)) (λ i d inside. fresh (suc i) d (omega arith)) are.1,
+)
+
+pub all_served : {G : Type 0} (old new : List (Seat G)) (back : List Returned) → HaveRun old new →
+    All (λ (seat : Seat G). IsNew seat.desk.rota.table) old → AllZip IsReturned new back → AllZip HasServed (workers_of old) back
+all_served old new back run = all_served_of old new back run.long run.each
 
 -- workers that have gone onward are of the log that they were of
 pub all_of : (log : Log) (old new : List Worker) → AllZip IsOnward old new → All (λ (worker : Worker). worker.log.now ≡ log) old → All (λ (worker : Worker). worker.log.now ≡ log) new

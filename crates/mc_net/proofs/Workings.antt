@@ -1,10 +1,10 @@
 -- Work behind work, one connection at a time.
 use Rattle.std.proofs.Common.{◌≡◌, ℕ, length, Option, Some, None, IfSome, IfNone, ap, inl, inr, refl, sym, subst}
 use Rattle.mc_conn.specs.Onward.{IsOnward}
-use Rattle.mc_net.specs.Serving.{Admits, Becomes, IsLater, Serves, gone_of, state_of}
+use Rattle.mc_conn.specs.declared.conn.State.{State}
+use Rattle.mc_net.specs.Serving.{Admits, Becomes, IsLater, Serves}
 use Rattle.mc_net.specs.Working.{Standing, Works, begins, goes_on, standing}
 use Rattle.mc_net.specs.declared.door.Arrival.{Arrival}
-use Rattle.mc_net.specs.declared.table.Served.{Served}
 use Rattle.mc_net.specs.declared.table.Table.{Table}
 use Rattle.uc_worker.specs.declared.worker.Worker.{Worker}
 use Rattle.uc_worker.specs.Worker.{tenants_of}
@@ -14,10 +14,10 @@ works_trans a b _ one begins = one
 works_trans a b _ one (goes_on between last two step) = goes_on between last (works_trans a b between one two) step
 
 -- the connection under a key was served, behind other work
-pub works_serving : (first : Standing) (worker after_worker : Worker) (table after : Table) (key : ℕ) (served : Served) → Works first (standing worker table) →
-    Serves (Becomes (IsLater worker after_worker) (after_worker ≡ worker) (state_of served) (gone_of served)) table after key → Works first (standing after_worker after)
-works_serving first worker after_worker table after key served works serves =
-    goes_on (standing worker table) (standing after_worker after) works (inr (record { key = key; served = served; serves = serves }))
+pub works_serving : (first : Standing) (worker after_worker : Worker) (table after : Table) (key : ℕ) (state : State) → Works first (standing worker table) →
+    Serves (Becomes (IsLater worker after_worker) (after_worker ≡ worker) state table.past.ended after.past.ended) table after key → Works first (standing after_worker after)
+works_serving first worker after_worker table after key state works serves =
+    goes_on (standing worker table) (standing after_worker after) works (inr (record { key = key; state = state; serves = serves }))
 
 -- an arrival was taken in or not, behind other work
 pub works_admitting : (first : Standing) (worker : Worker) (table after : Table) (arrival : Arrival _) (result : Option ℕ) → Works first (standing worker table) →

@@ -1,5 +1,5 @@
 -- What becomes of the connections of a worker; this project's profile.
-use Rattle.std.specs.Prelude.{◌≡◌, ◌≢◌, ◌⊎◌, ℕ, true, false, [], Option, Some, None}
+use Rattle.std.specs.Prelude.{◌≡◌, ◌≢◌, ◌⊎◌, ℕ, true, false, List, [], ◌∷◌, Option, Some, None}
 use Rattle.slab.specs.Slab.{Updates, get}
 use Rattle.mc_conn.specs.declared.conn.Conn.{Conn}
 use Rattle.mc_conn.specs.declared.conn.State.{State}
@@ -10,8 +10,6 @@ use Rattle.mc_model.specs.declared.fault.Fault.{Fault}
 use Rattle.mc_model.specs.declared.fault.Fault.TheVariants.{Memory, Input}
 use Rattle.mc_net.specs.declared.door.Arrival.{Arrival}
 use Rattle.mc_net.specs.declared.table.Connection.{Connection}
-use Rattle.mc_net.specs.declared.table.Served.{Served}
-use Rattle.mc_net.specs.declared.table.Served.TheVariants.{Again, Waits, Gone}
 use Rattle.mc_net.specs.declared.table.Table.{Table}
 use Rattle.mc_read.specs.Reading.{Kept}
 use Rattle.mc_stream.specs.Stream.{both}
@@ -41,6 +39,7 @@ pub record Admits (before after : Table) (arrival : Arrival _) (key : ℕ) : Typ
   pub connection : Connection
   pub fresh : IsFresh connection arrival
   pub updates : Updates before.connections after.connections key (Some connection)
+  pub past : after.past ≡ before.past
 
 -- A connection was served over its streams: bytes came, the requests that they read as were taken, and what was sent and what is queued
 -- then is what was queued and what is owed for them; or a fault stopped this, and has closed the connection for good.
@@ -79,23 +78,12 @@ HasTurns Later Still state None new = (new ≡ None) × Still × (state ≡ Idle
 HasTurns Later Still state (Some old) None = ⊥
 HasTurns Later Still state (Some old) (Some new) = Later old new state
 
--- how what was served stands
-abbrev pub state_of : Served → State
-state_of Again = Busy
-state_of Waits = Idle
-state_of (Gone last) = Closed
-
--- what was served and is handed out
-abbrev pub gone_of : Served → Option Connection
-gone_of Again = None
-gone_of Waits = None
-gone_of (Gone last) = Some last
-
--- what was served stays, and stands as the state says; or it has ended, and is handed out as it is then; where nothing is, nothing was done
-abbrev pub Becomes : {C : Type 0} → (C → C → State → Type 0) → Type 0 → State → Option C → Option C → Option C → Type 0
-Becomes Later Still state gone None new = (new ≡ None) × Still × (state ≡ Idle) × (gone ≡ None)
-Becomes Later Still state gone (Some old) (Some new) = Later old new state × (gone ≡ None)
-Becomes Later Still state gone (Some old) None = (last : _) × (gone ≡ Some last) × Later old last Closed × (state ≡ Closed)
+-- What was served stays, and stands as the state says; or it has ended, and is the latest of those that have; where nothing is, nothing was done.
+-- The last two lists are those that had ended before, and that have now.
+abbrev pub Becomes : {C : Type 0} → (C → C → State → Type 0) → Type 0 → State → List C → List C → Option C → Option C → Type 0
+Becomes Later Still state before after None new = (new ≡ None) × Still × (state ≡ Idle) × (after ≡ before)
+Becomes Later Still state before after (Some old) (Some new) = Later old new state × (state ≢ Closed) × (after ≡ before)
+Becomes Later Still state before after (Some old) None = (last : _) × (after ≡ last ∷ before) × Later old last Closed × (state ≡ Closed)
 
 -- this became of the connection under this key, and every other key is as it was
 pub record Serves (Step : Option Connection → Option Connection → Type 0) (before after : Table) (key : ℕ) : Type 0 where

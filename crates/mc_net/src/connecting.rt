@@ -2,14 +2,14 @@
 ghost use Rattle.std.specs.Prelude.{◌≡◌, ◌<◌, length, None, IfNone, IfSome};
 ghost use Rattle.mc_conn.specs.Onward.{IsOnward};
 ghost use Rattle.mc_conn.specs.Turn.{scene};
-ghost use Rattle.mc_net.specs.Serving.{Admits, Becomes, HasTurns, IsLater, IsServed, Serves, Stands, connection_at, gone_of, state_of};
+ghost use Rattle.mc_net.specs.Serving.{Admits, Becomes, HasTurns, IsLater, IsServed, Serves, Stands, connection_at};
 ghost use Rattle.mc_stream.specs.Stream.{both};
 ghost use Rattle.slab.specs.Slab.{Updates};
 ghost use Rattle.uc_worker.specs.Worker.{tenants_of};
 
 use crate::door::Arrival;
 use crate::socket::{SocketReader, SocketWriter};
-use crate::table::{Connection, MOST_CONNECTIONS, Served, Table};
+use crate::table::{Connection, MOST_CONNECTIONS, Table};
 use mc_conn::{Conn, PULL_BYTES, State};
 use mc_stream::{Input, Output, ReadInput, Tape, WriteOutput};
 use mio::net::TcpStream;
@@ -144,6 +144,7 @@ impl Table {
     ) -> State
         requires { self.old.tenants ≡ length (tenants_of worker.old) }
         ensures serves { Serves (HasTurns (IsLater worker.old worker.new) (worker.new ≡ worker.old) result) self.old self.new key }
+        ensures past { self.new.past ≡ self.old.past }
         ensures onward { IsOnward worker.old worker.new }
     {
         match self.connections.get_mut(key) {
@@ -157,11 +158,12 @@ impl Table {
         ensures value { result ≡ connection_at self.old key }
         ensures updates { Updates self.old.connections self.new.connections key None }
         ensures tenants { self.new.tenants ≡ self.old.tenants }
+        ensures past { self.new.past ≡ self.old.past }
     {
         self.connections.try_remove(key)
     }
 
-    /// Serves the connection under a key, if there is one. It is taken out of the table and handed out where it has ended.
+    /// Serves the connection under a key, if there is one, and says how it stands then. Where it has ended it is taken out and closed.
     pub(crate) fn serve<G: Gate>(
         &mut self,
         worker: &mut Worker<'_>,
@@ -169,20 +171,18 @@ impl Table {
         buffer: &mut [u8; PULL_BYTES],
         key: usize,
         stops_short: bool,
-    ) -> Served
+    ) -> State
         requires { self.old.tenants ≡ length (tenants_of worker.old) }
-        ensures serves { Serves (Becomes (IsLater worker.old worker.new) (worker.new ≡ worker.old) (state_of result) (gone_of result)) self.old self.new key }
+        ensures serves { Serves (Becomes (IsLater worker.old worker.new) (worker.new ≡ worker.old) result self.old.past.ended self.new.past.ended) self.old self.new key }
         ensures onward { IsOnward worker.old worker.new }
     {
-        match self.turns_at(worker, gate, buffer, key, stops_short) {
-            State::Busy => Served::Again,
-            State::Idle => Served::Waits,
-            State::Closed => {
-                let Some(connection) = self.remove(key) else {
-                    unreachable!();
-                };
-                Served::Gone(connection)
-            }
+        let state = self.turns_at(worker, gate, buffer, key, stops_short);
+        if state == State::Closed {
+            let Some(connection) = self.remove(key) else {
+                unreachable!();
+            };
+            self.past = self.past.and(&connection);
         }
+        state
     }
 }

@@ -13,6 +13,8 @@ pub enum Halt {
     Memory,
     /// A poll can't be made or failed, or what wakes one did.
     Poll,
+    /// Another loop has ended before its time.
+    Elsewhere,
 }
 
 impl From<AllocError> for Halt {
@@ -33,7 +35,7 @@ impl From<Halt> for Fault {
     fn from(halt: Halt) -> Fault {
         match halt {
             Halt::Memory => Fault::Memory,
-            Halt::Poll => Fault::Input,
+            Halt::Poll | Halt::Elsewhere => Fault::Input,
         }
     }
 }

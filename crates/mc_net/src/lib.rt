@@ -6,15 +6,18 @@
 pub use door::{Arrival, Door, Listen};
 pub use halt::Halt;
 pub use handing::{Accepted, Receive, accept_one, hand_over};
-pub use serving::serve;
+pub use past::Past;
+pub use seat::Returned;
+pub use serving::{into_workers, serve};
 
 mod accepting;
 mod connecting;
 pub mod door;
 pub mod halt;
 pub mod handing;
+pub mod past;
 mod rota;
-mod seat;
+pub mod seat;
 mod serving;
 mod socket;
 mod station;

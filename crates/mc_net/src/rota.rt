@@ -1,13 +1,13 @@
 //! Whose turn it is among the connections of a worker.
 ghost use Rattle.std.specs.Prelude.{◌≡◌, length, IfOk};
 ghost use Rattle.mc_conn.specs.Onward.{IsOnward};
-ghost use Rattle.mc_net.specs.Working.{Works, standing};
+ghost use Rattle.mc_net.specs.Working.{IsNew, Works, standing};
 ghost use Rattle.uc_worker.specs.Worker.{tenants_of};
 
 use crate::halt::Halt;
 use crate::station::WAKER;
-use crate::table::{MOST_CONNECTIONS, Served, Table};
-use mc_conn::PULL_BYTES;
+use crate::table::{MOST_CONNECTIONS, Table};
+use mc_conn::{PULL_BYTES, State};
 use mio::Events;
 use mio::event::Event;
 use std::alloc::Global;
@@ -32,7 +32,8 @@ fn stops_short(event: &Event) -> bool {
 impl Rota {
     /// No connection, for a log of so many tenants. Where memory runs out: `Memory`.
     pub(crate) fn new(alloc: Global, tenants: usize) -> Result<Rota, Halt>
-        ensures { IfOk result (λ rota. rota.table.tenants ≡ tenants) }
+        ensures tenants { IfOk result (λ rota. rota.table.tenants ≡ tenants) }
+        ensures new { IfOk result (λ rota. IsNew rota.table) }
     {
         let mut again = Vec::new(alloc);
         let mut next = Vec::new(alloc);
@@ -61,7 +62,7 @@ impl Rota {
         ensures onward { IsOnward worker.old worker.new }
         ensures tenants { self.new.table.tenants ≡ self.old.table.tenants }
     {
-        let Served::Again = self.table.serve(worker, gate, buffer, key, stops_short) else {
+        let State::Busy = self.table.serve(worker, gate, buffer, key, stops_short) else {
             return Ok(());
         };
         Ok(self.next.push(key)?)

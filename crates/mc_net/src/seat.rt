@@ -3,6 +3,7 @@ ghost use Rattle.std.specs.Prelude.{◌≡◌, length};
 ghost use Rattle.uc_worker.specs.Worker.{tenants_of};
 
 use crate::halt::Halt;
+use crate::past::Past;
 use crate::working::Desk;
 use uc_worker::Worker;
 
@@ -14,4 +15,11 @@ pub(crate) struct Seat<'a, G> {
     pub(crate) desk: Desk,
     pub(crate) outcome: Result<(), Halt>,
     ghost tenants: { desk.rota.table.tenants ≡ length (tenants_of worker) },
+}
+
+/// A worker that has come back from its loop, and the connections that it has served.
+#[derive(Drop)]
+pub struct Returned<'a> {
+    pub worker: Worker<'a>,
+    pub past: Past,
 }

@@ -1,21 +1,23 @@
 //! The acceptor and the workers, each in a thread of its own.
 ghost use Rattle.std.specs.List.{AllZip};
-ghost use Rattle.std.specs.Prelude.{◌≡◌, ◌<◌, ℕ, All, IfErr, IfOk, length, slice_index_or, vec_len};
+ghost use Rattle.std.specs.Prelude.{◌≡◌, ◌<◌, ℕ, All, IfErr, IfOk, length, map, slice_index_or, vec_len};
 ghost use Rattle.mc_conn.specs.Onward.{IsOnward};
-ghost use Rattle.mc_net.specs.Seating.{GoOnward, listeners_of, workers_of};
+ghost use Rattle.mc_net.specs.Life.{HasAnswered};
+ghost use Rattle.mc_net.specs.Seating.{HasRun, HaveRun, IsReturned, listeners_of, worker_of, workers_of};
 ghost use Rattle.mc_net.specs.Serving.{IsNetworkFault};
+ghost use Rattle.mc_net.specs.Working.{HasServed, IsNew};
 ghost use Rattle.uc_worker.specs.Worker.{tenants_of};
 
 use crate::accepting::Acceptor;
 use crate::door::Door;
 use crate::halt::Halt;
-use crate::seat::Seat;
+use crate::seat::{Returned, Seat};
 use crate::station::{Bell, Hall, Station};
 use crate::working::Desk;
 use mc_model::{Fault, TenantId};
 use mio::Poll;
 use mio::net::TcpListener;
-use std::alloc::Global;
+use std::alloc::{AllocError, Global};
 use std::net::Net;
 use std::sync::Wait;
 use std::thread;
@@ -25,9 +27,10 @@ use uc_worker::{Gate, Worker};
 
 /// A worker's loop, at the station of its number. Where it fails, all others are told to end.
 fn run_seat<R: Wait, G: Gate>(rt: &R, hall: &Hall, number: usize, seat: &mut Seat<'_, G>)
-    ensures { IsOnward seat.old.worker seat.new.worker }
+    ensures { HasRun seat.old seat.new }
 {
     let Some(station) = hall.stations.get(number) else {
+        seat.outcome = Err(Halt::Elsewhere);
         return;
     };
     let Seat {
@@ -62,7 +65,7 @@ fn run_seats<'a, R: Threads + Wait + Sync, G: Gate + Send>(
     hall: &Hall,
     seats: &mut [Seat<'a, G>],
 )
-    ensures { GoOnward seats.old seats.new }
+    ensures { HaveRun seats.old seats.new }
 {
     let threads = seats.len().max(1);
     thread::for_each_mut(
@@ -70,7 +73,7 @@ fn run_seats<'a, R: Threads + Wait + Sync, G: Gate + Send>(
         seats,
         threads,
         &|number: usize, seat: &mut Seat<'_, G>|
-            ensures { IsOnward seat.entry.now.worker seat.exit.now.worker }
+            ensures { HasRun seat.entry.now seat.exit.now }
         { run_seat(rt, hall, number, seat) },
     );
 }
@@ -83,7 +86,7 @@ fn run_all<'a, R: Threads + Wait + Sync, G: Gate + Send>(
     seats: &mut [Seat<'a, G>],
 )
     requires { 0 < vec_len hall.now.stations }
-    ensures { GoOnward seats.old seats.new }
+    ensures { HaveRun seats.old seats.new }
 {
     join_mut(
         rt,
@@ -100,7 +103,7 @@ fn run<'a, R: Threads + Wait + Sync, G: Gate + Send>(
     seats: &mut Vec<Seat<'a, G>>,
 )
     requires { 0 < vec_len hall.now.stations }
-    ensures { GoOnward seats.old.items seats.new.items }
+    ensures { HaveRun seats.old.items seats.new.items }
 {
     run_all(rt, hall, acceptor, seats);
 }
@@ -139,6 +142,7 @@ fn seats_of<'a, R: Net, G: Gate + Drop>(
     requires gates { vec_len gates ≡ vec_len workers }
     ensures stations { IfOk result (λ pair. vec_len pair.0 ≡ vec_len workers.entry) }
     ensures seats { IfOk result (λ pair. workers_of pair.1.items ≡ workers.entry.items) }
+    ensures new { IfOk result (λ pair. All (λ seat. IsNew seat.desk.rota.table) pair.1.items) }
 {
     let tenants = log.settings().tenants().len();
     let mut stations = Vec::new(alloc);
@@ -164,12 +168,27 @@ fn seats_of<'a, R: Net, G: Gate + Drop>(
     Ok((stations, seats))
 }
 
-/// The workers of the seats, in their order. Where a loop failed: as the first that did.
-fn workers_of<'a, G: Drop>(alloc: Global, seats: Vec<Seat<'a, G>>) -> Result<Vec<Worker<'a>>, Halt>
-    ensures { IfOk result (λ workers. workers.items ≡ workers_of seats.entry.items) }
-{
-    let mut workers = Vec::new(alloc);
+/// Fails as the first loop that failed by itself, if one did.
+fn first_failure<G>(seats: &[Seat<'_, G>]) -> Result<(), Halt> {
     for seat in seats {
+        match seat.outcome {
+            Err(Halt::Elsewhere) | Ok(()) => {}
+            Err(halt) => return Err(halt),
+        }
+    }
+    Ok(())
+}
+
+/// The workers of the seats, in their order, and what each has served. Where a loop ended before its time: as the first that did.
+fn returned_of<'a, G: Drop>(
+    alloc: Global,
+    seats: Vec<Seat<'a, G>>,
+) -> Result<Vec<Returned<'a>>, Halt>
+    ensures { IfOk result (λ back. AllZip IsReturned seats.entry.items back.items) }
+{
+    let mut back = Vec::new(alloc);
+    for seat in seats {
+        let past = seat.desk.rota.table.past.again();
         let Seat {
             worker,
             gate: _,
@@ -177,6 +196,20 @@ fn workers_of<'a, G: Drop>(alloc: Global, seats: Vec<Seat<'a, G>>) -> Result<Vec
             outcome,
         } = seat;
         outcome?;
+        back.push(Returned { worker, past })?;
+    }
+    Ok(back)
+}
+
+/// The workers of those that came back, in their order. Where memory runs out: `Memory`.
+pub fn into_workers<'a>(
+    alloc: Global,
+    back: Vec<Returned<'a>>,
+) -> Result<Vec<Worker<'a>>, AllocError>
+    ensures { IfOk result (λ workers. workers.items ≡ map worker_of back.entry.items) }
+{
+    let mut workers = Vec::with_capacity(alloc, back.len())?;
+    for Returned { worker, past: _ } in back {
         workers.push(worker)?;
     }
     Ok(workers)
@@ -184,7 +217,8 @@ fn workers_of<'a, G: Drop>(alloc: Global, seats: Vec<Seat<'a, G>>) -> Result<Vec
 
 /// Serves the tenants' listeners by these workers of the log, each in a thread of its own where one can be made. A stream is a connection
 /// of its listener's tenant, and goes to the worker whose turn it is. With `connections` above 0 it ends once so many streams were accepted
-/// and all have ended, and gives the workers back in their order; with 0 it doesn't end. A fault of a connection ends that one alone.
+/// and all have ended, and gives the workers back in their order, each with the connections that it has served; with 0 it doesn't end. A fault
+/// of a connection ends that one alone.
 /// Nothing is accepted before every worker's loop has begun. Where one doesn't begin within ten seconds, as where the system refuses its
 /// thread, or a growth outside a connection and the queues is refused: `Memory`. Where a poll can't be made or fails: `Input`. All loops are
 /// ended then.
@@ -196,13 +230,15 @@ pub fn serve<'a, R: Threads + Wait + Net + Sync, G: Gate + Send + Drop>(
     listeners: Vec<(TenantId, TcpListener)>,
     connections: u64,
     gates: Vec<G>,
-) -> Result<Vec<Worker<'a>>, Fault>
+) -> Result<Vec<Returned<'a>>, Fault>
     requires some { (0 < vec_len workers) × (0 < vec_len listeners) }
     requires logs { All (λ worker. worker.log.now ≡ log.now) workers.items }
     requires tenants { All (λ listener. listener.0 < length log.now.settings.tenants) listeners.items }
     requires gates { vec_len gates ≡ vec_len workers }
-    ensures back { IfOk result (λ back. AllZip IsOnward workers.entry.items back.items) }
-    ensures logs { IfOk result (λ back. All (λ worker. worker.log.now ≡ log.entry.now) back.items) }
+    ensures back { IfOk result (λ back. AllZip IsOnward workers.entry.items (map worker_of back.items)) }
+    ensures served { IfOk result (λ back. AllZip HasServed workers.entry.items back.items) }
+    ensures answered { IfOk result (λ back. All HasAnswered back.items) }
+    ensures logs { IfOk result (λ back. All (λ worker. worker.log.now ≡ log.entry.now) (map worker_of back.items)) }
     ensures faults { IfErr result IsNetworkFault }
 {
     let (stations, mut seats) = seats_of(rt, alloc, log, workers, gates)?;
@@ -215,5 +251,6 @@ pub fn serve<'a, R: Threads + Wait + Net + Sync, G: Gate + Send + Drop>(
     let hall = Hall { stations, bell };
     run(rt, &hall, &mut acceptor, &mut seats);
     acceptor.outcome?;
-    Ok(workers_of(alloc, seats)?)
+    first_failure(&seats)?;
+    Ok(returned_of(alloc, seats)?)
 }

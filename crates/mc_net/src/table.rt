@@ -1,9 +1,10 @@
 //! The connections of a worker.
-ghost use Rattle.std.specs.Prelude.{◌≡◌, ◌==◌, ◌<◌, ◌≤◌, ℕ, IfOk, Some, true};
+ghost use Rattle.std.specs.Prelude.{◌≡◌, ◌==◌, ◌<◌, ◌≤◌, ℕ, [], IfOk, Some, true};
 ghost use Rattle.mc_net.specs.declared.table.TheConstants.{MOST_CONNECTIONS};
 ghost use Rattle.slab.specs.Slab.{get, slab_len};
 
 use crate::halt::Halt;
+use crate::past::Past;
 use mc_conn::Conn;
 use mc_stream::Tape;
 use mio::net::TcpStream;
@@ -24,23 +25,14 @@ pub(crate) struct Connection {
     pub(crate) sent: Tape,
 }
 
-/// What became of a connection that was to be served.
-#[derive(Drop)]
-pub(crate) enum Served {
-    /// It is to be served again, though no event may tell of it.
-    Again,
-    /// It waits for an event, or no connection stands under the key.
-    Waits,
-    /// It has ended, and stands in the table no more.
-    Gone(Connection),
-}
-
 /// The connections of a worker under their keys, each of a tenant of the log.
 #[derive(Drop)]
 pub(crate) struct Table {
     pub(crate) connections: Slab<Connection>,
     /// How many tenants the log has.
     pub(crate) tenants: usize,
+    /// The connections that have ended, and stand here no more.
+    pub(crate) past: Past,
     ghost room: { MOST_CONNECTIONS ≤ connections.capacity },
     ghost known: { (key : ℕ) (connection : _) → get connections key ≡ Some connection → connection.conn.tenant < tenants },
 }
@@ -48,13 +40,15 @@ pub(crate) struct Table {
 impl Table {
     /// No connection, with room for all that there may be. Where memory runs out: `Memory`.
     pub(crate) fn new(alloc: Global, tenants: usize) -> Result<Table, Halt>
-        ensures { IfOk result (λ table. table.tenants ≡ tenants) }
+        ensures tenants { IfOk result (λ table. table.tenants ≡ tenants) }
+        ensures new { IfOk result (λ table. ((slab_len table.connections == 0) ≡ true) × (table.past.ended ≡ [])) }
     {
         let mut connections = Slab::new(alloc);
         connections.reserve(MOST_CONNECTIONS)?;
         Ok(Table {
             connections,
             tenants,
+            past: Past::new(),
         })
     }
 

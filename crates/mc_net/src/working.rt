@@ -1,7 +1,7 @@
 //! A worker's loop.
 ghost use Rattle.std.specs.Prelude.{◌≡◌, length, IfOk};
 ghost use Rattle.mc_conn.specs.Onward.{IsOnward};
-ghost use Rattle.mc_net.specs.Working.{IsEmpty, Works, standing};
+ghost use Rattle.mc_net.specs.Working.{IsEmpty, IsNew, Works, standing};
 ghost use Rattle.uc_worker.specs.Worker.{tenants_of};
 ghost use Rattle.uc_worker.specs.declared.worker.Worker.{Worker};
 
@@ -47,7 +47,8 @@ enum Order {
 impl Desk {
     /// A desk with no connection, for a log of so many tenants. Where memory runs out: `Memory`.
     pub(crate) fn new(alloc: Global, poll: Poll, tenants: usize) -> Result<Desk, Halt>
-        ensures { IfOk result (λ desk. desk.rota.table.tenants ≡ tenants) }
+        ensures tenants { IfOk result (λ desk. desk.rota.table.tenants ≡ tenants) }
+        ensures new { IfOk result (λ desk. IsNew desk.rota.table) }
     {
         let events = Events::with_capacity(alloc, EVENTS)?;
         let rota = Rota::new(alloc, tenants)?;
@@ -103,8 +104,8 @@ impl Desk {
         self.rota.go_round(worker, gate, buffer, &self.events)
     }
 
-    /// Serves what the acceptor leaves at the station, until no more comes and every connection has ended, or until another loop has
-    /// failed; the connections are closed then. Where memory runs out: `Memory`; where a poll fails: `Poll`.
+    /// Serves what the acceptor leaves at the station, until no more comes and every connection has ended. Where memory runs out: `Memory`;
+    /// where a poll fails: `Poll`; where another loop has failed: `Elsewhere`, and the connections are closed.
     pub(crate) fn work<R: Wait, G: Gate>(
         &mut self,
         rt: &R,
@@ -113,6 +114,7 @@ impl Desk {
         station: &Station,
     ) -> Result<(), Halt>
         requires { self.old.rota.table.tenants ≡ length (tenants_of worker.old) }
+        ensures works { IfOk result (λ _. Works (standing worker.old self.old.rota.table) (standing worker.new self.new.rota.table)) }
         ensures empty { IfOk result (λ _. IsEmpty self.new.rota.table) }
         ensures onward { IsOnward worker.old worker.new }
         ensures tenants { self.new.rota.table.tenants ≡ self.old.rota.table.tenants }
@@ -123,7 +125,7 @@ impl Desk {
         for _ in rt.forever() {
             if order == Order::Halt {
                 self.rota.table.clear();
-                return Ok(());
+                return Err(Halt::Elsewhere);
             }
             if order == Order::Finish && self.rota.table.is_empty() {
                 return Ok(());

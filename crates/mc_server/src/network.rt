@@ -13,7 +13,7 @@ use crate::network_words::{Service, read_words, service_of};
 use crate::waiting::push_all;
 use crate::words::answer_words;
 use mc_model::Fault;
-use mc_net::serve;
+use mc_net::{into_workers, serve};
 use mc_stream::Output;
 use std::alloc::{AllocError, Global};
 use std::net::Net;
@@ -70,7 +70,7 @@ fn serve_tenants<R: Threads + Wait + Net + Sync, O: Output>(
     let workers = open_workers(alloc, &log, passes)?;
     let gates = vec![in alloc; Open; workers.len()]?;
     announce(rt, alloc, &told, output)?;
-    let workers = serve(
+    let back = serve(
         rt,
         alloc,
         &log,
@@ -79,7 +79,7 @@ fn serve_tenants<R: Threads + Wait + Net + Sync, O: Output>(
         service.connections,
         gates,
     )?;
-    finish(rt, workers, output)
+    finish(rt, into_workers(alloc, back)?, output)
 }
 
 /// Listens for each tenant, and serves them all. Before a line is printed all listeners are bound.

@@ -4,7 +4,7 @@ ghost use Rattle.uc_log.specs.Passes.{IsNew};
 
 use crate::signals::Holding;
 use mc_model::{Fault, Limits, Settings, TenantId};
-use mc_net::serve;
+use mc_net::{into_workers, serve};
 use mio::net::TcpListener;
 use std::alloc::{AllocError, Global};
 use std::io;
@@ -122,6 +122,6 @@ pub(crate) fn served<R: Threads + Wait + Net + Sync>(
     if listeners.is_empty() || workers.is_empty() || workers.len() != gates.len() {
         return Err(Fault::BadSettings);
     }
-    let workers = serve(rt, alloc, &log, workers, listeners, connections, gates)?;
-    tenants_of_all(alloc, &log, workers)
+    let back = serve(rt, alloc, &log, workers, listeners, connections, gates)?;
+    tenants_of_all(alloc, &log, into_workers(alloc, back)?)
 }

@@ -1,7 +1,9 @@
 use Rattle.std.proofs.Common.{◌≡◌, ◌++◌, List, All, rules, subst, sym, ◌∙◌}
-use Rattle.std.proofs.lemmas.List.Elements.{All-head, All-rest}
+use Rattle.std.proofs.lemmas.List.Elements.{All-head, All-push, All-rest}
 use Rattle.uc_worker.specs.declared.worker.Worker.{Worker}
 use Rattle.mc_net.specs.Seating.{workers_of}
+use Rattle.mc_net.specs.Working.{IsNew}
+use Rattle.mc_net.specs.declared.seat.Seat.{Seat}
 use Rattle.mc_net.proofs.Seatings.{one_more}
 use Rattle.mc_net.proofs.serving.seats_of.Goals as goal
 
@@ -10,7 +12,7 @@ invariant_of-push g c =
     let same = All-head (λ (worker : Worker). worker.log.now ≡ c.args.log.now) c.in-Some.worker _ (subst (All (λ (worker : Worker). worker.log.now ≡ c.args.log.now)) c.in-Some.ensures.steps.0 c.loop-worker.invariant.1) in
     let one = c.settings.ensures in
     let two = c.tenants-tenants.ensures.value in
-    record { tenants = rw same (rw (sym one) (rw (sym two) c.in_ok-desk.ensures)) }
+    record { tenants = rw same (rw (sym one) (rw (sym two) c.in_ok-desk.ensures.tenants)) }
 
 pub loop-worker-preserved : goal.loop-worker-preserved
 loop-worker-preserved g c = (
@@ -18,4 +20,5 @@ loop-worker-preserved g c = (
   All-rest (λ (worker : Worker). worker.log.now ≡ c.args.log.now) c.in-Some.worker _ _ c.in-Some.ensures.steps.0 c.loop-worker.invariant.1,
   search rules,
   search rules,
+  rw c.in_ok-push-2.ensures.items (All-push (λ (seat : Seat _). IsNew seat.desk.rota.table) c.loop-worker.seats.items _ c.loop-worker.invariant.4 c.in_ok-desk.ensures.new),
 )

@@ -1,0 +1,377 @@
+-- What every connection has come to, while it stands in a table and once it has ended: turn by turn, whatever the worker takes for others in between.
+use Rattle.std.proofs.Common.{◌≡◌, ◌≢◌, ◌⊎◌, ℕ, ◌+◌, ◌≤◌, zero, suc, cond, Bool, true, false, List, [], ◌∷◌, ◌++◌, length, Option, Some, None, All, count_by, is_some, slice_index_or, inl, inr, ⊎_elim, refl, sym, ap, subst, ◌∙◌, arith, append-nil, append_assoc}
+use Rattle.std.specs.Bool.{MatchBool}
+use Rattle.std.specs.List.{AllZip, list_any}
+use Rattle.std.specs.Prelude.{◌||◌, ◌==◌}
+use Rattle.std.proofs.lemmas.List.Elements.{All-cons, All-nil}
+use Rattle.std.proofs.lemmas.Bool.{eqb-true}
+use Rattle.std.proofs.lemmas.List.Folds.{list_any-append}
+use Rattle.std.proofs.lemmas.List.Sums.{sum_by-cons}
+use Rattle.mc_conn.specs.Alone.{first_mark}
+use Rattle.mc_conn.specs.Ending.{Breaks, IsDone, Stops}
+use Rattle.mc_conn.specs.Held.{Holding, HoldsNone, HoldsOn, IsRead, Waits}
+use Rattle.mc_conn.specs.Onward.{IsOnward}
+use Rattle.mc_conn.specs.Owed.{Mark, Owes, mark_of}
+use Rattle.mc_conn.specs.Turn.{Takes, holding_of, queue_of, scene}
+use Rattle.mc_conn.specs.declared.conn.Conn.{Conn}
+use Rattle.mc_conn.specs.declared.conn.State.{State}
+use Rattle.mc_conn.specs.declared.conn.State.TheVariants.{Closed, Idle, Busy}
+use Rattle.mc_conn.proofs.Owings.{onward_self, owes_grow}
+use Rattle.mc_conn.proofs.Readings.{read_refl, read_trans}
+use Rattle.mc_model.specs.Helping.{BeginsWith}
+use Rattle.mc_model.specs.declared.fault.Fault.{Fault}
+use Rattle.mc_model.specs.declared.fault.Fault.TheVariants.{Memory, LogFull, Taken, Input, Output, BadEvent, BadSettings}
+use Rattle.mc_model.specs.declared.reply.Reply.TheVariants.{Refused}
+use Rattle.mc_model.specs.declared.reply.WireNo.TheVariants.{E11}
+use Rattle.mc_model.specs.declared.request.Request.{Request}
+use Rattle.mc_read.specs.Reading.{Kept, ReadsAs, ReadsOn, ends_stream}
+use Rattle.mc_stream.specs.Event.{Event, has_ended, moved}
+use Rattle.mc_stream.specs.Stream.{Inflow, Outflow, both}
+use Rattle.mc_write.specs.Text.{text}
+use Rattle.uc_worker.specs.declared.worker.Worker.{Worker}
+use Rattle.uc_worker.proofs.Lists.{begins_length}
+use Rattle.mc_net.specs.Life.{EndsWell, HasAnswered, IsAnswered, IsBehind, IsCut, OwesInParts, and_then, came_of, none_yet, sent_of}
+use Rattle.mc_net.specs.Serving.{Admits, Becomes, HasEnded, IsFresh, IsLater, IsServed, Serves, Stands, connection_at, scene_of}
+use Rattle.mc_net.specs.Working.{HasServed, IsNew, ServesOne, Standing, TakesIn, Works, begins, goes_on, standing}
+use Rattle.mc_net.specs.declared.door.Arrival.{Arrival}
+use Rattle.mc_net.specs.declared.past.Past.{Past}
+use Rattle.mc_net.specs.declared.seat.Returned.{Returned}
+use Rattle.mc_net.specs.declared.table.Connection.{Connection}
+use Rattle.mc_net.specs.declared.table.Table.{Table}
+use Rattle.mc_net.proofs.Stopped.{stops_onward}
+
+abbrev some_or : {X : Type 0} → X → Option X → X
+some_or default None = default
+some_or default (Some x) = x
+
+some_injective : {X : Type 0} (one two : X) → Some one ≡ Some two → one ≡ two
+some_injective one two is = ap (some_or one) is
+
+-- the end that a turn remembers was found
+end_seen : (X Y : Type 0) (is was : Bool) (before after : Inflow) → MatchBool is ((was ≡ true) × (after ≡ before) ⊎ (has_ended after.events ≡ true) × X) Y →
+    (was ≡ true → has_ended before.events ≡ true) → is ≡ true → has_ended after.events ≡ true
+end_seen X Y true was before after found earlier it_is =
+    ⊎_elim (λ same. ap (λ (input : Inflow). has_ended input.events) same.1 ∙ earlier same.0) (λ seen. seen.0) found
+end_seen X Y false was before after found earlier it_is = cc
+
+-- what a connection holds before its first byte
+abbrev nothing_held : Holding
+nothing_held = record { waiting = None; held = Kept [] }
+
+holds_nothing : (holding : Holding) → HoldsNone holding → HoldsOn holding [] []
+holds_nothing holding none = subst (λ (waiting : Option Request). Waits waiting (ReadsOn holding.held []) []) (sym none.0) ((none.1 []).1 refl)
+
+-- where no whole request is left, all that came reads as what was taken
+whole_of : (came : List ℕ) (requests : List Request) (holding : Holding) → IsRead nothing_held came requests holding → HoldsNone holding → ReadsAs came requests
+whole_of came requests holding reads none =
+    let nothing : HoldsOn holding [] [] = holds_nothing holding none in
+    let all : ReadsAs (came ++ []) (requests ++ []) = (reads [] (requests ++ [])).1 ([], refl, nothing) in
+    subst (λ (bytes : List ℕ). ReadsAs bytes requests) (append-nil came) (subst (ReadsAs (came ++ [])) (append-nil requests) all)
+
+-- a connection that no fault has closed: what it has taken and was sent, and what it holds of the rest
+record Lives (worker : Worker) (connection : Connection) : Type 0 where
+  going : connection.conn.is_closed ≡ false
+  requests : List Request
+  owed : List ℕ
+  to : Mark
+  reads : IsRead nothing_held (came_of connection) requests (holding_of connection.conn)
+  owes : OwesInParts worker connection.conn.tenant requests owed to
+  behind : IsBehind to (mark_of worker)
+  bytes : sent_of connection ++ queue_of connection.conn ≡ owed
+  over : connection.conn.is_over ≡ list_any ends_stream requests
+  end : connection.conn.has_ended ≡ true → has_ended connection.received.events ≡ true
+
+-- what is owed in parts stays owed
+parts_grow : (old new : Worker) → IsOnward old new → (tenant : ℕ) (requests : List Request) (bytes : List ℕ) (to : Mark) → OwesInParts old tenant requests bytes to →
+    OwesInParts new tenant requests bytes to
+parts_grow old new on tenant _ _ _ none_yet = none_yet
+parts_grow old new on tenant _ _ _ (and_then requests more bytes others to from last parts behind owes) =
+    and_then requests more bytes others to from last (parts_grow old new on tenant requests bytes to parts) behind (owes_grow old new on tenant from more others last owes)
+
+behind_grows : (old new : Worker) (to : Mark) → IsOnward old new → IsBehind to (mark_of old) → IsBehind to (mark_of new)
+behind_grows old new to on behind =
+    (omega (arith, behind.0, begins_length _ _ on.announced), omega (arith, behind.1, begins_length _ _ on.history))
+
+lives_on : (old new : Worker) (connection : Connection) → IsOnward old new → Lives old connection → Lives new connection
+lives_on old new connection on lives = record {
+  going = lives.going;
+  requests = lives.requests;
+  owed = lives.owed;
+  to = lives.to;
+  reads = lives.reads;
+  owes = parts_grow old new on connection.conn.tenant lives.requests lives.owed lives.to lives.owes;
+  behind = behind_grows old new lives.to on lives.behind;
+  bytes = lives.bytes;
+  over = lives.over;
+  end = lives.end;
+}
+
+answered_on : (old new : Worker) (connection : Connection) → IsOnward old new → IsAnswered old connection → IsAnswered new connection
+answered_on old new connection on answered = record {
+  requests = answered.requests;
+  owed = answered.owed;
+  to = answered.to;
+  first = answered.first;
+  owes = parts_grow old new on connection.conn.tenant answered.requests answered.owed answered.to answered.owes;
+  ending = answered.ending;
+}
+
+-- an arrival's connection
+lives_fresh : (worker : Worker) (connection : Connection) (arrival : Arrival _) → IsFresh connection arrival → Lives worker connection
+lives_fresh worker connection arrival fresh = record {
+  going = fresh.going.2;
+  requests = [];
+  owed = [];
+  to = first_mark;
+  reads =
+      subst (λ (events : List Event). IsRead nothing_held (moved events) [] (holding_of connection.conn)) (sym fresh.tapes.0)
+      (subst (λ (holding : Holding). IsRead nothing_held [] [] holding) (sym fresh.holding) (read_refl nothing_held));
+  owes = none_yet;
+  behind = (omega arith, omega arith);
+  bytes = ap (λ (events : List Event). moved events ++ queue_of connection.conn) fresh.tapes.1 ∙ fresh.queue;
+  over = fresh.going.1;
+  end = λ is. let no : false ≡ true = sym fresh.going.0 ∙ is in cc;
+}
+
+module _ (before after : Worker) (old new : Connection) (tenant : new.conn.tenant ≡ old.conn.tenant) (lives : Lives before old) where
+  -- the parts so far, over the worker as it is later on
+  parts_so_far : IsOnward before after → OwesInParts after new.conn.tenant lives.requests lives.owed lives.to
+  parts_so_far on =
+      subst (λ (tenant : ℕ). OwesInParts after tenant lives.requests lives.owed lives.to) (sym tenant)
+      (parts_grow before after on old.conn.tenant lives.requests lives.owed lives.to lives.owes)
+
+  -- turns without a fault
+  lives_taking : Takes (scene_of old before) (scene_of new after) → new.conn.is_closed ≡ old.conn.is_closed → Lives after new
+  lives_taking takes closed = record {
+    going = closed ∙ lives.going;
+    requests = lives.requests ++ takes.requests;
+    owed = lives.owed ++ takes.owed;
+    to = mark_of after;
+    reads =
+        subst (λ (came : List ℕ). IsRead nothing_held came (lives.requests ++ takes.requests) (holding_of new.conn)) (sym takes.pulled)
+        (read_trans nothing_held (holding_of old.conn) (holding_of new.conn) (came_of old) takes.came lives.requests takes.requests lives.reads takes.reads);
+    owes =
+        and_then lives.requests takes.requests lives.owed takes.owed lives.to (mark_of before) (mark_of after) (parts_so_far takes.onward) lives.behind
+        (subst (λ (tenant : ℕ). Owes after tenant (mark_of before) takes.requests takes.owed (mark_of after)) (sym tenant) takes.owes);
+    behind = (omega arith, omega arith);
+    bytes =
+        ap (λ (sent : List ℕ). sent ++ queue_of new.conn) takes.pushed
+        ∙ append_assoc (sent_of old) takes.sent (queue_of new.conn)
+        ∙ ap (λ (bytes : List ℕ). sent_of old ++ bytes) takes.bytes
+        ∙ sym (append_assoc (sent_of old) (queue_of old.conn) takes.owed)
+        ∙ ap (λ (bytes : List ℕ). bytes ++ takes.owed) lives.bytes;
+    over =
+        takes.over
+        ∙ ap (λ (is : Bool). is || list_any ends_stream takes.requests) lives.over
+        ∙ sym (list_any-append ends_stream lives.requests takes.requests);
+    end = end_seen _ _ new.conn.has_ended old.conn.has_ended (scene_of old before).streams.input (scene_of new after).streams.input takes.end lives.end;
+  }
+
+  -- Up to a fault. The output then is told of apart, since words about the fault may have been sent behind it.
+  module _ (fault : Fault) (between : Outflow)
+      (breaks : Breaks fault (scene_of old before) (scene new.conn after (both (record { events = new.received.events; left = None }) between))) where
+    abbrev owed_then : List ℕ
+    owed_then = lives.owed ++ breaks.owed
+
+    all_queued : moved between.events ++ queue_of new.conn ≡ owed_then
+    all_queued =
+        ap (λ (sent : List ℕ). sent ++ queue_of new.conn) breaks.pushed
+        ∙ append_assoc (sent_of old) breaks.sent (queue_of new.conn)
+        ∙ ap (λ (bytes : List ℕ). sent_of old ++ bytes) breaks.bytes
+        ∙ sym (append_assoc (sent_of old) (queue_of old.conn) breaks.owed)
+        ∙ ap (λ (bytes : List ℕ). bytes ++ breaks.owed) lives.bytes
+
+    first_requests : (more : List ℕ) (all : List Request) → ReadsAs (came_of new ++ more) all → BeginsWith all (lives.requests ++ breaks.requests)
+    first_requests more all reads =
+        let came : came_of new ++ more ≡ came_of old ++ (breaks.came ++ more) =
+        ap (λ (came : List ℕ). came ++ more) breaks.pulled ∙ append_assoc (came_of old) breaks.came more in
+        let one = (lives.reads (breaks.came ++ more) all).0 (subst (λ (bytes : List ℕ). ReadsAs bytes all) came reads) in
+        let two = breaks.reads more one.0 one.2 in
+        (
+          breaks.met ++ two.0,
+          one.1 ∙ ap (λ (others : List Request). lives.requests ++ others) two.1 ∙ sym (append_assoc lives.requests breaks.requests (breaks.met ++ two.0)),
+        )
+
+    answered_broken : (told : List ℕ) → (told ≡ []) ⊎ (told ≡ text (Refused E11)) → BeginsWith ((moved between.events ++ queue_of new.conn) ++ told) (sent_of new) → IsAnswered after new
+    answered_broken told words sent = record {
+      requests = lives.requests ++ breaks.requests;
+      owed = owed_then;
+      to = breaks.mark;
+      first = first_requests;
+      owes =
+          and_then lives.requests breaks.requests lives.owed breaks.owed lives.to (mark_of before) breaks.mark (parts_so_far breaks.onward) lives.behind
+          (subst (λ (tenant : ℕ). Owes after tenant (mark_of before) breaks.requests breaks.owed breaks.mark) (sym tenant) breaks.owes);
+      ending = inr (record { told = told; words = words; sent = subst (λ (owed : List ℕ). BeginsWith (owed ++ told) (sent_of new)) all_queued sent });
+    }
+
+  -- a fault of which nothing was told
+  answered_untold : (fault : Fault) → Breaks fault (scene_of old before) (scene_of new after) → IsAnswered after new
+  answered_untold fault breaks =
+      answered_broken fault (record { events = new.sent.events }) breaks [] (inl refl) (queue_of new.conn, append-nil (sent_of new ++ queue_of new.conn))
+
+  answered_stopping : (fault : Fault) → Stops fault (scene_of old before) (scene_of new after) → IsAnswered after new
+  answered_stopping Memory stops =
+      let between = stops.0 in
+      let rest = stops.2.0 in
+      let unqueues = stops.2.1 in
+      answered_broken Memory between stops.1 (text (Refused E11)) (inr refl) (
+        rest,
+        append_assoc (moved between.events) (queue_of new.conn) (text (Refused E11))
+        ∙ ap (λ (bytes : List ℕ). moved between.events ++ bytes) unqueues.split
+        ∙ sym (append_assoc (moved between.events) unqueues.front rest)
+        ∙ ap (λ (sent : List ℕ). sent ++ rest) (sym unqueues.went),
+      )
+  answered_stopping LogFull stops = absurd stops
+  answered_stopping Taken stops = answered_untold Taken stops
+  answered_stopping Input stops = answered_untold Input stops
+  answered_stopping Output stops = answered_untold Output stops
+  answered_stopping BadEvent stops = absurd stops
+  answered_stopping BadSettings stops = absurd stops
+
+-- a connection on which nothing is left to be done
+answered_done : (worker : Worker) (connection : Connection) → Lives worker connection → IsDone connection.conn → IsAnswered worker connection
+answered_done worker connection lives done = record {
+  requests = lives.requests;
+  owed = lives.owed;
+  to = lives.to;
+  first = λ more all reads. let then = (lives.reads more all).0 reads in (then.0, then.1);
+  owes = lives.owes;
+  ending = inl (record {
+    end = ⊎_elim (λ ended. inl (lives.end ended)) (λ is_over. inr (sym lives.over ∙ is_over)) done.0;
+    whole = whole_of (came_of connection) lives.requests (holding_of connection.conn) lives.reads done.1;
+    sent = sym (append-nil (sent_of connection)) ∙ ap (λ (queue : List ℕ). sent_of connection ++ queue) (sym done.2) ∙ lives.bytes;
+  });
+}
+
+-- one step of a table under a key: the worker goes on, what stays lives, and what has ended was answered
+record Steps (before after : Standing) (new : Option Connection) : Type 0 where
+  onward : IsOnward before.worker after.worker
+  stays : (connection : Connection) → new ≡ Some connection → Lives after.worker connection
+  ended : All (IsAnswered before.worker) before.table.past.ended → All (IsAnswered after.worker) after.table.past.ended
+
+all_on : (old new : Worker) → IsOnward old new → (list : List Connection) → All (IsAnswered old) list → All (IsAnswered new) list
+all_on old new on list all = λ i d inside. answered_on old new (slice_index_or list i d) on (all i d inside)
+
+later_onward : (before after : Worker) (old new : Connection) (state : State) → IsLater before after old new state → IsOnward before after
+later_onward before after old new state later =
+    ⊎_elim (λ served. served.0.onward) (λ stopped. stops_onward stopped.0 (scene_of old before) (scene_of new after) stopped.1) later.served
+
+going_on : (before after : Worker) (old new : Connection) (state : State) → state ≢ Closed → IsLater before after old new state → ¬ (HasEnded new.conn)
+going_on before after old new Closed isnt later = absurd (isnt refl)
+going_on before after old new Idle isnt later = later.stands.going
+going_on before after old new Busy isnt later = later.stands.going
+
+later_lives : (before after : Worker) (old new : Connection) (state : State) → state ≢ Closed → IsLater before after old new state → Lives before old → Lives after new
+later_lives before after old new state isnt later lives =
+    ⊎_elim
+    (λ served. lives_taking before after old new later.tenant lives served.0 served.1)
+    (λ stopped. absurd (going_on before after old new state isnt later (inl stopped.2)))
+    later.served
+
+later_answered : (before after : Worker) (old new : Connection) → IsLater before after old new Closed → Lives before old → IsAnswered after new
+later_answered before after old new later lives =
+    ⊎_elim
+    (λ served.
+    let still = lives_taking before after old new later.tenant lives served.0 served.1 in
+    ⊎_elim (λ closed. let no : false ≡ true = sym still.going ∙ closed in cc) (answered_done after new still) later.stands)
+    (λ stopped. answered_stopping before after old new later.tenant lives stopped.0 stopped.1)
+    later.served
+
+steps_at : (before after : Standing) (state : State) (old new : Option Connection) →
+    ((connection : Connection) → old ≡ Some connection → Lives before.worker connection) →
+    Becomes (IsLater before.worker after.worker) (after.worker ≡ before.worker) state before.table.past.ended after.table.past.ended old new → Steps before after new
+steps_at before after state None new lives (gone, still, idle, past) = record {
+  onward = subst (IsOnward before.worker) (sym still) (onward_self before.worker);
+  stays = λ connection is. let no : None ≡ Some connection = sym gone ∙ is in cc;
+  ended = λ all. subst (λ (worker : Worker). All (IsAnswered worker) after.table.past.ended) (sym still) (subst (All (IsAnswered before.worker)) (sym past) all);
+}
+steps_at before after state (Some old) (Some new) lives (later, isnt, past) =
+    let on = later_onward before.worker after.worker old new state later in
+    record {
+      onward = on;
+      stays = λ connection is.
+          subst (Lives after.worker) (some_injective new connection is) (later_lives before.worker after.worker old new state isnt later (lives old refl));
+      ended = λ all. subst (All (IsAnswered after.worker)) (sym past) (all_on before.worker after.worker on before.table.past.ended all);
+    }
+steps_at before after state (Some old) None lives (last, past, later, closed) =
+    let on = later_onward before.worker after.worker old last Closed later in
+    record {
+      onward = on;
+      stays = λ connection is. let no : None ≡ Some connection = is in cc;
+      ended = λ all.
+          subst (All (IsAnswered after.worker)) (sym past)
+          (All-cons (IsAnswered after.worker) last before.table.past.ended (later_answered before.worker after.worker old last later (lives old refl))
+          (all_on before.worker after.worker on before.table.past.ended all));
+    }
+
+-- what stands in a table lives, and what has ended was answered
+record IsSound (standing : Standing) : Type 0 where
+  lives : (key : ℕ) (connection : Connection) → connection_at standing.table key ≡ Some connection → Lives standing.worker connection
+  ended : All (IsAnswered standing.worker) standing.table.past.ended
+
+same_key : (one two : ℕ) → (one ≡ two) ⊎ (one ≢ two)
+same_key zero zero = inl refl
+same_key zero (suc two) = inr (λ is. omega (arith, is))
+same_key (suc one) zero = inr (λ is. omega (arith, is))
+same_key (suc one) (suc two) = ⊎_elim (λ is. inl (ap (λ n. suc n) is)) (λ not. inr (λ is. not (omega (arith, is)))) (same_key one two)
+
+sound_taking : (before after : Standing) → IsSound before → TakesIn before after → IsSound after
+sound_taking before after sound taken = record {
+  lives = λ key connection at.
+      subst (λ (worker : Worker). Lives worker connection) (sym taken.worker)
+      (⊎_elim
+      (λ (is : key ≡ taken.key).
+      let fresh = taken.admits.connection in
+      let there : Some fresh ≡ Some connection = sym taken.admits.updates.changed ∙ subst (λ (key : ℕ). connection_at after.table key ≡ Some connection) is at in
+      subst (Lives before.worker) (some_injective fresh connection there) (lives_fresh before.worker fresh taken.arrival taken.admits.fresh))
+      (λ (not : key ≢ taken.key). sound.lives key connection (sym (taken.admits.updates.others key not) ∙ at))
+      (same_key key taken.key));
+  ended =
+      subst (λ (worker : Worker). All (IsAnswered worker) after.table.past.ended) (sym taken.worker)
+      (subst (λ (past : Past). All (IsAnswered before.worker) past.ended) (sym taken.admits.past) sound.ended);
+}
+
+sound_serving : (before after : Standing) → IsSound before → ServesOne before after → IsSound after
+sound_serving before after sound one =
+    let steps = steps_at before after one.state (connection_at before.table one.key) (connection_at after.table one.key) (sound.lives one.key) one.serves.becomes in
+    record {
+      lives = λ key connection at.
+          ⊎_elim
+          (λ (is : key ≡ one.key). steps.stays connection (subst (λ (key : ℕ). connection_at after.table key ≡ Some connection) is at))
+          (λ (not : key ≢ one.key).
+          lives_on before.worker after.worker connection steps.onward (sound.lives key connection (sym (one.serves.others key not) ∙ at)))
+          (same_key key one.key);
+      ended = steps.ended sound.ended;
+    }
+
+sound_working : (first last : Standing) → IsSound first → Works first last → IsSound last
+sound_working first _ sound begins = sound
+sound_working first _ sound (goes_on between last works step) =
+    let so_far = sound_working first between sound works in
+    ⊎_elim (sound_taking between last so_far) (sound_serving between last so_far) step
+
+-- in a table without a connection nothing stands under any key
+nothing_at : {X : Type 0} (slots : List (Option X)) → count_by is_some slots ≡ 0 → (key : ℕ) → slice_index_or slots key None ≡ None
+nothing_at [] none key = refl
+nothing_at (None ∷ slots) none zero = refl
+nothing_at (None ∷ slots) none (suc key) = nothing_at slots none key
+nothing_at (Some x ∷ slots) none key = let no : ⊥ = omega (arith, none, sum_by-cons (λ (slot : Option _). cond (is_some slot) 1 0) (Some x) slots) in absurd no
+
+sound_first : (standing : Standing) → IsNew standing.table → IsSound standing
+sound_first standing new = record {
+  lives = λ key connection at. let no : None ≡ Some connection = sym (nothing_at standing.table.connections.slots (eqb-true _ 0 new.0) key) ∙ at in cc;
+  ended = subst (All (IsAnswered standing.worker)) (sym new.1) (All-nil (IsAnswered standing.worker));
+}
+
+-- a worker that has served has answered
+has_answered : (worker : Worker) (back : Returned) → HasServed worker back → HasAnswered back
+has_answered worker back served =
+    let first = standing worker served.first in
+    let last = standing back.worker served.last in
+    subst (λ (past : Past). All (IsAnswered back.worker) past.ended) served.past (sound_working first last (sound_first first served.new) served.works).ended
+
+pub all_have_answered : (workers : List Worker) (back : List Returned) → AllZip HasServed workers back → All HasAnswered back
+all_have_answered [] [] served = All-nil HasAnswered
+all_have_answered [] (z ∷ zs) served = absurd served
+all_have_answered (x ∷ xs) [] served = absurd served
+all_have_answered (x ∷ xs) (z ∷ zs) served = All-cons HasAnswered z zs (has_answered x z served.0) (all_have_answered xs zs served.1)

@@ -1,0 +1,7 @@
+-- The workers so far and those that are left are all the workers.
+use Rattle.std.proofs.Common.{◌≡◌, ◌++◌, map}
+use Rattle.mc_net.specs.Seating.{worker_of}
+use Rattle.mc_net.proofs.serving.into_workers.Given as goal
+
+abbrev pub invariant-loop-worker : goal.invariant-loop-worker
+invariant-loop-worker l = l.workers.items ++ map worker_of l.worker-iterator.rest.items ≡ map worker_of l.fn.back.items

@@ -1,0 +1,60 @@
+-- What a connection was sent for what came, from its first byte to its last. After memcached's doc/protocol.txt, "Protocol": a connection is a stream of
+-- request texts, each answered in order. That they are answered over a log which many share is Herlihy's construction (Wait-Free
+-- Synchronization, TOPLAS 1991).
+use Rattle.std.specs.List.{list_any}
+use Rattle.std.specs.Prelude.{◌≡◌, ◌⊎◌, ℕ, ◌≤◌, true, List, [], ◌++◌, All}
+use Rattle.mc_conn.specs.Alone.{first_mark}
+use Rattle.mc_conn.specs.Owed.{Mark, Owes}
+use Rattle.mc_model.specs.Helping.{BeginsWith}
+use Rattle.mc_model.specs.declared.reply.Reply.TheVariants.{Refused}
+use Rattle.mc_model.specs.declared.reply.WireNo.TheVariants.{E11}
+use Rattle.mc_model.specs.declared.request.Request.{Request}
+use Rattle.mc_net.specs.declared.seat.Returned.{Returned}
+use Rattle.mc_net.specs.declared.table.Connection.{Connection}
+use Rattle.mc_read.specs.Reading.{ReadsAs, ends_stream}
+use Rattle.mc_stream.specs.Event.{has_ended, moved}
+use Rattle.mc_write.specs.Text.{text}
+use Rattle.uc_worker.specs.declared.worker.Worker.{Worker}
+
+-- all bytes that came from the client, and all that were sent to it
+abbrev pub came_of : Connection → List ℕ
+came_of connection = moved connection.received.events
+
+abbrev pub sent_of : Connection → List ℕ
+sent_of connection = moved connection.sent.events
+
+-- the second mark isn't before the first
+abbrev pub IsBehind : Mark → Mark → Type 0
+IsBehind one two = (one.number ≤ two.number) × (one.place ≤ two.place)
+
+-- What a tenant is owed for requests that a worker took in parts, each behind the one before: between two parts it may have taken others' requests.
+pub data OwesInParts (worker : Worker) (tenant : ℕ) : List Request → List ℕ → Mark → Type 0 where
+  none_yet : OwesInParts worker tenant [] [] first_mark
+  and_then : (requests more : List Request) (bytes others : List ℕ) (to from last : Mark) → OwesInParts worker tenant requests bytes to →
+      IsBehind to from → Owes worker tenant from more others last → OwesInParts worker tenant (requests ++ more) (bytes ++ others) last
+
+-- no fault: all that came, up to its end or to a request that ends the stream, reads as these requests, and all that is owed was sent
+pub record EndsWell (connection : Connection) (requests : List Request) (owed : List ℕ) : Type 0 where
+  pub end : (has_ended connection.received.events ≡ true) ⊎ (list_any ends_stream requests ≡ true)
+  pub whole : ReadsAs (came_of connection) requests
+  pub sent : sent_of connection ≡ owed
+
+-- a fault: a front was sent of what is owed, or of that and then the words that memory ran out
+pub record IsCut (connection : Connection) (owed : List ℕ) : Type 0 where
+  pub told : List ℕ
+  pub words : (told ≡ []) ⊎ (told ≡ text (Refused E11))
+  pub sent : BeginsWith (owed ++ told) (sent_of connection)
+
+-- A connection's whole life. Its first requests, whatever more might have come, were taken in order, and are answered over the worker's history, each at
+-- its own place by its own tenant's commands before that; what was sent is what is owed for these.
+pub record IsAnswered (worker : Worker) (connection : Connection) : Type 0 where
+  pub requests : List Request
+  pub owed : List ℕ
+  pub to : Mark
+  pub first : (more : List ℕ) (all : List Request) → ReadsAs (came_of connection ++ more) all → BeginsWith all requests
+  pub owes : OwesInParts worker connection.conn.tenant requests owed to
+  pub ending : EndsWell connection requests owed ⊎ IsCut connection owed
+
+-- so of each connection that a worker has served
+abbrev pub HasAnswered : Returned → Type 0
+HasAnswered back = All (IsAnswered back.worker) back.past.ended
