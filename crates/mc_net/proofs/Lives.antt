@@ -25,12 +25,12 @@ use Rattle.mc_model.specs.declared.reply.Reply.TheVariants.{Refused}
 use Rattle.mc_model.specs.declared.reply.WireNo.TheVariants.{E11}
 use Rattle.mc_model.specs.declared.request.Request.{Request}
 use Rattle.mc_read.specs.Reading.{Kept, ReadsAs, ReadsOn, ends_stream}
-use Rattle.mc_stream.specs.Event.{Event, has_ended, moved}
+use Rattle.mc_stream.specs.Event.{Event, failures, has_ended, moved}
 use Rattle.mc_stream.specs.Stream.{Inflow, Outflow, both}
 use Rattle.mc_write.specs.Text.{text}
 use Rattle.uc_worker.specs.declared.worker.Worker.{Worker}
 use Rattle.uc_worker.proofs.Lists.{begins_length}
-use Rattle.mc_net.specs.Life.{EndsWell, HasAnswered, IsAnswered, IsBehind, IsCut, OwesInParts, and_then, came_of, none_yet, sent_of}
+use Rattle.mc_net.specs.Life.{EndsWell, FailedSoOften, HasAnswered, HasFault, IsAnswered, IsBehind, IsCut, OwesInParts, and_then, came_of, none_yet, sent_of, words_of}
 use Rattle.mc_net.specs.Serving.{Admits, Becomes, HasEnded, IsFresh, IsLater, IsServed, Serves, Stands, connection_at, scene_of}
 use Rattle.mc_net.specs.Working.{HasServed, IsNew, ServesOne, Standing, TakesIn, Works, begins, goes_on, standing}
 use Rattle.mc_net.specs.declared.door.Arrival.{Arrival}
@@ -71,6 +71,7 @@ whole_of came requests holding reads none =
 -- a connection that no fault has closed: what it has taken and was sent, and what it holds of the rest
 record Lives (worker : Worker) (connection : Connection) : Type 0 where
   going : connection.conn.is_closed ≡ false
+  unfailed : FailedSoOften connection 0 0
   requests : List Request
   owed : List ℕ
   to : Mark
@@ -95,6 +96,7 @@ behind_grows old new to on behind =
 lives_on : (old new : Worker) (connection : Connection) → IsOnward old new → Lives old connection → Lives new connection
 lives_on old new connection on lives = record {
   going = lives.going;
+  unfailed = lives.unfailed;
   requests = lives.requests;
   owed = lives.owed;
   to = lives.to;
@@ -120,6 +122,7 @@ answered_on old new connection on answered = record {
 lives_fresh : (worker : Worker) (connection : Connection) (arrival : Arrival _) → IsFresh connection arrival → Lives worker connection
 lives_fresh worker connection arrival fresh = record {
   going = fresh.going.2;
+  unfailed = (ap failures fresh.tapes.0, ap failures fresh.tapes.1);
   requests = [];
   owed = [];
   to = first_mark;
@@ -144,6 +147,7 @@ module _ (before after : Worker) (old new : Connection) (tenant : new.conn.tenan
   lives_taking : Takes (scene_of old before) (scene_of new after) → new.conn.is_closed ≡ old.conn.is_closed → Lives after new
   lives_taking takes closed = record {
     going = closed ∙ lives.going;
+    unfailed = (takes.unfailed.0 ∙ lives.unfailed.0, takes.unfailed.1 ∙ lives.unfailed.1);
     requests = lives.requests ++ takes.requests;
     owed = lives.owed ++ takes.owed;
     to = mark_of after;
@@ -192,8 +196,8 @@ module _ (before after : Worker) (old new : Connection) (tenant : new.conn.tenan
           one.1 ∙ ap (λ (others : List Request). lives.requests ++ others) two.1 ∙ sym (append_assoc lives.requests breaks.requests (breaks.met ++ two.0)),
         )
 
-    answered_broken : (told : List ℕ) → (told ≡ []) ⊎ (told ≡ text (Refused E11)) → BeginsWith ((moved between.events ++ queue_of new.conn) ++ told) (sent_of new) → IsAnswered after new
-    answered_broken told words sent = record {
+    answered_broken : HasFault fault new → BeginsWith ((moved between.events ++ queue_of new.conn) ++ words_of fault) (sent_of new) → IsAnswered after new
+    answered_broken why sent = record {
       requests = lives.requests ++ breaks.requests;
       owed = owed_then;
       to = breaks.mark;
@@ -201,20 +205,21 @@ module _ (before after : Worker) (old new : Connection) (tenant : new.conn.tenan
       owes =
           and_then lives.requests breaks.requests lives.owed breaks.owed lives.to (mark_of before) breaks.mark (parts_so_far breaks.onward) lives.behind
           (subst (λ (tenant : ℕ). Owes after tenant (mark_of before) breaks.requests breaks.owed breaks.mark) (sym tenant) breaks.owes);
-      ending = inr (record { told = told; words = words; sent = subst (λ (owed : List ℕ). BeginsWith (owed ++ told) (sent_of new)) all_queued sent });
+      ending = inr (record { fault = fault; why = why; sent = subst (λ (owed : List ℕ). BeginsWith (owed ++ words_of fault) (sent_of new)) all_queued sent });
     }
 
   -- a fault of which nothing was told
-  answered_untold : (fault : Fault) → Breaks fault (scene_of old before) (scene_of new after) → IsAnswered after new
-  answered_untold fault breaks =
-      answered_broken fault (record { events = new.sent.events }) breaks [] (inl refl) (queue_of new.conn, append-nil (sent_of new ++ queue_of new.conn))
+  answered_untold : (fault : Fault) → words_of fault ≡ [] → HasFault fault new → Breaks fault (scene_of old before) (scene_of new after) → IsAnswered after new
+  answered_untold fault untold why breaks =
+      answered_broken fault (record { events = new.sent.events }) breaks why
+      (queue_of new.conn, ap (λ (words : List ℕ). (sent_of new ++ queue_of new.conn) ++ words) untold ∙ append-nil (sent_of new ++ queue_of new.conn))
 
   answered_stopping : (fault : Fault) → Stops fault (scene_of old before) (scene_of new after) → IsAnswered after new
   answered_stopping Memory stops =
       let between = stops.0 in
       let rest = stops.2.0 in
       let unqueues = stops.2.1 in
-      answered_broken Memory between stops.1 (text (Refused E11)) (inr refl) (
+      answered_broken Memory between stops.1 (stops.1.failures.0 ∙ lives.unfailed.0) (
         rest,
         append_assoc (moved between.events) (queue_of new.conn) (text (Refused E11))
         ∙ ap (λ (bytes : List ℕ). moved between.events ++ bytes) unqueues.split
@@ -222,9 +227,12 @@ module _ (before after : Worker) (old new : Connection) (tenant : new.conn.tenan
         ∙ ap (λ (sent : List ℕ). sent ++ rest) (sym unqueues.went),
       )
   answered_stopping LogFull stops = absurd stops
-  answered_stopping Taken stops = answered_untold Taken stops
-  answered_stopping Input stops = answered_untold Input stops
-  answered_stopping Output stops = answered_untold Output stops
+  answered_stopping Taken stops =
+      answered_untold Taken refl (stops.failures.0 ∙ lives.unfailed.0, stops.failures.1 ∙ lives.unfailed.1) stops
+  answered_stopping Input stops =
+      answered_untold Input refl (stops.failures.0 ∙ ap (λ n. n + 1) lives.unfailed.0, stops.failures.1 ∙ lives.unfailed.1) stops
+  answered_stopping Output stops =
+      answered_untold Output refl (stops.failures.0 ∙ lives.unfailed.0, stops.failures.1 ∙ ap (λ n. n + 1) lives.unfailed.1) stops
   answered_stopping BadEvent stops = absurd stops
   answered_stopping BadSettings stops = absurd stops
 
@@ -237,6 +245,7 @@ answered_done worker connection lives done = record {
   first = λ more all reads. let then = (lives.reads more all).0 reads in (then.0, then.1);
   owes = lives.owes;
   ending = inl (record {
+    unfailed = lives.unfailed;
     end = ⊎_elim (λ ended. inl (lives.end ended)) (λ is_over. inr (sym lives.over ∙ is_over)) done.0;
     whole = whole_of (came_of connection) lives.requests (holding_of connection.conn) lives.reads done.1;
     sent = sym (append-nil (sent_of connection)) ∙ ap (λ (queue : List ℕ). sent_of connection ++ queue) (sym done.2) ∙ lives.bytes;

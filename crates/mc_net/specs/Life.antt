@@ -6,13 +6,15 @@ use Rattle.std.specs.Prelude.{◌≡◌, ◌⊎◌, ℕ, ◌≤◌, true, List, 
 use Rattle.mc_conn.specs.Alone.{first_mark}
 use Rattle.mc_conn.specs.Owed.{Mark, Owes}
 use Rattle.mc_model.specs.Helping.{BeginsWith}
+use Rattle.mc_model.specs.declared.fault.Fault.{Fault}
+use Rattle.mc_model.specs.declared.fault.Fault.TheVariants.{Memory, LogFull, Taken, Input, Output, BadEvent, BadSettings}
 use Rattle.mc_model.specs.declared.reply.Reply.TheVariants.{Refused}
 use Rattle.mc_model.specs.declared.reply.WireNo.TheVariants.{E11}
 use Rattle.mc_model.specs.declared.request.Request.{Request}
 use Rattle.mc_net.specs.declared.seat.Returned.{Returned}
 use Rattle.mc_net.specs.declared.table.Connection.{Connection}
 use Rattle.mc_read.specs.Reading.{ReadsAs, ends_stream}
-use Rattle.mc_stream.specs.Event.{has_ended, moved}
+use Rattle.mc_stream.specs.Event.{failures, has_ended, moved}
 use Rattle.mc_write.specs.Text.{text}
 use Rattle.uc_worker.specs.declared.worker.Worker.{Worker}
 
@@ -33,17 +35,42 @@ pub data OwesInParts (worker : Worker) (tenant : ℕ) : List Request → List �
   and_then : (requests more : List Request) (bytes others : List ℕ) (to from last : Mark) → OwesInParts worker tenant requests bytes to →
       IsBehind to from → Owes worker tenant from more others last → OwesInParts worker tenant (requests ++ more) (bytes ++ others) last
 
+-- how often reads of the connection's stream have failed, and writes
+abbrev pub FailedSoOften : Connection → ℕ → ℕ → Type 0
+FailedSoOften connection reads writes = (failures connection.received.events ≡ reads) × (failures connection.sent.events ≡ writes)
+
 -- no fault: all that came, up to its end or to a request that ends the stream, reads as these requests, and all that is owed was sent
 pub record EndsWell (connection : Connection) (requests : List Request) (owed : List ℕ) : Type 0 where
+  pub unfailed : FailedSoOften connection 0 0
   pub end : (has_ended connection.received.events ≡ true) ⊎ (list_any ends_stream requests ≡ true)
   pub whole : ReadsAs (came_of connection) requests
   pub sent : sent_of connection ≡ owed
 
--- a fault: a front was sent of what is owed, or of that and then the words that memory ran out
+-- What a connection's stream has of a fault that ended it: a read has failed, or a write; where memory ran out, a write may have, once that was told.
+abbrev pub HasFault : Fault → Connection → Type 0
+HasFault Memory connection = failures connection.received.events ≡ 0
+HasFault Taken connection = FailedSoOften connection 0 0
+HasFault Input connection = FailedSoOften connection 1 0
+HasFault Output connection = FailedSoOften connection 0 1
+HasFault LogFull connection = ⊥
+HasFault BadEvent connection = ⊥
+HasFault BadSettings connection = ⊥
+
+-- what is told of a fault
+abbrev pub words_of : Fault → List ℕ
+words_of Memory = text (Refused E11)
+words_of Taken = []
+words_of Input = []
+words_of Output = []
+words_of LogFull = []
+words_of BadEvent = []
+words_of BadSettings = []
+
+-- a fault: a front was sent of what is owed and then of what is told
 pub record IsCut (connection : Connection) (owed : List ℕ) : Type 0 where
-  pub told : List ℕ
-  pub words : (told ≡ []) ⊎ (told ≡ text (Refused E11))
-  pub sent : BeginsWith (owed ++ told) (sent_of connection)
+  pub fault : Fault
+  pub why : HasFault fault connection
+  pub sent : BeginsWith (owed ++ words_of fault) (sent_of connection)
 
 -- A connection's whole life. Its first requests, whatever more might have come, were taken in order, and are answered over the worker's history, each at
 -- its own place by its own tenant's commands before that; what was sent is what is owed for these.
