@@ -79,7 +79,8 @@ fn serve_tenants<R: Threads + Wait + Net + Sync, O: Output>(
         service.connections,
         gates,
     )?;
-    finish(rt, into_workers(alloc, back)?, output)
+    let workers = into_workers(alloc, back)?;
+    finish(rt, workers, output)
 }
 
 /// Listens for each tenant, and serves them all. Before a line is printed all listeners are bound.

@@ -1,4 +1,5 @@
-use Rattle.std.proofs.Common.{◌≡◌, ◌∙◌, List, length, map, ap, subst, arith}
+use Rattle.std.proofs.Common.{◌≡◌, ◌∙◌, List, length, map, ap, subst, sym, arith}
+use Rattle.std.specs.List.{AllZip}
 use Rattle.std.proofs.lemmas.List.{length-map}
 use Rattle.std.proofs.lemmas.Result.{err_from_is_err_and}
 use Rattle.std.proofs.lemmas.Slice.Zip.{AllZip-long}
@@ -26,18 +27,22 @@ serve-requires-clause-tenants g c κs within =
     are_tenants (λ listener. listener.0) c.args.bound.listeners.items _ c.requires.bound.numbers count
 
 pub finish-requires-clause-log : goal.finish-requires-clause-log
-finish-requires-clause-log g c = (c.in_ok-log.log, back_of c.in_ok-log.log _ c.in_ok-workers-2.workers.items c.in_ok-workers-2.ensures.back c.in_ok-workers.ensures.log)
+finish-requires-clause-log g c =
+    let onward = subst (AllZip IsOnward c.in_ok-workers.workers.items) (sym c.in_ok-workers-2.ensures) c.in_ok-back.ensures.back in
+    (c.in_ok-log.log, back_of c.in_ok-log.log _ c.in_ok-workers-2.workers.items onward c.in_ok-workers.ensures.log)
 
 pub finish-requires-clause-some : goal.finish-requires-clause-some
 finish-requires-clause-some g c =
+    let onward = subst (AllZip IsOnward c.in_ok-workers.workers.items) (sym c.in_ok-workers-2.ensures) c.in_ok-back.ensures.back in
     let workers = ap (λ (settings : Configuration). settings.workers) c.requires.settings in
-    omega (arith, AllZip-long IsOnward _ _ c.in_ok-workers-2.ensures.back, c.in_ok-workers.ensures.count, c.in_ok-log.ensures.count, workers, c.requires.servable.lawful.workers.0)
+    omega (arith, AllZip-long IsOnward _ _ onward, c.in_ok-workers.ensures.count, c.in_ok-log.ensures.count, workers, c.requires.servable.lawful.workers.0)
 
 pub returns-clause-serves : goal.returns-clause-serves
 returns-clause-serves g c =
     let ready = subst (λ (told : List Listening). IsReady told (g.O.Output.tells c.args.output.now) (g.O.Output.tells c.announce.new.output)) c.deref.ensures.value c.in_ok-announce.ensures.ready in
     let workers = ap (λ (settings : Configuration). settings.workers) c.requires.settings in
-    let all = are_workers (settings_asked (served_by c.args.service.now)) c.in_ok-log.log _ c.in_ok-workers-2.workers.items c.in_ok-workers-2.ensures.back
+    let onward = subst (AllZip IsOnward c.in_ok-workers.workers.items) (sym c.in_ok-workers-2.ensures) c.in_ok-back.ensures.back in
+    let all = are_workers (settings_asked (served_by c.args.service.now)) c.in_ok-log.log _ c.in_ok-workers-2.workers.items onward
     (c.in_ok-log.ensures.settings ∙ c.requires.settings) c.in_ok-workers.ensures.log (omega (arith, c.in_ok-workers.ensures.count, c.in_ok-log.ensures.count, workers))
     c.in_ok-workers.ensures.numbers
     in
@@ -47,7 +52,8 @@ pub returns-clause-stops : goal.returns-clause-stops
 returns-clause-stops g c =
     let ready = subst (λ (told : List Listening). IsReady told (g.O.Output.tells c.args.output.now) (g.O.Output.tells c.announce.new.output)) c.deref.ensures.value c.in_ok-announce.ensures.ready in
     let workers = ap (λ (settings : Configuration). settings.workers) c.requires.settings in
-    let all = are_workers (settings_asked (served_by c.args.service.now)) c.in_ok-log.log _ c.in_ok-workers-2.workers.items c.in_ok-workers-2.ensures.back
+    let onward = subst (AllZip IsOnward c.in_ok-workers.workers.items) (sym c.in_ok-workers-2.ensures) c.in_ok-back.ensures.back in
+    let all = are_workers (settings_asked (served_by c.args.service.now)) c.in_ok-log.log _ c.in_ok-workers-2.workers.items onward
     (c.in_ok-log.ensures.settings ∙ c.requires.settings) c.in_ok-workers.ensures.log (omega (arith, c.in_ok-workers.ensures.count, c.in_ok-log.ensures.count, workers))
     c.in_ok-workers.ensures.numbers
     in
