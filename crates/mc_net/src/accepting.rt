@@ -14,6 +14,9 @@ use std::time::Duration;
 /// How many events a poll of the acceptor tells of at most.
 const EVENTS: usize = 64;
 
+/// How many streams are accepted at one listener in a round at most, so that the others have their turn soon.
+const ACCEPTS: u32 = 64;
+
 /// How long a listener that failed is left alone, in milliseconds.
 const PAUSE_MILLIS: u64 = 50;
 
@@ -29,8 +32,12 @@ pub(crate) struct Acceptor {
     // How many streams have been accepted, and how many are to be: with 0 there is no end.
     done: u64,
     most: u64,
-    // Some listener is to be asked again though no event tells of it.
+    // How many rounds there were: each begins at the listener behind the one at which the last began.
+    rounds: usize,
+    // Some listener failed, and is to be asked again though no event tells of it.
     is_troubled: bool,
+    // More may wait at some listener, which is to be asked again at once.
+    has_more: bool,
     pub(crate) outcome: Result<(), Halt>,
 }
 
@@ -58,7 +65,9 @@ impl Acceptor {
             events,
             done: 0,
             most,
+            rounds: 0,
             is_troubled: false,
+            has_more: false,
             outcome: Ok(()),
         })
     }
@@ -67,41 +76,54 @@ impl Acceptor {
         self.most > 0 && self.done >= self.most
     }
 
-    /// Accepts what waits at one listener. One that fails is to be asked again.
+    /// Accepts what waits at one listener, but no more than so many. One that fails, or at which more may wait, is to be asked again.
     fn accept_waiting<R: Wait>(&mut self, rt: &R, door: usize, hall: &Hall) -> Result<(), Halt>
         requires { 0 < vec_len hall.now.stations }
     {
-        for _ in 0..u64::MAX {
+        for _ in 0..ACCEPTS {
             if self.is_done() {
-                break;
+                return Ok(());
             }
             let Some(open) = self.doors.get(door) else {
-                break;
+                return Ok(());
             };
             match accept_one(rt, open, &hall.stations, self.done)? {
                 Accepted::One => self.done = self.done.wrapping_add(1),
-                Accepted::None => break,
+                Accepted::None => return Ok(()),
                 Accepted::Failed => {
                     self.is_troubled = true;
-                    break;
+                    return Ok(());
                 }
             }
         }
+        self.has_more = true;
         Ok(())
     }
 
-    /// Polls once, and accepts at each listener of which an event tells, or at all after a failure.
+    /// How long a poll waits for an event: where a listener failed only for so long, and not at all where more may wait.
+    fn timeout(&self) -> Option<Duration> {
+        if self.has_more {
+            return Some(Duration::ZERO);
+        }
+        self.is_troubled
+            .then_some(Duration::from_millis(PAUSE_MILLIS))
+    }
+
+    /// Polls once, and accepts at each listener of which an event tells, or at all where one is to be asked again.
     fn go_round<R: Wait>(&mut self, rt: &R, hall: &Hall) -> Result<(), Halt>
         requires { 0 < vec_len hall.now.stations }
     {
-        let pause = Duration::from_millis(PAUSE_MILLIS);
-        let timeout = self.is_troubled.then_some(pause);
+        let timeout = self.timeout();
         if self.poll.poll(&mut self.events, timeout).is_err() {
             return Err(Halt::Poll);
         }
-        let asks_all = self.is_troubled;
+        let asks_all = self.is_troubled || self.has_more;
         self.is_troubled = false;
-        for door in 0..self.doors.len() {
+        self.has_more = false;
+        self.rounds = self.rounds.wrapping_add(1);
+        let doors = self.doors.len();
+        for turn in 0..doors {
+            let door = self.rounds.wrapping_add(turn) % doors;
             if asks_all || self.events.iter().any(|event| event.token() == Token(door)) {
                 self.accept_waiting(rt, door, hall)?;
             }
@@ -113,7 +135,7 @@ impl Acceptor {
     /// time, as where the system refuses its thread: `Memory`. An event that comes meanwhile is not lost: all listeners are asked first.
     fn await_workers<R: Wait>(&mut self, rt: &R, hall: &Hall) -> Result<(), Halt> {
         let pause = Duration::from_millis(1);
-        self.is_troubled = true;
+        self.has_more = true;
         let mut left = POLLS_TO_BEGIN;
         for _ in rt.forever() {
             if hall.has_begun(rt) || hall.bell.is_halted(rt) {
