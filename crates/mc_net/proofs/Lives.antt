@@ -1,8 +1,8 @@
 -- What every connection has come to, while it stands in a table and once it has ended: turn by turn, whatever the worker takes for others in between.
-use Rattle.std.proofs.Common.{◌≡◌, ◌≢◌, ◌⊎◌, ℕ, ◌+◌, ◌≤◌, zero, suc, cond, Bool, true, false, List, [], ◌∷◌, ◌++◌, length, Option, Some, None, All, count_by, is_some, slice_index_or, inl, inr, ⊎_elim, refl, sym, ap, subst, ◌∙◌, arith, append-nil, append_assoc}
+use Rattle.std.proofs.Common.{◌≡◌, ◌≢◌, ◌⊎◌, ℕ, ◌+◌, zero, suc, cond, Bool, true, false, List, [], ◌∷◌, ◌++◌, Option, Some, None, All, count_by, is_some, slice_index_or, inl, inr, ⊎_elim, refl, sym, ap, subst, ◌∙◌, arith, append-nil, append_assoc}
 use Rattle.std.specs.Bool.{MatchBool}
 use Rattle.std.specs.List.{AllZip, list_any}
-use Rattle.std.specs.Prelude.{◌||◌, ◌==◌}
+use Rattle.std.specs.Prelude.{◌||◌}
 use Rattle.std.proofs.lemmas.List.Elements.{All-cons, All-nil}
 use Rattle.std.proofs.lemmas.Bool.{eqb-true}
 use Rattle.std.proofs.lemmas.List.Folds.{list_any-append}
@@ -13,7 +13,6 @@ use Rattle.mc_conn.specs.Held.{Holding, HoldsNone, HoldsOn, IsRead, Waits}
 use Rattle.mc_conn.specs.Onward.{IsOnward}
 use Rattle.mc_conn.specs.Owed.{Mark, Owes, mark_of}
 use Rattle.mc_conn.specs.Turn.{Takes, holding_of, queue_of, scene}
-use Rattle.mc_conn.specs.declared.conn.Conn.{Conn}
 use Rattle.mc_conn.specs.declared.conn.State.{State}
 use Rattle.mc_conn.specs.declared.conn.State.TheVariants.{Closed, Idle, Busy}
 use Rattle.mc_conn.proofs.Owings.{onward_self, owes_grow}
@@ -30,14 +29,13 @@ use Rattle.mc_stream.specs.Stream.{Inflow, Outflow, both}
 use Rattle.mc_write.specs.Text.{text}
 use Rattle.uc_worker.specs.declared.worker.Worker.{Worker}
 use Rattle.uc_worker.proofs.Lists.{begins_length}
-use Rattle.mc_net.specs.Life.{EndsWell, FailedSoOften, HasAnswered, HasFault, IsAnswered, IsBehind, IsCut, OwesInParts, and_then, came_of, none_yet, sent_of, words_of}
-use Rattle.mc_net.specs.Serving.{Admits, Becomes, HasEnded, IsFresh, IsLater, IsServed, Serves, Stands, connection_at, scene_of}
+use Rattle.mc_net.specs.Life.{FailedSoOften, HasAnswered, HasFault, IsAnswered, IsBehind, OwesInParts, and_then, came_of, none_yet, sent_of, words_of}
+use Rattle.mc_net.specs.Serving.{Becomes, HasEnded, IsFresh, IsLater, connection_at, scene_of}
 use Rattle.mc_net.specs.Working.{HasServed, IsNew, ServesOne, Standing, TakesIn, Works, begins, goes_on, standing}
 use Rattle.mc_net.specs.declared.door.Arrival.{Arrival}
 use Rattle.mc_net.specs.declared.past.Past.{Past}
 use Rattle.mc_net.specs.declared.seat.Returned.{Returned}
 use Rattle.mc_net.specs.declared.table.Connection.{Connection}
-use Rattle.mc_net.specs.declared.table.Table.{Table}
 use Rattle.mc_net.proofs.Stopped.{stops_onward}
 
 abbrev some_or : {X : Type 0} → X → Option X → X
@@ -190,8 +188,7 @@ module _ (before after : Worker) (old new : Connection) (tenant : new.conn.tenan
         let came : came_of new ++ more ≡ came_of old ++ (breaks.came ++ more) =
         ap (λ (came : List ℕ). came ++ more) breaks.pulled ∙ append_assoc (came_of old) breaks.came more in
         let one = (lives.reads (breaks.came ++ more) all).0 (subst (λ (bytes : List ℕ). ReadsAs bytes all) came reads) in
-        let two = breaks.reads more one.0 one.2 in
-        (
+        let two = breaks.reads more one.0 one.2 in (
           breaks.met ++ two.0,
           one.1 ∙ ap (λ (others : List Request). lives.requests ++ others) two.1 ∙ sym (append_assoc lives.requests breaks.requests (breaks.met ++ two.0)),
         )
@@ -222,9 +219,9 @@ module _ (before after : Worker) (old new : Connection) (tenant : new.conn.tenan
       answered_broken Memory between stops.1 (stops.1.failures.0 ∙ lives.unfailed.0) (
         rest,
         append_assoc (moved between.events) (queue_of new.conn) (text (Refused E11))
-        ∙ ap (λ (bytes : List ℕ). moved between.events ++ bytes) unqueues.split
-        ∙ sym (append_assoc (moved between.events) unqueues.front rest)
-        ∙ ap (λ (sent : List ℕ). sent ++ rest) (sym unqueues.went),
+            ∙ ap (λ (bytes : List ℕ). moved between.events ++ bytes) unqueues.split
+            ∙ sym (append_assoc (moved between.events) unqueues.front rest)
+            ∙ ap (λ (sent : List ℕ). sent ++ rest) (sym unqueues.went),
       )
   answered_stopping LogFull stops = absurd stops
   answered_stopping Taken stops =

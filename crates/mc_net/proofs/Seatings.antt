@@ -1,14 +1,12 @@
 -- Seats and their workers, place by place.
-use Rattle.std.proofs.Common.{◌≡◌, ℕ, ◌<◌, suc, List, [], ◌∷◌, length, map, ap, refl, sym, subst, ◌++◌, arith, slice_index_or, All, Bor, ◌∙◌, Result, Ok, IfOk}
+use Rattle.std.proofs.Common.{◌≡◌, ℕ, ◌<◌, suc, List, [], ◌∷◌, length, map, ap, refl, sym, subst, ◌++◌, arith, slice_index_or, All, Bor, ◌∙◌, Result, IfOk}
 use Rattle.std.specs.List.{AllZip}
-use Rattle.std.proofs.lemmas.List.Elements.{All-head, All-rest, AllZip-get_or, length_all_zip}
+use Rattle.std.proofs.lemmas.List.Elements.{AllZip-get_or, length_all_zip}
 use Rattle.uc_log.specs.declared.log.Log.{Log}
 use Rattle.mc_conn.specs.Onward.{IsOnward}
 use Rattle.mc_net.specs.declared.halt.Halt.{Halt}
-use Rattle.mc_net.specs.declared.past.Past.{Past}
 use Rattle.mc_net.specs.declared.seat.Returned.{Returned}
 use Rattle.mc_net.specs.declared.seat.Seat.{Seat}
-use Rattle.mc_net.specs.declared.table.Table.{Table}
 use Rattle.uc_worker.specs.declared.worker.Worker.{Worker}
 use Rattle.mc_net.specs.Seating.{HasRun, HasWorked, HaveRun, IsReturned, worker_of, workers_of}
 use Rattle.mc_net.specs.Working.{HasServed, IsNew, Works, standing}

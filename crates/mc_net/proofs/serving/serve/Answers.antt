@@ -1,5 +1,4 @@
-use Rattle.std.proofs.Common.{◌≡◌, map, sym, subst, List, All, ◌∙◌}
-use Rattle.mc_net.specs.Seating.{worker_of}
+use Rattle.std.proofs.Common.{sym}
 use Rattle.mc_net.proofs.Lives.{all_have_answered}
 use Rattle.mc_net.proofs.Seatings.{all_of, all_onward, all_served, returned_workers}
 use Rattle.mc_net.proofs.serving.serve.Goals as goal
