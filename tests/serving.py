@@ -12,10 +12,10 @@ TICK = os.sysconf("SC_CLK_TCK")
 
 
 class Server:
-    """wfmc with these options, for tenants of these quotas, each at a free port of loopback. Is killed where its block ends."""
+    """wfmc with these options, for tenants of these quotas, each at a free port of loopback, or one at this. Is killed where its block ends."""
 
-    def __init__(self, program, options, tenants, environment=None):
-        words = [f"{name}=127.0.0.1:0,{items},{size}" for name, (items, size) in tenants.items()]
+    def __init__(self, program, options, tenants, environment=None, port=0):
+        words = [f"{name}=127.0.0.1:{port},{items},{size}" for name, (items, size) in tenants.items()]
         self.process = subprocess.Popen([program, *options, *words], stdout=subprocess.PIPE, stderr=subprocess.PIPE, env=environment)
         self.ports = {}
         for line in iter(self.process.stdout.readline, b"ready\n"):
