@@ -9,18 +9,21 @@ For so many seconds (60 where they aren't given) in rounds, each with a server a
 - and a steady client among them, whose longest wait is printed: above 10 seconds is a failure.
 After each round every descriptor has to be given back, and the processor to rest. Before the rounds: a load that comes again and again leaves
 the memory where it was; more connections than there may be descriptors are served one after another; connections that came and went close no other
-tenant's; a quiet connection keeps nothing of its large replies; and gets whose replies no memory holds end their own connections alone, under a limit (RLIMIT_AS).
+tenant's, and those that come and go without end keep no other waiting; a quiet connection keeps nothing of its large replies; where the system refuses
+threads the server ends; and gets whose replies no memory holds end their own connections alone, under a limit (RLIMIT_AS).
 A round is had again by its seed: --seed N --round M. Prints a line for what goes wrong; the last line is 'N passed, M failed'.
 """
 
 import argparse
 import concurrent.futures
+import errno
 import os
 import pathlib
 import random
 import resource
 import select
 import socket
+import subprocess
 import sys
 import time
 
@@ -369,6 +372,31 @@ def check_dead_arrivals(program):
         yield "behind connections that came and went", None if told == VERSION else f"another tenant's was told {told!r}"
 
 
+def rush(port):
+    """Connects and resets without end, and waits for none of it, until nobody listens."""
+    until, waiting = time.monotonic() + 3 * LATE, []
+    while time.monotonic() < until:
+        client = socket.socket()
+        client.setblocking(False)
+        if client.connect_ex(("127.0.0.1", port)) == errno.ECONNREFUSED:
+            break
+        waiting.append(client)
+        if len(waiting) > 100:
+            reset(waiting.pop(0))
+
+
+def check_rush(program, pool):
+    """Beside a tenant whose clients connect and go without end another tenant's new clients are answered."""
+    with Server(program, ["--workers", "2"], {"a": LARGE, "b": LARGE}) as server:
+        for _ in range(3):
+            pool.submit(rush, server.ports["a"])
+        time.sleep(0.5)
+        found, longest = attempt(steady, (server.ports["b"], 0))
+    if longest is not None:
+        print(f"beside connects without end another tenant's clients waited {longest * 1000:.0f} ms at most", flush=True)
+    yield from ((f"beside connects without end: {what}", wrong) for what, wrong in found)
+
+
 def check_quiet_connections(program):
     """Connections that once had a reply of 8 MB, and sent a block of 1 MB, and then are quiet: what is kept for them."""
     with Server(program, ["--workers", "2"], {"a": LARGE}) as server:
@@ -391,6 +419,31 @@ def large_reply(client):
     left = 8 * len(b"VALUE b 0 1048576\r\n\r\n") + (8 << 20) + len(b"END\r\n")
     while left and (piece := client.recv(left)):
         left -= len(piece)
+
+
+def check_refused_threads(program):
+    """Threads of which the system refuses some, since no memory holds the stacks that they ask for: the server ends, and has served nobody."""
+    limits = 'ulimit -s 1048576 && ulimit -v 2500000 && exec "$@"'
+    with Server("sh", ["-c", limits, "sh", program, "--workers", "4"], {"a": LARGE}) as server:
+        clients = [connect(server.ports["a"], 3 * LATE) for _ in range(4)]
+        for client in clients:
+            client.sendall(b"version\r\n")
+        served = sum(is_served(client) for client in clients)
+        yield "refused threads, and nobody is served", f"{served} of 4 were" if served else None
+        try:
+            ended = server.end(LATE)
+        except subprocess.TimeoutExpired:
+            ended = "not at all"
+        yield "refused threads, and it ends", None if ended == (1, b"", b"wfmc: out of memory\n") else f"it ended so: {ended}"
+
+
+def is_served(client):
+    try:
+        return client.recv(100) == VERSION
+    except OSError:
+        return False
+    finally:
+        client.close()
 
 
 def greedy(port):
@@ -466,9 +519,9 @@ def main():
     with concurrent.futures.ProcessPoolExecutor(48) as pool:
         parts = [rounds(asked, pool)]
         if asked.round is None:
-            alone = (check_flat, check_few_descriptors, check_dead_arrivals, check_quiet_connections)
-            starved = [check_starved(asked.program, pool, workers) for workers in (1, 3)]
-            parts = [*(part(asked.program) for part in alone), *starved, *parts]
+            alone = (check_flat, check_few_descriptors, check_dead_arrivals, check_quiet_connections, check_refused_threads)
+            beside = [check_rush(asked.program, pool), *(check_starved(asked.program, pool, workers) for workers in (1, 3))]
+            parts = [*(part(asked.program) for part in alone), *beside, *parts]
         for part in parts:
             for what, wrong in part:
                 results.append(wrong is None)
