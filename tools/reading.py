@@ -76,7 +76,7 @@ class Definitions:
         crate, name = call.split("::")
         for file in sorted((CRATES / crate / "src").glob("**/*.rt")):
             text = file.read_text(encoding="utf-8")
-            begun = re.search(rf"^ *pub(?:\(crate\))? fn {name}\b.*?^ *\{{", text, re.MULTILINE | re.DOTALL)
+            begun = re.search(rf"^ *pub fn {name}\b.*?^ *\{{", text, re.MULTILINE | re.DOTALL)
             if begun:
                 imports = imports_of(text)
                 return [self.find(*imports[word]) for word in WORD.findall(begun[0]) if word in imports]
