@@ -29,7 +29,7 @@ use Rattle.mc_stream.specs.Stream.{Inflow, Outflow, both}
 use Rattle.mc_write.specs.Text.{text}
 use Rattle.uc_worker.specs.declared.worker.Worker.{Worker}
 use Rattle.uc_worker.proofs.Lists.{begins_length}
-use Rattle.mc_net.specs.Life.{FailedSoOften, HasAnswered, HasFault, IsAnswered, IsBehind, OwesInParts, and_then, came_of, none_yet, sent_of, words_of}
+use Rattle.mc_net.specs.Life.{FailedSoOften, HasAnswered, HasFault, WasAnswered, IsBehind, OwesInParts, and_then, came_of, none_yet, sent_of, words_of}
 use Rattle.mc_net.specs.Serving.{Becomes, HasEnded, IsFresh, IsLater, connection_at, scene_of}
 use Rattle.mc_net.specs.Working.{HasServed, IsNew, ServesOne, Standing, TakesIn, Works, begins, goes_on, standing}
 use Rattle.mc_net.specs.declared.door.Arrival.{Arrival}
@@ -106,7 +106,7 @@ lives_on old new connection on lives = record {
   end = lives.end;
 }
 
-answered_on : (old new : Worker) (connection : Connection) → IsOnward old new → IsAnswered old connection → IsAnswered new connection
+answered_on : (old new : Worker) (connection : Connection) → IsOnward old new → WasAnswered old connection → WasAnswered new connection
 answered_on old new connection on answered = record {
   requests = answered.requests;
   owed = answered.owed;
@@ -193,7 +193,7 @@ module _ (before after : Worker) (old new : Connection) (tenant : new.conn.tenan
           one.1 ∙ ap (λ (others : List Request). lives.requests ++ others) two.1 ∙ sym (append_assoc lives.requests breaks.requests (breaks.met ++ two.0)),
         )
 
-    answered_broken : HasFault fault new → BeginsWith ((moved between.events ++ queue_of new.conn) ++ words_of fault) (sent_of new) → IsAnswered after new
+    answered_broken : HasFault fault new → BeginsWith ((moved between.events ++ queue_of new.conn) ++ words_of fault) (sent_of new) → WasAnswered after new
     answered_broken why sent = record {
       requests = lives.requests ++ breaks.requests;
       owed = owed_then;
@@ -206,12 +206,12 @@ module _ (before after : Worker) (old new : Connection) (tenant : new.conn.tenan
     }
 
   -- a fault of which nothing was told
-  answered_untold : (fault : Fault) → words_of fault ≡ [] → HasFault fault new → Breaks fault (scene_of old before) (scene_of new after) → IsAnswered after new
+  answered_untold : (fault : Fault) → words_of fault ≡ [] → HasFault fault new → Breaks fault (scene_of old before) (scene_of new after) → WasAnswered after new
   answered_untold fault untold why breaks =
       answered_broken fault (record { events = new.sent.events }) breaks why
       (queue_of new.conn, ap (λ (words : List ℕ). (sent_of new ++ queue_of new.conn) ++ words) untold ∙ append-nil (sent_of new ++ queue_of new.conn))
 
-  answered_stopping : (fault : Fault) → Stops fault (scene_of old before) (scene_of new after) → IsAnswered after new
+  answered_stopping : (fault : Fault) → Stops fault (scene_of old before) (scene_of new after) → WasAnswered after new
   answered_stopping Memory stops =
       let between = stops.0 in
       let rest = stops.2.0 in
@@ -234,7 +234,7 @@ module _ (before after : Worker) (old new : Connection) (tenant : new.conn.tenan
   answered_stopping BadSettings stops = absurd stops
 
 -- a connection on which nothing is left to be done
-answered_done : (worker : Worker) (connection : Connection) → Lives worker connection → IsDone connection.conn → IsAnswered worker connection
+answered_done : (worker : Worker) (connection : Connection) → Lives worker connection → IsDone connection.conn → WasAnswered worker connection
 answered_done worker connection lives done = record {
   requests = lives.requests;
   owed = lives.owed;
@@ -253,9 +253,9 @@ answered_done worker connection lives done = record {
 record Steps (before after : Standing) (new : Option Connection) : Type 0 where
   onward : IsOnward before.worker after.worker
   stays : (connection : Connection) → new ≡ Some connection → Lives after.worker connection
-  ended : All (IsAnswered before.worker) before.table.past.ended → All (IsAnswered after.worker) after.table.past.ended
+  ended : All (WasAnswered before.worker) before.table.past.ended → All (WasAnswered after.worker) after.table.past.ended
 
-all_on : (old new : Worker) → IsOnward old new → (list : List Connection) → All (IsAnswered old) list → All (IsAnswered new) list
+all_on : (old new : Worker) → IsOnward old new → (list : List Connection) → All (WasAnswered old) list → All (WasAnswered new) list
 all_on old new on list all = λ i d inside. answered_on old new (slice_index_or list i d) on (all i d inside)
 
 later_onward : (before after : Worker) (old new : Connection) (state : State) → IsLater before after old new state → IsOnward before after
@@ -274,7 +274,7 @@ later_lives before after old new state isnt later lives =
     (λ stopped. absurd (going_on before after old new state isnt later (inl stopped.2)))
     later.served
 
-later_answered : (before after : Worker) (old new : Connection) → IsLater before after old new Closed → Lives before old → IsAnswered after new
+later_answered : (before after : Worker) (old new : Connection) → IsLater before after old new Closed → Lives before old → WasAnswered after new
 later_answered before after old new later lives =
     ⊎_elim
     (λ served.
@@ -289,7 +289,7 @@ steps_at : (before after : Standing) (state : State) (old new : Option Connectio
 steps_at before after state None new lives (gone, still, idle, past) = record {
   onward = subst (IsOnward before.worker) (sym still) (onward_self before.worker);
   stays = λ connection is. let no : None ≡ Some connection = sym gone ∙ is in cc;
-  ended = λ all. subst (λ (worker : Worker). All (IsAnswered worker) after.table.past.ended) (sym still) (subst (All (IsAnswered before.worker)) (sym past) all);
+  ended = λ all. subst (λ (worker : Worker). All (WasAnswered worker) after.table.past.ended) (sym still) (subst (All (WasAnswered before.worker)) (sym past) all);
 }
 steps_at before after state (Some old) (Some new) lives (later, isnt, past) =
     let on = later_onward before.worker after.worker old new state later in
@@ -297,7 +297,7 @@ steps_at before after state (Some old) (Some new) lives (later, isnt, past) =
       onward = on;
       stays = λ connection is.
           subst (Lives after.worker) (some_injective new connection is) (later_lives before.worker after.worker old new state isnt later (lives old refl));
-      ended = λ all. subst (All (IsAnswered after.worker)) (sym past) (all_on before.worker after.worker on before.table.past.ended all);
+      ended = λ all. subst (All (WasAnswered after.worker)) (sym past) (all_on before.worker after.worker on before.table.past.ended all);
     }
 steps_at before after state (Some old) None lives (last, past, later, closed) =
     let on = later_onward before.worker after.worker old last Closed later in
@@ -305,15 +305,15 @@ steps_at before after state (Some old) None lives (last, past, later, closed) =
       onward = on;
       stays = λ connection is. let no : None ≡ Some connection = is in cc;
       ended = λ all.
-          subst (All (IsAnswered after.worker)) (sym past)
-          (All-cons (IsAnswered after.worker) last before.table.past.ended (later_answered before.worker after.worker old last later (lives old refl))
+          subst (All (WasAnswered after.worker)) (sym past)
+          (All-cons (WasAnswered after.worker) last before.table.past.ended (later_answered before.worker after.worker old last later (lives old refl))
           (all_on before.worker after.worker on before.table.past.ended all));
     }
 
 -- what stands in a table lives, and what has ended was answered
 record IsSound (standing : Standing) : Type 0 where
   lives : (key : ℕ) (connection : Connection) → connection_at standing.table key ≡ Some connection → Lives standing.worker connection
-  ended : All (IsAnswered standing.worker) standing.table.past.ended
+  ended : All (WasAnswered standing.worker) standing.table.past.ended
 
 same_key : (one two : ℕ) → (one ≡ two) ⊎ (one ≢ two)
 same_key zero zero = inl refl
@@ -333,8 +333,8 @@ sound_taking before after sound taken = record {
       (λ (not : key ≢ taken.key). sound.lives key connection (sym (taken.admits.updates.others key not) ∙ at))
       (same_key key taken.key));
   ended =
-      subst (λ (worker : Worker). All (IsAnswered worker) after.table.past.ended) (sym taken.worker)
-      (subst (λ (past : Past). All (IsAnswered before.worker) past.ended) (sym taken.admits.past) sound.ended);
+      subst (λ (worker : Worker). All (WasAnswered worker) after.table.past.ended) (sym taken.worker)
+      (subst (λ (past : Past). All (WasAnswered before.worker) past.ended) (sym taken.admits.past) sound.ended);
 }
 
 sound_serving : (before after : Standing) → IsSound before → ServesOne before after → IsSound after
@@ -366,7 +366,7 @@ nothing_at (Some x ∷ slots) none key = let no : ⊥ = omega (arith, none, sum_
 sound_first : (standing : Standing) → IsNew standing.table → IsSound standing
 sound_first standing new = record {
   lives = λ key connection at. let no : None ≡ Some connection = sym (nothing_at standing.table.connections.slots (eqb-true _ 0 new.0) key) ∙ at in cc;
-  ended = subst (All (IsAnswered standing.worker)) (sym new.1) (All-nil (IsAnswered standing.worker));
+  ended = subst (All (WasAnswered standing.worker)) (sym new.1) (All-nil (WasAnswered standing.worker));
 }
 
 -- a worker that has served has answered
@@ -374,7 +374,7 @@ has_answered : (worker : Worker) (back : Returned) → HasServed worker back →
 has_answered worker back served =
     let first = standing worker served.first in
     let last = standing back.worker served.last in
-    subst (λ (past : Past). All (IsAnswered back.worker) past.ended) served.past (sound_working first last (sound_first first served.new) served.works).ended
+    subst (λ (past : Past). All (WasAnswered back.worker) past.ended) served.past (sound_working first last (sound_first first served.new) served.works).ended
 
 pub all_have_answered : (workers : List Worker) (back : List Returned) → AllZip HasServed workers back → All HasAnswered back
 all_have_answered [] [] served = All-nil HasAnswered

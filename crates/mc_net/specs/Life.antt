@@ -46,7 +46,8 @@ pub record EndsWell (connection : Connection) (requests : List Request) (owed : 
   pub whole : ReadsAs (came_of connection) requests
   pub sent : sent_of connection ≡ owed
 
--- What a connection's stream has of a fault that ended it: a read has failed, or a write; where memory ran out, a write may have, once that was told.
+-- What a connection's stream has of a fault that ended it: one read has failed, or one write. Where memory ran out no read has; of writes nothing is
+-- said then, since those that tell it may fail.
 abbrev pub HasFault : Fault → Connection → Type 0
 HasFault Memory connection = failures connection.received.events ≡ 0
 HasFault Taken connection = FailedSoOften connection 0 0
@@ -74,7 +75,7 @@ pub record IsCut (connection : Connection) (owed : List ℕ) : Type 0 where
 
 -- A connection's whole life. Its first requests, whatever more might have come, were taken in order, and are answered over the worker's history, each at
 -- its own place by its own tenant's commands before that; what was sent is what is owed for these.
-pub record IsAnswered (worker : Worker) (connection : Connection) : Type 0 where
+pub record WasAnswered (worker : Worker) (connection : Connection) : Type 0 where
   pub requests : List Request
   pub owed : List ℕ
   pub to : Mark
@@ -84,4 +85,4 @@ pub record IsAnswered (worker : Worker) (connection : Connection) : Type 0 where
 
 -- so of each connection that a worker has served
 abbrev pub HasAnswered : Returned → Type 0
-HasAnswered back = All (IsAnswered back.worker) back.past.ended
+HasAnswered back = All (WasAnswered back.worker) back.past.ended
