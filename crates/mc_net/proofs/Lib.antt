@@ -1,5 +1,7 @@
-pub mod Servings
+pub mod Askings
+pub mod Lives
+pub mod Numbers
 pub mod Seatings
+pub mod Servings
 pub mod Stopped
 pub mod Workings
-pub mod Lives

@@ -42,7 +42,7 @@ abbrev some_or : {X : Type 0} → X → Option X → X
 some_or default None = default
 some_or default (Some x) = x
 
-some_injective : {X : Type 0} (one two : X) → Some one ≡ Some two → one ≡ two
+pub some_injective : {X : Type 0} (one two : X) → Some one ≡ Some two → one ≡ two
 some_injective one two is = ap (some_or one) is
 
 -- the end that a turn remembers was found
@@ -67,8 +67,8 @@ whole_of came requests holding reads none =
     subst (λ (bytes : List ℕ). ReadsAs bytes requests) (append-nil came) (subst (ReadsAs (came ++ [])) (append-nil requests) all)
 
 -- a connection that no fault has closed: what it has taken and was sent, and what it holds of the rest
-record Lives (worker : Worker) (connection : Connection) : Type 0 where
-  going : connection.conn.is_closed ≡ false
+pub record Lives (worker : Worker) (connection : Connection) : Type 0 where
+  pub going : connection.conn.is_closed ≡ false
   unfailed : FailedSoOften connection 0 0
   requests : List Request
   owed : List ℕ
@@ -311,11 +311,11 @@ steps_at before after state (Some old) None lives (last, past, later, closed) =
     }
 
 -- what stands in a table lives, and what has ended was answered
-record IsSound (standing : Standing) : Type 0 where
-  lives : (key : ℕ) (connection : Connection) → connection_at standing.table key ≡ Some connection → Lives standing.worker connection
+pub record IsSound (standing : Standing) : Type 0 where
+  pub lives : (key : ℕ) (connection : Connection) → connection_at standing.table key ≡ Some connection → Lives standing.worker connection
   ended : All (WasAnswered standing.worker) standing.table.past.ended
 
-same_key : (one two : ℕ) → (one ≡ two) ⊎ (one ≢ two)
+pub same_key : (one two : ℕ) → (one ≡ two) ⊎ (one ≢ two)
 same_key zero zero = inl refl
 same_key zero (suc two) = inr (λ is. omega (arith, is))
 same_key (suc one) zero = inr (λ is. omega (arith, is))
@@ -350,20 +350,20 @@ sound_serving before after sound one =
       ended = steps.ended sound.ended;
     }
 
-sound_working : (first last : Standing) → IsSound first → Works first last → IsSound last
+pub sound_working : (first last : Standing) → IsSound first → Works first last → IsSound last
 sound_working first _ sound begins = sound
 sound_working first _ sound (goes_on between last works step) =
     let so_far = sound_working first between sound works in
     ⊎_elim (sound_taking between last so_far) (sound_serving between last so_far) step
 
 -- in a table without a connection nothing stands under any key
-nothing_at : {X : Type 0} (slots : List (Option X)) → count_by is_some slots ≡ 0 → (key : ℕ) → slice_index_or slots key None ≡ None
+pub nothing_at : {X : Type 0} (slots : List (Option X)) → count_by is_some slots ≡ 0 → (key : ℕ) → slice_index_or slots key None ≡ None
 nothing_at [] none key = refl
 nothing_at (None ∷ slots) none zero = refl
 nothing_at (None ∷ slots) none (suc key) = nothing_at slots none key
 nothing_at (Some x ∷ slots) none key = let no : ⊥ = omega (arith, none, sum_by-cons (λ (slot : Option _). cond (is_some slot) 1 0) (Some x) slots) in absurd no
 
-sound_first : (standing : Standing) → IsNew standing.table → IsSound standing
+pub sound_first : (standing : Standing) → IsNew standing.table → IsSound standing
 sound_first standing new = record {
   lives = λ key connection at. let no : None ≡ Some connection = sym (nothing_at standing.table.connections.slots (eqb-true _ 0 new.0) key) ∙ at in cc;
   ended = subst (All (WasAnswered standing.worker)) (sym new.1) (All-nil (WasAnswered standing.worker));

@@ -1,5 +1,5 @@
 -- What a turn leaves of its connection, turns behind turns, and a connection that has ended goes.
-use Rattle.std.proofs.Common.{◌≡◌, ◌⊎◌, ℕ, Bool, true, false, Option, Some, Result, Ok, Err, IsSome, ⊎_elim, inl, inr, refl, sym, subst, ◌∙◌}
+use Rattle.std.proofs.Common.{◌≡◌, ◌⊎◌, ℕ, ◌+◌, ◌≤◌, length, ap, arith, Bool, true, false, Option, Some, Result, Ok, Err, IsSome, ⊎_elim, inl, inr, refl, sym, subst, ◌∙◌}
 use Rattle.slab.specs.Slab.{Updates, with_value}
 use Rattle.slab.proofs.SlabLemmas.{Updates-with_value}
 use Rattle.mc_conn.specs.declared.conn.Conn.{Conn}
@@ -10,7 +10,7 @@ use Rattle.mc_conn.specs.Turn.{Scene, Takes, scene}
 use Rattle.mc_conn.proofs.Endings.{stops_later}
 use Rattle.mc_conn.proofs.Takings.{takes_self, takes_trans}
 use Rattle.mc_model.specs.declared.fault.Fault.{Fault}
-use Rattle.mc_stream.specs.Stream.{Streams}
+use Rattle.mc_stream.specs.Stream.{Inflow, Streams}
 use Rattle.uc_worker.specs.declared.worker.Worker.{Worker}
 use Rattle.mc_net.specs.declared.table.Connection.{Connection}
 use Rattle.mc_net.specs.declared.table.Table.{Table}
@@ -93,6 +93,14 @@ pub stands_later : (a b c : Scene) (state : State) → Takes a b × (b.conn.is_c
 stands_later a b c Closed one two stands = stands
 stands_later a b c Idle one two stands = stays_later a b c Idle one.0 stands
 stands_later a b c Busy one two stands = stays_later a b c Busy one.0 stands
+
+-- a turn pulls once at most
+pub once_few : (before after : Inflow) → PullsOnce before after → length after.events ≤ 1 + length before.events
+once_few before after once =
+    ⊎_elim
+    (λ same. omega (arith, ap (λ (input : Inflow). length input.events) same))
+    (λ pull. omega (arith, ap length pull.1))
+    once
 
 -- a connection had its turns in its place
 module _ (Later : Connection → Connection → State → Type 0) (Still : Type 0) (state : State) where

@@ -1,5 +1,6 @@
+pub mod Asking
 pub mod Handing
-pub mod Serving
-pub mod Seating
-pub mod Working
 pub mod Life
+pub mod Seating
+pub mod Serving
+pub mod Working

@@ -1,5 +1,5 @@
 -- What becomes of the connections of a worker; this project's profile.
-use Rattle.std.specs.Prelude.{◌≡◌, ◌≢◌, ◌⊎◌, ℕ, true, false, List, [], ◌∷◌, Option, Some, None}
+use Rattle.std.specs.Prelude.{◌≡◌, ◌≢◌, ◌⊎◌, ℕ, ◌+◌, ◌≤◌, true, false, List, [], ◌∷◌, length, Option, Some, None}
 use Rattle.slab.specs.Slab.{Updates, get}
 use Rattle.mc_conn.specs.declared.conn.Conn.{Conn}
 use Rattle.mc_conn.specs.declared.conn.State.{State}
@@ -8,10 +8,12 @@ use Rattle.mc_conn.specs.Ending.{IsDone, PullsOnce, Stops, Turns}
 use Rattle.mc_conn.specs.Turn.{Scene, Takes, holding_of, queue_of, scene}
 use Rattle.mc_model.specs.declared.fault.Fault.{Fault}
 use Rattle.mc_model.specs.declared.fault.Fault.TheVariants.{Memory, Input}
+use Rattle.mc_net.specs.declared.connecting.TheConstants.{TURNS}
 use Rattle.mc_net.specs.declared.door.Arrival.{Arrival}
 use Rattle.mc_net.specs.declared.table.Connection.{Connection}
 use Rattle.mc_net.specs.declared.table.Table.{Table}
 use Rattle.mc_read.specs.Reading.{Kept}
+use Rattle.mc_stream.specs.Event.{Event}
 use Rattle.mc_stream.specs.Stream.{both}
 use Rattle.uc_worker.specs.declared.worker.Worker.{Worker}
 
@@ -65,12 +67,17 @@ Stands before after Closed = HasEnded after.conn
 Stands before after Idle = Stays before after Idle
 Stands before after Busy = Stays before after Busy
 
--- the same connection later on: the worker served it, from what its tapes had to what they have, and it stands as the state says
+-- so many pulls or pushes more at most
+abbrev pub HasAtMost : ℕ → List Event → List Event → Type 0
+HasAtMost most before after = length after ≤ most + length before
+
+-- The same connection later on: the worker served it, from what its tapes had to what they have, by few pulls, and it stands as the state says.
 pub record IsLater (before after : Worker) (old new : Connection) (state : State) : Type 0 where
   pub stream : new.stream ≡ old.stream
   pub tenant : new.conn.tenant ≡ old.conn.tenant
   pub served : IsServed (scene_of old before) (scene_of new after)
   pub stands : Stands (scene_of old before) (scene_of new after) state
+  pub few : HasAtMost TURNS old.received.events new.received.events
 
 -- where something is, it had its turns, after which it is the same later on; where nothing is, nothing was done
 abbrev pub HasTurns : {C : Type 0} → (C → C → State → Type 0) → Type 0 → State → Option C → Option C → Type 0

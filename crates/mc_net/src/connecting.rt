@@ -1,8 +1,9 @@
 //! A worker takes connections in and serves them.
 ghost use Rattle.std.specs.Prelude.{◌≡◌, ◌<◌, length, None, IfNone, IfSome};
+ghost use Rattle.mc_conn.specs.Ending.{PullsOnce};
 ghost use Rattle.mc_conn.specs.Onward.{IsOnward};
 ghost use Rattle.mc_conn.specs.Turn.{scene};
-ghost use Rattle.mc_net.specs.Serving.{Admits, Becomes, HasTurns, IsLater, IsServed, Serves, Stands, connection_at};
+ghost use Rattle.mc_net.specs.Serving.{Admits, Becomes, HasAtMost, HasTurns, IsLater, IsServed, Serves, Stands, connection_at};
 ghost use Rattle.mc_stream.specs.Stream.{both};
 ghost use Rattle.slab.specs.Slab.{Updates};
 ghost use Rattle.uc_worker.specs.Worker.{tenants_of};
@@ -35,6 +36,7 @@ fn turn<I: Input, O: Output, G: Gate>(
         (scene conn.new worker.new (both (I.tells input.new) (O.tells output.new))) }
     ensures stands { Stands (scene conn.old worker.old (both (I.tells input.old) (O.tells output.old)))
         (scene conn.new worker.new (both (I.tells input.new) (O.tells output.new))) result }
+    ensures once { PullsOnce (I.tells input.old) (I.tells input.new) }
     ensures tenant { conn.new.tenant ≡ conn.old.tenant }
     ensures onward { IsOnward worker.old worker.new }
 {
@@ -58,6 +60,7 @@ fn turns<I: Input, O: Output, G: Gate>(
         (scene conn.new worker.new (both (I.tells input.new) (O.tells output.new))) }
     ensures stands { Stands (scene conn.old worker.old (both (I.tells input.old) (O.tells output.old)))
         (scene conn.new worker.new (both (I.tells input.new) (O.tells output.new))) result }
+    ensures few { HasAtMost TURNS (I.tells input.old).events (I.tells input.new).events }
     ensures tenant { conn.new.tenant ≡ conn.old.tenant }
     ensures onward { IsOnward worker.old worker.new }
 {

@@ -2,6 +2,7 @@
 ghost use Rattle.std.specs.List.{AllZip};
 ghost use Rattle.std.specs.Prelude.{◌≡◌, ◌<◌, ℕ, All, IfErr, IfOk, length, map, slice_index_or, vec_len};
 ghost use Rattle.mc_conn.specs.Onward.{IsOnward};
+ghost use Rattle.mc_net.specs.Asking.{HasBeenAsked};
 ghost use Rattle.mc_net.specs.Life.{HasAnswered};
 ghost use Rattle.mc_net.specs.Seating.{HasRun, HaveRun, IsReturned, listeners_of, worker_of, workers_of};
 ghost use Rattle.mc_net.specs.Serving.{IsNetworkFault};
@@ -238,6 +239,7 @@ pub fn serve<'a, R: Threads + Wait + Net + Sync, G: Gate + Send + Drop>(
     ensures back { IfOk result (λ back. AllZip IsOnward workers.entry.items (map worker_of back.items)) }
     ensures served { IfOk result (λ back. AllZip HasServed workers.entry.items back.items) }
     ensures answered { IfOk result (λ back. All HasAnswered back.items) }
+    ensures asked { IfOk result (λ back. AllZip HasBeenAsked workers.entry.items back.items) }
     ensures logs { IfOk result (λ back. All (λ worker. worker.log.now ≡ log.entry.now) (map worker_of back.items)) }
     ensures faults { IfErr result IsNetworkFault }
 {

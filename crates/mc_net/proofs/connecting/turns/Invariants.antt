@@ -1,5 +1,5 @@
--- The turns so far went well, kept the connection's tenant, and led the worker onward.
-use Rattle.std.proofs.Common.{◌≡◌}
+-- The turns so far went well, pulled once each at most, kept the connection's tenant, and led the worker onward.
+use Rattle.std.proofs.Common.{◌≡◌, ◌+◌, ◌≤◌, length}
 use Rattle.mc_conn.specs.Onward.{IsOnward}
 use Rattle.mc_conn.specs.Turn.{Takes, scene}
 use Rattle.mc_stream.specs.Stream.{both}
@@ -11,6 +11,7 @@ invariant-loop g l = record {
       Takes (scene l.fn.conn l.fn.worker (both (g.I.Input.tells l.fn.input) (g.O.Output.tells l.fn.output)))
       (scene l.conn l.worker (both (g.I.Input.tells l.input) (g.O.Output.tells l.output)))
       × (l.conn.is_closed ≡ l.fn.conn.is_closed);
+  few : 1 + length (g.I.Input.tells l.input).events ≤ l.counter + length (g.I.Input.tells l.fn.input).events;
   tenant : l.conn.tenant ≡ l.fn.conn.tenant;
   onward : IsOnward l.fn.worker l.worker;
 }

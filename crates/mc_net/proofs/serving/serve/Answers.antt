@@ -1,4 +1,5 @@
 use Rattle.std.proofs.Common.{sym}
+use Rattle.mc_net.proofs.Askings.{all_have_been_asked}
 use Rattle.mc_net.proofs.Lives.{all_have_answered}
 use Rattle.mc_net.proofs.Seatings.{all_of, all_onward, all_served, returned_workers}
 use Rattle.mc_net.proofs.serving.serve.Goals as goal
@@ -13,6 +14,9 @@ returns-clause-served g c =
 
 pub returns-clause-answered : goal.returns-clause-answered
 returns-clause-answered g c = all_have_answered _ _ (returns-clause-served g c)
+
+pub returns-clause-asked : goal.returns-clause-asked
+returns-clause-asked g c = all_have_been_asked _ _ (returns-clause-served g c)
 
 pub returns-clause-logs : goal.returns-clause-logs
 returns-clause-logs g c = all_of _ _ _ (returns-clause-back g c) c.requires.logs

@@ -1,0 +1,569 @@
+-- For whom a worker has announced its commands, while its connections stand in a table and once they have ended.
+use Rattle.std.proofs.Common.{◌≡◌, ◌≢◌, ◌⊎◌, ℕ, zero, suc, ◌+◌, ◌<◌, ◌≤◌, false, true, List, [], ◌∷◌, ◌++◌, length, slice_get, Option, Some, None, arith, refl, sym, ap, subst, ◌∙◌, inl, inr, ⊎_elim, append_assoc, append-nil, length-append}
+use Rattle.std.specs.List.{AllZip}
+use Rattle.std.proofs.lemmas.Option.{none-some}
+use Rattle.std.proofs.lemmas.Bool.{eqb-true}
+use Rattle.mc_conn.specs.Ending.{Breaks, Stops}
+use Rattle.mc_conn.specs.Held.{HoldsOn}
+use Rattle.mc_conn.specs.Onward.{IsOnward, own_sighting}
+use Rattle.mc_conn.specs.Owed.{mark_of}
+use Rattle.mc_conn.specs.Turn.{Takes, holding_of, scene}
+use Rattle.mc_conn.specs.declared.conn.State.{State}
+use Rattle.mc_conn.specs.declared.conn.State.TheVariants.{Closed}
+use Rattle.mc_conn.proofs.Owings.{same_sighting}
+use Rattle.mc_model.specs.declared.fault.Fault.{Fault}
+use Rattle.mc_model.specs.declared.fault.Fault.TheVariants.{Memory, LogFull, Taken, Input, Output, BadEvent, BadSettings}
+use Rattle.mc_model.specs.declared.request.Request.{Request}
+use Rattle.mc_net.specs.Asking.{HasBeenAsked, WasAsked}
+use Rattle.mc_net.specs.Life.{came_of}
+use Rattle.mc_net.specs.Serving.{Becomes, IsFresh, IsLater, connection_at, scene_of}
+use Rattle.mc_net.specs.Working.{HasServed, IsNew, ServesOne, Standing, TakesIn, Works, begins, goes_on, standing}
+use Rattle.mc_net.specs.declared.door.Arrival.{Arrival}
+use Rattle.mc_net.specs.declared.past.Past.{Past}
+use Rattle.mc_net.specs.declared.seat.Returned.{Returned}
+use Rattle.mc_net.specs.declared.table.Connection.{Connection}
+use Rattle.mc_net.proofs.Lives.{IsSound, nothing_at, same_key, some_injective, sound_first, sound_working}
+use Rattle.mc_net.proofs.Numbers.{IsAt, Numbers, met_numbers, owed_numbers, taken_numbers}
+use Rattle.mc_read.specs.Reading.{ReadsAs}
+use Rattle.mc_stream.specs.Event.{moved}
+use Rattle.mc_stream.specs.Stream.{Outflow, both}
+use Rattle.uc_worker.proofs.Lists.{at_longer}
+use Rattle.uc_worker.specs.declared.worker.Worker.{Worker}
+use Rattle.uc_worker.specs.Worker.{announced_of}
+
+module _ {X : Type 0} where
+  inside : (list : List X) (place : ℕ) (x : X) → slice_get list place ≡ Some x → place < length list
+  inside [] place x at = absurd (none-some x at)
+  inside (y ∷ list) zero x at = omega arith
+  inside (y ∷ list) (suc place) x at = omega (arith, inside list place x at)
+
+  at_behind : (front list : List X) (place there : ℕ) (x : X) → there ≡ length front + place → slice_get list place ≡ Some x → slice_get (front ++ list) there ≡ Some x
+  at_behind [] list place there x is at = ap (slice_get list) (let same : there ≡ place = omega (arith, is) in same) ∙ at
+  at_behind (y ∷ front) list place zero x is at = let no : ⊥ = omega (arith, is) in absurd no
+  at_behind (y ∷ front) list place (suc there) x is at = at_behind front list place there x (omega (arith, is)) at
+
+  -- a function, but for one number
+  abbrev pick : {P Q : Type 0} → X → X → P ⊎ Q → X
+  pick one other (inl is) = one
+  pick one other (inr not) = other
+
+  abbrev with_at : (ℕ → X) → ℕ → X → ℕ → X
+  with_at each key x number = pick x (each number) (same_key number key)
+
+  picks_one : (number key : ℕ) (one other : X) (either : (number ≡ key) ⊎ (number ≢ key)) → number ≡ key → pick one other either ≡ one
+  picks_one number key one other (inl is) same = refl
+  picks_one number key one other (inr not) same = absurd (not same)
+
+  picks_other : (number key : ℕ) (one other : X) (either : (number ≡ key) ⊎ (number ≢ key)) → number ≢ key → pick one other either ≡ other
+  picks_other number key one other (inl is) apart = absurd (apart is)
+  picks_other number key one other (inr not) apart = refl
+
+  at_key : (each : ℕ → X) (key : ℕ) (x : X) (number : ℕ) → number ≡ key → with_at each key x number ≡ x
+  at_key each key x number is = picks_one number key x (each number) (same_key number key) is
+
+  at_others : (each : ℕ → X) (key : ℕ) (x : X) (number : ℕ) → number ≢ key → with_at each key x number ≡ each number
+  at_others each key x number not = picks_other number key x (each number) (same_key number key) not
+
+-- a worker, what stands under each key, and what has ended
+record View : Type 0 where
+  worker : Worker
+  live : ℕ → Option Connection
+  ended : List Connection
+
+abbrev view : Worker → (ℕ → Option Connection) → List Connection → View
+view worker live ended = record { worker = worker; live = live; ended = ended }
+
+abbrev view_of : Standing → View
+view_of standing = view standing.worker (connection_at standing.table) standing.table.past.ended
+
+-- all that came of a connection reads as these requests at first, and then, where no fault has closed it, as what it holds
+abbrev HasTaken : Connection → List Request → Type 0
+HasTaken connection requests =
+    (more : List ℕ) (all : List Request) → ReadsAs (came_of connection ++ more) all →
+    (others : List Request) × (all ≡ requests ++ others) × (connection.conn.is_closed ≡ false → HoldsOn (holding_of connection.conn) more others)
+
+-- who asked: the connection under a key, or the one before which so many had ended
+data Who : Type 0 where
+  stands_under : ℕ → Who
+  ended_after : ℕ → Who
+
+abbrev number_of : Who → ℕ
+number_of (stands_under key) = key
+number_of (ended_after asker) = asker
+
+record StandsAndAsked (v : View) (taken : ℕ → List Request) (number key request : ℕ) : Type 0 where
+  connection : Connection
+  there : v.live key ≡ Some connection
+  asked : IsAt v.worker connection.conn.tenant number (taken key) request
+
+abbrev Found : View → (ℕ → List Request) → ℕ → Who → ℕ → Type 0
+Found v taken number (stands_under key) request = StandsAndAsked v taken number key request
+Found v taken number (ended_after asker) request = WasAsked v.worker v.ended number asker request
+
+-- each command from a number on was asked for, and those of one connection in order
+record Asking (from : ℕ) (v : View) : Type 0 where
+  taken : ℕ → List Request
+  has_taken : (key : ℕ) (connection : Connection) → v.live key ≡ Some connection → HasTaken connection (taken key)
+  asker : ℕ → Who
+  request : ℕ → ℕ
+  found : (number : ℕ) → from ≤ number → number < length (announced_of v.worker) → Found v taken number (asker number) (request number)
+  in_order : (one two : ℕ) → from ≤ one → one < two → two < length (announced_of v.worker) → asker one ≡ asker two → request one < request two
+
+-- what a connection's turns have taken more, and announced
+record Step (before after : Worker) (old new : Connection) (taken : List Request) : Type 0 where
+  onward : IsOnward before after
+  tenant : new.conn.tenant ≡ old.conn.tenant
+  more : List Request
+  has_taken : HasTaken new (taken ++ more)
+  numbers : Numbers after new.conn.tenant (length (announced_of before)) (length (announced_of after)) more
+
+module _ (before after : Worker) (old new : Connection) (taken : List Request) (tenant : new.conn.tenant ≡ old.conn.tenant)
+    (opened : old.conn.is_closed ≡ false) (had : HasTaken old taken) where
+  came_on : (came more : List ℕ) (all : List Request) → came_of new ≡ came_of old ++ came → ReadsAs (came_of new ++ more) all →
+      (others : List Request) × (all ≡ taken ++ others) × HoldsOn (holding_of old.conn) (came ++ more) others
+  came_on came more all pulled reads =
+      let bytes : came_of new ++ more ≡ came_of old ++ (came ++ more) = ap (λ (bytes : List ℕ). bytes ++ more) pulled ∙ append_assoc (came_of old) came more in
+      let had_then = had (came ++ more) all (subst (λ (bytes : List ℕ). ReadsAs bytes all) bytes reads) in
+      (had_then.0, had_then.1, had_then.2 opened)
+
+  step_taking : Takes (scene_of old before) (scene_of new after) → Step before after old new taken
+  step_taking takes = record {
+    onward = takes.onward;
+    tenant = tenant;
+    more = takes.requests;
+    has_taken = λ more all reads.
+        let one = came_on takes.came more all takes.pulled reads in
+        let two = (takes.reads more one.0).0 one.2 in
+        (two.0, one.1 ∙ ap (λ (others : List Request). taken ++ others) two.1 ∙ sym (append_assoc taken takes.requests two.0), λ still. two.2);
+    numbers = subst (λ (tenant : ℕ). Numbers after tenant (length (announced_of before)) (length (announced_of after)) takes.requests) (sym tenant)
+        (taken_numbers after old.conn.tenant (mark_of before) (mark_of after) takes.requests takes.owed takes.owes);
+  }
+
+  step_breaking : (fault : Fault) (between : Outflow) → new.conn.is_closed ≡ true →
+      Breaks fault (scene_of old before) (scene new.conn after (both (record { events = new.received.events; left = None }) between)) → Step before after old new taken
+  step_breaking fault between closed breaks = record {
+    onward = breaks.onward;
+    tenant = tenant;
+    more = breaks.requests ++ breaks.met;
+    has_taken = λ more all reads.
+        let one = came_on breaks.came more all breaks.pulled reads in
+        let two = breaks.reads more one.0 one.2 in (
+          two.0,
+          one.1
+              ∙ ap (λ (others : List Request). taken ++ others) (two.1 ∙ sym (append_assoc breaks.requests breaks.met two.0))
+              ∙ sym (append_assoc taken (breaks.requests ++ breaks.met) two.0),
+          λ still. let no : true ≡ false = sym closed ∙ still in cc,
+        );
+    numbers =
+        subst (λ (tenant : ℕ). Numbers after tenant (length (announced_of before)) (length (announced_of after)) (breaks.requests ++ breaks.met)) (sym tenant)
+        (owed_numbers after old.conn.tenant (mark_of before) breaks.mark _ breaks.requests breaks.met breaks.owed breaks.owes
+        (met_numbers after old.conn.tenant breaks.mark breaks.met breaks.meets));
+  }
+
+  step_stopping : (fault : Fault) → new.conn.is_closed ≡ true → Stops fault (scene_of old before) (scene_of new after) → Step before after old new taken
+  step_stopping Memory closed stops = step_breaking Memory stops.0 closed stops.1
+  step_stopping LogFull closed stops = absurd stops
+  step_stopping Taken closed stops = step_breaking Taken (record { events = new.sent.events }) closed stops
+  step_stopping Input closed stops = step_breaking Input (record { events = new.sent.events }) closed stops
+  step_stopping Output closed stops = step_breaking Output (record { events = new.sent.events }) closed stops
+  step_stopping BadEvent closed stops = absurd stops
+  step_stopping BadSettings closed stops = absurd stops
+
+step_later : (before after : Worker) (old new : Connection) (state : State) (taken : List Request) → IsLater before after old new state →
+    old.conn.is_closed ≡ false → HasTaken old taken → Step before after old new taken
+step_later before after old new state taken later opened had =
+    ⊎_elim
+    (λ served. step_taking before after old new taken later.tenant opened had served.0)
+    (λ stopped. step_stopping before after old new taken later.tenant opened had stopped.0 stopped.2 stopped.1)
+    later.served
+
+-- what was announced stays so
+announced_on : (before after : Worker) → IsOnward before after → (number tenant : ℕ) (command : _) → slice_get (announced_of before) number ≡ Some (own_sighting before number tenant command) →
+    slice_get (announced_of after) number ≡ Some (own_sighting after number tenant command)
+announced_on before after on number tenant command at =
+    ap (λ list. slice_get list number) on.announced.1
+    ∙ at_longer (announced_of before) on.announced.0 number _ at
+    ∙ ap (λ seen. Some seen) (same_sighting before after on number tenant command)
+
+is_at_on : (before after : Worker) → IsOnward before after → (tenant number : ℕ) (requests more : List Request) (place : ℕ) → IsAt before tenant number requests place →
+    IsAt after tenant number (requests ++ more) place
+is_at_on before after on tenant number requests more place at = record {
+  command = at.command;
+  quiet = at.quiet;
+  request = at_longer requests more place _ at.request;
+  announced = announced_on before after on number tenant at.command at.announced;
+}
+
+was_asked_on : (before after : Worker) → IsOnward before after → (ended : List Connection) (number asker request : ℕ) → WasAsked before ended number asker request →
+    WasAsked after ended number asker request
+was_asked_on before after on ended number asker request asked = record {
+  connection = asked.connection;
+  later = asked.later;
+  earlier = asked.earlier;
+  stands = asked.stands;
+  so_many = asked.so_many;
+  command = asked.command;
+  quiet = asked.quiet;
+  announced = announced_on before after on number asked.connection.conn.tenant asked.command asked.announced;
+  asks = asked.asks;
+}
+
+-- a number is below another, or so much above
+below_or_above : (number high : ℕ) → (number < high) ⊎ ((i : ℕ) × (number ≡ high + i))
+below_or_above zero zero = inr (0, omega arith)
+below_or_above zero (suc high) = inl (omega arith)
+below_or_above (suc number) zero = inr (suc number, omega arith)
+below_or_above (suc number) (suc high) =
+    ⊎_elim (λ below. inl (omega (arith, below))) (λ above. inr (above.0, omega (arith, above.1))) (below_or_above number high)
+
+-- The connection under a key had its turns.
+module _ (from : ℕ) (v : View) (asking : Asking from v) (key : ℕ) (old new : Connection) (there : v.live key ≡ Some old) (after : Worker)
+    (step : Step v.worker after old new (asking.taken key)) where
+  abbrev served : View
+  served = view after (with_at v.live key (Some new)) v.ended
+
+  abbrev taken_then : ℕ → List Request
+  taken_then = with_at asking.taken key (asking.taken key ++ step.more)
+
+  -- what was found is found still
+  found_still : (number : ℕ) (who : Who) (request : ℕ) → Found v asking.taken number who request → Found served taken_then number who request
+  found_still number (ended_after asker) request found = was_asked_on v.worker after step.onward v.ended number asker request found
+  found_still number (stands_under other) request found =
+      ⊎_elim
+      (λ (is : other ≡ key).
+      let it_is : found.connection ≡ old = some_injective found.connection old (sym found.there ∙ ap v.live is ∙ there) in
+      let tenant : found.connection.conn.tenant ≡ new.conn.tenant = ap (λ (connection : Connection). connection.conn.tenant) it_is ∙ sym step.tenant in
+      record {
+        connection = new;
+        there = at_key v.live key (Some new) other is;
+        asked =
+            subst (λ (requests : List Request). IsAt after new.conn.tenant number requests request) (sym (at_key asking.taken key _ other is))
+            (is_at_on v.worker after step.onward new.conn.tenant number (asking.taken key) step.more request
+            (subst (λ (tenant : ℕ). IsAt v.worker tenant number (asking.taken key) request) tenant
+            (subst (λ (key : ℕ). IsAt v.worker found.connection.conn.tenant number (asking.taken key) request) is found.asked)));
+      })
+      (λ (not : other ≢ key). record {
+        connection = found.connection;
+        there = at_others v.live key (Some new) other not ∙ found.there;
+        asked =
+            subst (λ (requests : List Request). IsAt after found.connection.conn.tenant number requests request)
+            (append-nil (asking.taken other) ∙ sym (at_others asking.taken key _ other not))
+            (is_at_on v.worker after step.onward found.connection.conn.tenant number (asking.taken other) [] request found.asked);
+      })
+      (same_key other key)
+
+  abbrev asker_of : (number : ℕ) → (number < length (announced_of v.worker)) ⊎ ((i : ℕ) × (number ≡ length (announced_of v.worker) + i)) → Who
+  asker_of number (inl before) = asking.asker number
+  asker_of number (inr above) = stands_under key
+
+  abbrev request_of : (number : ℕ) → (number < length (announced_of v.worker)) ⊎ ((i : ℕ) × (number ≡ length (announced_of v.worker) + i)) → ℕ
+  request_of number (inl before) = asking.request number
+  request_of number (inr above) = length (asking.taken key) + step.numbers.place above.0
+
+  found_then : (number : ℕ) (either : (number < length (announced_of v.worker)) ⊎ ((i : ℕ) × (number ≡ length (announced_of v.worker) + i))) → from ≤ number →
+      number < length (announced_of after) → Found served taken_then number (asker_of number either) (request_of number either)
+  found_then number (inl before) low high = found_still number (asking.asker number) (asking.request number) (asking.found number low before)
+  found_then number (inr above) low high =
+      let at = step.numbers.is_at above.0 number above.1 high in
+      record {
+        connection = new;
+        there = at_key v.live key (Some new) key refl;
+        asked = record {
+          command = at.command;
+          quiet = at.quiet;
+          request =
+              ap (λ (requests : List Request). slice_get requests (length (asking.taken key) + step.numbers.place above.0)) (at_key asking.taken key _ key refl)
+              ∙ at_behind (asking.taken key) step.more (step.numbers.place above.0) _ _ refl at.request;
+          announced = at.announced;
+        };
+      }
+
+  -- what one has asked for before is one of the requests taken by then
+  is_taken : (number : ℕ) (who : Who) (request : ℕ) → who ≡ stands_under key → Found v asking.taken number who request → request < length (asking.taken key)
+  is_taken number who request is found =
+      let it = subst (λ (who : Who). Found v asking.taken number who request) is found in inside (asking.taken key) request _ it.asked.request
+
+  in_order_then : (one two : ℕ) (first : (one < length (announced_of v.worker)) ⊎ ((i : ℕ) × (one ≡ length (announced_of v.worker) + i)))
+      (second : (two < length (announced_of v.worker)) ⊎ ((i : ℕ) × (two ≡ length (announced_of v.worker) + i))) → from ≤ one → one < two →
+      two < length (announced_of after) → asker_of one first ≡ asker_of two second → request_of one first < request_of two second
+  in_order_then one two (inl a) (inl b) low less high same = asking.in_order one two low less b same
+  in_order_then one two (inl a) (inr b) low less high same =
+      omega (arith, is_taken one (asking.asker one) (asking.request one) same (asking.found one low a))
+  in_order_then one two (inr a) (inl b) low less high same = let no : ⊥ = omega (arith, a.1, less, b) in absurd no
+  in_order_then one two (inr a) (inr b) low less high same =
+      omega (arith, step.numbers.in_order a.0 b.0 (omega (arith, a.1, b.1, less)) (omega (arith, b.1, high)))
+
+  asking_served : Asking from served
+  asking_served = record {
+    taken = taken_then;
+    has_taken = λ other connection at.
+        ⊎_elim
+        (λ (is : other ≡ key).
+        let it_is : new ≡ connection = some_injective new connection (sym (at_key v.live key (Some new) other is) ∙ at) in
+        subst (λ (requests : List Request). HasTaken connection requests) (sym (at_key asking.taken key _ other is))
+        (subst (λ (connection : Connection). HasTaken connection (asking.taken key ++ step.more)) it_is step.has_taken))
+        (λ (not : other ≢ key).
+        subst (λ (requests : List Request). HasTaken connection requests) (sym (at_others asking.taken key _ other not))
+        (asking.has_taken other connection (sym (at_others v.live key (Some new) other not) ∙ at)))
+        (same_key other key);
+    asker = λ number. asker_of number (below_or_above number _);
+    request = λ number. request_of number (below_or_above number _);
+    found = λ number low high. found_then number (below_or_above number _) low high;
+    in_order = λ one two low less high same. in_order_then one two (below_or_above one _) (below_or_above two _) low less high same;
+  }
+
+-- The connection under a key goes.
+module _ (from : ℕ) (v : View) (asking : Asking from v) (key : ℕ) (last : Connection) (there : v.live key ≡ Some last) where
+  abbrev gone : View
+  gone = view v.worker (with_at v.live key None) (last ∷ v.ended)
+
+  abbrev renamed : Who → Who
+  renamed (ended_after asker) = ended_after asker
+  renamed (stands_under other) = pick (ended_after (length v.ended)) (stands_under other) (same_key other key)
+
+  found_picked : (number other request : ℕ) (either : (other ≡ key) ⊎ (other ≢ key)) → StandsAndAsked v asking.taken number other request →
+      Found gone asking.taken number (pick (ended_after (length v.ended)) (stands_under other) either) request
+  found_picked number other request (inl is) found =
+      let it_is : found.connection ≡ last = some_injective found.connection last (sym found.there ∙ ap v.live is ∙ there) in
+      record {
+        connection = found.connection;
+        later = [];
+        earlier = v.ended;
+        stands = ap (λ (connection : Connection). connection ∷ v.ended) (sym it_is);
+        so_many = refl;
+        command = found.asked.command;
+        quiet = found.asked.quiet;
+        announced = found.asked.announced;
+        asks = λ more all reads.
+            let then = asking.has_taken other found.connection found.there more all reads in
+            ap (λ (requests : List Request). slice_get requests request) then.1 ∙ at_longer (asking.taken other) then.0 request _ found.asked.request;
+      }
+  found_picked number other request (inr not) found = record {
+    connection = found.connection;
+    there = at_others v.live key None other not ∙ found.there;
+    asked = found.asked;
+  }
+
+  found_gone : (number : ℕ) (who : Who) (request : ℕ) → Found v asking.taken number who request → Found gone asking.taken number (renamed who) request
+  found_gone number (stands_under other) request found = found_picked number other request (same_key other key) found
+  found_gone number (ended_after asker) request found = record {
+    connection = found.connection;
+    later = last ∷ found.later;
+    earlier = found.earlier;
+    stands = ap (λ (list : List Connection). last ∷ list) found.stands;
+    so_many = found.so_many;
+    command = found.command;
+    quiet = found.quiet;
+    announced = found.announced;
+    asks = found.asks;
+  }
+
+  -- those that had ended before are fewer than they all
+  is_earlier : (number asker request : ℕ) → WasAsked v.worker v.ended number asker request → asker < length v.ended
+  is_earlier number asker request asked =
+      omega (arith, asked.so_many, ap length asked.stands, length-append asked.later (asked.connection ∷ asked.earlier))
+
+  abbrev has_ended_already : Who → Type 0
+  has_ended_already (stands_under key) = ⊥
+  has_ended_already (ended_after asker) = Unit {0}
+
+  picked_alike : (one two : ℕ) (first : (one ≡ key) ⊎ (one ≢ key)) (second : (two ≡ key) ⊎ (two ≢ key)) →
+      pick (ended_after (length v.ended)) (stands_under one) first ≡ pick (ended_after (length v.ended)) (stands_under two) second → stands_under one ≡ stands_under two
+  picked_alike one two (inl a) (inl b) same = ap stands_under (a ∙ sym b)
+  picked_alike one two (inl a) (inr b) same = absurd (subst has_ended_already same tt)
+  picked_alike one two (inr a) (inl b) same = absurd (subst has_ended_already (sym same) tt)
+  picked_alike one two (inr a) (inr b) same = same
+
+  picked_ended : (one asker : ℕ) (either : (one ≡ key) ⊎ (one ≢ key)) → asker < length v.ended →
+      ¬ (pick (ended_after (length v.ended)) (stands_under one) either ≡ ended_after asker)
+  picked_ended one asker (inl is) less same = let all : length v.ended ≡ asker = ap number_of same in omega (arith, less, all)
+  picked_ended one asker (inr not) less same = absurd (subst has_ended_already (sym same) tt)
+
+  renamed_alike : (one two first second : ℕ) (a b : Who) → Found v asking.taken one a first → Found v asking.taken two b second → renamed a ≡ renamed b → a ≡ b
+  renamed_alike one two first second (stands_under i) (stands_under j) a b same = picked_alike i j (same_key i key) (same_key j key) same
+  renamed_alike one two first second (stands_under i) (ended_after j) a b same = absurd (picked_ended i j (same_key i key) (is_earlier two j second b) same)
+  renamed_alike one two first second (ended_after i) (stands_under j) a b same = absurd (picked_ended j i (same_key j key) (is_earlier one i first a) (sym same))
+  renamed_alike one two first second (ended_after i) (ended_after j) a b same = same
+
+  asking_gone : Asking from gone
+  asking_gone = record {
+    taken = asking.taken;
+    has_taken = λ other connection at.
+        ⊎_elim
+        (λ (is : other ≡ key). absurd (none-some connection (sym (at_key v.live key None other is) ∙ at)))
+        (λ (not : other ≢ key). asking.has_taken other connection (sym (at_others v.live key None other not) ∙ at))
+        (same_key other key);
+    asker = λ number. renamed (asking.asker number);
+    request = asking.request;
+    found = λ number low high. found_gone number (asking.asker number) (asking.request number) (asking.found number low high);
+    in_order = λ one two low less high same.
+        asking.in_order one two low less high
+        (renamed_alike one two _ _ (asking.asker one) (asking.asker two) (asking.found one low (omega (arith, less, high))) (asking.found two (omega (arith, low, less)) high) same);
+  }
+
+-- A connection comes in.
+module _ (from : ℕ) (v : View) (asking : Asking from v) (key : ℕ) (fresh : Connection) (vacant : v.live key ≡ None) (has_taken : HasTaken fresh []) where
+  abbrev joined : View
+  joined = view v.worker (with_at v.live key (Some fresh)) v.ended
+
+  abbrev taken_anew : ℕ → List Request
+  taken_anew = with_at asking.taken key []
+
+  found_joined : (number : ℕ) (who : Who) (request : ℕ) → Found v asking.taken number who request → Found joined taken_anew number who request
+  found_joined number (ended_after asker) request found = found
+  found_joined number (stands_under other) request found =
+      let not : other ≢ key = λ is. none-some found.connection (sym vacant ∙ ap v.live (sym is) ∙ found.there) in
+      record {
+        connection = found.connection;
+        there = at_others v.live key (Some fresh) other not ∙ found.there;
+        asked = subst (λ (requests : List Request). IsAt v.worker found.connection.conn.tenant number requests request) (sym (at_others asking.taken key [] other not)) found.asked;
+      }
+
+  asking_joined : Asking from joined
+  asking_joined = record {
+    taken = taken_anew;
+    has_taken = λ other connection at.
+        ⊎_elim
+        (λ (is : other ≡ key).
+        let it_is : fresh ≡ connection = some_injective fresh connection (sym (at_key v.live key (Some fresh) other is) ∙ at) in
+        subst (λ (requests : List Request). HasTaken connection requests) (sym (at_key asking.taken key [] other is))
+        (subst (λ (connection : Connection). HasTaken connection []) it_is has_taken))
+        (λ (not : other ≢ key).
+        subst (λ (requests : List Request). HasTaken connection requests) (sym (at_others asking.taken key [] other not))
+        (asking.has_taken other connection (sym (at_others v.live key (Some fresh) other not) ∙ at)))
+        (same_key other key);
+    asker = asking.asker;
+    request = asking.request;
+    found = λ number low high. found_joined number (asking.asker number) (asking.request number) (asking.found number low high);
+    in_order = asking.in_order;
+  }
+
+fresh_taken : (connection : Connection) (arrival : Arrival _) → IsFresh connection arrival → HasTaken connection []
+fresh_taken connection arrival fresh more all reads = (
+  all,
+  refl,
+  λ still.
+      subst (λ holding. HoldsOn holding more all) (sym fresh.holding) (subst (λ events. ReadsAs (moved events ++ more) all) fresh.tapes.0 reads),
+)
+
+-- views that show the same
+same_view : (worker other : Worker) (live : ℕ → Option Connection) (now : ℕ → Option Connection) (ended past : List Connection) → other ≡ worker →
+    ((key : ℕ) → now key ≡ live key) → past ≡ ended → view worker live ended ≡ view other now past
+same_view worker other live now ended past one two three = λ i. view (sym one i) (λ key. sym (two key) i) (sym three i)
+
+-- what stands under every key after one has changed
+changed_live : (live now : ℕ → Option Connection) (key : ℕ) (slot : Option Connection) → now key ≡ slot → ((other : ℕ) → other ≢ key → now other ≡ live other) →
+    (other : ℕ) → now other ≡ with_at live key slot other
+changed_live live now key slot changed others other =
+    ⊎_elim
+    (λ (is : other ≡ key). ap now is ∙ changed ∙ sym (at_key live key slot other is))
+    (λ (not : other ≢ key). others other not ∙ sym (at_others live key slot other not))
+    (same_key other key)
+
+asking_taking : (from : ℕ) (before after : Standing) → Asking from (view_of before) → TakesIn before after → Asking from (view_of after)
+asking_taking from before after asking taken =
+    let fresh = taken.admits.connection in
+    let now = connection_at after.table in
+    subst (Asking from)
+    (same_view before.worker after.worker (with_at (connection_at before.table) taken.key (Some fresh)) now before.table.past.ended after.table.past.ended taken.worker
+    (changed_live (connection_at before.table) now taken.key (Some fresh) taken.admits.updates.changed taken.admits.updates.others)
+    (ap (λ (past : Past). past.ended) taken.admits.past))
+    (asking_joined from (view_of before) asking taken.key fresh taken.admits.vacant (fresh_taken fresh taken.arrival taken.admits.fresh))
+
+-- what becomes of the slot under the key
+asking_at : (from : ℕ) (before after : Standing) (state : State) (key : ℕ) (old new : Option Connection) → Asking from (view_of before) →
+    ((connection : Connection) → old ≡ Some connection → connection.conn.is_closed ≡ false) → connection_at before.table key ≡ old → connection_at after.table key ≡ new →
+    ((other : ℕ) → other ≢ key → connection_at after.table other ≡ connection_at before.table other) →
+    Becomes (IsLater before.worker after.worker) (after.worker ≡ before.worker) state before.table.past.ended after.table.past.ended old new → Asking from (view_of after)
+asking_at from before after state key None new asking opened was is others (gone, still, idle, past) =
+    subst (Asking from)
+    (same_view before.worker after.worker (connection_at before.table) (connection_at after.table) before.table.past.ended after.table.past.ended still
+    (λ other.
+    ⊎_elim
+    (λ (same : other ≡ key). ap (connection_at after.table) same ∙ is ∙ gone ∙ sym was ∙ ap (connection_at before.table) (sym same))
+    (λ (not : other ≢ key). others other not)
+    (same_key other key))
+    past)
+    asking
+asking_at from before after state key (Some old) (Some new) asking opened was is others (later, isnt, past) =
+    let step = step_later before.worker after.worker old new state (asking.taken key) later (opened old refl) (asking.has_taken key old was) in
+    subst (Asking from)
+    (same_view after.worker after.worker (with_at (connection_at before.table) key (Some new)) (connection_at after.table) before.table.past.ended after.table.past.ended refl
+    (changed_live (connection_at before.table) (connection_at after.table) key (Some new) is others) past)
+    (asking_served from (view_of before) asking key old new was after.worker step)
+asking_at from before after state key (Some old) None asking opened was is others (last, past, later, closed) =
+    let live = connection_at before.table in
+    let step = step_later before.worker after.worker old last Closed (asking.taken key) later (opened old refl) (asking.has_taken key old was) in
+    let then = asking_served from (view_of before) asking key old last was after.worker step in
+    subst (Asking from)
+    (same_view after.worker after.worker (with_at (with_at live key (Some last)) key None) (connection_at after.table) (last ∷ before.table.past.ended) after.table.past.ended refl
+    (changed_live (with_at live key (Some last)) (connection_at after.table) key None is (λ other not. others other not ∙ sym (at_others live key (Some last) other not)))
+    past)
+    (asking_gone from (view after.worker (with_at live key (Some last)) before.table.past.ended) then key last (at_key live key (Some last) key refl))
+
+asking_serving : (from : ℕ) (before after : Standing) → IsSound before → Asking from (view_of before) → ServesOne before after → Asking from (view_of after)
+asking_serving from before after sound asking one =
+    asking_at from before after one.state one.key (connection_at before.table one.key) (connection_at after.table one.key) asking
+    (λ connection at. (sound.lives one.key connection at).going) refl refl one.serves.others one.serves.becomes
+
+asking_working : (from : ℕ) (first last : Standing) → IsSound first → Asking from (view_of first) → Works first last → Asking from (view_of last)
+asking_working from first _ sound asking begins = asking
+asking_working from first _ sound asking (goes_on between last works step) =
+    let so_far = asking_working from first between sound asking works in
+    ⊎_elim (asking_taking from between last so_far) (asking_serving from between last (sound_working first between sound works) so_far) step
+
+-- with no connection yet nothing was asked for, and nothing announced
+asking_first : (standing : Standing) → IsNew standing.table → Asking (length (announced_of standing.worker)) (view_of standing)
+asking_first standing new = record {
+  taken = λ key. [];
+  has_taken = λ key connection at. absurd (none-some connection (sym (nothing_at standing.table.connections.slots (eqb-true _ 0 new.0) key) ∙ at));
+  asker = λ number. ended_after 0;
+  request = λ number. 0;
+  found = λ number low high. let no : ⊥ = omega (arith, low, high) in absurd no;
+  in_order = λ one two low less high same. let no : ⊥ = omega (arith, low, less, high) in absurd no;
+}
+
+-- with no connection any more all who asked have ended
+module _ (from : ℕ) (v : View) (asking : Asking from v) (nobody : (key : ℕ) → v.live key ≡ None) where
+  is_ended : (number : ℕ) (who : Who) (request : ℕ) → Found v asking.taken number who request → who ≡ ended_after (number_of who)
+  is_ended number (ended_after asker) request found = refl
+  is_ended number (stands_under key) request found = absurd (none-some found.connection (sym (nobody key) ∙ found.there))
+
+  found_ended : (number : ℕ) → from ≤ number → number < length (announced_of v.worker) →
+      WasAsked v.worker v.ended number (number_of (asking.asker number)) (asking.request number)
+  found_ended number low high =
+      let found = asking.found number low high in
+      subst (λ (who : Who). Found v asking.taken number who (asking.request number)) (is_ended number (asking.asker number) (asking.request number) found) found
+
+  in_order_ended : (one two : ℕ) → from ≤ one → one < two → two < length (announced_of v.worker) → number_of (asking.asker one) ≡ number_of (asking.asker two) →
+      asking.request one < asking.request two
+  in_order_ended one two low less high same =
+      asking.in_order one two low less high
+      (is_ended one (asking.asker one) _ (asking.found one low (omega (arith, less, high)))
+      ∙ ap ended_after same
+      ∙ sym (is_ended two (asking.asker two) _ (asking.found two (omega (arith, low, less)) high)))
+
+-- a worker that has served was asked for all that it announced
+has_been_asked : (worker : Worker) (back : Returned) → HasServed worker back → HasBeenAsked worker back
+has_been_asked worker back served =
+    let first = standing worker served.first in
+    let last = standing back.worker served.last in
+    let from = length (announced_of worker) in
+    let live = connection_at served.last in
+    let asking =
+    subst (Asking from) (same_view back.worker back.worker live live served.last.past.ended back.past.ended refl (λ key. refl) (ap (λ (past : Past). past.ended) (sym served.past)))
+    (asking_working from first last (sound_first first served.new) (asking_first first served.new) served.works)
+    in
+    let nobody = nothing_at served.last.connections.slots (eqb-true _ 0 served.over) in
+    record {
+      asker = λ number. number_of (asking.asker number);
+      request = asking.request;
+      asked = found_ended from (view back.worker live back.past.ended) asking nobody;
+      in_order = in_order_ended from (view back.worker live back.past.ended) asking nobody;
+    }
+
+pub all_have_been_asked : (workers : List Worker) (back : List Returned) → AllZip HasServed workers back → AllZip HasBeenAsked workers back
+all_have_been_asked [] [] served = tt
+all_have_been_asked [] (z ∷ zs) served = absurd served
+all_have_been_asked (x ∷ xs) [] served = absurd served
+all_have_been_asked (x ∷ xs) (z ∷ zs) served = (has_been_asked x z served.0, all_have_been_asked xs zs served.1)
