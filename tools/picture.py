@@ -26,6 +26,7 @@ SAYS = {
     "mc_stream": "pulls and pushes",
     "mc_conn": "one connection, by turns",
     "mc_net": "sockets and threads",
+    "mc_programs": "programs over streams",
     "mc_server": "words, statuses, loops",
     "mc_stdin": "one client, by pipes",
     "mc_schedule": "tries a schedule",

@@ -1,12 +1,5 @@
-pub mod Faults
 pub mod Listeners
-pub mod Lists
 pub mod Network
 pub mod NetworkTexts
 pub mod NetworkWords
-pub mod Options
-pub mod Opening
-pub mod Reporting
-pub mod Serving
 pub mod TenantWord
-pub mod Words

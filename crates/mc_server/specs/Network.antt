@@ -9,11 +9,11 @@ use Rattle.mc_model.specs.declared.shown.Phase.TheVariants.{Idle}
 use Rattle.mc_model.specs.Helping.{BeginsWith}
 use Rattle.mc_model.specs.Legal.{IsLegal, count}
 use Rattle.mc_model.specs.Settings.{Configuration}
-use Rattle.mc_server.specs.Faults.{fault_line}
+use Rattle.mc_programs.specs.Faults.{fault_line}
 use Rattle.mc_server.specs.Listeners.{CountsFrom, IsTold}
 use Rattle.mc_server.specs.NetworkTexts.{cannot_listen_line, done_line, ready_text}
 use Rattle.mc_server.specs.NetworkWords.{AsksForNone, AsksForService, NetworkAsked, network_app, settings_asked}
-use Rattle.mc_server.specs.Words.{FailsToShow, Shows, TellsMistake}
+use Rattle.mc_programs.specs.Words.{FailsToShow, Shows, TellsMistake}
 use Rattle.mc_server.specs.declared.listeners.Stop.{Stop}
 use Rattle.mc_server.specs.declared.listeners.Stop.TheVariants.{CannotListen, Failed}
 use Rattle.mc_server.specs.declared.network_texts.Listening.{Listening}

@@ -3,7 +3,7 @@ use Rattle.std.specs.Net.Text.{socket_v4_text}
 use Rattle.std.specs.Prelude.{ℕ, ◌==◌, if◌then◌else◌, List, ◌++◌, codes, decimal, flat_map}
 use Rattle.std.specs.declared.net.socket_addr.SocketAddrV4.{SocketAddrV4}
 use Rattle.clap.specs.Walk.{Text}
-use Rattle.mc_server.specs.Faults.{program_line}
+use Rattle.mc_programs.specs.Faults.{program_line}
 use Rattle.mc_server.specs.declared.network_texts.Listening.{Listening}
 
 -- the address to tell of a listener that was bound at an address: where that has port 0, it is told with the port that the listener was given

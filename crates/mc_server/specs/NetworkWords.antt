@@ -8,7 +8,7 @@ use Rattle.clap.specs.Simple.{App, matches_of, new_rule, with_rule}
 use Rattle.clap.specs.Walk.{Rule, Text, all_of}
 use Rattle.mc_model.specs.Settings.{Configuration, IsLawful}
 use Rattle.mc_server.specs.TenantWord.{Says, TenantAsked, asked_of}
-use Rattle.mc_server.specs.Words.{bare_app, number_asked, number_rule}
+use Rattle.mc_programs.specs.Words.{bare_app, number_asked, number_rule}
 use Rattle.mc_server.specs.declared.network_words.NetworkWords.{NetworkWords}
 use Rattle.mc_server.specs.declared.network_words.Service.{Service}
 

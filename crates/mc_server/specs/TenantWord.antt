@@ -6,7 +6,7 @@ use Rattle.std.specs.declared.net.socket_addr.SocketAddrV4.{SocketAddrV4}
 use Rattle.clap.specs.Walk.{Text}
 use Rattle.mc_model.specs.Settings.{IsBetween}
 use Rattle.mc_model.specs.declared.settings.Limits.{Limits}
-use Rattle.mc_server.specs.Words.{u64_of}
+use Rattle.mc_programs.specs.Words.{u64_of}
 use Rattle.mc_server.specs.declared.tenant_word.Tenant.{Tenant}
 
 -- a tenant: the name that its listener goes by, the address at which it listens, and its quotas

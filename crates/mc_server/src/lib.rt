@@ -1,28 +1,15 @@
-//! The functions behind the programs.
+//! The functions behind the programs: those over streams, and that of the server for several tenants.
 #![tactic(auto)]
 
-pub use mc_stream::{
+pub use mc_programs::{
     Input, InputStep, MemoryInput, MemoryOutput, Output, OutputStep, Pull, Push, ReadInput,
-    WriteOutput,
+    WriteOutput, fault_text, refuse_words, run_schedule, run_stdin, serve_client, words_after_name,
 };
-pub use mc_write::fault_text;
 pub use network::run_wfmc;
-pub use schedule::run_schedule;
-pub use serving::serve_client;
-pub use stdin::run_stdin;
-pub use words::{refuse_words, words_after_name};
 
 mod crew;
-mod faults;
 mod listeners;
 mod network;
 mod network_texts;
 mod network_words;
-mod options;
-mod schedule;
-mod schedule_words;
-mod serving;
-mod stdin;
 mod tenant_word;
-mod waiting;
-mod words;

@@ -6,14 +6,12 @@ ghost use Rattle.mc_server.specs.NetworkWords.{IsServable, served_by, settings_a
 ghost use Rattle.mc_stream.specs.Pushing.{PushesOrFails};
 
 use crate::crew::{meet_all, open_workers};
-use crate::faults::{fail, tell_fault};
 use crate::listeners::{Listeners, Stop, bind_all};
 use crate::network_texts::{Listening, ready_text, tell_cannot_listen, tell_done};
 use crate::network_words::{Service, read_words, service_of};
-use crate::waiting::push_all;
-use crate::words::answer_words;
 use mc_model::Fault;
 use mc_net::{into_workers, serve};
+use mc_programs::{answer_words, fail, push_all, tell_fault};
 use mc_stream::Output;
 use std::alloc::{AllocError, Global};
 use std::net::Net;

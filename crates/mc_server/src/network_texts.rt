@@ -4,9 +4,9 @@ ghost use Rattle.mc_model.specs.declared.fault.Fault.{Fault};
 ghost use Rattle.mc_server.specs.NetworkTexts.{cannot_listen_line, done_line, listening_line, ready_text, told_address};
 ghost use Rattle.mc_stream.specs.Pushing.{FailsOnce, IsUnfailed, PushesOrFails};
 
-use crate::waiting::push_all;
 use itoa::Buffer;
 use mc_model::Fault;
+use mc_programs::push_all;
 use mc_stream::Output;
 use std::alloc::{AllocError, Global};
 use std::net::SocketAddrV4;

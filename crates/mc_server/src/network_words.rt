@@ -8,9 +8,9 @@ ghost use Rattle.mc_server.specs.NetworkWords.{Asks, AsksInVain, IsServable, giv
 ghost use Rattle.mc_server.specs.TenantWord.{Says, TenantAsked, asked_of};
 
 use crate::tenant_word::{Tenant, read_tenant};
-use crate::words::{number, number_option};
 use clap::{Arg, Command, Error};
 use mc_model::{Fault, Limits, Settings};
+use mc_programs::{number, number_option};
 use std::alloc::{AllocError, Global};
 
 /// How many workers there are where the words don't say.

@@ -2,7 +2,7 @@
 ghost use Rattle.std.specs.Option.{IsSomeAnd};
 ghost use Rattle.std.specs.Prelude.{◌≡◌, ◌↔◌, ℕ, List, Some, IfSome, IsTrue};
 ghost use Rattle.mc_server.specs.TenantWord.{IsName, Lacks, Says, TenantAsked, asked_of, is_name_byte, tenant_text};
-ghost use Rattle.mc_server.specs.Words.{u64_of};
+ghost use Rattle.mc_programs.specs.Words.{u64_of};
 
 use mc_model::Limits;
 use std::net::SocketAddrV4;

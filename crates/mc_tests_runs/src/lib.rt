@@ -1,9 +1,7 @@
-//! Tests of the reader, of the serving loop and of whole runs of mc_stdin, mc_schedule and wfmc, over what their crates make public. They stand
-//! above all libraries, since a crate with tests is proved twice.
+//! Tests of the reader, of the serving loop and of whole runs of mc_stdin and mc_schedule, over what their crates make public. They stand
+//! in a crate of their own, since a crate with tests is proved twice.
 #![tactic(auto)]
 
-#[cfg(test)]
-mod network;
 #[cfg(test)]
 mod programs;
 #[cfg(test)]

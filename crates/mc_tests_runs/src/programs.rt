@@ -1,6 +1,6 @@
 //! Whole runs of programs: their words, what comes in, and what goes out.
 use crate::runs::{demand, input_of, output_of};
-use mc_server::{InputStep, MemoryInput, MemoryOutput, OutputStep, run_schedule, run_stdin};
+use mc_programs::{InputStep, MemoryInput, MemoryOutput, OutputStep, run_schedule, run_stdin};
 use std::alloc::{AllocError, Global};
 use std::process::Abort;
 use std::sync::Wait;

@@ -1,6 +1,6 @@
 //! What tests of whole streams share: bytes put together, and the steps by which they are pulled and pushed.
 use itoa::Buffer;
-use mc_server::{InputStep, MemoryInput, MemoryOutput, OutputStep};
+use mc_programs::{InputStep, MemoryInput, MemoryOutput, OutputStep};
 use std::alloc::{AllocError, Global};
 use std::process::Abort;
 

@@ -1,7 +1,7 @@
 //! Runs of mc_schedule: its words, an event list, and what comes out.
 use crate::programs::{NO_STEPS, Program, Steps, Wanted, check_run};
 use crate::runs::{joined, single_pulls, single_pushes};
-use mc_server::{InputStep, OutputStep};
+use mc_programs::{InputStep, OutputStep};
 use std::alloc::{AllocError, Global};
 use std::process::Abort;
 use std::sync::Wait;

@@ -7,7 +7,7 @@ use crate::runs::{
     thousand_values,
 };
 use mc_model::{Fault, Limits};
-use mc_server::{
+use mc_programs::{
     Input, InputStep, MemoryInput, MemoryOutput, Output, OutputStep, Pull, Push, serve_client,
 };
 use std::alloc::AllocError;

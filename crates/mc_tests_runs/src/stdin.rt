@@ -5,7 +5,7 @@ use crate::runs::{
     thousand_values,
 };
 use mc_model::Fault;
-use mc_server::{InputStep, OutputStep, fault_text};
+use mc_programs::{InputStep, OutputStep, fault_text};
 use std::alloc::{AllocError, Global};
 use std::process::Abort;
 use std::sync::Wait;

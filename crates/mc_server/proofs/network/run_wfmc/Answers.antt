@@ -2,8 +2,8 @@ use Rattle.std.proofs.Common.{◌≡◌, ◌∙◌, ◌⊎◌, Err, ap, inl, inr
 use Rattle.clap.specs.Words.{kind_of}
 use Rattle.clap.specs.declared.error.kind.ErrorKind.TheVariants.{OutOfMemory}
 use Rattle.mc_server.specs.NetworkWords.{AsksForNone, AsksForService, network_app, served_by}
-use Rattle.mc_server.specs.Words.{IsAnswered}
-use Rattle.mc_server.proofs.Answered.{fails_to_show, is_answered, tells_mistake}
+use Rattle.mc_programs.specs.Words.{IsAnswered}
+use Rattle.mc_programs.proofs.Answered.{fails_to_show, is_answered, tells_mistake}
 use Rattle.mc_server.proofs.NetworkRuns.{for_none, for_service}
 use Rattle.mc_server.proofs.network.run_wfmc.Goals as goal
 

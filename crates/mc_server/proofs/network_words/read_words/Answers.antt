@@ -5,7 +5,7 @@ use Rattle.clap.specs.Words.{Text, all_of, app_of, fault_of, found_of, is_simple
 use Rattle.clap.proofs.OnLiterals.{clap_on_literals}
 use Rattle.clap.proofs.WalkLemmas.{one_text-rows, raw_values-rows}
 use Rattle.mc_server.specs.NetworkWords.{network_app}
-use Rattle.mc_server.specs.Words.{u64_of}
+use Rattle.mc_programs.specs.Words.{u64_of}
 use Rattle.mc_server.proofs.network_words.read_words.Goals as goal
 
 app_is_simple : is_simple network_app ≡ true

@@ -1,0 +1,6 @@
+pub mod Answered
+mod ListRows
+pub mod Owings
+pub mod Reported
+pub mod Served
+mod Rows

@@ -1,0 +1,394 @@
+-- What a connection does with the one worker of a log, in bytes that came and bytes that went.
+use Rattle.std.proofs.Common.{◌≡◌, ◌⊎◌, ℕ, ◌+◌, ◌≤◌, ◌<◌, ◌||◌, Bool, true, false, Result, Ok, Err, OnOk, IfErr, List, [], ◌∷◌, ◌++◌, length, None, Some, slice_get, sym, refl, ap, ◌∙◌, subst, inl, inr, ⊎_elim, arith, append_assoc, append-nil, length-append}
+use Rattle.std.specs.Bool.{MatchBool}
+use Rattle.std.specs.Io.KnownBytes.{IsAtEnd}
+use Rattle.std.specs.List.{list_any}
+use Rattle.mc_model.specs.declared.fault.Fault.{Fault}
+use Rattle.mc_model.specs.declared.fault.Fault.TheVariants.{Memory, LogFull, Taken, Input, Output, BadEvent, BadSettings}
+use Rattle.mc_model.specs.declared.reply.Reply.TheVariants.{Refused}
+use Rattle.mc_model.specs.declared.reply.WireNo.TheVariants.{E11}
+use Rattle.mc_model.specs.declared.request.Request.{Request}
+use Rattle.mc_model.specs.declared.settings.Limits.{Limits}
+use Rattle.mc_model.specs.Settings.{Configuration}
+use Rattle.mc_read.specs.Reading.{Kept, ReadsAs, ends_stream}
+use Rattle.mc_read.specs.Readings.{has_reading}
+use Rattle.mc_read.specs.Text.{IsRequestText}
+use Rattle.mc_conn.proofs.AloneOwed.{owes_in_order}
+use Rattle.mc_conn.specs.Alone.{IsAlone, first_mark, owed}
+use Rattle.mc_conn.specs.Ending.{Breaks, PullsAfter, PullsLate, Serves as ServesAll, Stops as StopsSo}
+use Rattle.mc_conn.specs.Held.{Holding, HoldsNone, HoldsOn, IsRead}
+use Rattle.mc_conn.specs.Onward.{IsOnward}
+use Rattle.mc_conn.specs.Owed.{Mark, Owes, mark_of}
+use Rattle.mc_conn.specs.Turn.{Scene, holding_of, queue_of, scene}
+use Rattle.mc_programs.proofs.Owings.{owed-more}
+use Rattle.mc_programs.specs.Serving.{Answers, Comes, CountsFailures, IsCaughtUp, NeverWaits, Serves, ServesInPart, ServesOn, Stops}
+use Rattle.mc_stream.specs.Event.{Event, Moves, Waits, Ends, Fails, ends, failures, has_ended, last_moved, moved, waits}
+use Rattle.mc_stream.specs.Pushing.{IsAllOrStopped, Pushes, PushesAtOnce}
+use Rattle.mc_stream.specs.Pushed.{same_stop}
+use Rattle.mc_stream.specs.Stream.{Inflow, Outflow, Streams, both}
+use Rattle.mc_write.specs.Text.{text}
+use Rattle.uc_worker.specs.declared.worker.Worker.{Worker}
+use Rattle.uc_worker.specs.Worker.{announced_of, history_of, seat_of}
+use Rattle.uc_cells.specs.Sighting.{Sighting}
+use Rattle.uc_log.specs.declared.log.Log.{Log}
+use Rattle.uc_log.specs.declared.pass.Pass.{Pass}
+use Rattle.uc_log.specs.Passes.{IsNew, seat, size_of}
+use Rattle.uc_places.specs.Told.{new_seat}
+use Rattle.uc_places.specs.declared.view.View.{View}
+use Rattle.mc_conn.specs.declared.conn.Conn.{Conn}
+use Rattle.mc_programs.specs.Opening.{IsOpened}
+
+-- a list's front taken off both sides
+same_behind : {X : Type 0} (front one two : List X) → front ++ one ≡ front ++ two → one ≡ two
+same_behind [] one two same = same
+same_behind (x ∷ front) one two same = same_behind front one two (ap rest_of same)
+  where
+    rest_of : {Y : Type 0} → List Y → List Y
+    rest_of [] = []
+    rest_of (y ∷ list) = list
+
+nothing_in : {X : Type 0} (list : List X) → length list ≡ 0 → list ≡ []
+nothing_in [] none = refl
+nothing_in (x ∷ list) none = absurd (omega (arith, none))
+
+-- where one list is the other with more behind, and the other way round, nothing is behind
+both_ways : {X : Type 0} (one two more rest : List X) → one ≡ two ++ more → two ≡ one ++ rest → two ≡ one
+both_ways one two more rest first second =
+    second ∙ (ap (λ list. one ++ list) (nothing_in rest (omega (arith, ap length first, ap length second, length-append two more, length-append one rest))) ∙ append-nil one)
+
+-- no text is empty, so nothing reads as nothing
+no_text_empty : (text more : List ℕ) (request : Request) → IsRequestText text request → [] ≡ text ++ more → ⊥
+no_text_empty text more request is empty =
+    ⊎_elim
+    (λ line. omega (arith, ap length empty, length-append text more, ap length line.in_text, length-append line.line (10 ∷ line.body)))
+    (λ long. omega (arith, ap length empty, length-append text more, long.long))
+    is
+
+reads_nothing : ReadsAs [] []
+reads_nothing = ([], (refl, no_text_empty))
+
+-- a connection on which nothing has come, and the one worker of a log that nothing was put into
+pub record Begins (limits : Limits) (places : ℕ) (start : Scene) : Type 0 where
+  pub tenant : start.conn.tenant ≡ 0
+  pub holding : holding_of start.conn ≡ record { waiting = None; held = Kept [] }
+  pub queue : queue_of start.conn ≡ []
+  pub going : start.conn.has_ended ≡ false
+  pub on : start.conn.is_over ≡ false
+  pub alone : IsAlone limits places start.worker
+  pub mark : mark_of start.worker ≡ first_mark
+
+-- all that came was read
+reads_all : (start : Scene) (came : List ℕ) (requests : List Request) (after : Holding) → holding_of start.conn ≡ record { waiting = None; held = Kept [] } →
+    IsRead (holding_of start.conn) came requests after → HoldsNone after → ReadsAs came requests
+reads_all start came requests after begun read none =
+    let reading = has_reading (came ++ []) in
+    let holds : HoldsOn (holding_of start.conn) (came ++ []) reading.0 = subst (λ holding. HoldsOn holding (came ++ []) reading.0) (sym begun) (reading.1, reading.2) in
+    let follows = (read [] reading.0).0 holds in
+    let others = none_follow after follows.0 none follows.2 in
+    subst (λ bytes. ReadsAs bytes requests) (append-nil came)
+    (subst (ReadsAs (came ++ [])) (follows.1 ∙ (ap (λ list. requests ++ list) others ∙ append-nil requests)) (reading.1, reading.2))
+  where
+    none_follow : (held : Holding) (others : List Request) → HoldsNone held → HoldsOn held [] others → others ≡ []
+    none_follow held others nothing holds = (nothing.1 others).0 (subst (λ waiting. HoldsOn (record { waiting = waiting; held = held.held }) [] others) nothing.0 holds)
+
+module _ (limits : Limits) (places : ℕ) (start : Scene) (begins : Begins limits places start) where
+  alone_later : (worker : Worker) → IsOnward start.worker worker → IsAlone limits places worker
+  alone_later worker on = record {
+    workers = ap (λ size. size.workers) on.same.0 ∙ begins.alone.workers;
+    long = ap (λ size. size.places) on.same.0 ∙ begins.alone.long;
+    tenants = ap (λ log. log.now.settings.tenants) on.log ∙ begins.alone.tenants;
+  }
+
+  -- what is owed is the function of the requests
+  answers : (worker : Worker) (requests : List Request) (bytes : List ℕ) (mark : Mark) → IsOnward start.worker worker →
+      Owes worker start.conn.tenant (mark_of start.worker) requests bytes mark → (bytes ≡ owed limits places [] requests) × Answers limits places requests (owed limits places [] requests)
+  answers worker requests bytes mark on owes =
+      let alone = alone_later worker on in
+      let first = subst (λ from. Owes worker 0 from requests bytes mark) begins.mark (subst (λ tenant. Owes worker tenant (mark_of start.worker) requests bytes mark) begins.tenant owes) in
+      let is = owes_in_order limits places worker alone requests bytes mark first in
+      (is, record { worker = worker; alone = alone; mark = mark; owes = subst (λ it. Owes worker 0 first_mark requests it mark) is first })
+
+  -- what was sent, where nothing is queued at the end
+  sent_is : (conn : _) (sent owes : List ℕ) → sent ++ queue_of conn ≡ queue_of start.conn ++ owes → queue_of conn ≡ [] → sent ≡ owes
+  sent_is conn sent owes bytes empty =
+      sym (append-nil sent) ∙ (ap (λ queue. sent ++ queue) (sym empty) ∙ (bytes ∙ ap (λ queue. queue ++ owes) begins.queue))
+
+  -- a request that ends the stream was taken exactly where that is remembered
+  over_is : (over : Bool) (requests : List Request) → over ≡ (start.conn.is_over || list_any ends_stream requests) → over ≡ list_any ends_stream requests
+  over_is over requests is = is ∙ ap (λ begun. begun || list_any ends_stream requests) begins.on
+
+  remembered : (start_ended ended : Bool) (before after : Inflow) → start_ended ≡ false → ended ≡ true → MatchBool ended ((start_ended ≡ true) × (after ≡ before) ⊎ (has_ended after.events ≡ true) × IsAtEnd after.left) ((start_ended ≡ false) × (ends after.events ≡ ends before.events)) →
+      (has_ended after.events ≡ true) × IsAtEnd after.left
+  remembered start_ended true before after going is end =
+      ⊎_elim (λ (never : (start_ended ≡ true) × (after ≡ before)). let no : true ≡ false = sym never.0 ∙ going in cc) (λ now. now) end
+  remembered start_ended false before after going is end = let no : false ≡ true = is in cc
+
+  pub serves : (after : Scene) → ServesAll start after → Serves limits places start.streams after.streams
+  serves after all =
+      let takes = all.takes in
+      let whole = reads_all start takes.came takes.requests (holding_of after.conn) begins.holding takes.reads all.done.1 in
+      let said = answers after.worker takes.requests takes.owed (mark_of after.worker) takes.onward takes.owes in
+      let sent = sent_is after.conn takes.sent takes.owed takes.bytes all.done.2 in
+      record {
+        comes = record { bytes = takes.came; requests = takes.requests; rest = whole.0; came = takes.pulled; consumed = takes.consumed; reads = whole.1 };
+        answers = said.1;
+        went = subst (Pushes start.streams.output after.streams.output) (sent ∙ said.0) takes.pushed;
+        end = ⊎_elim
+            (λ (ended : after.conn.has_ended ≡ true). inl (remembered start.conn.has_ended after.conn.has_ended start.streams.input after.streams.input begins.going ended takes.end))
+            (λ (over : after.conn.is_over ≡ true). inr (sym (over_is after.conn.is_over takes.requests takes.over) ∙ over))
+            all.done.0;
+      }
+
+  -- what came before the last pull
+  module _ (after : Scene) (came sent : List ℕ) (pulled : moved after.streams.input.events ≡ moved start.streams.input.events ++ came)
+      (pushed : Pushes start.streams.output after.streams.output sent) (never : NeverWaits start.streams after.streams) where
+    -- nothing was pulled
+    unpulled : after.streams.input ≡ start.streams.input → came ≡ []
+    unpulled same =
+        sym (same_behind (moved start.streams.input.events) [] came (append-nil (moved start.streams.input.events) ∙ (sym (ap (λ (input : Inflow). moved input.events) same) ∙ pulled)))
+
+    moved_last : (event : Event) (earlier : List Event) → moved (event ∷ earlier) ≡ moved earlier ++ last_moved (event ∷ earlier)
+    moved_last (Moves bytes) earlier = refl
+    moved_last Waits earlier = sym (append-nil (moved earlier))
+    moved_last Ends earlier = sym (append-nil (moved earlier))
+    moved_last Fails earlier = sym (append-nil (moved earlier))
+
+    module _ (between : Scene) (last : PullsAfter start between after) where
+      -- as the output never waited, all that is owed for what came before was sent
+      first_sent : (queue_of between.conn ≡ []) × (between.conn.is_over ≡ false)
+      first_sent =
+          ⊎_elim (λ (all : (queue_of between.conn ≡ []) × (between.conn.is_over ≡ false)). all)
+          (λ (full : waits start.streams.output.events < waits between.streams.output.events). absurd (omega (arith, full, last.waited, never))) last.sent
+
+      first_reads : ReadsAs last.first.came last.first.requests
+      first_reads = reads_all start last.first.came last.first.requests (holding_of between.conn) begins.holding last.first.reads last.taken
+
+      first_owed : last.first.sent ≡ owed limits places [] last.first.requests
+      first_owed =
+          sent_is between.conn last.first.sent last.first.owed last.first.bytes first_sent.0
+          ∙ (answers between.worker last.first.requests last.first.owed (mark_of between.worker) last.first.onward last.first.owes).0
+
+      came_is : came ≡ last.first.came ++ last_moved after.streams.input.events
+      came_is =
+          let events : moved after.streams.input.events ≡ moved between.streams.input.events ++ last_moved after.streams.input.events =
+          subst (λ events. moved events ≡ moved between.streams.input.events ++ last_moved events) (sym last.pull) (moved_last last.event between.streams.input.events)
+          in
+          same_behind (moved start.streams.input.events) came (last.first.came ++ last_moved after.streams.input.events)
+          (sym pulled
+          ∙ (events
+          ∙ (ap (λ known. known ++ last_moved after.streams.input.events) last.first.pulled ∙ append_assoc (moved start.streams.input.events) last.first.came (last_moved after.streams.input.events))))
+
+      sent_on : sent ≡ owed limits places [] last.first.requests ++ last.later
+      sent_on =
+          same_behind (moved start.streams.output.events) sent (last.first.sent ++ last.later)
+          (sym pushed
+          ∙ (last.pushed ∙ (ap (λ known. known ++ last.later) last.first.pushed ∙ append_assoc (moved start.streams.output.events) last.first.sent last.later)))
+          ∙ ap (λ first. first ++ last.later) first_owed
+
+    caught_up : PullsLate start after → IsCaughtUp limits places came (last_moved after.streams.input.events) sent
+    caught_up late =
+        ⊎_elim
+        (λ (same : after.streams.input ≡ start.streams.input). record {
+          earlier = [];
+          piece = [];
+          requests = [];
+          later = sent;
+          is_bytes = unpulled same;
+          is_last = inl (unpulled same);
+          is_short = omega arith;
+          reads = reads_nothing;
+          is_sent = refl;
+        })
+        (λ (pull : (between : Scene) × PullsAfter start between after). record {
+          earlier = pull.1.first.came;
+          piece = last_moved after.streams.input.events;
+          requests = pull.1.first.requests;
+          later = pull.1.later;
+          is_bytes = came_is pull.0 pull.1;
+          is_last = inr refl;
+          is_short = pull.1.short;
+          reads = first_reads pull.0 pull.1;
+          is_sent = sent_on pull.0 pull.1;
+        })
+        late
+
+  -- the first requests that came were answered
+  module _ (fault : Fault) (after : Scene) (breaks : Breaks fault start after) where
+    -- what all that came reads as
+    all_read : (requests : List Request) × ReadsAs breaks.came requests
+    all_read = let reading = has_reading breaks.came in (reading.0, (reading.1, reading.2))
+
+    all_split : (others : List Request) × (all_read.0 ≡ breaks.requests ++ others)
+    all_split =
+        let holds : HoldsOn (holding_of start.conn) (breaks.came ++ []) all_read.0 =
+        subst (λ holding. HoldsOn holding (breaks.came ++ []) all_read.0) (sym begins.holding) (subst (λ bytes. ReadsAs bytes all_read.0) (sym (append-nil breaks.came)) all_read.1)
+        in
+        let follows = breaks.reads [] all_read.0 holds in
+        (breaks.met ++ follows.0, follows.1)
+
+    all_comes : (output : Outflow) → Comes start.streams (both after.streams.input output)
+    all_comes output = record { bytes = breaks.came; requests = all_read.0; rest = all_read.1.0; came = breaks.pulled; consumed = breaks.consumed; reads = all_read.1.1 }
+
+    all_answers : (breaks.owed ≡ owed limits places [] breaks.requests) × Answers limits places breaks.requests (owed limits places [] breaks.requests)
+    all_answers = answers after.worker breaks.requests breaks.owed breaks.mark breaks.onward breaks.owes
+
+    owed_is : breaks.sent ++ queue_of after.conn ≡ owed limits places [] breaks.requests
+    owed_is = breaks.bytes ∙ (ap (λ queue. queue ++ breaks.owed) begins.queue ∙ all_answers.0)
+
+    -- what is told behind was pushed in part
+    in_part : (output : Outflow) (told sent unsent : List ℕ) → owed limits places [] breaks.requests ++ told ≡ sent ++ unsent → Pushes start.streams.output output sent →
+        PullsLate start (scene after.conn after.worker (both after.streams.input output)) → (part : ServesInPart limits places start.streams (both after.streams.input output) told) × (part.unsent ≡ unsent)
+    unfolding all_comes
+    in_part output told sent unsent owes went late = (
+      record {
+        comes = all_comes output;
+        answered = breaks.requests;
+        others = all_split.0;
+        split = all_split.1;
+        answers = all_answers.1;
+        sent = sent;
+        unsent = unsent;
+        owes = owes;
+        went = went;
+        caught_up = λ never. caught_up (scene after.conn after.worker (both after.streams.input output)) breaks.came sent breaks.pulled went never late;
+      },
+      refl,
+    )
+
+    pub untold : PullsLate start after → ServesInPart limits places start.streams after.streams []
+    untold late = (in_part after.streams.output [] breaks.sent (queue_of after.conn) (append-nil (owed limits places [] breaks.requests) ∙ sym owed_is) breaks.pushed late).0
+
+  -- memory ran out, and that is told behind
+  starved : (after : Scene) (output : Outflow) → Breaks Memory start after → PushesAtOnce (queue_of after.conn ++ text (Refused E11)) after.streams.output output →
+      PullsLate start (scene after.conn after.worker (both after.streams.input output)) → Stops limits places Memory start.streams (both after.streams.input output)
+  starved after output breaks told late =
+      let owes : owed limits places [] breaks.requests ++ text (Refused E11) ≡ (breaks.sent ++ told.1.front) ++ told.0 =
+      ap (λ bytes. bytes ++ text (Refused E11)) (sym (owed_is Memory after breaks))
+      ∙ (append_assoc breaks.sent (queue_of after.conn) (text (Refused E11))
+      ∙ (ap (λ bytes. breaks.sent ++ bytes) told.1.split ∙ sym (append_assoc breaks.sent told.1.front told.0)))
+      in
+      let went = told.1.went ∙ (ap (λ known. known ++ told.1.front) breaks.pushed ∙ append_assoc (moved start.streams.output.events) breaks.sent told.1.front) in
+      let part = in_part Memory after breaks output (text (Refused E11)) (breaks.sent ++ told.1.front) told.0 owes went late in
+      inl
+      (part.0, subst (λ unsent. IsAllOrStopped unsent start.streams.output output) (sym part.1) (same_stop told.0 start.streams.output after.streams.output output breaks.failures.1 told.2))
+
+  -- the input failed, and the output never waited
+  failed_last : (event : Event) (earlier : List Event) (n : ℕ) → failures (event ∷ earlier) ≡ n + 1 → failures earlier ≡ n → last_moved (event ∷ earlier) ≡ []
+  failed_last (Moves bytes) earlier n more same = absurd (omega (arith, more, same))
+  failed_last Waits earlier n more same = refl
+  failed_last Ends earlier n more same = refl
+  failed_last Fails earlier n more same = refl
+
+  promptly : (after : Scene) → Breaks Input start after → PullsLate start after → NeverWaits start.streams after.streams → ServesOn limits places start.streams after.streams
+  promptly after breaks late never =
+      ⊎_elim
+      (λ (same : after.streams.input ≡ start.streams.input). let still = ap (λ (input : Inflow). failures input.events) same in absurd (omega (arith, still, breaks.failures.0)))
+      (λ (pull : (between : Scene) × PullsAfter start between after).
+      let last = pull.1 in
+      let piece : last_moved after.streams.input.events ≡ [] =
+      subst (λ events. last_moved events ≡ []) (sym last.pull)
+      (failed_last last.event pull.0.streams.input.events (failures start.streams.input.events)
+      (subst (λ events. failures events ≡ failures start.streams.input.events + 1) last.pull breaks.failures.0) last.first.unfailed.0)
+      in
+      let came : breaks.came ≡ last.first.came =
+      came_is after breaks.came breaks.sent breaks.pulled breaks.pushed never pull.0 last ∙ (ap (λ more. last.first.came ++ more) piece ∙ append-nil last.first.came)
+      in
+      let reads : ReadsAs breaks.came last.first.requests =
+      subst (λ bytes. ReadsAs bytes last.first.requests) (sym came) (first_reads after breaks.came breaks.sent breaks.pulled breaks.pushed never pull.0 last)
+      in
+      let holds : HoldsOn (holding_of start.conn) (breaks.came ++ []) last.first.requests =
+      subst (λ holding. HoldsOn holding (breaks.came ++ []) last.first.requests) (sym begins.holding) (subst (λ bytes. ReadsAs bytes last.first.requests) (sym (append-nil breaks.came)) reads)
+      in
+      let follows = breaks.reads [] last.first.requests holds in
+      let more = owed-more limits places [] breaks.requests (breaks.met ++ follows.0) in
+      let owes : owed limits places [] last.first.requests ≡ breaks.sent ++ (queue_of after.conn ++ more.0) =
+      ap (λ requests. owed limits places [] requests) follows.1
+      ∙ (more.1 ∙ (ap (λ bytes. bytes ++ more.0) (sym (owed_is Input after breaks)) ∙ append_assoc breaks.sent (queue_of after.conn) more.0))
+      in
+      let sent =
+      both_ways (owed limits places [] last.first.requests) breaks.sent (queue_of after.conn ++ more.0) last.later owes
+      (sent_on after breaks.came breaks.sent breaks.pulled breaks.pushed never pull.0 last)
+      in
+      let going = (first_sent after breaks.came breaks.sent breaks.pulled breaks.pushed never pull.0 last).1 in
+      record {
+        comes = record { bytes = breaks.came; requests = last.first.requests; rest = reads.0; came = breaks.pulled; consumed = breaks.consumed; reads = reads.1 };
+        went = subst (Pushes start.streams.output after.streams.output) sent breaks.pushed;
+        goes_on = sym (over_is pull.0.conn.is_over last.first.requests last.first.over) ∙ going;
+      })
+      late
+
+  stops : (fault : Fault) (after : Scene) → StopsSo fault start after → PullsLate start after → Stops limits places fault start.streams after.streams
+  stops Memory after stopped late = starved (scene after.conn after.worker (both after.streams.input stopped.0)) after.streams.output stopped.1 stopped.2 late
+  stops LogFull after stopped late = stopped
+  stops Taken after stopped late = untold Taken after stopped late
+  stops Input after stopped late = (untold Input after stopped late, promptly after stopped late)
+  stops Output after stopped late = untold Output after stopped late
+  stops BadEvent after stopped late = absurd stopped
+  stops BadSettings after stopped late = absurd stopped
+
+  -- how often the output failed while the client was told
+  told_counts : (unsent : List ℕ) (before now : Outflow) → IsAllOrStopped unsent before now → (failures before.events ≤ failures now.events) × (failures now.events ≤ failures before.events + 1)
+  told_counts unsent before now stopped =
+      ⊎_elim
+      (λ all. (omega (arith, all.1), omega (arith, all.1)))
+      (λ short. ⊎_elim (λ full. (omega (arith, full.1), omega (arith, full.1))) (λ failed. (omega (arith, failed), omega (arith, failed))) short)
+      stopped
+
+  counts : (fault : Fault) (after : Scene) → StopsSo fault start after → CountsFailures (Err fault) start.streams after.streams
+  counts Memory after stopped =
+      let told = told_counts stopped.2.0 stopped.0 after.streams.output stopped.2.2 in
+      let before = stopped.1.failures in
+      (before.0, omega (arith, told.0, before.1), omega (arith, told.1, before.1))
+  counts LogFull after stopped = stopped
+  counts Taken after stopped = stopped.failures
+  counts Input after stopped = stopped.failures
+  counts Output after stopped = stopped.failures
+  counts BadEvent after stopped = absurd stopped
+  counts BadSettings after stopped = absurd stopped
+
+  -- the same of a call's result
+  pub result_serves : (result : Result (Unit {0}) Fault) (after : Scene) → OnOk result (ServesAll start after) → OnOk result (Serves limits places start.streams after.streams)
+  result_serves (Ok done) after is = serves after is
+  result_serves (Err fault) after is = tt
+
+  pub result_stops : (result : Result (Unit {0}) Fault) (after : Scene) → IfErr result (λ fault. StopsSo fault start after) → PullsLate start after →
+      IfErr result (λ fault. Stops limits places fault start.streams after.streams)
+  result_stops (Ok done) after is late = tt
+  result_stops (Err fault) after is late = stops fault after is late
+
+  pub result_counts : (result : Result (Unit {0}) Fault) (after : Scene) → OnOk result (ServesAll start after) → IfErr result (λ fault. StopsSo fault start after) →
+      CountsFailures result start.streams after.streams
+  result_counts (Ok done) after all is = all.takes.unfailed
+  result_counts (Err fault) after all is = counts fault after is
+
+-- a connection and a worker as they are opened
+pub begins_new : (limits : Limits) (places : ℕ) (log : Log) (pass : Pass) (conn : Conn) (worker : Worker) (streams : Streams) → IsOpened limits places log pass →
+    (conn.tenant ≡ 0) × (holding_of conn ≡ record { waiting = None; held = Kept [] }) × (queue_of conn ≡ []) × (conn.has_ended ≡ false) × (conn.is_over ≡ false) →
+    worker.log.now ≡ log → seat_of worker ≡ seat pass → history_of worker ≡ [] → Begins limits places (scene conn worker streams)
+begins_new limits places log pass conn worker streams opened (tenant, holding, queue, going, on) of seated empty =
+    let new : seat_of worker ≡ new_seat (size_of log) 0 = seated ∙ opened.1.1 in
+    let announced : (seat_of worker).state.announced ≡ 0 = ap (λ (view : View). view.state.announced) new in
+    let none : length (announced_of worker) ≡ 0 = worker.pass.count ∙ announced in
+    record {
+      tenant = tenant;
+      holding = holding;
+      queue = queue;
+      going = going;
+      on = on;
+      alone = record {
+        workers = ap (λ (view : View). view.size.workers) new ∙ ap (λ settings. settings.workers) opened.0;
+        long = ap (λ (view : View). view.size.places) new ∙ ap (λ settings. settings.places) opened.0;
+        tenants = ap (λ log. log.settings.tenants) of ∙ ap (λ settings. settings.tenants) opened.0;
+      };
+      mark = λ i. record { number = none i; place = (ap (λ (list : List Sighting). length list) empty) i };
+    }
+
+-- the pass of a log that was opened with one worker
+pub opened_alone : (limits : Limits) (places : ℕ) (log : Log) (passes rest : List Pass) (pass : Pass) (settings : Configuration) (tenants none : List Limits) → passes ≡ rest ++ pass ∷ [] →
+    length passes ≡ settings.workers → log.settings ≡ settings → settings ≡ record { workers = 1; places = places; tenants = tenants } → tenants ≡ none ++ limits ∷ [] → none ≡ [] →
+    ((number : ℕ) (one : Pass) → slice_get passes number ≡ Some one → IsNew log number one) → IsOpened limits places log pass
+opened_alone limits places log passes rest pass settings tenants none popped count same is filled empty new =
+    let nothing : rest ≡ [] = nothing_in rest (omega (arith, ap length popped, length-append rest (pass ∷ []), count, ap (λ settings. settings.workers) is)) in
+    let first : slice_get passes 0 ≡ Some pass = ap (λ list. slice_get list 0) (popped ∙ ap (λ list. list ++ pass ∷ []) nothing) in
+    let one : tenants ≡ limits ∷ [] = filled ∙ ap (λ list. list ++ limits ∷ []) empty in
+    (same ∙ (is ∙ ap (λ list. record { workers = 1; places = places; tenants = list }) one), new 0 pass first)

@@ -1,0 +1,61 @@
+-- What the words after the program's name ask for on mc_stdin's command line, by clap's own definitions of a command, and how
+-- its run ends; this project's profile.
+use Rattle.std.specs.Prelude.{◌≡◌, ◌⊎◌, ℕ, List, [], Err, codes}
+use Rattle.clap.specs.Faults.{fault_of}
+use Rattle.clap.specs.Simple.{App, with_rule}
+use Rattle.clap.specs.Walk.{Text}
+use Rattle.mc_model.specs.Settings.{AreLawfulLimits, IsBetween}
+use Rattle.mc_model.specs.declared.fault.Fault.{Fault}
+use Rattle.mc_model.specs.declared.fault.Fault.TheVariants.{BadSettings}
+use Rattle.mc_model.specs.declared.settings.Limits.{Limits}
+use Rattle.mc_model.specs.declared.settings.TheConstants.{MAX_PLACES}
+use Rattle.mc_programs.specs.Faults.{fault_line}
+use Rattle.mc_programs.specs.Serving.{CountsFailures, Serves, Stops}
+use Rattle.mc_programs.specs.Words.{FailsToShow, Shows, TellsMistake, bare_app, number_asked, number_rule}
+use Rattle.mc_stream.specs.Pushing.{PushesOrFails}
+use Rattle.mc_stream.specs.Stream.{Outflow, Streams}
+
+-- the command: `--places`, `--items` and `--bytes`
+abbrev pub stdin_app : App
+stdin_app = with_rule (with_rule (with_rule (bare_app (codes "mc_stdin")) (number_rule (codes "places"))) (number_rule (codes "items"))) (number_rule (codes "bytes"))
+
+-- how many places words ask for, and which quotas
+abbrev pub places_asked : List Text → ℕ
+places_asked words = number_asked stdin_app (codes "places") 65536 words
+
+abbrev pub limits_asked : List Text → Limits
+limits_asked words = record { items = number_asked stdin_app (codes "items") 1048576 words; bytes = number_asked stdin_app (codes "bytes") 67108864 words }
+
+-- the numbers of places, items and bytes are in their ranges
+abbrev pub IsInRange : List Text → Type 0
+IsInRange words = IsBetween 1 MAX_PLACES (places_asked words) × AreLawfulLimits (limits_asked words)
+
+-- the command takes the words, and the numbers are in their ranges
+abbrev pub AsksInRange : List Text → Type 0
+AsksInRange words = (fault_of stdin_app words ≡ []) × IsInRange words
+
+-- the command takes the words, and a number is out of its range
+abbrev pub AsksOutOfRange : List Text → Type 0
+AsksOutOfRange words = (fault_of stdin_app words ≡ []) × ¬ (IsInRange words)
+
+-- A run that failed met one fault, which the failures of the input and the output bear out, gave the client what it gives at
+-- that fault, and said so.
+pub record Fails (limits : Limits) (places : ℕ) (before after : Streams) (errors_before errors : Outflow) : Type 0 where
+  pub fault : Fault
+  pub counts : CountsFailures (Err fault) before after
+  pub stops : Stops limits places fault before after
+  pub told : PushesOrFails (fault_line (codes "mc_stdin") fault) errors_before errors
+
+-- status 0: a client was served by the numbers that the words ask for, or help or the version was shown
+abbrev pub EndsWell : List Text → Streams → Streams → Type 0
+EndsWell words before after = AsksInRange words × Serves (limits_asked words) (places_asked words) before after ⊎ Shows stdin_app words before after
+
+-- status 1: a fault ended the service, or kept the words from being read or answered, and was told
+abbrev pub EndsInFault : List Text → Streams → Streams → Outflow → Outflow → Type 0
+EndsInFault words before after errors_before errors =
+    AsksInRange words × Fails (limits_asked words) (places_asked words) before after errors_before errors ⊎ FailsToShow (codes "mc_stdin") stdin_app words before after errors_before errors
+
+-- status 2: a number is out of its range, or the words are a mistake, and that was told
+abbrev pub RefusesWords : List Text → Outflow → Outflow → Type 0
+RefusesWords words errors_before errors =
+    AsksOutOfRange words × PushesOrFails (fault_line (codes "mc_stdin") BadSettings) errors_before errors ⊎ TellsMistake stdin_app words errors_before errors

@@ -1,0 +1,110 @@
+-- What a program makes of the words of its command line that ask for no service: help and the version, mistakes, and words
+-- that can't be read. Generic over the program's name and its command, by clap's own definitions; this project's profile.
+use Rattle.std.specs.Option.{option_map_or}
+use Rattle.std.specs.Prelude.{◌≡◌, ◌≢◌, ◌⊎◌, ◌-◌, ◌^◌, ℕ, Bool, true, false, List, Option, Some, codes, option_and_then, unwrap_or}
+use Rattle.std.specs.Str.{bytes_eq}
+use Rattle.std.specs.Str.Parse.{without_leading_plus}
+use Rattle.clap.specs.Faults.{fault_of}
+use Rattle.clap.specs.Kinds.{IsAmong}
+use Rattle.clap.specs.Simple.{App, matches_of, new_app, new_rule, on_top}
+use Rattle.clap.specs.Matches.{one_text}
+use Rattle.clap.specs.Walk.{Rule, Text, one_of}
+use Rattle.clap.specs.declared.builder.action.ArgAction.TheVariants.{SetTrue}
+use Rattle.clap.specs.declared.builder.value_parser.ValueParser.TheVariants.{Unsigned}
+use Rattle.clap.specs.declared.error.kind.ErrorKind.{ErrorKind}
+use Rattle.clap.specs.declared.error.kind.ErrorKind.TheVariants.{DisplayHelp, DisplayVersion, OutOfMemory}
+use Rattle.clap.specs.declared.parser.matches.Found.{Found}
+use Rattle.mc_model.specs.Number.{number_up_to}
+use Rattle.mc_model.specs.declared.fault.Fault.{Fault}
+use Rattle.mc_model.specs.declared.fault.Fault.TheVariants.{Memory, Output}
+use Rattle.mc_programs.specs.Faults.{fault_line, program_line}
+use Rattle.mc_stream.specs.Pushing.{FailsOnce, Pushes, PushesFront, PushesOrFails}
+use Rattle.mc_stream.specs.Stream.{Outflow, Streams}
+
+-- a command without its options: `--help` and `--version`; its first word is no program's name
+abbrev pub bare_app : Text → App
+bare_app name = on_top (λ shape. record shape { has_version = true; no_binary_name = true }) (new_app name)
+
+-- an option `--name N`, a number of 64 bits
+abbrev pub number_rule : Text → Rule
+number_rule name = record (new_rule name) {
+  long = Some name;
+  value_names = 1;
+  parser = Some (Unsigned 0 (2 ^ 64 - 1));
+}
+
+-- an option `--name` without a value
+abbrev pub flag_rule : Text → Rule
+flag_rule name = record (new_rule name) { long = Some name; action = Some SetTrue }
+
+-- the number of 64 bits that a text spells; a plus may stand first
+abbrev pub u64_of : Text → Option ℕ
+u64_of text = number_up_to (2 ^ 64 - 1) (without_leading_plus text)
+
+-- the number that was given after an option, in what was matched
+abbrev pub number_given : Found → Text → Option ℕ
+number_given found name = option_and_then u64_of (one_text found name)
+
+-- the number that words ask for by an option of a command, and a default where they don't have it
+abbrev pub number_asked : App → Text → ℕ → List Text → ℕ
+number_asked app name default words = unwrap_or (option_and_then u64_of (one_of name (matches_of app words))) default
+
+-- words have an option of a command that takes no value
+abbrev pub flag_asked : App → Text → List Text → Bool
+flag_asked app name words = option_map_or (λ (text : Text). bytes_eq text (codes "true")) (one_of name (matches_of app words)) false
+
+-- an option that takes no value was given, in what was matched
+abbrev pub flag_given : Found → Text → Bool
+flag_given found name = option_map_or (λ (text : Text). bytes_eq text (codes "true")) (one_text found name) false
+
+-- clap answers the words by an error of this kind
+abbrev pub IsAnswered : App → List Text → ErrorKind → Type 0
+IsAnswered app words kind = IsAmong kind (fault_of app words)
+
+-- help or the version, which are no mistakes
+abbrev pub IsShown : ErrorKind → Type 0
+IsShown kind = (kind ≡ DisplayHelp) ⊎ (kind ≡ DisplayVersion)
+
+-- the words ask for help or the version
+abbrev pub AsksToShow : App → List Text → Type 0
+AsksToShow app words = (kind : ErrorKind) × IsAnswered app words kind × IsShown kind
+
+-- the words are a mistake
+abbrev pub IsMistaken : App → List Text → Type 0
+IsMistaken app words = (kind : ErrorKind) × IsAnswered app words kind × ¬ (IsShown kind)
+
+-- The words ask for help or the version. A text was pushed, and nothing was pulled.
+pub record Shows (app : App) (words : List Text) (before after : Streams) : Type 0 where
+  pub asks : AsksToShow app words
+  pub unread : after.input ≡ before.input
+  pub text : List ℕ
+  pub went : Pushes before.output after.output text
+
+-- what went to the output before a fault: where memory ran out nothing, and at a failure of the output a front of what is shown
+abbrev pub StopsShowing : Fault → Type 0 → Outflow → Outflow → Type 0
+StopsShowing Memory is_shown before after = after ≡ before
+StopsShowing Output is_shown before after = is_shown × ((text : List ℕ) × PushesFront text before after) × FailsOnce before after
+StopsShowing fault is_shown before after = ⊥
+
+-- A fault kept words from being answered, and was told.
+pub record FailsToAnswer (program : List ℕ) (kind : ErrorKind) (before after errors_before errors : Outflow) : Type 0 where
+  pub fault : Fault
+  pub stops : StopsShowing fault ((kind ≢ OutOfMemory) × IsShown kind) before after
+  pub told : PushesOrFails (fault_line program fault) errors_before errors
+
+-- A fault kept the words from being read or answered, and was told. Nothing was pulled.
+pub record FailsToShow (program : List ℕ) (app : App) (words : List Text) (before after : Streams) (errors_before errors : Outflow) : Type 0 where
+  pub fault : Fault
+  pub unread : after.input ≡ before.input
+  pub stops : StopsShowing fault (AsksToShow app words) before.output after.output
+  pub told : PushesOrFails (fault_line program fault) errors_before errors
+
+-- the words are a mistake, on which a text was told
+pub record TellsMistake (app : App) (words : List Text) (errors_before errors : Outflow) : Type 0 where
+  pub mistaken : IsMistaken app words
+  pub text : List ℕ
+  pub told : PushesOrFails text errors_before errors
+
+-- the line on words that are no text
+abbrev pub unreadable_line : List ℕ → List ℕ
+unreadable_line program = program_line program (codes "the command line is not UTF-8")

@@ -1,0 +1,70 @@
+//! What the words of mc_stdin's command line ask for.
+ghost use Rattle.std.specs.Prelude.{◌≡◌, ◌↔◌, IfOk, IsTrue, map, string_bytes};
+ghost use Rattle.clap.specs.Words.{FailsBy, app_of, fault_of};
+ghost use Rattle.mc_model.specs.Settings.{AreLawfulLimits, IsBetween};
+ghost use Rattle.mc_model.specs.declared.settings.TheConstants.{MAX_PLACES};
+ghost use Rattle.mc_programs.specs.Options.{limits_asked, places_asked, stdin_app};
+
+use crate::words::{number, number_option};
+use clap::{Command, Error};
+use mc_model::Limits;
+use mc_model::settings::MAX_PLACES;
+use std::alloc::{AllocError, Global};
+
+/// How many places a log has where the words don't say.
+const DEFAULT_PLACES: u64 = 65_536;
+
+/// How many items a tenant's table may hold where the words don't say.
+const DEFAULT_ITEMS: u64 = 1_048_576;
+
+/// How many bytes the keys and data of a tenant's table may have where the words don't say.
+const DEFAULT_BYTES: u64 = 67_108_864;
+
+/// What the words of mc_stdin ask for: how many places its log has, and its tenant's quotas.
+#[derive(Clone, Copy, Debug, PartialEq, Eq)]
+pub(crate) struct StdinOptions {
+    pub places: u64,
+    pub limits: Limits,
+}
+
+impl StdinOptions {
+    /// Whether the numbers are within their bounds.
+    pub(crate) fn is_in_range(&self) -> bool
+        ensures { IsTrue result ↔ IsBetween 1 MAX_PLACES self.now.places × AreLawfulLimits self.now.limits }
+    {
+        (1..=MAX_PLACES).contains(&self.places) && self.limits.are_lawful()
+    }
+}
+
+/// What mc_stdin takes on its command line.
+fn stdin_command<'a>(alloc: Global) -> Result<Command<'a>, AllocError>
+    ensures { IfOk result (λ command. app_of command ≡ stdin_app) }
+{
+    let places = "How many commands are applied, from 1 to 1048576 [default: 65536]";
+    let items = "How many items may be held, from 1 to 1048576 [default: 1048576]";
+    let bytes = "How many bytes keys and data may have, from 1 to 1073741824 [default: 67108864]";
+    Command::new(alloc, "mc_stdin")
+        .no_binary_name(true)
+        .version("1.0.0")
+        .about("A memcached server for one client, from standard input to standard output")
+        .arg(number_option(alloc, "places", places))?
+        .arg(number_option(alloc, "items", items))?
+        .arg(number_option(alloc, "bytes", bytes))
+}
+
+/// What the words after the program's name ask for.
+pub(crate) fn read_words(alloc: Global, words: &[String]) -> Result<StdinOptions, Error>
+    ensures places { IfOk result (λ options. options.places ≡ places_asked (map string_bytes words.now)) }
+    ensures limits { IfOk result (λ options. options.limits ≡ limits_asked (map string_bytes words.now)) }
+    ensures kinds { FailsBy (fault_of stdin_app (map string_bytes words.now)) result }
+{
+    let matches = stdin_command(alloc)?.try_get_matches_from(words)?;
+    let limits = Limits {
+        items: number(&matches, "items").unwrap_or(DEFAULT_ITEMS),
+        bytes: number(&matches, "bytes").unwrap_or(DEFAULT_BYTES),
+    };
+    Ok(StdinOptions {
+        places: number(&matches, "places").unwrap_or(DEFAULT_PLACES),
+        limits,
+    })
+}

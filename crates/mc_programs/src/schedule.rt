@@ -1,0 +1,183 @@
+//! What the program that runs event lists does.
+ghost use Rattle.std.specs.Prelude.{◌≡◌, ◌⊎◌, IfErr, IfOk, IsOkUnless, map, string_bytes};
+ghost use Rattle.mc_programs.specs.Lists.{EndsInFault, EndsWell, Receives, Refuses, bad_line_text};
+ghost use Rattle.mc_programs.specs.Reporting.{Gives, IsAnswerTo, IsAnswerToInput, Runs, StopsReading};
+ghost use Rattle.mc_stream.specs.Pushing.{PushesOrFails};
+ghost use Rattle.mc_stream.specs.Stream.{both};
+
+use crate::faults::{fail, tell_fault};
+use crate::schedule_words::{ScheduleOptions, read_words};
+use crate::waiting::push_all;
+use crate::words::answer_words;
+use itoa::Buffer;
+use mc_conn::PULL_BYTES;
+use mc_model::{Fault, Settings};
+use mc_schedules::schedule::INPUT_BYTES;
+use mc_schedules::{Item, Reading, Unwatched, draw_items, read_schedule, run_items};
+use mc_stream::{Input, Output, Pull};
+use std::alloc::Global;
+use std::sync::Wait;
+
+/// The program's name, as it stands before what it tells.
+const NAME: &[u8] = b"mc_schedule";
+
+/// What an event list is answered.
+#[derive(Debug, Drop)]
+enum Answer {
+    /// The text on its run, and what ended the run early, if anything did: the number of a line, and the fault that its event met.
+    Report {
+        text: Vec<u8>,
+        end: Option<(u64, Fault)>,
+    },
+    /// The number of its first bad line.
+    BadLine(u64),
+    /// A number of its settings is out of its range.
+    BadSettings,
+}
+
+/// The bytes of an event list: all that come until the input's end, or more than a list may have. An input that has nothing
+/// is asked again.
+fn receive<R: Wait, I: Input>(rt: &R, alloc: Global, input: &mut I) -> Result<Vec<u8>, Fault>
+    ensures receives { IfOk result (λ bytes. Receives bytes.items (I.tells input.old) (I.tells input.new)) }
+    ensures stops { IfErr result (λ fault. StopsReading fault (I.tells input.old) (I.tells input.new)) }
+{
+    let mut buffer = [0u8; PULL_BYTES];
+    let mut bytes = Vec::new(alloc);
+    for _ in rt.forever() {
+        if bytes.len() > INPUT_BYTES {
+            return Ok(bytes);
+        }
+        match input.pull(&mut buffer) {
+            Pull::Bytes(count) => bytes.extend_from_slice(&buffer[..count])?,
+            Pull::Empty => {}
+            Pull::Ended => return Ok(bytes),
+            Pull::Failed => return Err(Fault::Input),
+        }
+    }
+    unreachable!()
+}
+
+/// What is told of the run of these items, and what ended it early.
+fn report_of(
+    alloc: Global,
+    settings: &Settings,
+    items: Vec<Item>,
+    options: ScheduleOptions,
+) -> Result<(Vec<u8>, Option<(u64, Fault)>), Fault>
+    ensures runs { IfOk result (λ told. Runs settings.now items.items options told.1 told.0.items) }
+    ensures memory { IsOkUnless result Fault.Memory }
+{
+    let (mut text, outcome) = if options.picture {
+        draw_items(alloc, settings, items)?
+    } else {
+        let outcome = run_items(alloc, settings, items, &mut Unwatched)?;
+        (Vec::new(alloc), outcome)
+    };
+    let lines = outcome.report(alloc, options.quiet)?;
+    text.extend_from_slice(&lines)?;
+    Ok((text, outcome.fault))
+}
+
+/// What a list of these bytes is answered.
+fn answer_to(alloc: Global, options: ScheduleOptions, bytes: &[u8]) -> Result<Answer, Fault>
+    ensures answer { IfOk result (λ answer. IsAnswerTo options bytes.now answer) }
+    ensures memory { IsOkUnless result Fault.Memory }
+{
+    let schedule = match read_schedule(alloc, bytes)? {
+        Reading::Bad(line) => return Ok(Answer::BadLine(line)),
+        Reading::Schedule(schedule) => schedule,
+    };
+    let Ok(settings) = Settings::check(schedule.workers, schedule.places, schedule.tenants) else {
+        return Ok(Answer::BadSettings);
+    };
+    let (text, end) = report_of(alloc, &settings, schedule.items, options)?;
+    Ok(Answer::Report { text, end })
+}
+
+/// Reads the event list on the input, and does what it says.
+fn do_list<R: Wait, I: Input>(
+    rt: &R,
+    alloc: Global,
+    options: ScheduleOptions,
+    input: &mut I,
+) -> Result<Answer, Fault>
+    ensures answer { IfOk result (λ answer. IsAnswerToInput options (I.tells input.old) (I.tells input.new) answer) }
+    ensures stops { IfErr result (λ fault. StopsReading fault (I.tells input.old) (I.tells input.new)) }
+{
+    let bytes = receive(rt, alloc, input)?;
+    answer_to(alloc, options, &bytes)
+}
+
+/// Says which line of a list is the first bad one. Takes no memory.
+fn tell_bad_line<R: Wait, E: Output>(rt: &R, line: u64, errors: &mut E) -> Result<(), Fault>
+    ensures { PushesOrFails (bad_line_text line) (E.tells errors.old) (E.tells errors.new) }
+{
+    let mut buffer = Buffer::new();
+    push_all(rt, b"mc_schedule: line ", errors)?;
+    push_all(rt, buffer.format(line).as_bytes(), errors)?;
+    push_all(rt, b": bad line\n", errors)
+}
+
+/// Pushes what a list is answered, and answers the status that the program ends with.
+fn give<R: Wait, O: Output, E: Output>(
+    rt: &R,
+    answer: &Answer,
+    output: &mut O,
+    errors: &mut E,
+) -> u8
+    ensures { Gives answer.now result (O.tells output.old) (O.tells output.new) (E.tells errors.old) (E.tells errors.new) }
+{
+    match answer {
+        Answer::Report { text, end } => match push_all(rt, text, output) {
+            Ok(()) => u8::from(end.is_some()),
+            Err(fault) => fail(rt, NAME, fault, errors),
+        },
+        Answer::BadLine(line) => {
+            let _ = tell_bad_line(rt, *line, errors);
+            2
+        }
+        Answer::BadSettings => {
+            tell_fault(rt, NAME, Fault::BadSettings, errors);
+            2
+        }
+    }
+}
+
+/// Does what the words after the program's name ask for, and answers the status that the program ends with.
+///
+/// Reads an event list from the input, does what it says, and pushes a report on that to the output: 0 where all of it was done, and
+/// 1 where an event met a fault, which the report names. `--quiet` leaves the replies out of the report, and `--picture` puts a
+/// picture of the run before it.
+///
+/// A list with a bad line is told as `mc_schedule: line K: bad line`, and one that names settings out of their range as `mc_schedule:
+/// bad settings`, with 2 and before anything is done. Where memory runs out, the input or the output fails: `mc_schedule: TEXT`,
+/// with 1, and nothing was pushed to the output unless that failed. Each is a line on `errors`.
+///
+/// Help and the version go to the output, with 0, and a mistake in the words to `errors`, with 2, by clap's text. Nothing is pulled
+/// then. A failure of `errors` is passed over.
+pub fn run_schedule<R: Wait, I: Input, O: Output, E: Output>(
+    rt: &R,
+    alloc: Global,
+    words: Vec<String>,
+    input: &mut I,
+    output: &mut O,
+    errors: &mut E,
+) -> u8
+    ensures status { (result ≡ 0) ⊎ (result ≡ 1) ⊎ (result ≡ 2) }
+    // From the bytes that came in to the bytes that went out.
+    ensures reports { result ≡ 0 → EndsWell (map string_bytes words.items) (both (I.tells input.old) (O.tells output.old)) (both (I.tells input.new) (O.tells output.new)) }
+    ensures silent { result ≡ 0 → E.tells errors.new ≡ E.tells errors.old }
+    ensures fails { result ≡ 1 → EndsInFault (map string_bytes words.items) (both (I.tells input.old) (O.tells output.old)) (both (I.tells input.new) (O.tells output.new))
+        (E.tells errors.old) (E.tells errors.new) }
+    ensures refuses { result ≡ 2 → Refuses (map string_bytes words.items) (I.tells input.old) (I.tells input.new) (E.tells errors.old) (E.tells errors.new) }
+    ensures untouched { result ≡ 2 → O.tells output.new ≡ O.tells output.old }
+{
+    let options = match read_words(alloc, &words) {
+        Ok(options) => options,
+        Err(error) => return answer_words(rt, alloc, NAME, &error, output, errors),
+    };
+    match do_list(rt, alloc, options, input) {
+        Ok(answer) => give(rt, &answer, output, errors),
+        Err(fault) => fail(rt, NAME, fault, errors),
+    }
+}

@@ -1,0 +1,118 @@
+//! One client, served by one worker on a log of its own.
+ghost use Rattle.std.specs.Prelude.{◌≡◌, ◌⊎◌, OnOk, IfErr, IfOk};
+ghost use Rattle.mc_model.specs.Settings.{IsLawful};
+ghost use Rattle.mc_model.specs.declared.fault.Fault.TheVariants as faults;
+ghost use Rattle.mc_programs.specs.Serving.{CountsFailures, Serves, Stops, settings_alone};
+ghost use Rattle.mc_programs.specs.Opening.{IsOpened, RefusesToOpen};
+ghost use Rattle.mc_stream.specs.Stream.{both};
+
+use mc_conn::{Conn, pump};
+use mc_model::{Fault, Limits, Settings, TenantId, WireNo};
+use mc_stream::{Input, Output, push_while_taken};
+use mc_write::refusal_text;
+use std::alloc::Global;
+use std::mem;
+use std::sync::Wait;
+use uc_log::{Log, Pass};
+use uc_worker::Worker;
+
+/// Opens a log with one worker, for one tenant. Where memory runs out: `Memory`; where the quotas or the number of places aren't lawful:
+/// `BadSettings`.
+fn open_alone(alloc: Global, limits: Limits, places: u64) -> Result<(Log, Pass), Fault>
+    ensures opened { IfOk result (λ opened. IsOpened limits places opened.0 opened.1) }
+    ensures faults { IfErr result (λ fault. (fault ≡ faults.Memory) ⊎ (fault ≡ faults.BadSettings) × ¬ (IsLawful (settings_alone limits places))) }
+{
+    let mut tenants = Vec::new(alloc);
+    tenants.push(limits)?;
+    let settings = Settings::check(1, places, tenants)?;
+    let (log, mut passes) = Log::open(alloc, &settings)?;
+    let Some(pass) = passes.pop() else {
+        unreachable!()
+    };
+    Ok((log, pass))
+}
+
+/// The first tenant of a log, which is the only one here.
+fn first_tenant() -> TenantId
+    ensures { result ≡ 0 }
+{
+    TenantId::new(0).unwrap()
+}
+
+/// Answers the fault. Where memory ran out before any request was read, the client is told, as far as the output takes it at once.
+fn refuse_to_open<O: Output>(fault: Fault, output: &mut O) -> Fault
+    ensures fault { result ≡ fault }
+    ensures told { RefusesToOpen fault (O.tells output.old) (O.tells output.new) }
+{
+    if fault == Fault::Memory {
+        push_while_taken(refusal_text(WireNo::E11), output);
+    }
+    fault
+}
+
+/// What becomes of the memory of a client's table and commands after its service.
+#[derive(Clone, Copy)]
+pub(crate) enum Memory {
+    /// It is given back, piece by piece.
+    Freed,
+    /// It is left to the operating system, which takes it back at once where the process ends.
+    Left,
+}
+
+/// As `serve_client`, and leaves the memory of the table and the commands where it is asked to.
+pub(crate) fn serve_and_leave<R: Wait, I: Input, O: Output>(
+    rt: &R,
+    alloc: Global,
+    limits: Limits,
+    places: u64,
+    memory: Memory,
+    input: &mut I,
+    output: &mut O,
+) -> Result<(), Fault>
+    ensures serves { OnOk result (Serves limits places (both (I.tells input.old) (O.tells output.old)) (both (I.tells input.new) (O.tells output.new))) }
+    ensures stops { IfErr result (λ fault. Stops limits places fault (both (I.tells input.old) (O.tells output.old)) (both (I.tells input.new) (O.tells output.new))) }
+    ensures failures { CountsFailures result (both (I.tells input.old) (O.tells output.old)) (both (I.tells input.new) (O.tells output.new)) }
+{
+    let (log, pass) = match open_alone(alloc, limits, places) {
+        Ok(opened) => opened,
+        Err(fault) => return Err(refuse_to_open(fault, output)),
+    };
+    let mut worker = match Worker::open(alloc, &log, pass) {
+        Ok(worker) => worker,
+        Err(fault) => return Err(refuse_to_open(fault, output)),
+    };
+    let mut conn = Conn::new(alloc, first_tenant());
+    let served = pump(rt, &mut conn, &mut worker, input, output);
+    if let Memory::Left = memory {
+        mem::forget(conn);
+        mem::forget(worker);
+        mem::forget(log);
+    }
+    served
+}
+
+/// Serves one client: a worker opens a log with so many places, reads requests from the input, submits the commands of a tenant with
+/// these quotas, answers those beyond the last place `SERVER_ERROR log full`, and pushes the replies, until the input ends or a request
+/// ends the stream. An input that has nothing, and an output that is full, are asked again.
+///
+/// Where memory runs out (`Memory`), the replies that are queued and then `SERVER_ERROR out of memory` are pushed, as far as the output
+/// takes them at once. After a failure of the input or the output (`Input`, `Output`), or where a command's cell holds another value
+/// (`Taken`), nothing more is pushed. Where the quotas or the number of places aren't lawful (`BadSettings`), nothing is done.
+pub fn serve_client<R: Wait, I: Input, O: Output>(
+    rt: &R,
+    alloc: Global,
+    limits: Limits,
+    places: u64,
+    input: &mut I,
+    output: &mut O,
+) -> Result<(), Fault>
+
+    // From the bytes that came in to the bytes that went out.
+    ensures serves { OnOk result (Serves limits places (both (I.tells input.old) (O.tells output.old)) (both (I.tells input.new) (O.tells output.new))) }
+    ensures stops { IfErr result (λ fault. Stops limits places fault (both (I.tells input.old) (O.tells output.old)) (both (I.tells input.new) (O.tells output.new))) }
+
+    // Which fault comes when.
+    ensures failures { CountsFailures result (both (I.tells input.old) (O.tells output.old)) (both (I.tells input.new) (O.tells output.new)) }
+{
+    serve_and_leave(rt, alloc, limits, places, Memory::Freed, input, output)
+}

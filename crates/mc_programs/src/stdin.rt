@@ -1,0 +1,61 @@
+//! What the program over standard input does.
+ghost use Rattle.std.specs.Prelude.{◌≡◌, ◌⊎◌, map, string_bytes};
+ghost use Rattle.mc_programs.specs.Options.{EndsInFault, EndsWell, RefusesWords};
+ghost use Rattle.mc_programs.specs.Serving.{NeitherFails};
+ghost use Rattle.mc_stream.specs.Stream.{both};
+
+use crate::faults::{fail, tell_fault};
+use crate::options::read_words;
+use crate::serving::{Memory, serve_and_leave};
+use crate::words::answer_words;
+use mc_model::Fault;
+use mc_stream::{Input, Output};
+use std::alloc::Global;
+use std::sync::Wait;
+
+/// The program's name, as it stands before what it tells.
+const NAME: &[u8] = b"mc_stdin";
+
+/// Does what the words after the program's name ask for, and answers the status that the program ends with.
+///
+/// Serves one client from the input to the output: 0 where the input ended or a request ended the stream, and 1 where a fault
+/// ended it, which is told on `errors` by `mc_stdin: TEXT` and a line feed. `--places N` says how many places the log has
+/// (65,536 where it isn't given), `--items N` how many items the table may hold (1,048,576), and `--bytes N` how many bytes its
+/// keys and data may have (67,108,864). A number out of its range is told as `bad settings`, with 2.
+///
+/// Help and the version go to the output, with 0, and a mistake in the words to `errors`, with 2, by clap's text; to be out of memory
+/// and a failure of the output are faults there too. Nothing is pulled then. A failure of `errors` is passed over.
+///
+/// The program is to end then: the memory of the table and the commands is left to the operating system.
+pub fn run_stdin<R: Wait, I: Input, O: Output, E: Output>(
+    rt: &R,
+    alloc: Global,
+    words: Vec<String>,
+    input: &mut I,
+    output: &mut O,
+    errors: &mut E,
+) -> u8
+    ensures status { (result ≡ 0) ⊎ (result ≡ 1) ⊎ (result ≡ 2) }
+    // From the bytes that came in to the bytes that went out, by the quotas and the number of places that the words ask for.
+    ensures serves { result ≡ 0 → EndsWell (map string_bytes words.items) (both (I.tells input.old) (O.tells output.old)) (both (I.tells input.new) (O.tells output.new)) }
+    ensures no_failure { result ≡ 0 → NeitherFails (both (I.tells input.old) (O.tells output.old)) (both (I.tells input.new) (O.tells output.new)) }
+    ensures silent { result ≡ 0 → E.tells errors.new ≡ E.tells errors.old }
+    ensures fails { result ≡ 1 → EndsInFault (map string_bytes words.items) (both (I.tells input.old) (O.tells output.old)) (both (I.tells input.new) (O.tells output.new))
+        (E.tells errors.old) (E.tells errors.new) }
+    ensures refuses { result ≡ 2 → RefusesWords (map string_bytes words.items) (E.tells errors.old) (E.tells errors.new) }
+    ensures untouched { result ≡ 2 → both (I.tells input.new) (O.tells output.new) ≡ both (I.tells input.old) (O.tells output.old) }
+{
+    let options = match read_words(alloc, &words) {
+        Ok(options) => options,
+        Err(error) => return answer_words(rt, alloc, NAME, &error, output, errors),
+    };
+    if !options.is_in_range() {
+        tell_fault(rt, NAME, Fault::BadSettings, errors);
+        return 2;
+    }
+    let (limits, places) = (options.limits, options.places);
+    match serve_and_leave(rt, alloc, limits, places, Memory::Left, input, output) {
+        Ok(()) => 0,
+        Err(fault) => fail(rt, NAME, fault, errors),
+    }
+}
