@@ -27,7 +27,7 @@ SAYS = {
     "mc_conn": "one connection, by turns",
     "mc_net": "sockets and threads",
     "mc_programs": "programs over streams",
-    "mc_server": "words, statuses, loops",
+    "mc_server": "the words of wfmc, its log",
     "mc_stdin": "one client, by pipes",
     "mc_schedule": "tries a schedule",
     "wfmc": "the server",
