@@ -25,8 +25,10 @@ for crate in "$@"; do
     echo "$crate: trying its edits ($(find "crates/$crate/must-fail" -name '*.edit' | wc -l))"
 done
 
-# The crates side by side, each one's edits in turn.
-printf '%s\n' "$@" | xargs -P "$(nproc)" -I{} bash -c 'rt must-fail {} 2>&1 | tee "$0/{}.log" || true' "$folder"
+# The crates side by side, each one's edits in turn; those with the most edits begin first.
+for crate in "$@"; do
+    echo "$(find "crates/$crate/must-fail" -name '*.edit' | wc -l) $crate"
+done | sort -rn | cut -d' ' -f2 | xargs -P "$(nproc)" -I{} bash -c 'rt must-fail {} 2>&1 | tee "$0/{}.log" || true' "$folder"
 
 passed=0
 failed=0
