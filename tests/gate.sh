@@ -1,7 +1,7 @@
 #!/usr/bin/env bash
 # The gate: the kit's own (every proof from nothing, the edits of must-fail/, the tests, the programs on their stored runs), and
 # then the built programs on their worked rows, wfmc over sockets, orders of what its clients saw, a round of the attack, and whether the
-# picture of the crates is up to date. The last line is 'N passed, M failed', of all together.
+# picture of the crates and the numbers of their definitions are up to date. The last line is 'N passed, M failed', of all together.
 set -euo pipefail
 cd "$(dirname "$0")/.."
 
@@ -20,8 +20,8 @@ count() {
     "$@" 2>&1 | all_but_last "$sum" || failed=1
 }
 
-picture_is_up_to_date() {
-    if tools/picture.py --check; then echo "1 passed, 0 failed"; else echo "0 passed, 1 failed" && return 1; fi
+passes() {
+    if "$@"; then echo "1 passed, 0 failed"; else echo "0 passed, 1 failed" && return 1; fi
 }
 
 count rt ci
@@ -36,8 +36,9 @@ count python3 tests/orders.py --self-test
 count python3 tests/orders.py 20
 echo "a round of the attack on wfmc"
 count python3 tests/attack.py --seed 77 --round 3
-echo "the picture of the crates"
-count picture_is_up_to_date
+echo "the picture of the crates, and the numbers of their definitions"
+count passes tools/picture.py --check
+count passes python3 tools/reading.py --check
 
 awk '{ passed += $1; failed += $3; if ($0 !~ /^[0-9]+ passed, [0-9]+ failed$/) { print; failed++ } }
      END { print passed + 0 " passed, " failed + 0 " failed" }' "${sums[@]}"

@@ -1,7 +1,7 @@
 -- For whom a worker has announced its commands, while its connections stand in a table and once they have ended.
 use Rattle.std.proofs.Common.{◌≡◌, ◌≢◌, ◌⊎◌, ℕ, zero, suc, ◌+◌, ◌<◌, ◌≤◌, false, true, List, [], ◌∷◌, ◌++◌, length, slice_get, Option, Some, None, arith, refl, sym, ap, subst, ◌∙◌, inl, inr, ⊎_elim, append_assoc, append-nil, length-append}
 use Rattle.std.specs.List.{AllZip}
-use Rattle.std.proofs.lemmas.Option.{none-some}
+use Rattle.std.proofs.lemmas.Option.{none-some, same_Some, slice_get_within}
 use Rattle.std.proofs.lemmas.Bool.{eqb-true}
 use Rattle.mc_conn.specs.Ending.{Breaks, Stops}
 use Rattle.mc_conn.specs.Held.{HoldsOn}
@@ -22,7 +22,7 @@ use Rattle.mc_net.specs.declared.door.Arrival.{Arrival}
 use Rattle.mc_net.specs.declared.past.Past.{Past}
 use Rattle.mc_net.specs.declared.seat.Returned.{Returned}
 use Rattle.mc_net.specs.declared.table.Connection.{Connection}
-use Rattle.mc_net.proofs.Lives.{IsSound, nothing_at, same_key, some_injective, sound_first, sound_working}
+use Rattle.mc_net.proofs.Lives.{IsSound, nothing_at, reads_from_earlier, same_key, sound_first, sound_working}
 use Rattle.mc_net.proofs.Numbers.{IsAt, Numbers, met_numbers, owed_numbers, taken_numbers}
 use Rattle.mc_read.specs.Reading.{ReadsAs}
 use Rattle.mc_stream.specs.Event.{moved}
@@ -32,11 +32,6 @@ use Rattle.uc_worker.specs.declared.worker.Worker.{Worker}
 use Rattle.uc_worker.specs.Worker.{announced_of}
 
 module _ {X : Type 0} where
-  inside : (list : List X) (place : ℕ) (x : X) → slice_get list place ≡ Some x → place < length list
-  inside [] place x at = absurd (none-some x at)
-  inside (y ∷ list) zero x at = omega arith
-  inside (y ∷ list) (suc place) x at = omega (arith, inside list place x at)
-
   at_behind : (front list : List X) (place there : ℕ) (x : X) → there ≡ length front + place → slice_get list place ≡ Some x → slice_get (front ++ list) there ≡ Some x
   at_behind [] list place there x is at = ap (slice_get list) (let same : there ≡ place = omega (arith, is) in same) ∙ at
   at_behind (y ∷ front) list place zero x is at = let no : ⊥ = omega (arith, is) in absurd no
@@ -122,8 +117,7 @@ module _ (before after : Worker) (old new : Connection) (taken : List Request) (
   came_on : (came more : List ℕ) (all : List Request) → came_of new ≡ came_of old ++ came → ReadsAs (came_of new ++ more) all →
       (others : List Request) × (all ≡ taken ++ others) × HoldsOn (holding_of old.conn) (came ++ more) others
   came_on came more all pulled reads =
-      let bytes : came_of new ++ more ≡ came_of old ++ (came ++ more) = ap (λ (bytes : List ℕ). bytes ++ more) pulled ∙ append_assoc (came_of old) came more in
-      let had_then = had (came ++ more) all (subst (λ (bytes : List ℕ). ReadsAs bytes all) bytes reads) in
+      let had_then = had (came ++ more) all (reads_from_earlier old new came more all pulled reads) in
       (had_then.0, had_then.1, had_then.2 opened)
 
   step_taking : Takes (scene_of old before) (scene_of new after) → Step before after old new taken
@@ -231,7 +225,7 @@ module _ (from : ℕ) (v : View) (asking : Asking from v) (key : ℕ) (old new :
   found_still number (stands_under other) request found =
       ⊎_elim
       (λ (is : other ≡ key).
-      let it_is : found.connection ≡ old = some_injective found.connection old (sym found.there ∙ ap v.live is ∙ there) in
+      let it_is : found.connection ≡ old = same_Some found.connection old (sym found.there ∙ ap v.live is ∙ there) in
       let tenant : found.connection.conn.tenant ≡ new.conn.tenant = ap (λ (connection : Connection). connection.conn.tenant) it_is ∙ sym step.tenant in
       record {
         connection = new;
@@ -281,7 +275,7 @@ module _ (from : ℕ) (v : View) (asking : Asking from v) (key : ℕ) (old new :
   -- what one has asked for before is one of the requests taken by then
   is_taken : (number : ℕ) (who : Who) (request : ℕ) → who ≡ stands_under key → Found v asking.taken number who request → request < length (asking.taken key)
   is_taken number who request is found =
-      let it = subst (λ (who : Who). Found v asking.taken number who request) is found in inside (asking.taken key) request _ it.asked.request
+      let it = subst (λ (who : Who). Found v asking.taken number who request) is found in slice_get_within (asking.taken key) request _ it.asked.request
 
   in_order_then : (one two : ℕ) (first : (one < length (announced_of v.worker)) ⊎ ((i : ℕ) × (one ≡ length (announced_of v.worker) + i)))
       (second : (two < length (announced_of v.worker)) ⊎ ((i : ℕ) × (two ≡ length (announced_of v.worker) + i))) → from ≤ one → one < two →
@@ -299,7 +293,7 @@ module _ (from : ℕ) (v : View) (asking : Asking from v) (key : ℕ) (old new :
     has_taken = λ other connection at.
         ⊎_elim
         (λ (is : other ≡ key).
-        let it_is : new ≡ connection = some_injective new connection (sym (at_key v.live key (Some new) other is) ∙ at) in
+        let it_is : new ≡ connection = same_Some new connection (sym (at_key v.live key (Some new) other is) ∙ at) in
         subst (λ (requests : List Request). HasTaken connection requests) (sym (at_key asking.taken key _ other is))
         (subst (λ (connection : Connection). HasTaken connection (asking.taken key ++ step.more)) it_is step.has_taken))
         (λ (not : other ≢ key).
@@ -324,7 +318,7 @@ module _ (from : ℕ) (v : View) (asking : Asking from v) (key : ℕ) (last : Co
   found_picked : (number other request : ℕ) (either : (other ≡ key) ⊎ (other ≢ key)) → StandsAndAsked v asking.taken number other request →
       Found gone asking.taken number (pick (ended_after (length v.ended)) (stands_under other) either) request
   found_picked number other request (inl is) found =
-      let it_is : found.connection ≡ last = some_injective found.connection last (sym found.there ∙ ap v.live is ∙ there) in
+      let it_is : found.connection ≡ last = same_Some found.connection last (sym found.there ∙ ap v.live is ∙ there) in
       record {
         connection = found.connection;
         later = [];
@@ -425,7 +419,7 @@ module _ (from : ℕ) (v : View) (asking : Asking from v) (key : ℕ) (fresh : C
     has_taken = λ other connection at.
         ⊎_elim
         (λ (is : other ≡ key).
-        let it_is : fresh ≡ connection = some_injective fresh connection (sym (at_key v.live key (Some fresh) other is) ∙ at) in
+        let it_is : fresh ≡ connection = same_Some fresh connection (sym (at_key v.live key (Some fresh) other is) ∙ at) in
         subst (λ (requests : List Request). HasTaken connection requests) (sym (at_key asking.taken key [] other is))
         (subst (λ (connection : Connection). HasTaken connection []) it_is has_taken))
         (λ (not : other ≢ key).

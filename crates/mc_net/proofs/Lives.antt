@@ -7,6 +7,7 @@ use Rattle.std.proofs.lemmas.List.Elements.{All-cons, All-nil}
 use Rattle.std.proofs.lemmas.Bool.{eqb-true}
 use Rattle.std.proofs.lemmas.List.Folds.{list_any-append}
 use Rattle.std.proofs.lemmas.List.Sums.{sum_by-cons}
+use Rattle.std.proofs.lemmas.Option.{same_Some}
 use Rattle.mc_conn.specs.Alone.{first_mark}
 use Rattle.mc_conn.specs.Ending.{Breaks, IsDone, Stops}
 use Rattle.mc_conn.specs.Held.{Holding, HoldsNone, HoldsOn, IsRead, Waits}
@@ -37,13 +38,6 @@ use Rattle.mc_net.specs.declared.past.Past.{Past}
 use Rattle.mc_net.specs.declared.seat.Returned.{Returned}
 use Rattle.mc_net.specs.declared.table.Connection.{Connection}
 use Rattle.mc_net.proofs.Stopped.{stops_onward}
-
-abbrev some_or : {X : Type 0} → X → Option X → X
-some_or default None = default
-some_or default (Some x) = x
-
-pub some_injective : {X : Type 0} (one two : X) → Some one ≡ Some two → one ≡ two
-some_injective one two is = ap (some_or one) is
 
 -- the end that a turn remembers was found
 end_seen : (X Y : Type 0) (is was : Bool) (before after : Inflow) → MatchBool is ((was ≡ true) × (after ≡ before) ⊎ (has_ended after.events ≡ true) × X) Y →
@@ -134,6 +128,12 @@ lives_fresh worker connection arrival fresh = record {
   end = λ is. let no : false ≡ true = sym fresh.going.0 ∙ is in cc;
 }
 
+-- what all that came reads as, said of what had come earlier and then of all behind it
+pub reads_from_earlier : (old new : Connection) (came more : List ℕ) (all : List Request) → came_of new ≡ came_of old ++ came → ReadsAs (came_of new ++ more) all →
+    ReadsAs (came_of old ++ (came ++ more)) all
+reads_from_earlier old new came more all pulled reads =
+    subst (λ (bytes : List ℕ). ReadsAs bytes all) (ap (λ (bytes : List ℕ). bytes ++ more) pulled ∙ append_assoc (came_of old) came more) reads
+
 module _ (before after : Worker) (old new : Connection) (tenant : new.conn.tenant ≡ old.conn.tenant) (lives : Lives before old) where
   -- the parts so far, over the worker as it is later on
   parts_so_far : IsOnward before after → OwesInParts after new.conn.tenant lives.requests lives.owed lives.to
@@ -185,9 +185,7 @@ module _ (before after : Worker) (old new : Connection) (tenant : new.conn.tenan
 
     first_requests : (more : List ℕ) (all : List Request) → ReadsAs (came_of new ++ more) all → BeginsWith all (lives.requests ++ breaks.requests)
     first_requests more all reads =
-        let came : came_of new ++ more ≡ came_of old ++ (breaks.came ++ more) =
-        ap (λ (came : List ℕ). came ++ more) breaks.pulled ∙ append_assoc (came_of old) breaks.came more in
-        let one = (lives.reads (breaks.came ++ more) all).0 (subst (λ (bytes : List ℕ). ReadsAs bytes all) came reads) in
+        let one = (lives.reads (breaks.came ++ more) all).0 (reads_from_earlier old new breaks.came more all breaks.pulled reads) in
         let two = breaks.reads more one.0 one.2 in (
           breaks.met ++ two.0,
           one.1 ∙ ap (λ (others : List Request). lives.requests ++ others) two.1 ∙ sym (append_assoc lives.requests breaks.requests (breaks.met ++ two.0)),
@@ -296,7 +294,7 @@ steps_at before after state (Some old) (Some new) lives (later, isnt, past) =
     record {
       onward = on;
       stays = λ connection is.
-          subst (Lives after.worker) (some_injective new connection is) (later_lives before.worker after.worker old new state isnt later (lives old refl));
+          subst (Lives after.worker) (same_Some new connection is) (later_lives before.worker after.worker old new state isnt later (lives old refl));
       ended = λ all. subst (All (WasAnswered after.worker)) (sym past) (all_on before.worker after.worker on before.table.past.ended all);
     }
 steps_at before after state (Some old) None lives (last, past, later, closed) =
@@ -329,7 +327,7 @@ sound_taking before after sound taken = record {
       (λ (is : key ≡ taken.key).
       let fresh = taken.admits.connection in
       let there : Some fresh ≡ Some connection = sym taken.admits.updates.changed ∙ subst (λ (key : ℕ). connection_at after.table key ≡ Some connection) is at in
-      subst (Lives before.worker) (some_injective fresh connection there) (lives_fresh before.worker fresh taken.arrival taken.admits.fresh))
+      subst (Lives before.worker) (same_Some fresh connection there) (lives_fresh before.worker fresh taken.arrival taken.admits.fresh))
       (λ (not : key ≢ taken.key). sound.lives key connection (sym (taken.admits.updates.others key not) ∙ at))
       (same_key key taken.key));
   ended =

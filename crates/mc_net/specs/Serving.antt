@@ -10,6 +10,8 @@ use Rattle.mc_model.specs.declared.fault.Fault.{Fault}
 use Rattle.mc_model.specs.declared.fault.Fault.TheVariants.{Memory, Input}
 use Rattle.mc_net.specs.declared.connecting.TheConstants.{TURNS}
 use Rattle.mc_net.specs.declared.door.Arrival.{Arrival}
+use Rattle.mc_net.specs.declared.halt.Halt.{Halt}
+use Rattle.mc_net.specs.declared.halt.Halt.TheVariants.{Memory as GrowthRefused, Poll, Elsewhere}
 use Rattle.mc_net.specs.declared.table.Connection.{Connection}
 use Rattle.mc_net.specs.declared.table.Table.{Table}
 use Rattle.mc_read.specs.Reading.{Kept}
@@ -97,6 +99,12 @@ pub record Serves (Step : Option Connection → Option Connection → Type 0) (b
   pub becomes : Step (connection_at before key) (connection_at after key)
   pub others : (other : ℕ) → other ≢ key → connection_at after other ≡ connection_at before other
   pub tenants : after.tenants ≡ before.tenants
+
+-- the fault as which a loop's end before its time is told
+abbrev pub fault_of : Halt → Fault
+fault_of GrowthRefused = Memory
+fault_of Poll = Input
+fault_of Elsewhere = Input
 
 -- the faults of the network
 abbrev pub IsNetworkFault : Fault → Type 0

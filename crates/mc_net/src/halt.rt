@@ -1,7 +1,7 @@
 //! Why a loop ends before its time.
 ghost use Rattle.std.specs.Prelude.{◌≡◌};
-ghost use Rattle.mc_model.specs.declared.fault.Fault.TheVariants as faults;
-ghost use Rattle.mc_net.specs.Serving.{IsNetworkFault};
+ghost use Rattle.mc_net.specs.Serving.{fault_of};
+ghost use Rattle.mc_net.specs.declared.halt.Halt.TheVariants.{Memory};
 
 use mc_model::Fault;
 use std::alloc::{AllocError, AllocFailed};
@@ -18,19 +18,23 @@ pub enum Halt {
 }
 
 impl From<AllocError> for Halt {
+    ghost from_gives = { λ _ halt. halt ≡ Memory };
+
     fn from(_error: AllocError) -> Halt {
         Halt::Memory
     }
 }
 
 impl<T: Drop> From<AllocFailed<T>> for Halt {
+    ghost from_gives = { λ _ halt. halt ≡ Memory };
+
     fn from(_error: AllocFailed<T>) -> Halt {
         Halt::Memory
     }
 }
 
 impl From<Halt> for Fault {
-    ghost from_gives = { λ _ fault. IsNetworkFault fault };
+    ghost from_gives = { λ halt fault. fault ≡ fault_of halt };
 
     fn from(halt: Halt) -> Fault {
         match halt {
