@@ -49,29 +49,29 @@ pub fn kinds_are_by_name()
 {}
 
 /// Two keys are equal exactly where their bytes are.
-pub fn keys_are_equal_by_their_bytes(one: &Key, other: &Key) -> bool
-    ensures { IsTrue result ↔ (one.now ≡ other.now) }
+pub fn keys_are_equal_by_their_bytes(key: &Key, other: &Key) -> bool
+    ensures { IsTrue result ↔ (key.now ≡ other.now) }
 {
-    one == other
+    key == other
 }
 
 /// Two data blocks are equal exactly where their bytes are.
-pub fn data_are_equal_by_their_bytes(one: &Data, other: &Data) -> bool
-    ensures { IsTrue result ↔ (one.now ≡ other.now) }
+pub fn data_are_equal_by_their_bytes(data: &Data, other: &Data) -> bool
+    ensures { IsTrue result ↔ (data.now ≡ other.now) }
 {
-    one == other
+    data == other
 }
 
 /// Two lists of keys are equal exactly where they have the same keys in the same order.
-pub fn key_lists_are_equal_by_their_keys(one: &KeyList, other: &KeyList) -> bool
-    ensures { IsTrue result ↔ (one.now ≡ other.now) }
+pub fn key_lists_are_equal_by_their_keys(keys: &KeyList, others: &KeyList) -> bool
+    ensures { IsTrue result ↔ (keys.now ≡ others.now) }
 {
-    one == other
+    keys == others
 }
 
 /// Two lists of values are equal exactly where they have the same values in the same order.
-pub fn value_lists_are_equal_by_their_values(one: &ValueList, other: &ValueList) -> bool
-    ensures { IsTrue result ↔ (one.now ≡ other.now) }
+pub fn value_lists_are_equal_by_their_values(values: &ValueList, others: &ValueList) -> bool
+    ensures { IsTrue result ↔ (values.now ≡ others.now) }
 {
-    one == other
+    values == others
 }
