@@ -1,17 +1,17 @@
 #!/usr/bin/env bash
-# Builds crates/bench_places and prints medians of many runs of it, with the least and the greatest: the opening of the greatest log, reads
-# one after another, submits by one, two and four threads, and their steps by kind, each timed by itself.
+# Builds crates/benches and prints medians of many runs over the shared words, with the least and the greatest: the opening of the
+# greatest log, reads one after another, submits by one, two and four threads, and their steps by kind, each timed by itself.
 #
 # A timed step has two readings of the clock around it; what these take with nothing between is measured beside it, and taken off. Steps
 # of 10 microseconds and more are left out and counted, since the system had stopped their thread.
 set -euo pipefail
-cd "$(dirname "$0")/../crates/bench_places"
+cd "$(dirname "$0")/.."
 
 runs=${RUNS:-31}
 log=$(mktemp)
 trap 'rm -f "$log"' EXIT
-rt run -- --time >"$log" 2>&1 || { cat "$log"; exit 1; }
-for ((run = 0; run < runs; run++)); do out/bench_places --time; done >"$log"
+tools/prove.sh benches >"$log" 2>&1 || { cat "$log"; exit 1; }
+for ((run = 0; run < runs; run++)); do crates/benches/out/benches places --time; done >"$log"
 
 sed 's/[:,]//g' "$log" | awk -v runs="$runs" '
     function note(name, value) {

@@ -1,5 +1,5 @@
 #!/usr/bin/env bash
-# Builds crates/bench_worker and prints what a submit to the shared log costs, beside the same commands applied to one table without a log:
+# Builds crates/benches and prints what a submit to the shared log costs, beside the same commands applied to one table without a log:
 # submits a second, by workers, idle workers and tenants; how they go over the tenths of a log; and what one submit takes, counted.
 #
 # The loads run by turns, each in a process of its own, RUNS times; a figure is the median, with the least and the greatest. One command in
@@ -10,11 +10,11 @@
 set -euo pipefail
 cd "$(dirname "$0")/.."
 
-program=crates/bench_worker/out/bench_worker
+program=(crates/benches/out/benches submits)
 runs=${RUNS:-15}
 log=$(mktemp -d)
 trap 'rm -rf "$log"' EXIT
-tools/prove.sh bench_worker >"$log/proof" 2>&1 || { cat "$log/proof"; exit 1; }
+tools/prove.sh benches >"$log/proof" 2>&1 || { cat "$log/proof"; exit 1; }
 
 loads=(
     'no log|--apply --workers=1'
@@ -38,7 +38,7 @@ for ((run = 0; run < runs; run++)); do
     for load in "${loads[@]}"; do
         echo "run ${load%%|*}"
         # shellcheck disable=SC2086
-        "$program" --time --commands=99000 ${load#*|} | sed -n 's/^Work//p' | tr -c '0-9\n' ' '
+        "${program[@]}" --time --commands=99000 ${load#*|} | sed -n 's/^Work//p' | tr -c '0-9\n' ' '
     done
 done >"$log/runs"
 echo "before: $load_before"
@@ -106,9 +106,9 @@ awk -v runs="$runs" '
 commands=8000
 gcc -shared -fPIC -O1 -fno-builtin -o "$log/count.so" bench/count.c -ldl
 counts() {
-    LD_PRELOAD=$log/count.so "$program" "$@" 2>&1 >/dev/null
+    LD_PRELOAD=$log/count.so "${program[@]}" "$@" 2>&1 >/dev/null
     command -v valgrind >/dev/null || return 0
-    valgrind --tool=cachegrind --cache-sim=no --cachegrind-out-file=/dev/null "$program" "$@" 2>&1 >/dev/null |
+    valgrind --tool=cachegrind --cache-sim=no --cachegrind-out-file=/dev/null "${program[@]}" "$@" 2>&1 >/dev/null |
         sed -nE 's/.*I +refs: +([0-9,]+)$/ \1/p' | tr -d ,
 }
 costs() {

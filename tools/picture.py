@@ -44,7 +44,7 @@ def read_crates(text):
         if line.strip() and not line.lstrip().startswith("#"):
             name, _, libraries = line.partition(":")
             crates[name.split()[0]] = libraries.split()
-    drawn = {name for name in crates if not name.startswith(("mc_tests_", "uc_tests_", "bench_"))}
+    drawn = {name for name in crates if not name.startswith(("mc_tests_", "uc_tests_")) and name != "benches"}
     return {name: [it for it in crates[name] if it in drawn] for name in crates if name in drawn}
 
 

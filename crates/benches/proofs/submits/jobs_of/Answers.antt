@@ -1,8 +1,8 @@
 -- The pass that is taken from the end is new, and those before it stay so.
 use Rattle.std.proofs.Common.{ap}
 use Rattle.uc_places.specs.declared.view.View.{View}
-use Rattle.bench_worker.proofs.New.{fewer_new, last_new}
-use Rattle.bench_worker.proofs.jobs_of.Goals as goal
+use Rattle.benches.proofs.New.{fewer_new, last_new}
+use Rattle.benches.proofs.submits.jobs_of.Goals as goal
 
 pub open-requires-clause-of : goal.open-requires-clause-of
 open-requires-clause-of c = (last_new c.args.log.now _ _ c.in-Some.pass c.in-Some.ensures.items c.loop-number.invariant).0

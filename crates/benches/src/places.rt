@@ -1,7 +1,5 @@
-//! Measures the shared words: the opening of the greatest log, reads one after another, and submits by one thread, two and four. Prints
-//! what was counted, and with `--time` also what depends on the machine: nanoseconds, memory, and how the threads met.
-#![tactic(auto)]
-
+//! The shared words: the opening of the greatest log, reads one after another, and submits by one thread, two and four. Prints what was
+//! counted, and timed also what depends on the machine: nanoseconds, memory, and how the threads met.
 ghost use Rattle.std.specs.Prelude.{◌≡◌, ◌<◌, ◌≤◌, ℕ, slice_get, Some, IfSome};
 ghost use Rattle.mc_model.specs.declared.id.TheConstants.{WORKERS};
 ghost use Rattle.uc_places.specs.Calls.{IsSeatOf};
@@ -12,7 +10,7 @@ use std::fs::Files;
 use std::rt::Clock;
 use std::thread::{Threads, map_vec};
 use std::time::{Duration, Instant};
-use std::{env, fs, io};
+use std::{fs, io};
 use uc_places::{Idle, Pending, Places, Seat, close, open};
 
 /// The most workers and the most places.
@@ -420,12 +418,15 @@ fn report_threads<R: AllocGlobal + Clock + Print + Threads + Sync>(
     Ok(())
 }
 
-fn main(rt: HostRuntime) -> io::Result<()> {
-    let timed = env::args(&rt)?.any(|word| word.as_str() == "--time");
-    report_open(&rt, timed)?;
-    report_reads(&rt, timed)?;
+/// Does all of it.
+pub(crate) fn run_all<R: AllocGlobal + Clock + Files + Print + Threads + Sync>(
+    rt: &R,
+    timed: bool,
+) -> io::Result<()> {
+    report_open(rt, timed)?;
+    report_reads(rt, timed)?;
     for workers in [1, 2, 4] {
-        report_threads(&rt, workers, timed)?;
+        report_threads(rt, workers, timed)?;
     }
     Ok(())
 }

@@ -1,12 +1,10 @@
-//! Measures the cells: a put of an entry and four sightings of it, beside a push of an entry to a plain vector and four reads of it. With
-//! `--time` it prints the nanoseconds of each pass; without, how many entries were counted.
-#![tactic(auto)]
-
+//! The cells: a put of an entry and four sightings of it, beside a push of an entry to a plain vector and four reads of it. Timed it prints
+//! the nanoseconds of each pass; else how many entries were counted.
 use mc_model::{Command, Entry, Key, KeyList, TenantId, Ticket, WorkerId};
 use std::alloc::{AllocError, Global};
+use std::io;
 use std::rt::Clock;
 use std::time::Instant;
-use std::{env, io};
 use uc_cells::Cells;
 
 /// How many entries are written and read in a pass.
@@ -81,6 +79,7 @@ fn push_and_read(log: &mut Vec<Entry>, entries: Vec<Entry>) -> Option<u64> {
     Some(count)
 }
 
+/// Does a pass and prints a line on it.
 fn report(rt: &(impl AllocGlobal + Clock + Print), timed: bool) -> io::Result<()> {
     let alloc = rt.alloc();
     let ours = entries(alloc).ok_or(AllocError)?;
@@ -100,10 +99,10 @@ fn report(rt: &(impl AllocGlobal + Clock + Print), timed: bool) -> io::Result<()
     }
 }
 
-fn main(rt: HostRuntime) -> io::Result<()> {
-    let timed = env::args(&rt)?.any(|word| word.as_str() == "--time");
+/// Does all passes.
+pub(crate) fn run_all(rt: &(impl AllocGlobal + Clock + Print), timed: bool) -> io::Result<()> {
     for _ in 0..PASSES {
-        report(&rt, timed)?;
+        report(rt, timed)?;
     }
     Ok(())
 }

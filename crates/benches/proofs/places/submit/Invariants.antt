@@ -1,5 +1,5 @@
 -- The seat is of this opening.
-use Rattle.bench_places.proofs.submit.Given as goal
+use Rattle.benches.proofs.places.submit.Given as goal
 use Rattle.uc_places.specs.Calls.{IsSeatOf}
 
 abbrev pub invariant-loop : goal.invariant-loop

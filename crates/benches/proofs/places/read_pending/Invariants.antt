@@ -1,6 +1,6 @@
 -- The seat is of this opening.
-use Rattle.bench_places.proofs.submit_all.Given as goal
+use Rattle.benches.proofs.places.read_pending.Given as goal
 use Rattle.uc_places.specs.Calls.{IsSeatOf}
 
 abbrev pub invariant-loop : goal.invariant-loop
-invariant-loop g l = IsSeatOf l.places l.idle.desk
+invariant-loop l = IsSeatOf l.places l.pending.desk

@@ -1,17 +1,15 @@
-//! Measures the reader alone: fed byte by byte streams of one request each, and in pieces streams of many requests, beside a
-//! scan of the same bytes for line feeds. Prints the bytes of each stream and how many requests (of a scan, line feeds) came,
-//! and with `--time` the nanoseconds of the fastest of some passes.
-#![tactic(auto)]
-
+//! The reader alone: fed byte by byte streams of one request each, and in pieces streams of many requests, beside a scan of the
+//! same bytes for line feeds. Prints the bytes of each stream and how many requests (of a scan, line feeds) came, and timed the
+//! nanoseconds of the fastest of some passes.
 ghost use Rattle.std.specs.Prelude.{◌<◌};
 
 use mc_model::Fault;
 use mc_read::Reader;
 use memchr::memchr_iter;
 use std::alloc::{AllocError, Global};
+use std::io;
 use std::rt::Clock;
 use std::time::{Duration, Instant};
-use std::{env, io};
 
 /// How often a stream is read for its time.
 const PASSES: usize = 7;
@@ -110,23 +108,23 @@ fn report_many(
     report(rt, "scan", Task::Scan, stream.as_bytes(), timed)
 }
 
-fn main(rt: HostRuntime) -> io::Result<()> {
-    let timed = env::args(&rt)?.any(|word| word.as_str() == "--time");
+/// Reads all streams.
+pub(crate) fn run_all(rt: &(impl AllocGlobal + Clock + Print), timed: bool) -> io::Result<()> {
     for size in [16_384, 65_536] {
         let line = "a".repeat(rt.alloc(), size)?;
         let stream = format!(in rt.alloc(); "{line}\n")?;
-        report(&rt, "line", Task::ReadBytes, stream.as_bytes(), timed)?;
+        report(rt, "line", Task::ReadBytes, stream.as_bytes(), timed)?;
     }
     for size in [262_144, 1_048_576] {
         let block = "z".repeat(rt.alloc(), size)?;
         let stream = format!(in rt.alloc(); "set a 0 0 {size}\r\n{block}\r\n")?;
-        report(&rt, "block", Task::ReadBytes, stream.as_bytes(), timed)?;
+        report(rt, "block", Task::ReadBytes, stream.as_bytes(), timed)?;
     }
-    report_many(&rt, "get", "get key:00001234\r\n", timed)?;
+    report_many(rt, "get", "get key:00001234\r\n", timed)?;
     for size in [100, 4_096] {
         let block = "z".repeat(rt.alloc(), size)?;
         let request = format!(in rt.alloc(); "set key:00001234 0 0 {size}\r\n{block}\r\n")?;
-        report_many(&rt, "set", request.as_str(), timed)?;
+        report_many(rt, "set", request.as_str(), timed)?;
     }
     Ok(())
 }

@@ -1,7 +1,5 @@
-//! Measures submits: workers of a shared log, each in a thread of its own, submit gets and sets; or the same commands are applied to plain
-//! tables, or are made alone. Prints what was answered, and with `--time` also what depends on the machine: nanoseconds, and the steps.
-#![tactic(auto)]
-
+//! Submits: workers of a shared log, each in a thread of its own, submit gets and sets; or the same commands are applied to plain tables, or
+//! are made alone. Prints what was answered, and timed also what depends on the machine: nanoseconds, and the steps.
 ghost use Rattle.std.specs.Prelude.{◌≡◌, ℕ, Some, slice_get};
 ghost use Rattle.uc_log.specs.Passes.{IsNew};
 
@@ -14,7 +12,7 @@ use std::alloc::Global;
 use std::rt::Clock;
 use std::thread::{Threads, map_vec};
 use std::time::Duration;
-use std::{env, io, mem};
+use std::{io, mem};
 use uc_log::{Log, Pass};
 use uc_worker::{Gate, Open, Step, Worker};
 
@@ -50,6 +48,21 @@ struct Load {
 }
 
 impl Load {
+    /// Without a word: two workers submit.
+    fn new() -> Load {
+        Load {
+            task: Task::Submit,
+            timed: false,
+            workers: 2,
+            idle: 0,
+            tenants: 1,
+            keys: 1_000,
+            places: 100_000,
+            commands: 10_000,
+            sets: 5,
+        }
+    }
+
     /// Does what a word of the command line says; none where it says nothing.
     fn hear(&mut self, word: &str) -> Option<()> {
         let Some((name, number)) = word.split_once('=') else {
@@ -312,7 +325,11 @@ fn serve_alone<R: Clock, S: Server + Drop>(
 }
 
 /// Does what the load says.
-fn run<R: Clock + Threads + Sync>(rt: &R, alloc: Global, load: &Load) -> Result<Vec<Work>, Fault> {
+fn perform<R: Clock + Threads + Sync>(
+    rt: &R,
+    alloc: Global,
+    load: &Load,
+) -> Result<Vec<Work>, Fault> {
     match load.task {
         Task::Make => serve_alone(rt, alloc, load, ()),
         Task::Apply => {
@@ -323,23 +340,17 @@ fn run<R: Clock + Threads + Sync>(rt: &R, alloc: Global, load: &Load) -> Result<
     }
 }
 
-fn main(rt: HostRuntime) -> io::Result<()> {
-    let mut load = Load {
-        task: Task::Submit,
-        timed: false,
-        workers: 2,
-        idle: 0,
-        tenants: 1,
-        keys: 1_000,
-        places: 100_000,
-        commands: 10_000,
-        sets: 5,
-    };
-    for word in env::args(&rt)?.skip(1) {
+/// Does what these words of the command line ask for, and prints a line for each worker; timed two.
+pub(crate) fn run<R: AllocGlobal + Clock + Print + Threads + Sync>(
+    rt: &R,
+    words: &[String],
+) -> io::Result<()> {
+    let mut load = Load::new();
+    for word in words {
         load.hear(word.as_str()).ok_or(io::ErrorKind::InvalidInput)?;
     }
-    let works = run(&rt, rt.alloc(), &load);
-    for work in &works.map_err(|_| io::ErrorKind::Other)? {
+    let works = perform(rt, rt.alloc(), &load).map_err(|_| io::ErrorKind::Other)?;
+    for work in &works {
         let (answered, stored) = (work.answered, work.stored);
         println!(rt; "{answered} answered, {stored} stored")?;
         if load.timed {

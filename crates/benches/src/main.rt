@@ -1,0 +1,45 @@
+//! Measures the reader, the cells, the shared words or submits, as the first word says, each by itself and without the programs. With `--time`
+//! behind it the figures are printed that depend on the machine; submits take further words. Without a word each of the four is run, and what
+//! it counted is printed.
+#![tactic(auto)]
+
+mod cells;
+mod places;
+mod reader;
+mod submits;
+
+use std::fs::Files;
+use std::rt::Clock;
+use std::thread::Threads;
+use std::{env, io};
+
+/// Whether the words ask for times. No other word may stand there.
+fn is_timed(words: &[String]) -> io::Result<bool> {
+    match words {
+        [] => Ok(false),
+        [word] if word.as_str() == "--time" => Ok(true),
+        _ => Err(io::ErrorKind::InvalidInput.into()),
+    }
+}
+
+/// Runs each of the four, untimed.
+fn run_all<R: AllocGlobal + Clock + Files + Print + Threads + Sync>(rt: &R) -> io::Result<()> {
+    reader::run_all(rt, false)?;
+    cells::run_all(rt, false)?;
+    places::run_all(rt, false)?;
+    submits::run(rt, &[])
+}
+
+fn main(rt: HostRuntime) -> io::Result<()> {
+    let words: Vec<String> = env::args(&rt)?.skip(1).collect(rt.alloc())?;
+    let Some((name, words)) = words.split_first() else {
+        return run_all(&rt);
+    };
+    match name.as_str() {
+        "reader" => reader::run_all(&rt, is_timed(words)?),
+        "cells" => cells::run_all(&rt, is_timed(words)?),
+        "places" => places::run_all(&rt, is_timed(words)?),
+        "submits" => submits::run(&rt, words),
+        _ => Err(io::ErrorKind::InvalidInput.into()),
+    }
+}
