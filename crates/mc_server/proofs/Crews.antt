@@ -13,6 +13,7 @@ fresh log number pass new = record {
   of = new.0;
   idle = ap (λ (v : View). v.state.phase) new.1;
   new = ap (λ (v : View). v.state.learned) new.1;
+  unused = ap (λ (v : View). v.state.announced) new.1;
 }
 
 pub all_fresh : (log : Log) (passes : List Pass) → ((number : ℕ) (pass : Pass) → slice_get passes number ≡ Some pass → IsNew log number pass) → All (IsFresh log) passes

@@ -1,19 +1,23 @@
 -- Workers that have met, later on.
-use Rattle.std.proofs.Common.{◌≡◌, ◌∙◌, ◌≤◌, ℕ, ◌+◌, List, [], ◌∷◌, ◌++◌, Some, All, length, map, slice_get, ap, refl, suc, sym, subst, arith, ⊎_elim}
-use Rattle.std.proofs.lemmas.List.{map-append}
-use Rattle.std.proofs.lemmas.List.Elements.{All-append, All-cons, All-nil, All-weaker}
-use Rattle.std.proofs.lemmas.Option.{same_Some}
+use Rattle.std.proofs.Common.{◌≡◌, ◌∙◌, ◌≤◌, ◌<◌, ℕ, ◌+◌, List, [], ◌∷◌, ◌++◌, Some, All, Contains, get_or, length, map, slice_get, ap, refl, suc, sym, subst, arith, ⊎_elim}
+use Rattle.std.proofs.lemmas.List.Elements.{All-cons, All-contains, All-head, All-nil, All-tail, Contains-append_right}
+use Rattle.std.proofs.lemmas.Option.{same_Some, slice_get-get_or}
+use Rattle.std.proofs.Math.Decide.{dec_le}
+use Rattle.std.specs.List.{AllZip}
 use Rattle.mc_model.specs.declared.id.Ticket.{Ticket}
+use Rattle.mc_model.specs.declared.shown.LogSize.{LogSize}
 use Rattle.mc_model.specs.declared.shown.Phase.TheVariants.{Idle, Pending}
 use Rattle.mc_model.specs.Helping.{BeginsWith}
 use Rattle.mc_model.specs.Legal.{IsLegal, count}
-use Rattle.mc_server.specs.Network.{HasMet, IsLater, IsUpToDate, number_of, tickets_of}
+use Rattle.mc_model.specs.Settings.{Configuration}
+use Rattle.mc_server.specs.Listeners.{CountsFrom}
+use Rattle.mc_server.specs.Network.{AreOf, AreWorkersOf, HasMet, HaveMet, IsLater, IsUpToDate, Meets, WasAnnounced, number_of, tickets_of}
 use Rattle.uc_cells.specs.Sighting.{Sighting}
-use Rattle.uc_core.proofs.Tickets.{count_begins}
-use Rattle.uc_worker.proofs.Lists.{begins_self, begins_through}
+use Rattle.uc_log.specs.declared.log.Log.{Log}
+use Rattle.uc_worker.proofs.Lists.{begins_length, begins_self, begins_through, begins_whole}
 use Rattle.uc_worker.proofs.Onward.{rests_either}
 use Rattle.uc_worker.specs.declared.worker.Worker.{Worker}
-use Rattle.uc_worker.specs.Worker.{history_of, seat_of}
+use Rattle.uc_worker.specs.Worker.{announced_of, history_of, seat_of}
 
 -- a worker is its own later one, and the later one of a later one
 pub later_self : (worker : Worker) → IsLater worker worker
@@ -67,22 +71,135 @@ has_met one other later of is equal whole =
       commands = omega (arith, own, counted, is.announced);
     }
 
-begins_mapped : {X Y : Type 0} (f : X → Y) (list front : List X) → BeginsWith list front → BeginsWith (map f list) (map f front)
-begins_mapped f list front begins = (map f begins.0, ap (map f) begins.1 ∙ map-append f front begins.0)
+-- one more has met, while the one came further
+meets_still : (old one new other after : Worker) → IsLater one new → Meets old one other after → Meets old new other after
+meets_still old one new other after step met = record {
+  later = met.later;
+  whole = met.whole;
+  most = met.most;
+  front = begins_through (history_of new) (history_of one) (history_of after) step.history met.front;
+}
 
--- who has met another has met it later on
-pub met_still : (one later other : Worker) → IsLater one later → HasMet one other → HasMet later other
-met_still one later other is met =
-    let begins = begins_mapped (λ (seen : Sighting). seen.ticket) (history_of later) (history_of one) is.history in
-    let more = count_begins (number_of other) (tickets_of later) (tickets_of one) begins in
+pub one_more_met : (old one new : Worker) (others met : List Worker) (other after : Worker) → AllZip (Meets old one) others met → IsLater one new → Meets old new other after
+    → AllZip (Meets old new) (others ++ other ∷ []) (met ++ after ∷ [])
+one_more_met old one new [] [] other after before step now = (now, tt)
+one_more_met old one new [] (y ∷ ys) other after before step now = absurd before
+one_more_met old one new (x ∷ xs) [] other after before step now = absurd before
+one_more_met old one new (x ∷ xs) (y ∷ ys) other after before step now =
+    (meets_still old one new x y step before.0, one_more_met old one new xs ys other after before.1 step now)
+
+-- the other's history is the one's then
+pub meets : (old one new other after : Worker) → IsLater old one → IsLater one new → IsLater other after → history_of new ≡ history_of after → IsUpToDate after → Meets old new other after
+meets old one new other after before step later equal whole = record {
+  later = later;
+  whole = whole;
+  most = subst (λ history. BeginsWith history (history_of old)) equal (later_on old one new before step).history;
+  front = subst (λ history. BeginsWith (history_of new) history) equal (begins_self (history_of new));
+}
+
+-- workers later on, after a round in which they met one
+pub all_later_self : (workers : List Worker) → AllZip IsLater workers workers
+all_later_self [] = tt
+all_later_self (x ∷ xs) = (later_self x, all_later_self xs)
+
+pub all_later_on : (old new : Worker) (workers between after : List Worker) → AllZip IsLater workers between → AllZip (Meets old new) between after → AllZip IsLater workers after
+all_later_on old new [] [] [] later met = tt
+all_later_on old new [] [] (z ∷ zs) later met = absurd met
+all_later_on old new [] (y ∷ ys) after later met = absurd later
+all_later_on old new (x ∷ xs) [] after later met = absurd later
+all_later_on old new (x ∷ xs) (y ∷ ys) [] later met = absurd met
+all_later_on old new (x ∷ xs) (y ∷ ys) (z ∷ zs) later met = (later_on x y z later.0 met.0.later, all_later_on old new xs ys zs later.1 met.1)
+
+pub all_of : (log : Log) (old new : Worker) (workers after : List Worker) → AllZip (Meets old new) workers after → AreOf log workers → AreOf log after
+all_of log old new [] [] met of = of
+all_of log old new [] (y ∷ ys) met of = absurd met
+all_of log old new (x ∷ xs) [] met of = absurd met
+all_of log old new (x ∷ xs) (y ∷ ys) met of =
+    let P = λ (worker : Worker). worker.log.now ≡ log in
+    All-cons P y ys (ap (λ lent. lent.now) met.0.later.log ∙ All-head P x xs of) (all_of log old new xs ys met.1 (All-tail P x xs of))
+
+-- A worker later on, which has replayed all that it has learned, has the same history as the one.
+pub record HasCome (one worker after : Worker) : Type 0 where
+  pub later : IsLater worker after
+  pub whole : IsUpToDate after
+  pub equal : history_of one ≡ history_of after
+
+has_come : (old one worker between after : Worker) → length (history_of one) ≡ length (history_of old) → IsLater worker between → Meets old one between after → HasCome one worker after
+has_come old one worker between after still later met =
+    let few = begins_length (history_of one) (history_of after) met.front in
+    let most = begins_length (history_of after) (history_of old) met.most in
     record {
-      log = met.log ∙ ap (λ log. log.now) (sym is.log);
-      front = begins_through (history_of later) (history_of one) (history_of other) is.history met.front;
-      commands = omega (arith, more, met.commands);
+      later = later_on worker between after later met.later;
+      whole = met.whole;
+      equal = sym (begins_whole (history_of one) (history_of after) met.front (omega arith));
     }
 
--- one more has met
-pub one_more_met : (one later other : Worker) (met : List Worker) → All (HasMet one) met → IsLater one later → HasMet later other → All (HasMet later) (met ++ other ∷ [])
-one_more_met one later other met before is new =
-    let still = All-weaker (HasMet one) (HasMet later) (λ worker. met_still one later worker is) met before in
-    All-append (HasMet later) met (other ∷ []) still (All-cons (HasMet later) other [] new (All-nil (HasMet later)))
+-- so it is with all, after a round in which the one learned nothing more
+pub all_have_come : (old one : Worker) (workers between after : List Worker) → length (history_of one) ≡ length (history_of old) → AllZip IsLater workers between
+    → AllZip (Meets old one) between after → AllZip (HasCome one) workers after
+all_have_come old one [] [] [] still later met = tt
+all_have_come old one [] [] (z ∷ zs) still later met = absurd met
+all_have_come old one [] (y ∷ ys) after still later met = absurd later
+all_have_come old one (x ∷ xs) [] after still later met = absurd later
+all_have_come old one (x ∷ xs) (y ∷ ys) [] still later met = absurd met
+all_have_come old one (x ∷ xs) (y ∷ ys) (z ∷ zs) still later met =
+    (has_come old one x y z still later.0 met.0, all_have_come old one xs ys zs still later.1 met.1)
+
+all_met : (one : Worker) (workers after : List Worker) → AreOf one.log.now workers → AllZip (HasCome one) workers after → All (HasMet one) workers
+all_met one [] [] of come = All-nil (HasMet one)
+all_met one [] (y ∷ ys) of come = absurd come
+all_met one (x ∷ xs) [] of come = absurd come
+all_met one (x ∷ xs) (y ∷ ys) of come =
+    let P = λ (worker : Worker). worker.log.now ≡ one.log.now in
+    All-cons (HasMet one) x xs (has_met one x y (All-head P x xs of) come.0.later come.0.equal come.0.whole) (all_met one xs ys (All-tail P x xs of) come.1)
+
+-- a worker whose history is the one's has announced each command of its own there
+own_announced : (one worker after : Worker) (place : ℕ) (ticket : Ticket) → HasCome one worker after → slice_get (tickets_of one) place ≡ Some ticket → ticket.worker ≡ number_of worker
+    → ticket.number < length (announced_of worker)
+own_announced one worker after place ticket come at whose =
+    let same : tickets_of one ≡ (seat_of after).state.learned = ap (map (λ (seen : Sighting). seen.ticket)) come.equal ∙ tickets_learned after come.whole in
+    let there = subst (λ (tickets : List Ticket). slice_get tickets place ≡ Some ticket) same at in
+    let below : ticket.number < (seat_of after).state.announced = after.pass.desk.law.own place ticket there (whose ∙ sym come.later.same.1) in
+    let count : length (announced_of worker) ≡ (seat_of worker).state.announced = worker.pass.count in
+    omega (arith, below, count, come.later.announced)
+
+-- of workers under numbers that go up by one, one has announced it
+was_announced : (one : Worker) (place : ℕ) (ticket : Ticket) → slice_get (tickets_of one) place ≡ Some ticket → (first : ℕ) (workers after : List Worker) → AllZip (HasCome one) workers after
+    → CountsFrom first (map number_of workers) → first ≤ ticket.worker → ticket.worker < first + length workers → WasAnnounced workers ticket
+was_announced one place ticket at first [] after come numbers least below = absurd (omega arith)
+was_announced one place ticket at first (x ∷ xs) [] come numbers least below = absurd come
+was_announced one place ticket at first (x ∷ xs) (y ∷ ys) come numbers least below =
+    by_turn (λ (later : suc first ≤ ticket.worker). was_announced one place ticket at (first + 1) xs ys come.1 numbers.1 (omega arith) (omega arith)) (dec_le (suc first) ticket.worker)
+  where
+    by_turn : (suc first ≤ ticket.worker → WasAnnounced xs ticket) → Dec (suc first ≤ ticket.worker) → WasAnnounced (x ∷ xs) ticket
+    by_turn others (yes later) =
+        let found = others later in
+        record { worker = found.worker; among = Contains-append_right (x ∷ []) xs found.worker found.among; whose = found.whose; announced = found.announced }
+    by_turn others (no here) =
+        let turn : ticket.worker ≡ first = omega arith in
+        let whose : ticket.worker ≡ number_of x = turn ∙ sym numbers.0 in
+        record { worker = x; among = (0, omega arith, refl); whose = sym whose; announced = own_announced one x y place ticket come.0 at whose }
+
+-- Workers of a log whose histories are one worker's have met.
+pub have_met : (settings : Configuration) (log : Log) (workers after : List Worker) (first one : Worker) (number : ℕ) → AreWorkersOf settings log workers → Contains workers first
+    → IsLater first one → IsUpToDate one → AllZip (HasCome one) workers after → length (history_of one) ≡ number → HaveMet workers number
+have_met settings log workers after first one number all among later whole come long =
+    let of_one : one.log.now ≡ log = ap (λ lent. lent.now) later.log ∙ All-contains (λ (worker : Worker). worker.log.now ≡ log) workers first all.of among in
+    let size : (seat_of one).size.workers ≡ settings.workers =
+    ap (λ (size : LogSize). size.workers) one.of.1 ∙ ap (λ (log : Log). log.settings.workers) of_one ∙ ap (λ (settings : Configuration). settings.workers) all.opened in
+    record {
+      first = first;
+      among = among;
+      one = one;
+      later = later;
+      met = all_met one workers after (subst (λ log. AreOf log workers) (sym of_one) all.of) come;
+      whole = whole;
+      once = once_each one whole;
+      announced = λ place other inside.
+          let at = slice_get-get_or (tickets_of one) place other inside in
+          let ticket = get_or (tickets_of one) place other in
+          let learned = subst (λ (tickets : List Ticket). slice_get tickets place ≡ Some ticket) (tickets_learned one whole) at in
+          let below = one.pass.desk.law.inside place ticket learned in
+          was_announced one place ticket at 0 workers after come all.numbers (omega arith) (omega (arith, below.0, size, all.many));
+      long = long;
+    }

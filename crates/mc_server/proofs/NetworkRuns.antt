@@ -10,9 +10,13 @@ use Rattle.mc_conn.specs.Onward.{IsOnward}
 use Rattle.mc_model.specs.declared.fault.Fault.{Fault}
 use Rattle.mc_model.specs.declared.fault.Fault.TheVariants.{Memory, LogFull, Taken, Input, Output, BadEvent, BadSettings}
 use Rattle.mc_model.specs.Settings.{Configuration}
+use Rattle.mc_net.specs.Asking.{HasBeenAsked}
+use Rattle.mc_net.specs.Life.{HasAnswered}
+use Rattle.mc_net.specs.Seating.{worker_of}
+use Rattle.mc_net.specs.declared.seat.Returned.{Returned}
 use Rattle.mc_server.proofs.Numbered.{all_below}
 use Rattle.mc_server.specs.Listeners.{CountsFrom, StopsListening}
-use Rattle.mc_server.specs.Network.{AreOf, AreWorkersOf, HaveMet, IsDone, IsLengthOfLog, IsReady, IsServed, number_of, StopsAnnouncing, StopsFinishing, StopsRun, StopsServing, names_of}
+use Rattle.mc_server.specs.Network.{AreOf, AreWorkersOf, HasDoneNothing, HaveMet, HaveServed, IsDone, IsReady, IsServed, WereServed, number_of, StopsAnnouncing, StopsFinishing, StopsRun, StopsServing, names_of}
 use Rattle.mc_server.specs.NetworkTexts.{done_line, ready_text}
 use Rattle.mc_server.specs.NetworkWords.{Asks, AsksForNone, AsksForService, AsksInVain, IsServable, NetworkAsked, NetworkGiven, given_by, given_of, network_app, served_by}
 use Rattle.mc_server.specs.declared.network_words.NetworkWords.{NetworkWords}
@@ -37,17 +41,17 @@ announcing_stops settings Output listening before after stops = inl stops
 announcing_stops settings BadEvent listening before after stops = absurd stops
 announcing_stops settings BadSettings listening before after stops = absurd stops
 
--- the length of the workers' log, which has these settings, was printed after it, or a fault came
-module _ (settings : Configuration) (log : Log) (workers : List Worker) (all : AreWorkersOf settings log workers) where
-  length_of : (number : ℕ) → HaveMet workers number → IsLengthOfLog settings number
-  length_of number met = record { log = log; workers = workers; all = all; met = met }
+-- the length of the log of workers that have served and come back was printed after it, or a fault came
+module _ (settings : Configuration) (log : Log) (workers : List Worker) (back : List Returned) (come : workers ≡ map worker_of back) (have : HaveServed settings log back) where
+  were_served : (number : ℕ) → HaveMet workers number → WereServed settings number
+  were_served number met = record { log = log; back = back; served = have; met = subst (λ known. HaveMet known number) come met }
 
   pub served : {E : Type 0} (result : Result (Unit {0}) E) (listening : List Listening) (before now after : Outflow) → IsReady listening before now
       → OnOk result (IsDone workers now after) → OnOk result (IsServed settings listening before after)
   served (Err fault) listening before now after ready done = done
   served (Ok nothing) listening before now after ready done = (
     done.0,
-    length_of done.0 done.1,
+    were_served done.0 done.1,
     done.2 ∙ (ap (λ known. known ++ done_line done.0) ready.0 ∙ append_assoc (moved before.events) (ready_text listening) (done_line done.0)),
     done.3 ∙ ready.1,
   )
@@ -60,7 +64,7 @@ module _ (settings : Configuration) (log : Log) (workers : List Worker) (all : A
   finishing_stops Input listening before now after ready stops = absurd stops
   finishing_stops Output listening before now after ready stops = inr (
     stops.0,
-    length_of stops.0 stops.1,
+    were_served stops.0 stops.1,
     front_more (ready_text listening) (done_line stops.0) before now after ready.0 stops.2,
     stops.3 ∙ ap (λ n. n + 1) ready.1,
   )
@@ -73,7 +77,7 @@ module _ (settings : Configuration) (log : Log) (workers : List Worker) (all : A
   stopped (Err fault) listening before now after ready stops = finishing_stops fault listening before now after ready stops
 
 -- the workers that come back are of the log, and as many
-pub back_of : (log : Log) (workers back : List Worker) → AllZip IsOnward workers back → AreOf log workers → AreOf log back
+back_of : (log : Log) (workers back : List Worker) → AllZip IsOnward workers back → AreOf log workers → AreOf log back
 back_of log [] [] onward of = of
 back_of log [] (y ∷ ys) onward of = absurd onward
 back_of log (x ∷ xs) [] onward of = absurd onward
@@ -87,7 +91,7 @@ back_numbers [] (y ∷ ys) onward = absurd onward
 back_numbers (x ∷ xs) [] onward = absurd onward
 back_numbers (x ∷ xs) (y ∷ ys) onward = let rest = back_numbers xs ys onward.1 in λ i. onward.0.same.1 i ∷ rest i
 
--- so they are all workers of the log
+-- so they are all workers of the log, and have served
 pub are_workers : (settings : Configuration) (log : Log) (workers back : List Worker) → AllZip IsOnward workers back → log.settings ≡ settings → AreOf log workers
     → length workers ≡ settings.workers → CountsFrom 0 (map number_of workers) → AreWorkersOf settings log back
 are_workers settings log workers back onward opened of many numbers = record {
@@ -95,6 +99,17 @@ are_workers settings log workers back onward opened of many numbers = record {
   of = back_of log workers back onward of;
   many = omega (arith, AllZip-long IsOnward workers back onward, many);
   numbers = subst (CountsFrom 0) (sym (back_numbers workers back onward)) numbers;
+}
+
+pub have_served : (settings : Configuration) (log : Log) (workers : List Worker) (back : List Returned) → AllZip IsOnward workers (map worker_of back) → log.settings ≡ settings
+    → AreOf log workers → length workers ≡ settings.workers → CountsFrom 0 (map number_of workers) → All HasDoneNothing workers → All HasAnswered back
+    → AllZip HasBeenAsked workers back → HaveServed settings log back
+have_served settings log workers back onward opened of many numbers new answered asked = record {
+  all = are_workers settings log workers (map worker_of back) onward opened of many numbers;
+  begun = workers;
+  new = new;
+  answered = answered;
+  asked = asked;
 }
 
 -- each listener's number is a tenant's

@@ -1,6 +1,6 @@
 -- What the workers of wfmc's log come to, what is printed while its tenants are served, and how its run ends; this project's profile.
 use Rattle.std.specs.List.{AllZip}
-use Rattle.std.specs.Prelude.{◌≡◌, ◌≤◌, ◌⊎◌, ℕ, ◌+◌, List, [], ◌++◌, All, Contains, None, codes, length, map}
+use Rattle.std.specs.Prelude.{◌≡◌, ◌<◌, ◌≤◌, ◌⊎◌, ℕ, ◌+◌, List, [], ◌++◌, All, Contains, None, codes, length, map}
 use Rattle.clap.specs.Walk.{Text}
 use Rattle.mc_model.specs.declared.fault.Fault.{Fault}
 use Rattle.mc_model.specs.declared.fault.Fault.TheVariants.{Memory, Input, Output, BadSettings}
@@ -9,6 +9,10 @@ use Rattle.mc_model.specs.declared.shown.Phase.TheVariants.{Idle}
 use Rattle.mc_model.specs.Helping.{BeginsWith}
 use Rattle.mc_model.specs.Legal.{IsLegal, count}
 use Rattle.mc_model.specs.Settings.{Configuration}
+use Rattle.mc_net.specs.Asking.{HasBeenAsked}
+use Rattle.mc_net.specs.Life.{HasAnswered}
+use Rattle.mc_net.specs.Seating.{worker_of}
+use Rattle.mc_net.specs.declared.seat.Returned.{Returned}
 use Rattle.mc_programs.specs.Faults.{fault_line}
 use Rattle.mc_server.specs.Listeners.{CountsFrom, IsTold}
 use Rattle.mc_server.specs.NetworkTexts.{cannot_listen_line, done_line, ready_text}
@@ -25,13 +29,18 @@ use Rattle.uc_log.specs.declared.pass.Pass.{Pass}
 use Rattle.uc_log.specs.Passes.{IsOf, learned, state}
 use Rattle.uc_worker.specs.declared.worker.Worker.{Worker}
 use Rattle.uc_worker.specs.Steps.{IsSame}
-use Rattle.uc_worker.specs.Worker.{history_of, seat_of}
+use Rattle.uc_worker.specs.Worker.{announced_of, history_of, seat_of}
 
 -- the pass is of the log, and its worker has done nothing
 pub record IsFresh (log : Log) (pass : Pass) : Type 0 where
   pub of : IsOf log pass
   pub idle : (state pass).phase ≡ Idle
   pub new : learned pass ≡ []
+  pub unused : (state pass).announced ≡ 0
+
+-- the worker has announced nothing, and replayed nothing
+abbrev pub HasDoneNothing : Worker → Type 0
+HasDoneNothing worker = (announced_of worker ≡ []) × (history_of worker ≡ [])
 
 -- all workers are of the log
 abbrev pub AreOf : Log → List Worker → Type 0
@@ -71,8 +80,23 @@ pub record HasMet (one other : Worker) : Type 0 where
   pub front : BeginsWith (history_of one) (history_of other)
   pub commands : (seat_of other).state.announced ≤ count (number_of other) (tickets_of one) + 1
 
--- The workers have met: one of them, later on, has met them all and has replayed all that it has learned; no command stands twice in its
--- history, which has this length.
+-- While a worker came from the first of these to the second, another met it and became the last: that one has replayed all that it has learned, which is no
+-- less than the worker had replayed at first, and a front of what it has replayed at last.
+pub record Meets (old new other after : Worker) : Type 0 where
+  pub later : IsLater other after
+  pub whole : IsUpToDate after
+  pub most : BeginsWith (history_of after) (history_of old)
+  pub front : BeginsWith (history_of new) (history_of after)
+
+-- one of these workers has announced the command of this ticket
+pub record WasAnnounced (workers : List Worker) (ticket : Ticket) : Type 0 where
+  pub worker : Worker
+  pub among : Contains workers worker
+  pub whose : number_of worker ≡ ticket.worker
+  pub announced : ticket.number < length (announced_of worker)
+
+-- The workers have met: one of them, later on, has met them all and has replayed all that it has learned. No command stands twice in its history, which has
+-- this length, and each was announced by one of these workers.
 pub record HaveMet (workers : List Worker) (number : ℕ) : Type 0 where
   pub first : Worker
   pub among : Contains workers first
@@ -81,14 +105,25 @@ pub record HaveMet (workers : List Worker) (number : ℕ) : Type 0 where
   pub met : All (HasMet one) workers
   pub whole : IsUpToDate one
   pub once : IsLegal (tickets_of one)
+  pub announced : All (WasAnnounced workers) (tickets_of one)
   pub long : length (history_of one) ≡ number
 
--- This is the length of the log: the workers of a log with these settings have met, and then so many commands stand in its history.
-pub record IsLengthOfLog (settings : Configuration) (number : ℕ) : Type 0 where
+-- What the workers of a log with these settings have served, each from where it had done nothing. Each connection that one took in has ended and was
+-- answered over that worker's history, each command by its own tenant's before it; and each command that one has announced is one request of one of these.
+pub record HaveServed (settings : Configuration) (log : Log) (back : List Returned) : Type 0 where
+  pub all : AreWorkersOf settings log (map worker_of back)
+  pub begun : List Worker
+  pub new : All HasDoneNothing begun
+  pub answered : All HasAnswered back
+  pub asked : AllZip HasBeenAsked begun back
+
+-- Tenants were served over a log with these settings, and this is its length: its workers have served and then met, and so many commands stand in the
+-- history of the one that has met all.
+pub record WereServed (settings : Configuration) (number : ℕ) : Type 0 where
   pub log : Log
-  pub workers : List Worker
-  pub all : AreWorkersOf settings log workers
-  pub met : HaveMet workers number
+  pub back : List Returned
+  pub served : HaveServed settings log back
+  pub met : HaveMet (map worker_of back) number
 
 -- an output beside no input
 abbrev pub alone : Outflow → Streams
@@ -102,10 +137,10 @@ IsReady listening before after = Pushes before after (ready_text listening) × I
 abbrev pub IsDone : List Worker → Outflow → Outflow → Type 0
 IsDone workers before after = (number : ℕ) × HaveMet workers number × Pushes before after (done_line number) × IsUnfailed before after
 
--- it was printed who listens where, and then how long the log with these settings has become
+-- it was printed who listens where, and then, when the tenants had been served, how long the log has become
 abbrev pub IsServed : Configuration → List Listening → Outflow → Outflow → Type 0
 IsServed settings listening before after =
-    (number : ℕ) × IsLengthOfLog settings number × Pushes before after (ready_text listening ++ done_line number) × IsUnfailed before after
+    (number : ℕ) × WereServed settings number × Pushes before after (ready_text listening ++ done_line number) × IsUnfailed before after
 
 -- what was printed where a fault kept it from being printed who listens where
 abbrev pub StopsAnnouncing : Fault → List Listening → Outflow → Outflow → Type 0
@@ -124,7 +159,7 @@ abbrev pub StopsServing : Configuration → Fault → List Listening → Outflow
 StopsServing settings Memory listening before after = (after ≡ before) ⊎ IsReady listening before after
 StopsServing settings Input listening before after = IsReady listening before after
 StopsServing settings Output listening before after = PushesFront (ready_text listening) before after × FailsOnce before after
-    ⊎ ((number : ℕ) × IsLengthOfLog settings number × PushesFront (ready_text listening ++ done_line number) before after × FailsOnce before after)
+    ⊎ ((number : ℕ) × WereServed settings number × PushesFront (ready_text listening ++ done_line number) before after × FailsOnce before after)
 StopsServing settings fault listening before after = ⊥
 
 -- the tenants' names

@@ -1,8 +1,9 @@
 //! The workers of wfmc, before and after they serve.
+ghost use Rattle.std.specs.List.{AllZip};
 ghost use Rattle.std.specs.Prelude.{◌≡◌, ◌<◌, All, IfOk, IsOkUnless, OnOk, length, map, slice_get, Some, ℕ};
 ghost use Rattle.mc_model.specs.declared.fault.Fault.TheVariants as faults;
 ghost use Rattle.mc_server.specs.Listeners.{CountsFrom};
-ghost use Rattle.mc_server.specs.Network.{AreOf, HasMet, HaveMet, IsLater, IsUpToDate, number_of};
+ghost use Rattle.mc_server.specs.Network.{AreOf, AreWorkersOf, HasDoneNothing, HaveMet, IsLater, IsUpToDate, Meets, number_of};
 ghost use Rattle.uc_log.specs.Passes.{IsNew};
 
 use mc_model::Fault;
@@ -20,6 +21,7 @@ pub(crate) fn open_workers<'a>(
     ensures count { IfOk result (λ workers. length workers.items ≡ length passes.items) }
     ensures log { IfOk result (λ workers. AreOf log.now workers.items) }
     ensures numbers { IfOk result (λ workers. CountsFrom 0 (map number_of workers.items)) }
+    ensures new { IfOk result (λ workers. All HasDoneNothing workers.items) }
     ensures memory { IsOkUnless result faults.Memory }
 {
     let mut workers = Vec::with_capacity(alloc, passes.len())?;
@@ -29,26 +31,33 @@ pub(crate) fn open_workers<'a>(
     Ok(workers)
 }
 
-/// Has a worker meet the others. Where memory runs out: `Memory`; then some of them may not have met it.
-fn meet_others<'a>(one: &mut Worker<'a>, others: Vec<Worker<'a>>) -> Result<(), Fault>
+/// Has a worker meet the others, one after another, and gives those back. Where memory runs out: `Memory`; then some of them may not have
+/// met it.
+fn meet_others<'a>(
+    alloc: Global,
+    one: &mut Worker<'a>,
+    others: Vec<Worker<'a>>,
+) -> Result<Vec<Worker<'a>>, Fault>
     requires log { AreOf one.old.log.now others.items }
     requires whole { IsUpToDate one.old }
-    ensures met { OnOk result (All (HasMet one.new) others.entry.items) }
+    ensures met { IfOk result (λ met. AllZip (Meets one.old one.new) others.entry.items met.items) }
     ensures whole { OnOk result (IsUpToDate one.new) }
     ensures later { IsLater one.old one.new }
     ensures memory { IsOkUnless result faults.Memory }
 {
+    let mut met = Vec::with_capacity(alloc, others.len())?;
     for other in others {
         let mut other = other;
         one.meet(&mut other)?;
+        met.push(other)?;
     }
-    Ok(())
+    Ok(met)
 }
 
-/// Has the last worker catch up and meet all others, and counts what stands in its history then: all that any of them had. Where memory
-/// runs out: `Memory`.
-pub(crate) fn meet_all(workers: Vec<Worker<'_>>) -> Result<usize, Fault>
-    requires log { (log : _) × AreOf log workers.items }
+/// Has the last worker catch up and meet all others until it learns nothing more by that, so that all have the same history. Counts what
+/// stands there: all that any of them had. Where memory runs out: `Memory`.
+pub(crate) fn meet_all(alloc: Global, workers: Vec<Worker<'_>>) -> Result<usize, Fault>
+    requires all { (settings : _) × (log : _) × AreWorkersOf settings log workers.items }
     requires some { 0 < length workers.items }
     ensures met { IfOk result (λ count. HaveMet workers.entry.items count) }
     ensures memory { IsOkUnless result faults.Memory }
@@ -58,6 +67,11 @@ pub(crate) fn meet_all(workers: Vec<Worker<'_>>) -> Result<usize, Fault>
         unreachable!()
     };
     last.catch_up(&mut Open)?;
-    meet_others(&mut last, others)?;
-    Ok(last.history().len())
+    loop {
+        let known = last.history().len();
+        others = meet_others(alloc, &mut last, others)?;
+        if last.history().len() == known {
+            return Ok(known);
+        }
+    }
 }

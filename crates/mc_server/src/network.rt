@@ -1,7 +1,7 @@
 //! What the program that serves several tenants does.
 ghost use Rattle.std.specs.Prelude.{◌≡◌, ◌<◌, ◌⊎◌, IfErr, IfOk, OnOk, length, map, string_bytes, vec_len};
 ghost use Rattle.mc_server.specs.Listeners.{AreListenersOf};
-ghost use Rattle.mc_server.specs.Network.{AreOf, EndsInFault, EndsWell, IsDone, IsReady, IsServed, RefusesWords, Serves, StopsAnnouncing, StopsFinishing, StopsRun, StopsServing, stop_line};
+ghost use Rattle.mc_server.specs.Network.{AreWorkersOf, EndsInFault, EndsWell, IsDone, IsReady, IsServed, RefusesWords, Serves, StopsAnnouncing, StopsFinishing, StopsRun, StopsServing, stop_line};
 ghost use Rattle.mc_server.specs.NetworkWords.{IsServable, served_by, settings_asked};
 ghost use Rattle.mc_stream.specs.Pushing.{PushesOrFails};
 
@@ -38,13 +38,18 @@ fn announce<R: Wait, O: Output>(
 }
 
 /// Has the workers meet, and prints how long the log has become. Where memory runs out: `Memory`. Where the output fails: `Output`.
-fn finish<R: Wait, O: Output>(rt: &R, workers: Vec<Worker<'_>>, output: &mut O) -> Result<(), Fault>
-    requires log { (log : _) × AreOf log workers.items }
+fn finish<R: Wait, O: Output>(
+    rt: &R,
+    alloc: Global,
+    workers: Vec<Worker<'_>>,
+    output: &mut O,
+) -> Result<(), Fault>
+    requires all { (settings : _) × (log : _) × AreWorkersOf settings log workers.items }
     requires some { 0 < length workers.items }
     ensures done { OnOk result (IsDone workers.entry.items (O.tells output.old) (O.tells output.new)) }
     ensures stops { IfErr result (λ fault. StopsFinishing fault workers.entry.items (O.tells output.old) (O.tells output.new)) }
 {
-    let count = meet_all(workers)?;
+    let count = meet_all(alloc, workers)?;
     tell_done(rt, count as u64, output)
 }
 
@@ -78,7 +83,7 @@ fn serve_tenants<R: Threads + Wait + Net + Sync, O: Output>(
         gates,
     )?;
     let workers = into_workers(alloc, back)?;
-    finish(rt, workers, output)
+    finish(rt, alloc, workers, output)
 }
 
 /// Listens for each tenant, and serves them all. Before a line is printed all listeners are bound.

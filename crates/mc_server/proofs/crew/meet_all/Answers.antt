@@ -1,33 +1,58 @@
-use Rattle.std.proofs.Common.{◌≡◌, ◌∙◌, Some, length, sym, ap, refl, subst}
-use Rattle.std.proofs.lemmas.List.Elements.{All-pop, All-push, All-weaker, Contains-push}
+use Rattle.std.proofs.Common.{◌≡◌, ◌∙◌, ◌∷◌, [], ◌++◌, List, Some, length, refl, sym, ap, subst}
+use Rattle.std.proofs.lemmas.List.Elements.{All-pop, All-weaker, Contains-push}
+use Rattle.std.proofs.lemmas.Slice.Zip.{all_zipped_more}
 use Rattle.uc_cells.specs.Sighting.{Sighting}
 use Rattle.uc_worker.specs.declared.worker.Worker.{Worker}
-use Rattle.mc_server.specs.Network.{HasMet, HaveMet, IsLater}
-use Rattle.mc_server.proofs.Meetings.{has_met, later_on, once_each}
+use Rattle.uc_worker.specs.Worker.{history_of}
+use Rattle.mc_server.specs.Network.{AreWorkersOf, HaveMet, IsLater}
+use Rattle.mc_server.proofs.Meetings.{HasCome, all_have_come, all_later_on, all_later_self, all_of, have_met, later_on, later_self}
 use Rattle.mc_server.proofs.crew.meet_all.Goals as goal
 
-pub meet_others-requires-clause-log : goal.meet_others-requires-clause-log
-meet_others-requires-clause-log c =
-    let P = λ (worker : Worker). worker.log.now ≡ c.requires.log.0 in
-    let both = All-pop P _ _ (Some c.in-Some.last) c.in-Some.ensures.items c.requires.log.1 in
-    let same = both.1 in
-    All-weaker P (λ (other : Worker). other.log.now ≡ c.catch_up.new.self.log.now) (λ other of. of ∙ (sym same ∙ ap (λ log. log.now) (sym c.catch_up.ensures.log))) c.pop.new.self.items both.0
+pub loop-last-init : goal.loop-last-init
+loop-last-init c =
+    let log = c.requires.all.1 in
+    let both = All-pop (λ (worker : Worker). worker.log.now ≡ log) _ _ (Some c.in-Some.last) c.in-Some.ensures.items c.requires.all.2.of in
+    record {
+      later = later_self c.catch_up.new.self;
+      whole = c.in_ok-catch_up.ensures.all;
+      of = All-weaker (λ (worker : Worker). worker.log.now ≡ log) (λ (worker : Worker). worker.log.now ≡ c.catch_up.new.self.log.now)
+          (λ worker of. of ∙ (sym both.1 ∙ ap (λ lent. lent.now) (sym c.catch_up.ensures.log))) c.pop.new.self.items both.0;
+      others = all_later_self c.pop.new.self.items;
+    }
 
-pub returns-clause-met : goal.returns-clause-met
-returns-clause-met c =
-    let caught : IsLater c.in-Some.last c.catch_up.new.self = record { log = c.catch_up.ensures.log; same = c.catch_up.ensures.later.same; announced = c.catch_up.ensures.later.announced; history = c.catch_up.ensures.history } in
-    let later = later_on _ _ _ caught c.meet_others.ensures.later in
+pub loop-last-preserved : goal.loop-last-preserved
+loop-last-preserved c =
+    let before = c.loop-last.invariant in
+    let met = c.in_ok-others.ensures.met in
+    let later = c.meet_others.ensures.later in
+    let log = c.meet_others.new.one.log.now in
+    record {
+      later = later_on _ _ _ before.later later;
+      whole = c.in_ok-others.ensures.whole;
+      of = all_of log c.loop-last.last c.meet_others.new.one c.loop-last.others.items c.in_ok-others.others.items met
+          (All-weaker (λ (worker : Worker). worker.log.now ≡ c.loop-last.last.log.now) (λ (worker : Worker). worker.log.now ≡ log)
+          (λ worker of. of ∙ ap (λ lent. lent.now) (sym later.log)) c.loop-last.others.items before.of);
+      others = all_later_on c.loop-last.last c.meet_others.new.one _ c.loop-last.others.items c.in_ok-others.others.items before.others met;
+    }
+
+-- the last round taught the last worker nothing, so all have its history
+pub returns-then-history-known-clause-met : goal.returns-then-history-known-clause-met
+returns-then-history-known-clause-met c =
+    let before = c.loop-last.invariant in
+    let others = c.pop.new.self.items in
+    let first = c.in-Some.last in
+    let old = c.loop-last.last in
     let one = c.meet_others.new.one in
-    let whole = c.in_ok-meet_others.ensures.whole in
-    let own : HasMet one c.in-Some.last = has_met one c.in-Some.last one (ap (λ log. log.now) (sym later.log)) later refl whole in
-    let met = All-push (HasMet one) c.pop.new.self.items c.in-Some.last c.in_ok-meet_others.ensures.met own in
-    subst (λ workers. HaveMet workers (length c.history.result.now)) (sym c.in-Some.ensures.items) (record {
-      first = c.in-Some.last;
-      among = Contains-push c.pop.new.self.items c.in-Some.last;
-      one = one;
-      later = later;
-      met = met;
-      whole = whole;
-      once = once_each one whole;
-      long = ap (length {A = Sighting}) (sym c.history.ensures.history);
-    })
+    let caught : IsLater first c.catch_up.new.self = record { log = c.catch_up.ensures.log; same = c.catch_up.ensures.later.same; announced = c.catch_up.ensures.later.announced; history = c.catch_up.ensures.history } in
+    let later = later_on first old one (later_on first c.catch_up.new.self old caught before.later) c.meet_others.ensures.later in
+    let whole = c.in_ok-others.ensures.whole in
+    let same : length c.history.result.now ≡ length c.history-known.result.now = c.if-history-known.true in
+    let known : length (history_of old) ≡ length c.history-known.result.now = ap (length {A = Sighting}) (sym c.history-known.ensures.history) in
+    let long : length (history_of one) ≡ length c.history-known.result.now = ap (length {A = Sighting}) (sym c.history.ensures.history) ∙ same in
+    let come = all_have_come old one others c.loop-last.others.items c.in_ok-others.others.items (long ∙ sym known) before.others c.in_ok-others.ensures.met in
+    let own : HasCome one first one = record { later = later; whole = whole; equal = refl } in
+    let all = all_zipped_more (HasCome one) others c.in_ok-others.others.items first one come own in
+    let workers = c.in-Some.ensures.items in
+    let are = subst (AreWorkersOf c.requires.all.0 c.requires.all.1) workers c.requires.all.2 in
+    subst (λ (list : List Worker). HaveMet list (length c.history-known.result.now)) (sym workers)
+    (have_met c.requires.all.0 c.requires.all.1 (others ++ first ∷ []) (c.in_ok-others.others.items ++ one ∷ []) first one _ are (Contains-push others first) later whole all long)

@@ -1,11 +1,12 @@
-use Rattle.std.proofs.Common.{◌≡◌, ◌∙◌, ◌∷◌, [], ◌++◌, All, length, sym, ap, subst, append-nil, append_assoc}
+use Rattle.std.proofs.Common.{◌≡◌, ◌∙◌, ◌∷◌, [], ◌++◌, List, length, sym, ap, subst, append-nil, append_assoc}
 use Rattle.std.proofs.lemmas.List.{nil_from_length}
-use Rattle.std.proofs.lemmas.List.Elements.{All-head, All-nil, All-rest}
+use Rattle.std.proofs.lemmas.List.Elements.{All-head, All-rest}
+use Rattle.std.specs.List.{AllZip}
 use Rattle.uc_cells.specs.Sighting.{Sighting}
 use Rattle.mc_model.specs.declared.id.Ticket.{Ticket}
 use Rattle.uc_worker.specs.declared.worker.Worker.{Worker}
-use Rattle.mc_server.specs.Network.{AreOf, HasMet, IsLater, IsUpToDate}
-use Rattle.mc_server.proofs.Meetings.{has_met, later_on, later_self, one_more_met}
+use Rattle.mc_server.specs.Network.{AreOf, IsLater, IsUpToDate, Meets}
+use Rattle.mc_server.proofs.Meetings.{later_on, later_self, meets, one_more_met}
 use Rattle.mc_server.proofs.crew.meet_others.Goals as goal
 
 pub loop-other-init : goal.loop-other-init
@@ -13,7 +14,7 @@ loop-other-init c = record {
   later = later_self c.args.one.now;
   whole = c.requires.whole;
   left = subst (AreOf c.args.one.now.log.now) (sym c.into_iter-other-iterator.ensures.into_iter_gives.0) c.requires.log;
-  met = ([], c.into_iter-other-iterator.ensures.into_iter_gives.0, All-nil (HasMet c.args.one.now));
+  met = ([], c.into_iter-other-iterator.ensures.into_iter_gives.0, subst (AllZip (Meets c.args.one.now c.args.one.now) []) (sym {A = List Worker} c.in_ok-met.ensures.items) tt);
 }
 
 pub meet-requires : goal.meet-requires
@@ -29,16 +30,16 @@ loop-other-preserved c =
     let all = c.in_ok-meet.ensures.all in
     let whole : IsUpToDate c.meet.new.other = sym (ap (length {A = Sighting}) equal) ∙ (all.0 ∙ ap (length {A = Ticket}) all.1) in
     let same = ap (λ log. log.now) (sym c.meet.ensures.log.0) in
-    let of = All-head (λ (other : Worker). other.log.now ≡ c.loop-other.one.log.now) c.in-Some.other _ (subst (AreOf c.loop-other.one.log.now) c.in-Some.ensures.steps.0 before.left) in
     let left = All-rest (λ (other : Worker). other.log.now ≡ c.loop-other.one.log.now) c.in-Some.other _ _ c.in-Some.ensures.steps.0 before.left in
-    let now : HasMet c.meet.new.self c.in-Some.other = has_met c.meet.new.self c.in-Some.other c.meet.new.other (of ∙ same) others equal whole in
-    let met = before.met.0 in
-    let split = append_assoc met (c.in-Some.other ∷ []) c.next.new.self.rest.items ∙ ap (λ rest. met ++ rest) (sym c.in-Some.ensures.steps.0) ∙ before.met.1 in
+    let now : Meets c.args.one.now c.meet.new.self c.in-Some.other c.meet.new.other = meets _ _ _ _ _ before.later step others equal whole in
+    let done = before.met.0 in
+    let split = append_assoc done (c.in-Some.other ∷ []) c.next.new.self.rest.items ∙ ap (λ rest. done ++ rest) (sym c.in-Some.ensures.steps.0) ∙ before.met.1 in
+    let met = one_more_met c.args.one.now c.loop-other.one c.meet.new.self done c.loop-other.met.items c.in-Some.other c.meet.new.other before.met.2 step now in
     record {
       later = later_on _ _ _ before.later step;
       whole = all.0;
       left = subst (λ log. AreOf log c.next.new.self.rest.items) same left;
-      met = (met ++ c.in-Some.other ∷ [], split, one_more_met c.loop-other.one c.meet.new.self c.in-Some.other met before.met.2 step now);
+      met = (done ++ c.in-Some.other ∷ [], split, subst (AllZip (Meets c.args.one.now c.meet.new.self) (done ++ c.in-Some.other ∷ [])) (sym {A = List Worker} c.in_ok-push.ensures.items) met);
     }
 
 pub returns-clause-met : goal.returns-clause-met
@@ -47,4 +48,4 @@ returns-clause-met c =
     let none : c.loop-other.other-iterator.rest.items ≡ [] =
     nil_from_length c.loop-other.other-iterator.rest.items (sym c.loop-other.other-iterator.rest.ok.0 ∙ c.in-None.ensures.steps.0) in
     let all : met.0 ≡ c.args.others.items = sym (append-nil met.0) ∙ (ap (λ rest. met.0 ++ rest) (sym none) ∙ met.1) in
-    subst (All (HasMet c.loop-other.one)) all met.2
+    subst (λ (others : List Worker). AllZip (Meets c.args.one.now c.loop-other.one) others c.loop-other.met.items) all met.2

@@ -1,6 +1,7 @@
--- It is up to date and has met those before this one, and the others are of its log.
-use Rattle.std.proofs.Common.{◌≡◌, ◌++◌, All, List}
-use Rattle.mc_server.specs.Network.{AreOf, HasMet, IsLater, IsUpToDate}
+-- It is up to date and those before this one have met it, and the others are of its log.
+use Rattle.std.proofs.Common.{◌≡◌, ◌++◌, List}
+use Rattle.std.specs.List.{AllZip}
+use Rattle.mc_server.specs.Network.{AreOf, IsLater, IsUpToDate, Meets}
 use Rattle.uc_worker.specs.declared.worker.Worker.{Worker}
 use Rattle.mc_server.proofs.crew.meet_others.Given as goal
 
@@ -9,5 +10,5 @@ invariant-loop-other l = record {
   later : IsLater l.fn.one l.one;
   whole : IsUpToDate l.one;
   left : AreOf l.one.log.now l.other-iterator.rest.items;
-  met : (met : List Worker) × (met ++ l.other-iterator.rest.items ≡ l.fn.others.items) × All (HasMet l.one) met;
+  met : (done : List Worker) × (done ++ l.other-iterator.rest.items ≡ l.fn.others.items) × AllZip (Meets l.fn.one l.one) done l.met.items;
 }

@@ -4,11 +4,12 @@ use Rattle.std.proofs.lemmas.List.{nil_from_length}
 use Rattle.std.proofs.lemmas.List.{map-append}
 use Rattle.std.proofs.lemmas.List.Elements.{All-head, All-nil, All-push, All-rest}
 use Rattle.mc_server.specs.Listeners.{CountsFrom}
-use Rattle.mc_server.specs.Network.{IsFresh, number_of}
+use Rattle.mc_server.specs.Network.{HasDoneNothing, IsFresh, number_of}
 use Rattle.uc_log.specs.declared.pass.Pass.{Pass}
 use Rattle.uc_log.specs.Passes.{worker}
 use Rattle.uc_places.specs.declared.view.View.{View}
 use Rattle.uc_worker.specs.declared.worker.Worker.{Worker}
+use Rattle.uc_worker.specs.Worker.{announced_of}
 use Rattle.mc_server.proofs.Crews.{all_fresh, all_numbered}
 use Rattle.mc_server.proofs.crew.open_workers.Goals as goal
 
@@ -19,6 +20,7 @@ loop-pass-init c =
     let P = λ (worker : Worker). worker.log.now ≡ c.args.log.now in
     record {
       of = subst (All P) (sym c.in_ok-workers.ensures.items) (All-nil P);
+      new = subst (All HasDoneNothing) (sym c.in_ok-workers.ensures.items) (All-nil HasDoneNothing);
       left = subst (All (IsFresh c.args.log.now)) (sym gives) passes;
       count = omega (arith, ap length c.in_ok-workers.ensures.items, ap length gives);
       numbers = λ i. map number_of (c.in_ok-workers.ensures.items i) ++ map worker (gives i);
@@ -35,8 +37,12 @@ loop-pass-preserved c =
     let workers = c.loop-pass.workers.items in
     let new = c.in_ok-open.field-0 in
     let left = map worker c.next.new.self.rest.items in
+    let fresh = All-head (IsFresh c.args.log.now) c.in-Some.pass _ (subst (All (IsFresh c.args.log.now)) c.in-Some.ensures.steps.0 before.left) in
+    let unused = ap (λ (view : View). view.state.announced) c.in_ok-open.ensures.seat in
+    let nothing : HasDoneNothing new = (nil_from_length (announced_of new) (omega (arith, new.pass.count, unused, fresh.unused)), c.in_ok-open.ensures.history) in
     record {
       of = rw c.in_ok-push.ensures.items (All-push (λ (worker : Worker). worker.log.now ≡ c.args.log.now) _ _ before.of c.in_ok-open.ensures.log);
+      new = rw c.in_ok-push.ensures.items (All-push HasDoneNothing _ _ before.new nothing);
       left = All-rest (IsFresh c.args.log.now) c.in-Some.pass _ _ c.in-Some.ensures.steps.0 before.left;
       count = omega (arith, ap length c.in_ok-push.ensures.items, length-append c.loop-pass.workers.items (c.in_ok-open.field-0 ∷ []), ap length c.in-Some.ensures.steps.0, before.count);
       numbers = ap (λ (workers : List Worker). map number_of workers ++ left) c.in_ok-push.ensures.items ∙ (ap (λ numbers. numbers ++ left) (map-append number_of workers (new ∷ []))

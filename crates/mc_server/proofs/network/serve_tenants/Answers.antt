@@ -5,8 +5,8 @@ use Rattle.std.proofs.lemmas.Result.{err_from_is_err_and}
 use Rattle.std.proofs.lemmas.Slice.Zip.{AllZip-long}
 use Rattle.mc_conn.specs.Onward.{IsOnward}
 use Rattle.mc_model.specs.Settings.{Configuration}
-use Rattle.mc_server.proofs.NetworkRuns.{announcing_stops, are_tenants, are_workers, back_of, served, stopped}
-use Rattle.mc_server.specs.Network.{IsReady, StopsAnnouncing}
+use Rattle.mc_server.proofs.NetworkRuns.{announcing_stops, are_tenants, are_workers, have_served, served, stopped}
+use Rattle.mc_server.specs.Network.{AreWorkersOf, IsReady, StopsAnnouncing}
 use Rattle.mc_server.specs.NetworkWords.{served_by, settings_asked}
 use Rattle.mc_server.specs.TenantWord.{asked_of}
 use Rattle.mc_server.specs.declared.network_texts.Listening.{Listening}
@@ -26,10 +26,15 @@ serve-requires-clause-tenants g c κs within =
     omega (arith, c.requires.bound.count, tenants, length-map (map asked_of c.args.service.now.tenants.items) (λ tenant. tenant.limits), length-map c.args.service.now.tenants.items asked_of) in
     are_tenants (λ listener. listener.0) c.args.bound.listeners.items _ c.requires.bound.numbers count
 
-pub finish-requires-clause-log : goal.finish-requires-clause-log
-finish-requires-clause-log g c =
-    let onward = subst (AllZip IsOnward c.in_ok-workers.workers.items) (sym c.in_ok-workers-2.ensures) c.in_ok-back.ensures.back in
-    (c.in_ok-log.log, back_of c.in_ok-log.log _ c.in_ok-workers-2.workers.items onward c.in_ok-workers.ensures.log)
+pub finish-requires-clause-all : goal.finish-requires-clause-all
+finish-requires-clause-all g c =
+    let settings = settings_asked (served_by c.args.service.now) in
+    let workers = ap (λ (settings : Configuration). settings.workers) c.requires.settings in
+    let many : length c.in_ok-workers.workers.items ≡ (settings_asked (served_by c.args.service.now)).workers = omega (arith, c.in_ok-workers.ensures.count, c.in_ok-log.ensures.count, workers) in
+    let all = are_workers settings c.in_ok-log.log c.in_ok-workers.workers.items _ c.in_ok-back.ensures.back (c.in_ok-log.ensures.settings ∙ c.requires.settings)
+    c.in_ok-workers.ensures.log many c.in_ok-workers.ensures.numbers
+    in
+    (settings, c.in_ok-log.log, subst (AreWorkersOf settings c.in_ok-log.log) (sym c.in_ok-workers-2.ensures) all)
 
 pub finish-requires-clause-some : goal.finish-requires-clause-some
 finish-requires-clause-some g c =
@@ -41,20 +46,20 @@ pub returns-clause-serves : goal.returns-clause-serves
 returns-clause-serves g c =
     let ready = subst (λ (told : List Listening). IsReady told (g.O.Output.tells c.args.output.now) (g.O.Output.tells c.announce.new.output)) c.deref.ensures.value c.in_ok-announce.ensures.ready in
     let workers = ap (λ (settings : Configuration). settings.workers) c.requires.settings in
-    let onward = subst (AllZip IsOnward c.in_ok-workers.workers.items) (sym c.in_ok-workers-2.ensures) c.in_ok-back.ensures.back in
-    let all = are_workers (settings_asked (served_by c.args.service.now)) c.in_ok-log.log _ c.in_ok-workers-2.workers.items onward
-    (c.in_ok-log.ensures.settings ∙ c.requires.settings) c.in_ok-workers.ensures.log (omega (arith, c.in_ok-workers.ensures.count, c.in_ok-log.ensures.count, workers))
-    c.in_ok-workers.ensures.numbers
+    let many : length c.in_ok-workers.workers.items ≡ (settings_asked (served_by c.args.service.now)).workers = omega (arith, c.in_ok-workers.ensures.count, c.in_ok-log.ensures.count, workers) in
+    let have = have_served (settings_asked (served_by c.args.service.now)) c.in_ok-log.log c.in_ok-workers.workers.items c.in_ok-back.back.items c.in_ok-back.ensures.back
+    (c.in_ok-log.ensures.settings ∙ c.requires.settings) c.in_ok-workers.ensures.log many c.in_ok-workers.ensures.numbers c.in_ok-workers.ensures.new
+    c.in_ok-back.ensures.answered c.in_ok-back.ensures.asked
     in
-    served _ c.in_ok-log.log c.in_ok-workers-2.workers.items all c.finish.result c.args.bound.told.items (g.O.Output.tells c.args.output.now) (g.O.Output.tells c.announce.new.output) (g.O.Output.tells c.finish.new.output) ready c.finish.ensures.done
+    served _ c.in_ok-log.log c.in_ok-workers-2.workers.items c.in_ok-back.back.items c.in_ok-workers-2.ensures have c.finish.result c.args.bound.told.items (g.O.Output.tells c.args.output.now) (g.O.Output.tells c.announce.new.output) (g.O.Output.tells c.finish.new.output) ready c.finish.ensures.done
 
 pub returns-clause-stops : goal.returns-clause-stops
 returns-clause-stops g c =
     let ready = subst (λ (told : List Listening). IsReady told (g.O.Output.tells c.args.output.now) (g.O.Output.tells c.announce.new.output)) c.deref.ensures.value c.in_ok-announce.ensures.ready in
     let workers = ap (λ (settings : Configuration). settings.workers) c.requires.settings in
-    let onward = subst (AllZip IsOnward c.in_ok-workers.workers.items) (sym c.in_ok-workers-2.ensures) c.in_ok-back.ensures.back in
-    let all = are_workers (settings_asked (served_by c.args.service.now)) c.in_ok-log.log _ c.in_ok-workers-2.workers.items onward
-    (c.in_ok-log.ensures.settings ∙ c.requires.settings) c.in_ok-workers.ensures.log (omega (arith, c.in_ok-workers.ensures.count, c.in_ok-log.ensures.count, workers))
-    c.in_ok-workers.ensures.numbers
+    let many : length c.in_ok-workers.workers.items ≡ (settings_asked (served_by c.args.service.now)).workers = omega (arith, c.in_ok-workers.ensures.count, c.in_ok-log.ensures.count, workers) in
+    let have = have_served (settings_asked (served_by c.args.service.now)) c.in_ok-log.log c.in_ok-workers.workers.items c.in_ok-back.back.items c.in_ok-back.ensures.back
+    (c.in_ok-log.ensures.settings ∙ c.requires.settings) c.in_ok-workers.ensures.log many c.in_ok-workers.ensures.numbers c.in_ok-workers.ensures.new
+    c.in_ok-back.ensures.answered c.in_ok-back.ensures.asked
     in
-    stopped _ c.in_ok-log.log c.in_ok-workers-2.workers.items all c.finish.result c.args.bound.told.items (g.O.Output.tells c.args.output.now) (g.O.Output.tells c.announce.new.output) (g.O.Output.tells c.finish.new.output) ready c.finish.ensures.stops
+    stopped _ c.in_ok-log.log c.in_ok-workers-2.workers.items c.in_ok-back.back.items c.in_ok-workers-2.ensures have c.finish.result c.args.bound.told.items (g.O.Output.tells c.args.output.now) (g.O.Output.tells c.announce.new.output) (g.O.Output.tells c.finish.new.output) ready c.finish.ensures.stops
