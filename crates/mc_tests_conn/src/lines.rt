@@ -111,7 +111,7 @@ impl<'a> Line<'a> {
     }
 
     /// Whether the line comes to its end, and has pushed this then.
-    pub(crate) fn closes_with(mut self, want: &[u8]) -> Result<bool, Fault> {
+    pub(crate) fn closes_with(&mut self, want: &[u8]) -> Result<bool, Fault> {
         Ok(self.comes_to(State::Closed)? && self.pushed() == want)
     }
 
@@ -189,24 +189,6 @@ pub(crate) fn one_line<'a>(
         return Err(Fault::BadEvent);
     };
     Line::open(alloc, log, first, 0, ends)
-}
-
-/// The lines of the first tenant and worker 0, and of the second tenant and worker 1.
-pub(crate) fn both_lines<'a>(
-    alloc: Global,
-    log: &'a Log,
-    passes: Vec<Pass>,
-    ends: (MemoryInput, MemoryOutput),
-    others: (MemoryInput, MemoryOutput),
-) -> Result<(Line<'a>, Line<'a>), Fault>
-    requires { (number : ℕ) (pass : _) → slice_get passes.items number ≡ Some pass → IsFresh log.now pass }
-{
-    let Some((first, second)) = both_passes(log, passes) else {
-        return Err(Fault::BadEvent);
-    };
-    let first = Line::open(alloc, log, first, 0, ends)?;
-    let second = Line::open(alloc, log, second, 1, others)?;
-    Ok((first, second))
 }
 
 /// Whether a client with these ends reads this, where a new log is of so many places.

@@ -73,9 +73,9 @@ fn goes_on(line: &mut Line<'_>) -> Result<bool, Fault> {
 }
 
 /// The line waits behind two replies, and goes on once the output takes them.
-fn assert_queue(rt: &impl Abort, mut line: Line<'_>) -> Result<(), Fault> {
-    assert!(rt; waits_behind_two(&mut line)?);
-    assert!(rt; goes_on(&mut line)?);
+fn assert_queue(rt: &impl Abort, line: &mut Line<'_>) -> Result<(), Fault> {
+    assert!(rt; waits_behind_two(line)?);
+    assert!(rt; goes_on(line)?);
     Ok(())
 }
 
@@ -84,7 +84,8 @@ fn queue_above_its_bound(rt: HostRuntime) -> Result<(), Fail> {
     let alloc = rt.alloc();
     let ends = ends(alloc)?;
     let (log, passes) = opened(alloc, 64, &[QUOTAS])?;
-    assert_queue(&rt, one_line(alloc, &log, passes, ends)?)?;
+    let mut line = one_line(alloc, &log, passes, ends)?;
+    assert_queue(&rt, &mut line)?;
     Ok(())
 }
 

@@ -1,10 +1,14 @@
 //! Two connections of two tenants over two workers of one log.
-use crate::lines::{Line, QUOTAS, both_lines, ends_of, opened};
+ghost use Rattle.std.specs.Prelude.{◌≡◌, ℕ, Some, slice_get};
+ghost use Rattle.mc_tests_conn.specs.Fresh.{IsFresh};
+
+use crate::lines::{Line, QUOTAS, both_passes, ends_of, opened};
 use mc_conn::{PULL_BYTES, State};
 use mc_model::Fault;
 use mc_stream::{InputStep, MemoryInput, MemoryOutput};
 use std::alloc::Global;
 use std::test::Fail;
+use uc_log::{Log, Pass};
 
 /// What each tenant's client sends, a request a pull, and what it reads, whatever the other does.
 const SCRIPTS: [([&str; 3], &str); 2] = [
@@ -86,18 +90,49 @@ fn are_served(first: &Line<'_>, second: &Line<'_>) -> bool {
 }
 
 /// Whether both are served where their turns come in this order.
-fn are_served_in(mut first: Line<'_>, mut second: Line<'_>, order: &[bool]) -> Result<bool, Fault> {
-    let are_all_busy = are_busy(&mut first, &mut second, order)?;
-    Ok(are_all_busy && are_served(&first, &second))
+fn are_served_in(
+    first: &mut Line<'_>,
+    second: &mut Line<'_>,
+    order: &[bool],
+) -> Result<bool, Fault> {
+    Ok(are_busy(first, second, order)? && are_served(first, second))
+}
+
+/// The tenant's line, by the worker with this pass, to a client that sends these requests.
+fn line_of<'a>(
+    alloc: Global,
+    log: &'a Log,
+    pass: Pass,
+    tenant: u8,
+    requests: &[&str],
+) -> Result<Line<'a>, Fault>
+    requires { IsFresh log.now pass }
+{
+    let ends = ends(alloc, requests)?;
+    Line::open(alloc, log, pass, tenant, ends)
+}
+
+/// The lines of the first tenant and worker 0, and of the second tenant and worker 1.
+fn both_lines<'a>(
+    alloc: Global,
+    log: &'a Log,
+    passes: Vec<Pass>,
+) -> Result<(Line<'a>, Line<'a>), Fault>
+    requires { (number : ℕ) (pass : _) → slice_get passes.items number ≡ Some pass → IsFresh log.now pass }
+{
+    let Some((first, second)) = both_passes(log, passes) else {
+        return Err(Fault::BadEvent);
+    };
+    let first = line_of(alloc, log, first, 0, &SCRIPTS[0].0)?;
+    let second = line_of(alloc, log, second, 1, &SCRIPTS[1].0)?;
+    Ok((first, second))
 }
 
 /// Whether both tenants are served as alone where their turns come in this order.
 fn are_apart(alloc: Global, order: &[bool]) -> Result<bool, Fault> {
-    let one = ends(alloc, &SCRIPTS[0].0)?;
-    let other = ends(alloc, &SCRIPTS[1].0)?;
     let (log, passes) = opened(alloc, 64, &[QUOTAS, QUOTAS])?;
-    let (first, second) = both_lines(alloc, &log, passes, one, other)?;
-    are_served_in(first, second, order)
+    let (mut first, mut second) = both_lines(alloc, &log, passes)?;
+    are_served_in(&mut first, &mut second, order)
 }
 
 #[test]

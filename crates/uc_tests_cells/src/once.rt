@@ -1,6 +1,10 @@
 //! A cell is set once.
+ghost use Rattle.uc_cells.specs.Cells.{HasCell};
+
 use crate::values::{assert_holds, entry_of, ticket_in};
-use mc_model::Fault;
+use mc_model::{Entry, Fault, Ticket};
+use std::alloc::Global;
+use std::process::Abort;
 use std::test::Fail;
 use uc_cells::Cells;
 
@@ -8,23 +12,46 @@ const FIRST: &str = "set a 7 0 3\r\nabc\r\n";
 
 const OTHER: &str = "set a 7 0 3\r\nabd\r\n";
 
+/// A put of this text shows the entry.
+fn assert_put(
+    rt: &impl Abort,
+    alloc: Global,
+    cells: &Cells,
+    text: &str,
+    want: &Entry,
+) -> Result<(), Fail>
+    requires { HasCell cells.now want.now.ticket }
+{
+    let entry = entry_of(alloc, want.ticket, text)?;
+    assert_holds(rt, &cells.put(alloc, entry)?, want);
+    Ok(())
+}
+
+/// Whether a put of this text is told that the cell is taken.
+fn is_taken(alloc: Global, cells: &Cells, ticket: Ticket, text: &str) -> Result<bool, Fail>
+    requires { HasCell cells.now ticket }
+{
+    let entry = entry_of(alloc, ticket, text)?;
+    Ok(cells.put(alloc, entry).err() == Some(Fault::Taken))
+}
+
+/// The first entry is put, shown, and put again; another is refused.
+fn assert_stays(rt: &impl Abort, alloc: Global, cells: &Cells, first: &Entry) -> Result<(), Fail>
+    requires { HasCell cells.now first.now.ticket }
+{
+    assert_put(rt, alloc, cells, FIRST, first)?;
+    assert!(rt; is_taken(alloc, cells, first.ticket, OTHER)?);
+    assert_holds(rt, &cells.see(alloc, first.ticket)?, first);
+    assert_put(rt, alloc, cells, FIRST, first)
+}
+
 #[test]
 fn the_first_entry_stays(rt: HostRuntime) -> Result<(), Fail> {
     let alloc = rt.alloc();
     let cells = Cells::open(alloc, 1, 2)?;
     let ticket = ticket_in(&cells, 0, 0).ok_or("no cell")?;
     let first = entry_of(alloc, ticket, FIRST)?;
-    assert_holds(
-        &rt,
-        &cells.put(alloc, entry_of(alloc, ticket, FIRST)?)?,
-        &first,
-    );
-    let other = cells.put(alloc, entry_of(alloc, ticket, OTHER)?);
-    assert!(rt; other.err() == Some(Fault::Taken));
-    assert_holds(&rt, &cells.see(alloc, ticket)?, &first);
-    let again = cells.put(alloc, entry_of(alloc, ticket, FIRST)?)?;
-    assert_holds(&rt, &again, &first);
-    Ok(())
+    assert_stays(&rt, alloc, &cells, &first)
 }
 
 #[test]
@@ -33,8 +60,7 @@ fn what_was_seen_absent_stays_absent(rt: HostRuntime) -> Result<(), Fail> {
     let cells = Cells::open(alloc, 1, 2)?;
     let ticket = ticket_in(&cells, 0, 1).ok_or("no cell")?;
     assert!(rt; cells.see(alloc, ticket)?.entry().is_none());
-    let late = cells.put(alloc, entry_of(alloc, ticket, FIRST)?);
-    assert!(rt; late.err() == Some(Fault::Taken));
+    assert!(rt; is_taken(alloc, &cells, ticket, FIRST)?);
     assert!(rt; cells.see(alloc, ticket)?.entry().is_none());
     Ok(())
 }

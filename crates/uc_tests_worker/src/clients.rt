@@ -112,7 +112,10 @@ pub(crate) fn is_answer(
     place: usize,
     want: &str,
 ) -> Result<bool, Fault> {
-    Ok(answer.place == place && reads_as(alloc, &answer.reply, want)?)
+    if answer.place != place {
+        return Ok(false);
+    }
+    reads_as(alloc, &answer.reply, want)
 }
 
 /// Whether both histories are equal, place by place: the tickets and the entries under them.

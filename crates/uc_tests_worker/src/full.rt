@@ -35,7 +35,10 @@ fn is_answered(
     ensures two { second.new.log ≡ second.old.log }
 {
     let (text, want, value) = *round;
-    Ok(first.says(alloc, text, want)? && second.says(alloc, "get a\r\n", value)?)
+    if !first.says(alloc, text, want)? {
+        return Ok(false);
+    }
+    second.says(alloc, "get a\r\n", value)
 }
 
 /// Whether the rounds are answered so.
@@ -94,20 +97,40 @@ fn both_stay_full(
     stays_full(alloc, second, &TICKETS)
 }
 
-/// The first worker hasn't learned the last place when it asks for more, so its command waits for good. It replays that place as it
-/// catches up.
+/// Whether the rounds fill the log. The first worker hasn't learned the last place when it asks for more, so its command waits for good.
+fn fill(alloc: Global, first: &mut Client<'_>, second: &mut Client<'_>) -> Result<bool, Fault>
+    ensures one { first.new.log ≡ first.old.log }
+    ensures two { second.new.log ≡ second.old.log }
+{
+    if !are_answered(alloc, first, second)? || first.is_full() || !second.is_full() {
+        return Ok(false);
+    }
+    both_stay_full(alloc, first, second, &TICKETS[..3])
+}
+
+/// Whether the log stays full when the first worker has replayed the last place too, and when both have met.
+fn stay_full<'a>(
+    alloc: Global,
+    first: &mut Client<'a>,
+    second: &mut Client<'a>,
+) -> Result<bool, Fault>
+    requires { first.old.log.now ≡ second.old.log.now }
+{
+    first.catch_up()?;
+    if !both_stay_full(alloc, first, second, &TICKETS)? {
+        return Ok(false);
+    }
+    first.meet(second)?;
+    let is_full = both_stay_full(alloc, first, second, &TICKETS)?;
+    Ok(is_full && are_equal(first.history(), second.history()))
+}
+
 #[test]
 fn a_full_log_says_so_again_and_again(rt: HostRuntime) -> Result<(), Fail> {
     let alloc = rt.alloc();
     let (log, passes) = opened(alloc, 2, 4, &[QUOTAS])?;
     let (mut first, mut second) = both_clients(alloc, &log, passes)?;
-    assert!(rt; are_answered(alloc, &mut first, &mut second)?);
-    assert!(rt; !first.is_full() && second.is_full());
-    assert!(rt; both_stay_full(alloc, &mut first, &mut second, &TICKETS[..3])?);
-    first.catch_up()?;
-    assert!(rt; both_stay_full(alloc, &mut first, &mut second, &TICKETS)?);
-    first.meet(&mut second)?;
-    assert!(rt; both_stay_full(alloc, &mut first, &mut second, &TICKETS)?);
-    assert!(rt; are_equal(first.history(), second.history()));
+    assert!(rt; fill(alloc, &mut first, &mut second)?);
+    assert!(rt; stay_full(alloc, &mut first, &mut second)?);
     Ok(())
 }

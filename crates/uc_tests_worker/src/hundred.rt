@@ -151,19 +151,39 @@ fn stand_in_order(
     are_all(alloc, own.as_slice(), texts.as_slice())
 }
 
+/// Whether each has replayed all commands before they meet, and both have the same history after that.
+fn agree<'a>(first: &mut Client<'a>, second: &mut Client<'a>) -> Result<bool, Fault>
+    requires { first.old.log.now ≡ second.old.log.now }
+{
+    first.catch_up()?;
+    second.catch_up()?;
+    if first.history().len() != 200 || second.history().len() != 200 {
+        return Ok(false);
+    }
+    first.meet(second)?;
+    Ok(first.history().len() == 200 && are_equal(first.history(), second.history()))
+}
+
+/// Whether both agree, and each worker's commands stand in their order.
+fn are_right<'a>(
+    alloc: Global,
+    first: &mut Client<'a>,
+    second: &mut Client<'a>,
+) -> Result<bool, Fault>
+    requires { first.old.log.now ≡ second.old.log.now }
+{
+    if !agree(first, second)? || !stand_in_order(alloc, first.history(), 0, NAMES[0])? {
+        return Ok(false);
+    }
+    stand_in_order(alloc, second.history(), 1, NAMES[1])
+}
+
 #[test]
 fn two_threads_hundred_commands(rt: HostRuntime) -> Result<(), Fail> {
     let alloc = rt.alloc();
     let (log, passes) = opened(alloc, 2, 1_024, &[QUOTAS])?;
     let (first, second) = both_clients(alloc, &log, passes)?;
     let (mut first, mut second) = worked_both(&rt, alloc, first, second)?;
-    first.catch_up()?;
-    second.catch_up()?;
-    assert!(rt; first.history().len() == 200 && second.history().len() == 200);
-    first.meet(&mut second)?;
-    assert!(rt; first.history().len() == 200);
-    assert!(rt; are_equal(first.history(), second.history()));
-    assert!(rt; stand_in_order(alloc, first.history(), 0, NAMES[0])?);
-    assert!(rt; stand_in_order(alloc, second.history(), 1, NAMES[1])?);
+    assert!(rt; are_right(alloc, &mut first, &mut second)?);
     Ok(())
 }

@@ -14,15 +14,14 @@ pub(crate) struct Ended<'a> {
     pub(crate) asked: Result<Vec<Asked>, Fault>,
 }
 
-/// The other, once the one has met it.
-fn met<'a>(log: &Log, one: &mut Ended<'a>, mut other: Ended<'a>) -> Result<Ended<'a>, Fault>
+/// The one meets the other.
+fn meet<'a>(log: &Log, one: &mut Ended<'a>, other: &mut Ended<'a>) -> Result<(), Fault>
     requires one { one.old.client.log.now ≡ log.now }
-    requires other { other.client.log.now ≡ log.now }
+    requires other { other.old.client.log.now ≡ log.now }
     ensures one { one.new.client.log.now ≡ log.now }
-    ensures other { IfOk result (λ other. other.client.log.now ≡ log.now) }
+    ensures other { other.new.client.log.now ≡ log.now }
 {
-    one.client.meet(&mut other.client)?;
-    Ok(other)
+    one.client.meet(&mut other.client)
 }
 
 /// One meets each of the others.
@@ -38,8 +37,9 @@ fn meet_each<'a>(
     ensures others { IfOk result (λ met. All (λ other. other.client.log.now ≡ log.now) met.items) }
 {
     let mut all = Vec::new(alloc);
-    for other in others {
-        all.push(met(log, one, other)?)?;
+    for mut other in others {
+        meet(log, one, &mut other)?;
+        all.push(other)?;
     }
     Ok(all)
 }

@@ -10,4 +10,4 @@ loop-other-preserved c =
     let steps = c.in-Some.ensures.steps.0 in
     let before = c.loop-other.invariant in
     let left = All-rest P c.in-Some.other _ _ steps before.2 in
-    (c.in_ok-met.ensures.one, rw c.in_ok-push.ensures.items (All-push P _ _ before.1 c.in_ok-met.ensures.other), left)
+    (c.in_ok-meet.ensures.one, rw c.in_ok-push.ensures.items (All-push P _ _ before.1 c.in_ok-meet.ensures.other), left)

@@ -1,16 +1,12 @@
 //! Worked lists, and what each line says.
-use crate::lists::{assert_asks, assert_list, command_of};
+use crate::events::{AMPLE, command_of};
+use crate::lists::{assert_asks, assert_list};
 use mc_model::Limits;
 use mc_schedules::Action;
 use std::alloc::Global;
 use std::process::Abort;
 use std::test::Fail;
 use uc_core::Event;
-
-const AMPLE: Limits = Limits {
-    items: 4,
-    bytes: 100,
-};
 
 #[test]
 fn tenants_are_apart(rt: HostRuntime) -> Result<(), Fail> {

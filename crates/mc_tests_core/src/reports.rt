@@ -1,16 +1,11 @@
 //! Reports of runs, byte for byte.
-use crate::lists::command_of;
-use mc_model::{Command, Data, Fault, Key, Limits, Settings, Verb};
+use crate::events::{AMPLE, command_of, opened};
+use mc_model::{Command, Data, Fault, Key, Verb};
 use mc_schedules::Outcome;
 use std::alloc::Global;
 use std::process::Abort;
 use std::test::Fail;
-use uc_core::{Core, Event};
-
-const AMPLE: Limits = Limits {
-    items: 4,
-    bytes: 100,
-};
+use uc_core::Event;
 
 /// What is left and given where a core of so many workers and places takes these events.
 fn outcome_of(
@@ -19,9 +14,7 @@ fn outcome_of(
     events: &[Event],
     fault: Option<(u64, Fault)>,
 ) -> Result<Outcome, Fail> {
-    let tenants = Vec::from_slice(alloc, &[AMPLE])?;
-    let settings = Settings::check(size.0, size.1, tenants)?;
-    let mut core = Core::new(alloc, &settings)?;
+    let mut core = opened(alloc, size.0, size.1, &[AMPLE])?;
     let mut replies = Vec::new(alloc);
     core.run(events, &mut replies)?;
     Ok(Outcome {

@@ -1,6 +1,5 @@
 //! What the tests share: event lists as they are read.
-use mc_model::{Command, Fault, Limits, Request};
-use mc_read::Reader;
+use mc_model::Limits;
 use mc_schedules::{Action, Reading, Schedule, read_schedule};
 use std::alloc::Global;
 use std::process::Abort;
@@ -48,20 +47,6 @@ pub(crate) fn assert_asks(
         assert!(rt; item.action == *action, "{line}");
     }
     Ok(())
-}
-
-fn request_of(alloc: Global, text: &str) -> Result<Option<Request>, Fault> {
-    let mut reader = Reader::new(alloc);
-    reader.feed(text.as_bytes())?;
-    reader.next()
-}
-
-/// The command that a client of memcached writes so.
-pub(crate) fn command_of(alloc: Global, text: &str) -> Result<Command, Fail> {
-    match request_of(alloc, text)? {
-        Some(Request::Logged { command, .. }) => Ok(command),
-        _ => Err(Fail::from("no command")),
-    }
 }
 
 /// The bytes are bad at this line.
