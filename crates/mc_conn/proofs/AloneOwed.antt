@@ -12,14 +12,14 @@ use Rattle.mc_model.specs.declared.reply.WireNo.TheVariants.{E5, E10}
 use Rattle.mc_model.specs.declared.request.Request.{Request}
 use Rattle.mc_model.specs.declared.request.Request.TheVariants.{Local, Logged, Quit, TooLong}
 use Rattle.mc_model.specs.declared.settings.Limits.{Limits}
-use Rattle.mc_model.specs.History.{answer}
+use Rattle.mc_model.specs.History.{answer, answer-more, answer_from, state_after}
 use Rattle.mc_model.specs.Log.{own, own-push}
 use Rattle.mc_write.specs.Text.{text}
 use Rattle.uc_cells.specs.Sighting.{Sighting, entries}
 use Rattle.uc_core.proofs.Lists.{take_more}
 use Rattle.uc_worker.specs.declared.worker.Worker.{Worker}
 use Rattle.uc_worker.specs.Worker.{history_of}
-use Rattle.mc_conn.specs.Alone.{IsAlone, applied_with, first_mark, logged_reply, owed}
+use Rattle.mc_conn.specs.Alone.{IsAloneOver, applied_with, first_mark, logged_reply, owed_after}
 use Rattle.mc_conn.specs.Onward.{own_entry, own_sighting}
 use Rattle.mc_conn.specs.Owed.{IsPlaced, IsTurnedAway, Mark, Owes, answered}
 use Rattle.mc_conn.proofs.Alone.{placed_in_order, turned_away_last}
@@ -28,16 +28,16 @@ not_less : (n m : ℕ) → m ≤ n → nat_lt n m ≡ false
 not_less n m few = grind (arith, nat_tests, few)
 
 -- what is so of a reply and of the commands applied with a command, where a place is left for it
-with_room : (limits : Limits) (places : ℕ) (applied : List Command) (command : Command) → length applied < places →
-    (logged_reply limits places applied command ≡ answer limits applied command) × (applied_with places applied command ≡ applied ++ command ∷ [])
-with_room limits places applied command room = let is = lt-ltb _ _ room in (rw is refl, rw is refl)
+with_room : (limits : Limits) (base : List Command) (places : ℕ) (applied : List Command) (command : Command) → length applied < places →
+    (logged_reply limits base places applied command ≡ answer limits (base ++ applied) command) × (applied_with places applied command ≡ applied ++ command ∷ [])
+with_room limits base places applied command room = let is = lt-ltb _ _ room in (rw is refl, rw is refl)
 
 -- and where none is
-without_room : (limits : Limits) (places : ℕ) (applied : List Command) (command : Command) → places ≤ length applied →
-    (logged_reply limits places applied command ≡ Refused E10) × (applied_with places applied command ≡ applied)
-without_room limits places applied command full = let is = not_less (length applied) places full in (rw is refl, rw is refl)
+without_room : (limits : Limits) (base : List Command) (places : ℕ) (applied : List Command) (command : Command) → places ≤ length applied →
+    (logged_reply limits base places applied command ≡ Refused E10) × (applied_with places applied command ≡ applied)
+without_room limits base places applied command full = let is = not_less (length applied) places full in (rw is refl, rw is refl)
 
-module _ (limits : Limits) (places : ℕ) (worker : Worker) (alone : IsAlone limits places worker) where
+module _ (limits : Limits) (base : List Command) (places : ℕ) (worker : Worker) (alone : IsAloneOver limits base places worker) where
   -- the worker's first commands, up to this number, are those applied; or the log was full before
   abbrev IsUpTo : ℕ → List Command → Type 0
   IsUpTo number applied =
@@ -56,7 +56,7 @@ module _ (limits : Limits) (places : ℕ) (worker : Worker) (alone : IsAlone lim
       ∙ own-push 0 (entries (take number (history_of worker))) (Some (own_entry worker number 0 command)))
 
   placed : (from to : Mark) (applied : List Command) (command : Command) (reply : Reply) → IsUpTo from.number applied → IsPlaced worker 0 from command reply to →
-      (reply ≡ logged_reply limits places applied command) × IsUpTo to.number (applied_with places applied command)
+      (reply ≡ logged_reply limits base places applied command) × IsUpTo to.number (applied_with places applied command)
   placed from to applied command reply up is =
       let at : is.place ≡ from.number = placed_in_order worker alone.workers 0 from to command reply is in
       let stands : slice_get (history_of worker) from.number ≡ Some (own_sighting worker from.number 0 command) =
@@ -65,11 +65,14 @@ module _ (limits : Limits) (places : ℕ) (worker : Worker) (alone : IsAlone lim
       let short = slice_get_within (history_of worker) from.number _ stands in
       ⊎_elim
       (λ (now : (own 0 (entries (take from.number (history_of worker))) ≡ applied) × (length applied ≡ from.number) × (from.number ≤ places)).
-      let room = with_room limits places applied command (omega (arith, short, few, now.1)) in
+      let room = with_room limits base places applied command (omega (arith, short, few, now.1)) in
       let before : own 0 (entries (take is.place (history_of worker))) ≡ applied = ap (λ place. own 0 (entries (take place (history_of worker)))) at ∙ now.0 in
-      let first : Some reply ≡ Some (answer limits (own 0 (entries (take is.place (history_of worker)))) command) = rw (alone.tenants) at is.reply_is in
-      let given : Some reply ≡ Some (answer limits applied command) = first ∙ ap (λ (list : List Command). Some (answer limits list command)) before in
-      let said : reply ≡ answer limits applied command = cc in
+      let mine = own 0 (entries (take is.place (history_of worker))) in
+      let first : Some reply ≡ Some (answer_from (state_after limits base) mine command) = rw (alone.openings) at is.reply_is in
+      let over = answer-more limits base mine (state_after limits base) command refl in
+      let given : Some reply ≡ Some (answer limits (base ++ applied) command) =
+      first ∙ ap Some over ∙ ap (λ (list : List Command). Some (answer limits (base ++ list) command)) before in
+      let said : reply ≡ answer limits (base ++ applied) command = cc in
       let next : to.number ≡ suc from.number = omega (arith, ap (λ (mark : Mark). mark.number) is.next) in (
         said ∙ sym room.0,
         subst (λ n. IsUpTo n (applied_with places applied command)) (sym next)
@@ -84,7 +87,7 @@ module _ (limits : Limits) (places : ℕ) (worker : Worker) (alone : IsAlone lim
       up
 
   away : (from to : Mark) (applied : List Command) (command : Command) (reply : Reply) → IsUpTo from.number applied → IsTurnedAway worker 0 from command reply to →
-      (reply ≡ logged_reply limits places applied command) × IsUpTo to.number (applied_with places applied command)
+      (reply ≡ logged_reply limits base places applied command) × IsUpTo to.number (applied_with places applied command)
   away from to applied command reply up is =
       let last = turned_away_last worker alone.workers 0 from to command reply is in
       let long : length applied ≡ places =
@@ -93,24 +96,24 @@ module _ (limits : Limits) (places : ℕ) (worker : Worker) (alone : IsAlone lim
       (λ (full : (places ≤ from.number) × (length applied ≡ places)). full.1)
       up
       in
-      let room = without_room limits places applied command (omega (arith, long)) in
+      let room = without_room limits base places applied command (omega (arith, long)) in
       let later : from.number ≤ to.number =
       ⊎_elim (λ (same : to ≡ from). omega (arith, ap (λ (mark : Mark). mark.number) same)) (λ more. omega (arith, ap (λ (mark : Mark). mark.number) more.1)) is.next
       in
       (is.reply_is ∙ sym room.0, subst (IsUpTo to.number) (sym room.1) (inr (omega (arith, last, later, alone.long), long)))
 
   in_order : (requests : List Request) (from to : Mark) (applied : List Command) (bytes : List ℕ) → IsUpTo from.number applied → Owes worker 0 from requests bytes to →
-      bytes ≡ owed limits places applied requests
+      bytes ≡ owed_after limits base places applied requests
   in_order [] from to applied bytes up owes = owes.0
   in_order (Logged command quiet ∷ requests) from to applied bytes up (reply, next, rest, is, all, owes) =
       let one = ⊎_elim (placed from next applied command reply up) (away from next applied command reply up) is in
       let others = in_order requests next to (applied_with places applied command) rest one.1 owes in
-      all ∙ (ap (λ it. answered quiet it ++ rest) one.0 ∙ ap (λ it. answered quiet (logged_reply limits places applied command) ++ it) others)
+      all ∙ (ap (λ it. answered quiet it ++ rest) one.0 ∙ ap (λ it. answered quiet (logged_reply limits base places applied command) ++ it) others)
   in_order (Local reply quiet ∷ requests) from to applied bytes up (rest, all, owes) = all ∙ ap (λ it. answered quiet reply ++ it) (in_order requests from to applied rest up owes)
   in_order (Quit ∷ requests) from to applied bytes up owes = in_order requests from to applied bytes up owes
   in_order (TooLong ∷ requests) from to applied bytes up (rest, all, owes) = all ∙ ap (λ it. text (Refused E5) ++ it) (in_order requests from to applied rest up owes)
 
-  pub owes_in_order : (requests : List Request) (bytes : List ℕ) (to : Mark) → Owes worker 0 first_mark requests bytes to → bytes ≡ owed limits places [] requests
+  pub owes_in_order : (requests : List Request) (bytes : List ℕ) (to : Mark) → Owes worker 0 first_mark requests bytes to → bytes ≡ owed_after limits base places [] requests
   owes_in_order requests bytes to owes = in_order requests first_mark to [] bytes (inl (none_yet (history_of worker), refl, omega arith)) owes
     where
       none_yet : (history : List Sighting) → own 0 (entries (take 0 history)) ≡ []

@@ -15,7 +15,7 @@ use Rattle.uc_log.specs.Passes.{next_entry}
 use Rattle.uc_places.specs.SeatLaw.{SeatLaw}
 use Rattle.uc_worker.specs.declared.worker.Worker.{Worker}
 use Rattle.uc_worker.specs.Steps.{IsSame, Leaves}
-use Rattle.uc_worker.specs.Worker.{announced_of, history_of, next_of, seat_of, tenants_of}
+use Rattle.uc_worker.specs.Worker.{announced_of, history_of, next_of, openings_of, seat_of}
 use Rattle.uc_worker.proofs.Lists.{begins_length, begins_pushed, begins_same, begins_self, last_at}
 use Rattle.mc_conn.specs.Onward.{IsOnward, own_entry, own_sighting}
 use Rattle.mc_conn.specs.Owed.{answered, mark_of}
@@ -45,7 +45,7 @@ module _ (old new : Worker) (tenant : ℕ) (command : Command) (on : IsOnward ol
 
   pub placed_answers : (place : ℕ) (reply : Reply) → length (history_of old) ≤ place → length (history_of new) ≡ place + 1 →
       slice_get (history_of new) place ≡ Some (next_of old tenant command) →
-      Some reply ≡ reply_to (tenants_of old) (entries (take place (history_of new))) (Some (next_entry old.pass tenant command)) →
+      Some reply ≡ reply_to (openings_of old) (entries (take place (history_of new))) (Some (next_entry old.pass tenant command)) →
       announced_of new ≡ announced_of old ++ next_of old tenant command ∷ [] → Answers old new tenant command reply
   unfolding number
   placed_answers place reply later last stands replies more = record {
@@ -55,7 +55,7 @@ module _ (old new : Worker) (tenant : ℕ) (command : Command) (on : IsOnward ol
       not_before = later;
       announced = announced_at more;
       stands = stands ∙ ap (λ (seen : Sighting). Some seen) next_now;
-      reply_is = replies ∙ (λ i. reply_to (sym on.log i).now.settings.tenants (entries (take place (history_of new))) (Some (entry_is i)));
+      reply_is = replies ∙ (λ i. reply_to (sym on.openings i) (entries (take place (history_of new))) (Some (entry_is i)));
       next = refl;
     });
     number = one_more more;
@@ -124,11 +124,12 @@ responds_reply old new tenant command quiet reply before after answers queued = 
 }
 
 -- the worker goes on, whatever a submit answers
-module _ (old new : Worker) (tenant : ℕ) (command : Command) (log : new.log ≡ old.log) (same : IsSame (seat_of old) (seat_of new))
+module _ (old new : Worker) (tenant : ℕ) (command : Command) (log : new.log ≡ old.log) (openings : openings_of new ≡ openings_of old) (same : IsSame (seat_of old) (seat_of new))
     (history : BeginsWith (history_of new) (history_of old)) (learned : BeginsWith (seat_of new).state.learned (seat_of old).state.learned) where
   pub goes_on : (announced_of new ≡ announced_of old) ⊎ (announced_of new ≡ announced_of old ++ next_of old tenant command ∷ []) → IsOnward old new
   goes_on kept = record {
     log = log;
+    openings = openings;
     same = same;
     history = history;
     announced = ⊎_elim (begins_same (announced_of new) (announced_of old)) (λ more. begins_pushed (announced_of new) (announced_of old) (announced_of old) _ more (begins_self (announced_of old))) kept;

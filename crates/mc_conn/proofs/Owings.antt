@@ -13,7 +13,7 @@ use Rattle.mc_model.specs.Replay.{reply_to}
 use Rattle.mc_write.specs.Text.{text}
 use Rattle.uc_cells.specs.Sighting.{Sighting, entries}
 use Rattle.uc_worker.specs.declared.worker.Worker.{Worker}
-use Rattle.uc_worker.specs.Worker.{announced_of, history_of, seat_of, sighting_of, tenants_of}
+use Rattle.uc_worker.specs.Worker.{announced_of, history_of, seat_of, openings_of, sighting_of}
 use Rattle.uc_worker.proofs.Lists.{at_longer, begins_length, begins_self, begins_through, begins_whole}
 use Rattle.mc_conn.specs.Onward.{IsFull, IsOnward, own_entry, own_sighting}
 use Rattle.mc_conn.specs.Owed.{IsAnswered, IsPlaced, IsTurnedAway, Mark, Owes, answered, mark_of}
@@ -22,6 +22,7 @@ use Rattle.mc_conn.proofs.Lists.{take_longer}
 pub onward_self : (worker : Worker) → IsOnward worker worker
 onward_self worker = record {
   log = refl;
+  openings = refl;
   same = (refl, refl);
   history = begins_self (history_of worker);
   announced = begins_self (announced_of worker);
@@ -31,6 +32,7 @@ onward_self worker = record {
 pub onward_trans : (first second third : Worker) → IsOnward first second → IsOnward second third → IsOnward first third
 onward_trans first second third one two = record {
   log = two.log ∙ one.log;
+  openings = two.openings ∙ one.openings;
   same = (two.same.0 ∙ one.same.0, two.same.1 ∙ one.same.1);
   history = begins_through _ _ _ two.history one.history;
   announced = begins_through _ _ _ two.announced one.announced;
@@ -70,7 +72,7 @@ module _ (old new : Worker) (on : IsOnward old new) where
         let front : take is.place (history_of new) ≡ take is.place (history_of old) =
         ap (λ (list : List Sighting). take is.place list) on.history.1 ∙ take_longer (history_of old) on.history.0 is.place _ is.stands
         in
-        is.reply_is ∙ (λ i. reply_to (sym on.log i).now.settings.tenants (entries (sym front i)) (Some (same_entry from.number tenant command i)));
+        is.reply_is ∙ (λ i. reply_to (sym on.openings i) (entries (sym front i)) (Some (same_entry from.number tenant command i)));
     next = is.next;
   }
 
@@ -111,7 +113,7 @@ module _ (worker : Worker) (tenant : ℕ) where
           not_before = omega (arith, before, placed.not_before);
           announced = subst (λ number. slice_get (announced_of worker) number ≡ Some (own_sighting worker number tenant command)) same placed.announced;
           stands = subst (λ number. slice_get (history_of worker) placed.place ≡ Some (own_sighting worker number tenant command)) same placed.stands;
-          reply_is = subst (λ number. Some reply ≡ reply_to (tenants_of worker) (entries (take placed.place (history_of worker))) (Some (own_entry worker number tenant command))) same placed.reply_is;
+          reply_is = subst (λ number. Some reply ≡ reply_to (openings_of worker) (entries (take placed.place (history_of worker))) (Some (own_entry worker number tenant command))) same placed.reply_is;
           next = refl;
         }),
         ap (λ (mark : Mark). mark.number) placed.next ∙ ap (λ n. n + 1) same,

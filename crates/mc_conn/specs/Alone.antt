@@ -9,34 +9,44 @@ use Rattle.mc_model.specs.declared.reply.WireNo.TheVariants.{E5, E10}
 use Rattle.mc_model.specs.declared.request.Request.{Request}
 use Rattle.mc_model.specs.declared.request.Request.TheVariants.{Local, Logged, Quit, TooLong}
 use Rattle.mc_model.specs.declared.settings.Limits.{Limits}
-use Rattle.mc_model.specs.History.{answer}
+use Rattle.mc_model.specs.History.{answer, state_after}
 use Rattle.mc_write.specs.Text.{text}
 use Rattle.uc_worker.specs.declared.worker.Worker.{Worker}
-use Rattle.uc_worker.specs.Worker.{seat_of, tenants_of}
+use Rattle.uc_worker.specs.Worker.{openings_of, seat_of}
 use Rattle.mc_conn.specs.Owed.{Mark, answered}
 
--- the reply to a command after those that were applied, under these quotas and in a log with so many places
-abbrev pub logged_reply : Limits → ℕ → List Command → Command → Reply
-logged_reply limits places applied command = if nat_lt (length applied) places then answer limits applied command else Refused E10
+-- The reply to a command under these quotas, in a log with so many places that was opened over the table after the commands of the base,
+-- where these others were applied in it before.
+abbrev pub logged_reply : Limits → List Command → ℕ → List Command → Command → Reply
+logged_reply limits base places applied command =
+    if nat_lt (length applied) places then answer limits (base ++ applied) command else Refused E10
 
 -- the commands that were applied with this one
 abbrev pub applied_with : ℕ → List Command → Command → List Command
 applied_with places applied command = if nat_lt (length applied) places then applied ++ command ∷ [] else applied
 
--- what is owed for requests after the commands that were applied
-abbrev pub owed : Limits → ℕ → List Command → List Request → List ℕ
-owed limits places applied [] = []
-owed limits places applied (Logged command quiet ∷ requests) =
-    answered quiet (logged_reply limits places applied command) ++ owed limits places (applied_with places applied command) requests
-owed limits places applied (Local reply quiet ∷ requests) = answered quiet reply ++ owed limits places applied requests
-owed limits places applied (Quit ∷ requests) = owed limits places applied requests
-owed limits places applied (TooLong ∷ requests) = text (Refused E5) ++ owed limits places applied requests
+-- what is owed for requests then
+abbrev pub owed_after : Limits → List Command → ℕ → List Command → List Request → List ℕ
+owed_after limits base places applied [] = []
+owed_after limits base places applied (Logged command quiet ∷ requests) =
+    answered quiet (logged_reply limits base places applied command) ++ owed_after limits base places (applied_with places applied command) requests
+owed_after limits base places applied (Local reply quiet ∷ requests) = answered quiet reply ++ owed_after limits base places applied requests
+owed_after limits base places applied (Quit ∷ requests) = owed_after limits base places applied requests
+owed_after limits base places applied (TooLong ∷ requests) = text (Refused E5) ++ owed_after limits base places applied requests
 
--- the one worker of a log with so many places, whose one tenant has these quotas
-pub record IsAlone (limits : Limits) (places : ℕ) (worker : Worker) : Type 0 where
+-- what is owed for the first requests of a log that was opened over an empty table
+abbrev pub owed : Limits → ℕ → List Request → List ℕ
+owed limits places requests = owed_after limits [] places [] requests
+
+-- the one worker of a log with so many places, which was opened over its one tenant's table after the commands of the base, under these quotas
+pub record IsAloneOver (limits : Limits) (base : List Command) (places : ℕ) (worker : Worker) : Type 0 where
   pub workers : (seat_of worker).size.workers ≡ 1
   pub long : (seat_of worker).size.places ≡ places
-  pub tenants : tenants_of worker ≡ limits ∷ []
+  pub openings : openings_of worker ≡ state_after limits base ∷ []
+
+-- the same of a log that was opened over an empty table
+abbrev pub IsAlone : Limits → ℕ → Worker → Type 0
+IsAlone limits places worker = IsAloneOver limits [] places worker
 
 -- a worker's mark before its first command
 abbrev pub first_mark : Mark

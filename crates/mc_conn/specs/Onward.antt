@@ -7,7 +7,7 @@ use Rattle.mc_model.specs.Legal.{ticket_of}
 use Rattle.uc_cells.specs.Sighting.{Sighting}
 use Rattle.uc_worker.specs.declared.worker.Worker.{Worker}
 use Rattle.uc_worker.specs.Steps.{IsSame}
-use Rattle.uc_worker.specs.Worker.{announced_of, history_of, seat_of, sighting_of}
+use Rattle.uc_worker.specs.Worker.{announced_of, history_of, openings_of, seat_of, sighting_of}
 
 -- the entry of the worker's command of this number, where it is the tenant's and this command
 abbrev pub own_entry : Worker → ℕ → ℕ → Command → Entry
@@ -24,6 +24,7 @@ IsFull worker = length (seat_of worker).state.learned ≡ (seat_of worker).size.
 -- the same worker later on: what it has replayed, announced and learned stays
 pub record IsOnward (old new : Worker) : Type 0 where
   pub log : new.log ≡ old.log
+  pub openings : openings_of new ≡ openings_of old
   pub same : IsSame (seat_of old) (seat_of new)
   pub history : BeginsWith (history_of new) (history_of old)
   pub announced : BeginsWith (announced_of new) (announced_of old)

@@ -13,7 +13,7 @@ use Rattle.mc_model.specs.Replay.{reply_to}
 use Rattle.mc_write.specs.Text.{text}
 use Rattle.uc_cells.specs.Sighting.{entries}
 use Rattle.uc_worker.specs.declared.worker.Worker.{Worker}
-use Rattle.uc_worker.specs.Worker.{announced_of, history_of, seat_of, tenants_of}
+use Rattle.uc_worker.specs.Worker.{announced_of, history_of, openings_of, seat_of}
 use Rattle.mc_conn.specs.Onward.{IsFull, own_entry, own_sighting}
 
 -- the text of a reply, or nothing where the request is quiet
@@ -35,7 +35,7 @@ pub record IsPlaced (worker : Worker) (tenant : ℕ) (from : Mark) (command : Co
   pub not_before : from.place ≤ place
   pub announced : slice_get (announced_of worker) from.number ≡ Some (own_sighting worker from.number tenant command)
   pub stands : slice_get (history_of worker) place ≡ Some (own_sighting worker from.number tenant command)
-  pub reply_is : Some reply ≡ reply_to (tenants_of worker) (entries (take place (history_of worker))) (Some (own_entry worker from.number tenant command))
+  pub reply_is : Some reply ≡ reply_to (openings_of worker) (entries (take place (history_of worker))) (Some (own_entry worker from.number tenant command))
   pub next : to ≡ record { number = from.number + 1; place = place + 1 }
 
 -- All places are learned, and each command of this worker that stands there was announced before this one: so this one stands nowhere,

@@ -38,14 +38,14 @@ pub fn take_effect(
     found: Option<&Entry>,
 ) -> Result<Option<Reply>, Fault>
     requires { (tenant : ℕ) (state : TableState) → slice_get tables.old.items tenant ≡ Some state → state.last_unique < 2 ^ 64 - 1 }
-    ensures reply { IfOk result (λ reply. (openings : List Limits) (log : List (Option Entry)) → EachStands openings log tables.old.items →
+    ensures reply { IfOk result (λ reply. (openings : List TableState) (log : List (Option Entry)) → EachStands openings log tables.old.items →
         reply ≡ answer_to worker openings log (option_copied found.entry)) }
     // The same by these tables alone.
     ensures answer { IfOk result (λ reply. reply ≡ reply_from worker tables.old.items (option_copied found.entry)) }
     ensures tables { OnOk result (TakeEffect (option_copied found.entry) tables.old.items tables.new.items) }
     ensures takes_out { IfSome (option_copied found.entry) (λ entry. IsTakingOut entry.command) → IsOk result }
     ensures reads { IfSome (option_copied found.entry) (λ entry. IsRetrieval entry.command × (entry.ticket.worker ≢ worker)) → IsOk result }
-    ensures refused { (openings : List Limits) (log : List (Option Entry)) → EachStands openings log tables.old.items → IsRefused openings log (option_copied found.entry) → IsOk result }
+    ensures refused { (openings : List TableState) (log : List (Option Entry)) → EachStands openings log tables.old.items → IsRefused openings log (option_copied found.entry) → IsOk result }
     ensures memory { IsOkUnless result Fault.Memory }
     ensures unchanged { OnErr result (tables.new.items ≡ tables.old.items) }
 {

@@ -17,7 +17,7 @@ pub fn take_effect_unanswered(tables: &mut Vec<Items>, found: Option<&Entry>) ->
     ensures tables { OnOk result (TakeEffect (option_copied found.entry) tables.old.items tables.new.items) }
     ensures takes_out { IfSome (option_copied found.entry) (λ entry. IsTakingOut entry.command) → IsOk result }
     ensures reads { IfSome (option_copied found.entry) (λ entry. IsRetrieval entry.command) → IsOk result }
-    ensures refused { (openings : List Limits) (log : List (Option Entry)) → EachStands openings log tables.old.items → IsRefused openings log (option_copied found.entry) → IsOk result }
+    ensures refused { (openings : List TableState) (log : List (Option Entry)) → EachStands openings log tables.old.items → IsRefused openings log (option_copied found.entry) → IsOk result }
     ensures memory { IsOkUnless result Fault.Memory }
     ensures unchanged { OnErr result (tables.new.items ≡ tables.old.items) }
 {

@@ -2,9 +2,11 @@
 ghost use Rattle.std.specs.Option.{option_map};
 ghost use Rattle.std.specs.Prelude.{◌≡◌, ◌≢◌, ℕ, List, [], ◌∷◌, ◌++◌, Option, Some, None, IfSome, slice_get};
 ghost use Rattle.mc_model.specs.declared.request.Entry.{Entry};
+ghost use Rattle.mc_model.specs.declared.command.Command.{Command};
 ghost use Rattle.mc_model.specs.declared.settings.Limits.{Limits};
+ghost use Rattle.mc_model.specs.History.{StandsFor, answer, answer_from, state_after, state_from};
 ghost use Rattle.mc_model.specs.Log.{Sighting, entry_of, own};
-ghost use Rattle.mc_model.specs.Replay.{EachStands, TakeEffect, empty_tables, reply_to};
+ghost use Rattle.mc_model.specs.Replay.{EachStands, TakeEffect, reply_to};
 ghost use Rattle.mc_model.specs.State.{TableState, next_reply};
 
 /// A tenant's own commands of a log are those of its own entries, in the log's order: such an entry, put anywhere into a log, puts
@@ -24,24 +26,39 @@ pub fn an_entry_counts_for_its_own_ticket()
     ensures absent { (seen : Sighting) → seen.entry ≡ None → entry_of seen ≡ None }
 {}
 
-/// The tables of an empty log are empty. The entry of one more place is answered as its tenant's table answers it, and takes
+/// The tables of an empty log are those that it was opened over. The entry of one more place is answered as its tenant's table answers it, and takes
 /// effect there alone: then each table stands for its tenant's own commands again.
 pub fn a_log_is_replayed_in_order()
-    ensures empty { (openings : List Limits) → EachStands openings [] (empty_tables openings) }
-    ensures reply { (openings : List Limits) (log : List (Option Entry)) (entry : Entry) (tables : List TableState) → EachStands openings log tables →
+    ensures opened { (openings : List TableState) → EachStands openings [] openings }
+    ensures reply { (openings : List TableState) (log : List (Option Entry)) (entry : Entry) (tables : List TableState) → EachStands openings log tables →
         reply_to openings log (Some entry) ≡ option_map (λ table. next_reply table entry.command) (slice_get tables entry.tenant) }
-    ensures stands { (openings : List Limits) (log : List (Option Entry)) (entry : Option Entry) (old new : List TableState) →
+    ensures stands { (openings : List TableState) (log : List (Option Entry)) (entry : Option Entry) (old new : List TableState) →
         EachStands openings log old → TakeEffect entry old new → EachStands openings (log ++ entry ∷ []) new }
 {}
 
+/// A log that is opened over a table goes on where that one stood, whatever commands have led to it: after the tenant's own commands of the
+/// log the table is the one after those and these, and answers so.
+pub fn a_log_goes_on_where_its_tables_stood()
+    ensures answer { (limits : Limits) (base : List Command) (own : List Command) (opening : TableState) (command : Command) → StandsFor limits base opening →
+        answer_from opening own command ≡ answer limits (base ++ own) command }
+    ensures stands { (limits : Limits) (base : List Command) (own : List Command) (opening : TableState) → StandsFor limits base opening →
+        StandsFor limits (base ++ own) (state_from opening own) }
+    ensures reply { (openings : List TableState) (log : List (Option Entry)) (entry : Entry) (limits : Limits) (base : List Command) (opening : TableState) →
+        slice_get openings entry.tenant ≡ Some opening → StandsFor limits base opening →
+        reply_to openings log (Some entry) ≡ Some (answer limits (base ++ own entry.tenant log) entry.command) }
+    ensures tables { (openings : List TableState) (log : List (Option Entry)) (tables : List TableState) (tenant : ℕ) (limits : Limits) (base : List Command) (opening : TableState) →
+        EachStands openings log tables → slice_get openings tenant ≡ Some opening → StandsFor limits base opening →
+        slice_get tables tenant ≡ Some (state_after limits (base ++ own tenant log)) }
+{}
+
 /// Another tenant's entry, or none, put into a log or taken out of it anywhere, leaves a tenant's table and the replies to its
-/// commands, whatever quotas the others have.
+/// commands, whatever tables the others have.
 pub fn tenants_are_apart()
-    ensures table { (openings others : List Limits) (front back : List (Option Entry)) (entry : Option Entry) (with_it without : List TableState) (tenant : ℕ) →
+    ensures table { (openings others : List TableState) (front back : List (Option Entry)) (entry : Option Entry) (with_it without : List TableState) (tenant : ℕ) →
         IfSome entry (λ found. found.tenant ≢ tenant) → slice_get openings tenant ≡ slice_get others tenant →
         EachStands openings (front ++ entry ∷ back) with_it → EachStands others (front ++ back) without →
         slice_get with_it tenant ≡ slice_get without tenant }
-    ensures reply { (openings others : List Limits) (front back : List (Option Entry)) (entry : Option Entry) (next : Entry) →
+    ensures reply { (openings others : List TableState) (front back : List (Option Entry)) (entry : Option Entry) (next : Entry) →
         IfSome entry (λ found. found.tenant ≢ next.tenant) → slice_get openings next.tenant ≡ slice_get others next.tenant →
         reply_to openings (front ++ entry ∷ back) (Some next) ≡ reply_to others (front ++ back) (Some next) }
 {}

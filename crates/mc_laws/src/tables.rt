@@ -17,7 +17,7 @@ ghost use Rattle.mc_model.specs.declared.reply.WireNo.{WireNo};
 ghost use Rattle.mc_model.specs.declared.reply.WireNo.TheVariants.{E6, E7, E8};
 ghost use Rattle.mc_model.specs.declared.settings.Limits.{Limits};
 ghost use Rattle.mc_model.specs.Effect.{effect, is_refusal};
-ghost use Rattle.mc_model.specs.History.{StandsForMore, accepts, after, answer, changes, state_after};
+ghost use Rattle.mc_model.specs.History.{StandsForMore, accepts, after, answer, changes, limits_after};
 ghost use Rattle.mc_laws.specs.Words.{IsLetThrough, IsStoredBy, IsUntouched, effect_after};
 ghost use Rattle.mc_model.specs.Number.{numeric_value};
 ghost use Rattle.mc_model.specs.State.{TableState, next_state};
@@ -27,18 +27,18 @@ ghost use Rattle.mc_model.specs.Table.{Table, count_of, use_of};
 /// it have left, a change with the next unique. So no list has more changes than commands. The quotas stay those that the table
 /// was opened with.
 pub fn commands_act_in_order()
-    ensures nothing { (limits : Limits) → after limits [] ≡ map.empty }
-    ensures no_change { (limits : Limits) → changes limits [] ≡ 0 }
-    ensures reply { (limits : Limits) (list : List Command) (command : Command) →
-        answer limits list command ≡ (effect limits (after limits list) (changes limits list + 1) command).reply }
-    ensures table { (limits : Limits) (list : List Command) (command : Command) →
-        after limits (list ++ command ∷ []) ≡ (effect limits (after limits list) (changes limits list + 1) command).table }
-    ensures change { (limits : Limits) (list : List Command) (command : Command) →
-        accepts limits list command ≡ true → changes limits (list ++ command ∷ []) ≡ changes limits list + 1 }
-    ensures refusal { (limits : Limits) (list : List Command) (command : Command) →
-        accepts limits list command ≡ false → changes limits (list ++ command ∷ []) ≡ changes limits list }
-    ensures at_most { (limits : Limits) (list : List Command) → changes limits list ≤ length list }
-    ensures quotas { (limits : Limits) (list : List Command) → (state_after limits list).limits ≡ limits }
+    ensures nothing { (opening : Limits) → after opening [] ≡ map.empty }
+    ensures no_change { (opening : Limits) → changes opening [] ≡ 0 }
+    ensures reply { (opening : Limits) (list : List Command) (command : Command) →
+        answer opening list command ≡ (effect (limits_after opening list) (after opening list) (changes opening list + 1) command).reply }
+    ensures table { (opening : Limits) (list : List Command) (command : Command) →
+        after opening (list ++ command ∷ []) ≡ (effect (limits_after opening list) (after opening list) (changes opening list + 1) command).table }
+    ensures change { (opening : Limits) (list : List Command) (command : Command) →
+        accepts opening list command ≡ true → changes opening (list ++ command ∷ []) ≡ changes opening list + 1 }
+    ensures refusal { (opening : Limits) (list : List Command) (command : Command) →
+        accepts opening list command ≡ false → changes opening (list ++ command ∷ []) ≡ changes opening list }
+    ensures at_most { (opening : Limits) (list : List Command) → changes opening list ≤ length list }
+    ensures quotas { (opening : Limits) (list : List Command) → limits_after opening list ≡ opening }
 
     // One step of a table that stands for a list.
     ensures stands { (state : TableState) (command : Command) → StandsForMore state command (next_state state command) }
@@ -61,69 +61,69 @@ pub fn keys_and_data_count()
 
 /// A command that names a key leaves what every other key holds.
 pub fn commands_leave_other_keys()
-    ensures store { (limits : Limits) (list : List Command) (verb : Verb) (key other : Key) (flags : ℕ) (block : Data) → other ≢ key →
-        map.get (after limits (list ++ Store verb key flags block ∷ [])) other ≡ map.get (after limits list) other }
-    ensures cas { (limits : Limits) (list : List Command) (key other : Key) (flags unique : ℕ) (block : Data) → other ≢ key →
-        map.get (after limits (list ++ Cas key flags block unique ∷ [])) other ≡ map.get (after limits list) other }
-    ensures delete { (limits : Limits) (list : List Command) (key other : Key) → other ≢ key →
-        map.get (after limits (list ++ Delete key ∷ [])) other ≡ map.get (after limits list) other }
-    ensures incr { (limits : Limits) (list : List Command) (key other : Key) (by : ℕ) → other ≢ key →
-        map.get (after limits (list ++ Incr key by ∷ [])) other ≡ map.get (after limits list) other }
-    ensures decr { (limits : Limits) (list : List Command) (key other : Key) (by : ℕ) → other ≢ key →
-        map.get (after limits (list ++ Decr key by ∷ [])) other ≡ map.get (after limits list) other }
+    ensures store { (opening : Limits) (list : List Command) (verb : Verb) (key other : Key) (flags : ℕ) (block : Data) → other ≢ key →
+        map.get (after opening (list ++ Store verb key flags block ∷ [])) other ≡ map.get (after opening list) other }
+    ensures cas { (opening : Limits) (list : List Command) (key other : Key) (flags unique : ℕ) (block : Data) → other ≢ key →
+        map.get (after opening (list ++ Cas key flags block unique ∷ [])) other ≡ map.get (after opening list) other }
+    ensures delete { (opening : Limits) (list : List Command) (key other : Key) → other ≢ key →
+        map.get (after opening (list ++ Delete key ∷ [])) other ≡ map.get (after opening list) other }
+    ensures incr { (opening : Limits) (list : List Command) (key other : Key) (by : ℕ) → other ≢ key →
+        map.get (after opening (list ++ Incr key by ∷ [])) other ≡ map.get (after opening list) other }
+    ensures decr { (opening : Limits) (list : List Command) (key other : Key) (by : ℕ) → other ≢ key →
+        map.get (after opening (list ++ Decr key by ∷ [])) other ≡ map.get (after opening list) other }
 {}
 
 /// A table never has more bytes or more items than its tenant's quotas say. A command is refused for them exactly where
 /// the table that it would leave has more, which is the one that it leaves where other quotas don't refuse it. A set
 /// would leave the table with its item.
 pub fn quotas_hold()
-    ensures bytes { (limits : Limits) (list : List Command) → use_of (after limits list) ≤ limits.bytes }
-    ensures items { (limits : Limits) (list : List Command) → count_of (after limits list) ≤ limits.items }
-    ensures refused { (limits other : Limits) (list : List Command) (command : Command) →
-        let would = effect other (after limits list) (changes limits list + 1) command in
+    ensures bytes { (opening : Limits) (list : List Command) → use_of (after opening list) ≤ (limits_after opening list).bytes }
+    ensures items { (opening : Limits) (list : List Command) → count_of (after opening list) ≤ (limits_after opening list).items }
+    ensures refused { (opening other : Limits) (list : List Command) (command : Command) →
+        let would = effect other (after opening list) (changes opening list + 1) command in
         would.reply ≢ Refused E7 →
-        (answer limits list command ≡ Refused E7) ↔ ((limits.bytes < use_of would.table) ⊎ (limits.items < count_of would.table)) }
-    ensures set { (limits : Limits) (list : List Command) (key : Key) (flags : ℕ) (block : Data) →
-        let next = map.insert (after limits list) key (record { flags = flags; block = block; unique = changes limits list + 1 }) in
-        (answer limits list (Store Set key flags block) ≡ Refused E7) ↔ ((limits.bytes < use_of next) ⊎ (limits.items < count_of next)) }
+        (answer opening list command ≡ Refused E7) ↔ (((limits_after opening list).bytes < use_of would.table) ⊎ ((limits_after opening list).items < count_of would.table)) }
+    ensures set { (opening : Limits) (list : List Command) (key : Key) (flags : ℕ) (block : Data) →
+        let next = map.insert (after opening list) key (record { flags = flags; block = block; unique = changes opening list + 1 }) in
+        (answer opening list (Store Set key flags block) ≡ Refused E7) ↔ (((limits_after opening list).bytes < use_of next) ⊎ ((limits_after opening list).items < count_of next)) }
 {}
 
 /// A get shows what is held under a key, its unique with gets alone. Of several keys it shows each as if it were asked for
 /// alone, in the line's order: one that isn't held is left out, and one that stands twice is shown twice.
 pub fn get_shows_what_is_held()
-    ensures gets { (limits : Limits) (list : List Command) (key : Key) (item : Item) → map.get (after limits list) key ≡ Some item →
-        answer limits list (Get (key ∷ []) true)
+    ensures gets { (opening : Limits) (list : List Command) (key : Key) (item : Item) → map.get (after opening list) key ≡ Some item →
+        answer opening list (Get (key ∷ []) true)
         ≡ Values (record { key = key; flags = item.flags; block = item.block; unique = Some item.unique } ∷ []) }
-    ensures get { (limits : Limits) (list : List Command) (key : Key) (item : Item) → map.get (after limits list) key ≡ Some item →
-        answer limits list (Get (key ∷ []) false)
+    ensures get { (opening : Limits) (list : List Command) (key : Key) (item : Item) → map.get (after opening list) key ≡ Some item →
+        answer opening list (Get (key ∷ []) false)
         ≡ Values (record { key = key; flags = item.flags; block = item.block; unique = None } ∷ []) }
-    ensures absent { (limits : Limits) (list : List Command) (key : Key) (uniques : Bool) → map.get (after limits list) key ≡ None →
-        answer limits list (Get (key ∷ []) uniques) ≡ Values [] }
-    ensures several { (limits : Limits) (list : List Command) (keys more : KeyList) (uniques : Bool) (found rest : List Value) →
-        answer limits list (Get keys uniques) ≡ Values found → answer limits list (Get more uniques) ≡ Values rest →
-        answer limits list (Get (keys ++ more) uniques) ≡ Values (found ++ rest) }
+    ensures absent { (opening : Limits) (list : List Command) (key : Key) (uniques : Bool) → map.get (after opening list) key ≡ None →
+        answer opening list (Get (key ∷ []) uniques) ≡ Values [] }
+    ensures several { (opening : Limits) (list : List Command) (keys more : KeyList) (uniques : Bool) (found rest : List Value) →
+        answer opening list (Get keys uniques) ≡ Values found → answer opening list (Get more uniques) ≡ Values rest →
+        answer opening list (Get (keys ++ more) uniques) ≡ Values (found ++ rest) }
 {}
 
 /// A set is stored, or the quotas refuse it. A get after a set that was stored gives the flags and the data that were set,
 /// and the unique that the set got, where no command in between has changed the key or taken it out.
 pub fn get_after_set()
-    ensures answered { (limits : Limits) (list : List Command) (key : Key) (flags : ℕ) (block : Data) →
-        (answer limits list (Store Set key flags block) ≡ Stored) ⊎ (answer limits list (Store Set key flags block) ≡ Refused E7) }
-    ensures shown { (limits : Limits) (earlier between : List Command) (key : Key) (flags : ℕ) (block : Data) →
-        answer limits earlier (Store Set key flags block) ≡ Stored →
-        IsUntouched limits (earlier ++ Store Set key flags block ∷ []) key between →
-        answer limits (earlier ++ Store Set key flags block ∷ between) (Get (key ∷ []) true)
-        ≡ Values (record { key = key; flags = flags; block = block; unique = Some (changes limits earlier + 1) } ∷ []) }
+    ensures answered { (opening : Limits) (list : List Command) (key : Key) (flags : ℕ) (block : Data) →
+        (answer opening list (Store Set key flags block) ≡ Stored) ⊎ (answer opening list (Store Set key flags block) ≡ Refused E7) }
+    ensures shown { (opening : Limits) (earlier between : List Command) (key : Key) (flags : ℕ) (block : Data) →
+        answer opening earlier (Store Set key flags block) ≡ Stored →
+        IsUntouched opening (earlier ++ Store Set key flags block ∷ []) key between →
+        answer opening (earlier ++ Store Set key flags block ∷ between) (Get (key ∷ []) true)
+        ≡ Values (record { key = key; flags = flags; block = block; unique = Some (changes opening earlier + 1) } ∷ []) }
 {}
 
 /// A get changes nothing: what comes after it, each answer among it, is as if it hadn't been sent.
 pub fn get_changes_nothing()
-    ensures table { (limits : Limits) (earlier later : List Command) (keys : KeyList) (uniques : Bool) →
-        after limits (earlier ++ Get keys uniques ∷ later) ≡ after limits (earlier ++ later) }
-    ensures uniques { (limits : Limits) (earlier later : List Command) (keys : KeyList) (uniques : Bool) →
-        changes limits (earlier ++ Get keys uniques ∷ later) ≡ changes limits (earlier ++ later) }
-    ensures answers { (limits : Limits) (earlier later : List Command) (keys : KeyList) (uniques : Bool) (next : Command) →
-        answer limits (earlier ++ Get keys uniques ∷ later) next ≡ answer limits (earlier ++ later) next }
+    ensures table { (opening : Limits) (earlier later : List Command) (keys : KeyList) (uniques : Bool) →
+        after opening (earlier ++ Get keys uniques ∷ later) ≡ after opening (earlier ++ later) }
+    ensures uniques { (opening : Limits) (earlier later : List Command) (keys : KeyList) (uniques : Bool) →
+        changes opening (earlier ++ Get keys uniques ∷ later) ≡ changes opening (earlier ++ later) }
+    ensures answers { (opening : Limits) (earlier later : List Command) (keys : KeyList) (uniques : Bool) (next : Command) →
+        answer opening (earlier ++ Get keys uniques ∷ later) next ≡ answer opening (earlier ++ later) next }
 {}
 
 /// A refused command changes nothing: what comes after it, each answer among it, is as if it hadn't been sent. Refused is
@@ -134,83 +134,83 @@ pub fn refusals_change_nothing()
     ensures no_refusals { (number : ℕ) (found : List Value) →
         ((is_refusal Stored ≡ false) × (is_refusal Deleted ≡ false)) × ((is_refusal Ok ≡ false) × (is_refusal (Number number) ≡ false))
         × ((is_refusal (Values found) ≡ false) × (is_refusal Version ≡ false)) }
-    ensures table { (limits : Limits) (earlier later : List Command) (command : Command) →
-        is_refusal (answer limits earlier command) ≡ true →
-        after limits (earlier ++ command ∷ later) ≡ after limits (earlier ++ later) }
-    ensures uniques { (limits : Limits) (earlier later : List Command) (command : Command) →
-        is_refusal (answer limits earlier command) ≡ true →
-        changes limits (earlier ++ command ∷ later) ≡ changes limits (earlier ++ later) }
-    ensures answers { (limits : Limits) (earlier later : List Command) (command next : Command) →
-        is_refusal (answer limits earlier command) ≡ true →
-        answer limits (earlier ++ command ∷ later) next ≡ answer limits (earlier ++ later) next }
+    ensures table { (opening : Limits) (earlier later : List Command) (command : Command) →
+        is_refusal (answer opening earlier command) ≡ true →
+        after opening (earlier ++ command ∷ later) ≡ after opening (earlier ++ later) }
+    ensures uniques { (opening : Limits) (earlier later : List Command) (command : Command) →
+        is_refusal (answer opening earlier command) ≡ true →
+        changes opening (earlier ++ command ∷ later) ≡ changes opening (earlier ++ later) }
+    ensures answers { (opening : Limits) (earlier later : List Command) (command next : Command) →
+        is_refusal (answer opening earlier command) ≡ true →
+        answer opening (earlier ++ command ∷ later) next ≡ answer opening (earlier ++ later) next }
 {}
 
 /// A cas with the unique that a gets showed is let through exactly where no command in between has changed its key or
 /// taken it out. It is then a set, which the quotas may refuse. Otherwise the item exists with another unique, or isn't
 /// found.
 pub fn cas_checks_and_sets()
-    ensures let_through { (limits : Limits) (earlier between : List Command) (key : Key) (shown : Value) (unique flags : ℕ) (block : Data) →
-        answer limits earlier (Get (key ∷ []) true) ≡ Values (shown ∷ []) → shown.unique ≡ Some unique →
-        IsLetThrough (answer limits (earlier ++ between) (Cas key flags block unique)) ↔ IsUntouched limits earlier key between }
-    ensures set { (limits : Limits) (list : List Command) (key : Key) (unique flags : ℕ) (block : Data) →
-        IsLetThrough (answer limits list (Cas key flags block unique)) →
-        effect_after limits list (Cas key flags block unique) ≡ effect_after limits list (Store Set key flags block) }
-    ensures otherwise { (limits : Limits) (list : List Command) (key : Key) (unique flags : ℕ) (block : Data) →
-        IsLetThrough (answer limits list (Cas key flags block unique))
-        ⊎ ((answer limits list (Cas key flags block unique) ≡ Exists) ⊎ (answer limits list (Cas key flags block unique) ≡ NotFound)) }
-    ensures exists { (limits : Limits) (list : List Command) (key : Key) (unique flags : ℕ) (block : Data) →
-        (answer limits list (Cas key flags block unique) ≡ Exists)
-        ↔ IsSomeAnd (map.get (after limits list) key) (λ old. old.unique ≢ unique) }
-    ensures not_found { (limits : Limits) (list : List Command) (key : Key) (unique flags : ℕ) (block : Data) →
-        (answer limits list (Cas key flags block unique) ≡ NotFound) ↔ (map.get (after limits list) key ≡ None) }
+    ensures let_through { (opening : Limits) (earlier between : List Command) (key : Key) (shown : Value) (unique flags : ℕ) (block : Data) →
+        answer opening earlier (Get (key ∷ []) true) ≡ Values (shown ∷ []) → shown.unique ≡ Some unique →
+        IsLetThrough (answer opening (earlier ++ between) (Cas key flags block unique)) ↔ IsUntouched opening earlier key between }
+    ensures set { (opening : Limits) (list : List Command) (key : Key) (unique flags : ℕ) (block : Data) →
+        IsLetThrough (answer opening list (Cas key flags block unique)) →
+        effect_after opening list (Cas key flags block unique) ≡ effect_after opening list (Store Set key flags block) }
+    ensures otherwise { (opening : Limits) (list : List Command) (key : Key) (unique flags : ℕ) (block : Data) →
+        IsLetThrough (answer opening list (Cas key flags block unique))
+        ⊎ ((answer opening list (Cas key flags block unique) ≡ Exists) ⊎ (answer opening list (Cas key flags block unique) ≡ NotFound)) }
+    ensures exists { (opening : Limits) (list : List Command) (key : Key) (unique flags : ℕ) (block : Data) →
+        (answer opening list (Cas key flags block unique) ≡ Exists)
+        ↔ IsSomeAnd (map.get (after opening list) key) (λ old. old.unique ≢ unique) }
+    ensures not_found { (opening : Limits) (list : List Command) (key : Key) (unique flags : ℕ) (block : Data) →
+        (answer opening list (Cas key flags block unique) ≡ NotFound) ↔ (map.get (after opening list) key ≡ None) }
 {}
 
 /// Add and replace are each other's complement. Where the key is held, replace is a set and add isn't stored; where it
 /// isn't held, add is a set and replace isn't stored.
 pub fn add_and_replace_are_complements()
-    ensures held { (limits : Limits) (list : List Command) (key : Key) (flags : ℕ) (block : Data) →
-        IsSome (map.get (after limits list) key) →
-        (answer limits list (Store Add key flags block) ≡ NotStored)
-        × (effect_after limits list (Store Replace key flags block) ≡ effect_after limits list (Store Set key flags block)) }
-    ensures absent { (limits : Limits) (list : List Command) (key : Key) (flags : ℕ) (block : Data) →
-        IsNone (map.get (after limits list) key) →
-        (answer limits list (Store Replace key flags block) ≡ NotStored)
-        × (effect_after limits list (Store Add key flags block) ≡ effect_after limits list (Store Set key flags block)) }
+    ensures held { (opening : Limits) (list : List Command) (key : Key) (flags : ℕ) (block : Data) →
+        IsSome (map.get (after opening list) key) →
+        (answer opening list (Store Add key flags block) ≡ NotStored)
+        × (effect_after opening list (Store Replace key flags block) ≡ effect_after opening list (Store Set key flags block)) }
+    ensures absent { (opening : Limits) (list : List Command) (key : Key) (flags : ℕ) (block : Data) →
+        IsNone (map.get (after opening list) key) →
+        (answer opening list (Store Replace key flags block) ≡ NotStored)
+        × (effect_after opening list (Store Add key flags block) ≡ effect_after opening list (Store Set key flags block)) }
 {}
 
 /// An append or a prepend of a key that is held is a set of the joined data with the old flags, and is refused exactly
 /// where those are too many bytes. On a key that isn't held it isn't stored.
 pub fn joins_set_the_joined_data()
-    ensures append { (limits : Limits) (list : List Command) (key : Key) (old : Item) (flags : ℕ) (block : Data) →
-        map.get (after limits list) key ≡ Some old → length old.block + length block ≤ DATA_BYTES →
-        effect_after limits list (Store Append key flags block) ≡ effect_after limits list (Store Set key old.flags (old.block ++ block)) }
-    ensures prepend { (limits : Limits) (list : List Command) (key : Key) (old : Item) (flags : ℕ) (block : Data) →
-        map.get (after limits list) key ≡ Some old → length old.block + length block ≤ DATA_BYTES →
-        effect_after limits list (Store Prepend key flags block) ≡ effect_after limits list (Store Set key old.flags (block ++ old.block)) }
-    ensures append_too_large { (limits : Limits) (list : List Command) (key : Key) (flags : ℕ) (block : Data) →
-        (answer limits list (Store Append key flags block) ≡ Refused E6)
-        ↔ IsSomeAnd (map.get (after limits list) key) (λ old. DATA_BYTES < length old.block + length block) }
-    ensures prepend_too_large { (limits : Limits) (list : List Command) (key : Key) (flags : ℕ) (block : Data) →
-        (answer limits list (Store Prepend key flags block) ≡ Refused E6)
-        ↔ IsSomeAnd (map.get (after limits list) key) (λ old. DATA_BYTES < length old.block + length block) }
-    ensures absent { (limits : Limits) (list : List Command) (key : Key) (flags : ℕ) (block : Data) →
-        IsNone (map.get (after limits list) key) →
-        (answer limits list (Store Append key flags block) ≡ NotStored) × (answer limits list (Store Prepend key flags block) ≡ NotStored) }
+    ensures append { (opening : Limits) (list : List Command) (key : Key) (old : Item) (flags : ℕ) (block : Data) →
+        map.get (after opening list) key ≡ Some old → length old.block + length block ≤ DATA_BYTES →
+        effect_after opening list (Store Append key flags block) ≡ effect_after opening list (Store Set key old.flags (old.block ++ block)) }
+    ensures prepend { (opening : Limits) (list : List Command) (key : Key) (old : Item) (flags : ℕ) (block : Data) →
+        map.get (after opening list) key ≡ Some old → length old.block + length block ≤ DATA_BYTES →
+        effect_after opening list (Store Prepend key flags block) ≡ effect_after opening list (Store Set key old.flags (block ++ old.block)) }
+    ensures append_too_large { (opening : Limits) (list : List Command) (key : Key) (flags : ℕ) (block : Data) →
+        (answer opening list (Store Append key flags block) ≡ Refused E6)
+        ↔ IsSomeAnd (map.get (after opening list) key) (λ old. DATA_BYTES < length old.block + length block) }
+    ensures prepend_too_large { (opening : Limits) (list : List Command) (key : Key) (flags : ℕ) (block : Data) →
+        (answer opening list (Store Prepend key flags block) ≡ Refused E6)
+        ↔ IsSomeAnd (map.get (after opening list) key) (λ old. DATA_BYTES < length old.block + length block) }
+    ensures absent { (opening : Limits) (list : List Command) (key : Key) (flags : ℕ) (block : Data) →
+        IsNone (map.get (after opening list) key) →
+        (answer opening list (Store Append key flags block) ≡ NotStored) × (answer opening list (Store Prepend key flags block) ≡ NotStored) }
 {}
 
 /// A get after an append or a prepend gives the joined data with the old flags, where no command in between has changed
 /// the key or taken it out.
 pub fn joins_keep_the_flags()
-    ensures append { (limits : Limits) (earlier between : List Command) (key : Key) (old : Item) (flags : ℕ) (block : Data) →
-        map.get (after limits earlier) key ≡ Some old → answer limits earlier (Store Append key flags block) ≡ Stored →
-        IsUntouched limits (earlier ++ Store Append key flags block ∷ []) key between →
-        answer limits (earlier ++ Store Append key flags block ∷ between) (Get (key ∷ []) true)
-        ≡ Values (record { key = key; flags = old.flags; block = old.block ++ block; unique = Some (changes limits earlier + 1) } ∷ []) }
-    ensures prepend { (limits : Limits) (earlier between : List Command) (key : Key) (old : Item) (flags : ℕ) (block : Data) →
-        map.get (after limits earlier) key ≡ Some old → answer limits earlier (Store Prepend key flags block) ≡ Stored →
-        IsUntouched limits (earlier ++ Store Prepend key flags block ∷ []) key between →
-        answer limits (earlier ++ Store Prepend key flags block ∷ between) (Get (key ∷ []) true)
-        ≡ Values (record { key = key; flags = old.flags; block = block ++ old.block; unique = Some (changes limits earlier + 1) } ∷ []) }
+    ensures append { (opening : Limits) (earlier between : List Command) (key : Key) (old : Item) (flags : ℕ) (block : Data) →
+        map.get (after opening earlier) key ≡ Some old → answer opening earlier (Store Append key flags block) ≡ Stored →
+        IsUntouched opening (earlier ++ Store Append key flags block ∷ []) key between →
+        answer opening (earlier ++ Store Append key flags block ∷ between) (Get (key ∷ []) true)
+        ≡ Values (record { key = key; flags = old.flags; block = old.block ++ block; unique = Some (changes opening earlier + 1) } ∷ []) }
+    ensures prepend { (opening : Limits) (earlier between : List Command) (key : Key) (old : Item) (flags : ℕ) (block : Data) →
+        map.get (after opening earlier) key ≡ Some old → answer opening earlier (Store Prepend key flags block) ≡ Stored →
+        IsUntouched opening (earlier ++ Store Prepend key flags block ∷ []) key between →
+        answer opening (earlier ++ Store Prepend key flags block ∷ between) (Get (key ∷ []) true)
+        ≡ Values (record { key = key; flags = old.flags; block = block ++ old.block; unique = Some (changes opening earlier + 1) } ∷ []) }
 {}
 
 /// Data are numeric where they are 1 to 20 decimal digits of a number below 2^64. On a key that isn't held incr and decr
@@ -219,90 +219,90 @@ pub fn incr_and_decr_want_a_number()
     ensures numeric { (block : Data) (number : ℕ) →
         (numeric_value block ≡ Some number)
         ↔ ((IsNumeral 10 block × (length block ≤ 20)) × ((digits_value 10 block ≡ number) × (number < 2 ^ 64))) }
-    ensures not_numeric { (limits : Limits) (list : List Command) (key : Key) (old : Item) (by : ℕ) →
-        map.get (after limits list) key ≡ Some old → numeric_value old.block ≡ None →
-        (answer limits list (Incr key by) ≡ Refused E8) × (answer limits list (Decr key by) ≡ Refused E8) }
-    ensures absent { (limits : Limits) (list : List Command) (key : Key) (by : ℕ) → IsNone (map.get (after limits list) key) →
-        (answer limits list (Incr key by) ≡ NotFound) × (answer limits list (Decr key by) ≡ NotFound) }
+    ensures not_numeric { (opening : Limits) (list : List Command) (key : Key) (old : Item) (by : ℕ) →
+        map.get (after opening list) key ≡ Some old → numeric_value old.block ≡ None →
+        (answer opening list (Incr key by) ≡ Refused E8) × (answer opening list (Decr key by) ≡ Refused E8) }
+    ensures absent { (opening : Limits) (list : List Command) (key : Key) (by : ℕ) → IsNone (map.get (after opening list) key) →
+        (answer opening list (Incr key by) ≡ NotFound) × (answer opening list (Decr key by) ≡ NotFound) }
 {}
 
 /// Incr adds and wraps at 2^64, but where the quotas refuse the number's digits. Decr subtracts and stops at 0; the quotas
 /// never refuse it.
 pub fn incr_wraps_and_decr_stops()
-    ensures sum { (limits : Limits) (list : List Command) (key : Key) (old : Item) (number by : ℕ) →
-        map.get (after limits list) key ≡ Some old → numeric_value old.block ≡ Some number →
-        (answer limits list (Incr key by) ≡ Number ((number + by) % (2 ^ 64))) ⊎ (answer limits list (Incr key by) ≡ Refused E7) }
-    ensures refused { (limits : Limits) (list : List Command) (key : Key) (old : Item) (number by : ℕ) →
-        map.get (after limits list) key ≡ Some old → numeric_value old.block ≡ Some number →
-        let sum : Item = record { flags = old.flags; block = decimal ((number + by) % (2 ^ 64)); unique = changes limits list + 1 } in
-        let next = map.insert (after limits list) key sum in
-        (answer limits list (Incr key by) ≡ Refused E7) ↔ ((limits.bytes < use_of next) ⊎ (limits.items < count_of next)) }
-    ensures difference { (limits : Limits) (list : List Command) (key : Key) (old : Item) (left by : ℕ) →
-        map.get (after limits list) key ≡ Some old → numeric_value old.block ≡ Some (left + by) →
-        answer limits list (Decr key by) ≡ Number left }
-    ensures zero { (limits : Limits) (list : List Command) (key : Key) (old : Item) (number by : ℕ) →
-        map.get (after limits list) key ≡ Some old → numeric_value old.block ≡ Some number → number ≤ by →
-        answer limits list (Decr key by) ≡ Number 0 }
+    ensures sum { (opening : Limits) (list : List Command) (key : Key) (old : Item) (number by : ℕ) →
+        map.get (after opening list) key ≡ Some old → numeric_value old.block ≡ Some number →
+        (answer opening list (Incr key by) ≡ Number ((number + by) % (2 ^ 64))) ⊎ (answer opening list (Incr key by) ≡ Refused E7) }
+    ensures refused { (opening : Limits) (list : List Command) (key : Key) (old : Item) (number by : ℕ) →
+        map.get (after opening list) key ≡ Some old → numeric_value old.block ≡ Some number →
+        let sum : Item = record { flags = old.flags; block = decimal ((number + by) % (2 ^ 64)); unique = changes opening list + 1 } in
+        let next = map.insert (after opening list) key sum in
+        (answer opening list (Incr key by) ≡ Refused E7) ↔ (((limits_after opening list).bytes < use_of next) ⊎ ((limits_after opening list).items < count_of next)) }
+    ensures difference { (opening : Limits) (list : List Command) (key : Key) (old : Item) (left by : ℕ) →
+        map.get (after opening list) key ≡ Some old → numeric_value old.block ≡ Some (left + by) →
+        answer opening list (Decr key by) ≡ Number left }
+    ensures zero { (opening : Limits) (list : List Command) (key : Key) (old : Item) (number by : ℕ) →
+        map.get (after opening list) key ≡ Some old → numeric_value old.block ≡ Some number → number ≤ by →
+        answer opening list (Decr key by) ≡ Number 0 }
 {}
 
 /// A get after an incr or a decr that answered a number gives its decimal digits with the old flags, and the unique of that
 /// change, where no command in between has changed the key or taken it out.
 pub fn numbers_keep_the_flags()
-    ensures incr { (limits : Limits) (earlier between : List Command) (key : Key) (old : Item) (by number : ℕ) →
-        map.get (after limits earlier) key ≡ Some old → answer limits earlier (Incr key by) ≡ Number number →
-        IsUntouched limits (earlier ++ Incr key by ∷ []) key between →
-        answer limits (earlier ++ Incr key by ∷ between) (Get (key ∷ []) true)
-        ≡ Values (record { key = key; flags = old.flags; block = decimal number; unique = Some (changes limits earlier + 1) } ∷ []) }
-    ensures decr { (limits : Limits) (earlier between : List Command) (key : Key) (old : Item) (by number : ℕ) →
-        map.get (after limits earlier) key ≡ Some old → answer limits earlier (Decr key by) ≡ Number number →
-        IsUntouched limits (earlier ++ Decr key by ∷ []) key between →
-        answer limits (earlier ++ Decr key by ∷ between) (Get (key ∷ []) true)
-        ≡ Values (record { key = key; flags = old.flags; block = decimal number; unique = Some (changes limits earlier + 1) } ∷ []) }
+    ensures incr { (opening : Limits) (earlier between : List Command) (key : Key) (old : Item) (by number : ℕ) →
+        map.get (after opening earlier) key ≡ Some old → answer opening earlier (Incr key by) ≡ Number number →
+        IsUntouched opening (earlier ++ Incr key by ∷ []) key between →
+        answer opening (earlier ++ Incr key by ∷ between) (Get (key ∷ []) true)
+        ≡ Values (record { key = key; flags = old.flags; block = decimal number; unique = Some (changes opening earlier + 1) } ∷ []) }
+    ensures decr { (opening : Limits) (earlier between : List Command) (key : Key) (old : Item) (by number : ℕ) →
+        map.get (after opening earlier) key ≡ Some old → answer opening earlier (Decr key by) ≡ Number number →
+        IsUntouched opening (earlier ++ Decr key by ∷ []) key between →
+        answer opening (earlier ++ Decr key by ∷ between) (Get (key ∷ []) true)
+        ≡ Values (record { key = key; flags = old.flags; block = decimal number; unique = Some (changes opening earlier + 1) } ∷ []) }
 {}
 
 /// A decr undoes an incr by the same number that didn't wrap, where no command in between has changed the key or taken it
 /// out: the quotas never refuse it.
 pub fn decr_undoes_incr()
-    ensures { (limits : Limits) (earlier between : List Command) (key : Key) (old : Item) (number by : ℕ) →
-        map.get (after limits earlier) key ≡ Some old → numeric_value old.block ≡ Some number → number + by < 2 ^ 64 →
-        answer limits earlier (Incr key by) ≡ Number (number + by) →
-        IsUntouched limits (earlier ++ Incr key by ∷ []) key between →
-        answer limits (earlier ++ Incr key by ∷ between) (Decr key by) ≡ Number number }
+    ensures { (opening : Limits) (earlier between : List Command) (key : Key) (old : Item) (number by : ℕ) →
+        map.get (after opening earlier) key ≡ Some old → numeric_value old.block ≡ Some number → number + by < 2 ^ 64 →
+        answer opening earlier (Incr key by) ≡ Number (number + by) →
+        IsUntouched opening (earlier ++ Incr key by ∷ []) key between →
+        answer opening (earlier ++ Incr key by ∷ between) (Decr key by) ≡ Number number }
 {}
 
 /// A get after a delete of that key finds nothing, where no command in between has touched it. A delete finds exactly
 /// the keys that are held, and is no change.
 pub fn delete_takes_out()
-    ensures gone { (limits : Limits) (earlier between : List Command) (key : Key) (uniques : Bool) →
-        IsUntouched limits (earlier ++ Delete key ∷ []) key between →
-        answer limits (earlier ++ Delete key ∷ between) (Get (key ∷ []) uniques) ≡ Values [] }
-    ensures held { (limits : Limits) (list : List Command) (key : Key) →
-        IsSome (map.get (after limits list) key) → answer limits list (Delete key) ≡ Deleted }
-    ensures absent { (limits : Limits) (list : List Command) (key : Key) →
-        IsNone (map.get (after limits list) key) → answer limits list (Delete key) ≡ NotFound }
-    ensures uniques { (limits : Limits) (list : List Command) (key : Key) →
-        changes limits (list ++ Delete key ∷ []) ≡ changes limits list }
+    ensures gone { (opening : Limits) (earlier between : List Command) (key : Key) (uniques : Bool) →
+        IsUntouched opening (earlier ++ Delete key ∷ []) key between →
+        answer opening (earlier ++ Delete key ∷ between) (Get (key ∷ []) uniques) ≡ Values [] }
+    ensures held { (opening : Limits) (list : List Command) (key : Key) →
+        IsSome (map.get (after opening list) key) → answer opening list (Delete key) ≡ Deleted }
+    ensures absent { (opening : Limits) (list : List Command) (key : Key) →
+        IsNone (map.get (after opening list) key) → answer opening list (Delete key) ≡ NotFound }
+    ensures uniques { (opening : Limits) (list : List Command) (key : Key) →
+        changes opening (list ++ Delete key ∷ []) ≡ changes opening list }
 {}
 
 /// A flush is answered with OK and is no change. After it every get finds nothing, and nothing counts for the quotas.
 pub fn flush_takes_all_out()
-    ensures ok { (limits : Limits) (list : List Command) → answer limits list Flush ≡ Ok }
-    ensures nothing { (limits : Limits) (earlier : List Command) (keys : KeyList) (uniques : Bool) →
-        answer limits (earlier ++ Flush ∷ []) (Get keys uniques) ≡ Values [] }
-    ensures room { (limits : Limits) (earlier : List Command) →
-        (use_of (after limits (earlier ++ Flush ∷ [])) ≡ 0) × (count_of (after limits (earlier ++ Flush ∷ [])) ≡ 0) }
-    ensures uniques { (limits : Limits) (list : List Command) → changes limits (list ++ Flush ∷ []) ≡ changes limits list }
+    ensures ok { (opening : Limits) (list : List Command) → answer opening list Flush ≡ Ok }
+    ensures nothing { (opening : Limits) (earlier : List Command) (keys : KeyList) (uniques : Bool) →
+        answer opening (earlier ++ Flush ∷ []) (Get keys uniques) ≡ Values [] }
+    ensures room { (opening : Limits) (earlier : List Command) →
+        (use_of (after opening (earlier ++ Flush ∷ [])) ≡ 0) × (count_of (after opening (earlier ++ Flush ∷ [])) ≡ 0) }
+    ensures uniques { (opening : Limits) (list : List Command) → changes opening (list ++ Flush ∷ []) ≡ changes opening list }
 {}
 
 /// The unique of an item is the number of changes up to and with the one that stored it.
 pub fn unique_counts_changes()
-    ensures { (limits : Limits) (list : List Command) (key : Key) (item : Item) →
-        map.get (after limits list) key ≡ Some item → IsStoredBy limits list key item }
+    ensures { (opening : Limits) (list : List Command) (key : Key) (item : Item) →
+        map.get (after opening list) key ≡ Some item → IsStoredBy opening list key item }
 {}
 
 /// No two items of a table share a unique.
 pub fn no_unique_is_shared()
-    ensures { (limits : Limits) (list : List Command) (key other : Key) (item twin : Item) →
-        map.get (after limits list) key ≡ Some item → map.get (after limits list) other ≡ Some twin →
+    ensures { (opening : Limits) (list : List Command) (key other : Key) (item twin : Item) →
+        map.get (after opening list) key ≡ Some item → map.get (after opening list) other ≡ Some twin →
         item.unique ≡ twin.unique → key ≡ other }
 {}

@@ -1,6 +1,6 @@
 -- The tables of all tenants under one log, and what the entry of one more place does to them: this project's profile. A tenant's number is
--- the place of its quotas and of its table. The quotas are those that the tables were opened with.
-use Rattle.std.specs.Prelude.{◌≡◌, ℕ, suc, ◌≤◌, ◌==◌, true, is_some, if◌then◌else◌, List, [], ◌∷◌, ◌++◌, length, map, Option, Some, None, slice_get, IfSome, refl}
+-- the place of its table. The openings are the tables that the log was opened over.
+use Rattle.std.specs.Prelude.{◌≡◌, ℕ, suc, ◌+◌, ◌-◌, ◌^◌, ◌≤◌, ◌==◌, true, is_some, if◌then◌else◌, List, [], ◌∷◌, ◌++◌, length, map, Option, Some, None, slice_get, IfSome, refl}
 use Rattle.std.specs.Option.{option_map, option_map_or, option_to_list}
 use Rattle.std.proofs.Common.{ap, sym, ◌∙◌, true≢false, arith}
 use Rattle.std.proofs.lemmas.List.{append-nil}
@@ -10,7 +10,7 @@ use Rattle.mc_model.specs.declared.request.Entry.{Entry}
 use Rattle.mc_model.specs.declared.reply.Reply.{Reply}
 use Rattle.mc_model.specs.declared.settings.Limits.{Limits}
 use Rattle.mc_model.specs.Effect.{is_refusal}
-use Rattle.mc_model.specs.History.{answer, changes, changes-le, state_after, state_after-none, state_after-push}
+use Rattle.mc_model.specs.History.{answer_from, state_from, state_from-none, state_from-push, uniques-le}
 use Rattle.mc_model.specs.Log.{own, own-few, own-push, own_command}
 use Rattle.mc_model.specs.State.{TableState, empty_table, next_reply, next_state}
 
@@ -18,10 +18,14 @@ use Rattle.mc_model.specs.State.{TableState, empty_table, next_reply, next_state
 abbrev pub empty_tables : List Limits → List TableState
 empty_tables openings = map empty_table openings
 
--- there is a table for each tenant's quotas, and it stands for that tenant's own commands of the log
-abbrev pub EachStands : List Limits → List (Option Entry) → List TableState → Type 0
+-- there is a table for each that was opened, and it is that one after the tenant's own commands of the log
+abbrev pub EachStands : List TableState → List (Option Entry) → List TableState → Type 0
 EachStands openings log tables =
-    (tenant : ℕ) → slice_get tables tenant ≡ option_map (λ opening. state_after opening (own tenant log)) (slice_get openings tenant)
+    (tenant : ℕ) → slice_get tables tenant ≡ option_map (λ opening. state_from opening (own tenant log)) (slice_get openings tenant)
+
+-- so many more changes get uniques of 64 bits in each of the tables
+abbrev pub HaveRoom : List TableState → ℕ → Type 0
+HaveRoom tables places = (tenant : ℕ) (state : TableState) → slice_get tables tenant ≡ Some state → state.last_unique + places ≤ 2 ^ 64 - 1
 
 -- a table after a command that may be there
 abbrev pub with_command : TableState → Option Command → TableState
@@ -33,9 +37,9 @@ abbrev pub TakeEffect : Option Entry → List TableState → List TableState →
 TakeEffect entry old new = (tenant : ℕ) → slice_get new tenant ≡ option_map (λ state. with_command state (own_command tenant entry)) (slice_get old tenant)
 
 -- the reply to an entry of a known tenant: the answer after that tenant's own commands of the log
-abbrev pub reply_to : List Limits → List (Option Entry) → Option Entry → Option Reply
+abbrev pub reply_to : List TableState → List (Option Entry) → Option Entry → Option Reply
 reply_to openings log None = None
-reply_to openings log (Some entry) = option_map (λ opening. answer opening (own entry.tenant log) entry.command) (slice_get openings entry.tenant)
+reply_to openings log (Some entry) = option_map (λ opening. answer_from opening (own entry.tenant log) entry.command) (slice_get openings entry.tenant)
 
 -- what a worker answers from its tables: the reply of the tenant's table, where the entry's ticket is the worker's own
 abbrev pub reply_from : ℕ → List TableState → Option Entry → Option Reply
@@ -44,40 +48,49 @@ reply_from worker tables (Some entry) =
     if entry.ticket.worker == worker then option_map (λ (table : TableState). next_reply table entry.command) (slice_get tables entry.tenant) else None
 
 -- what this worker answers: the reply, where the entry's ticket is its own
-abbrev pub answer_to : ℕ → List Limits → List (Option Entry) → Option Entry → Option Reply
+abbrev pub answer_to : ℕ → List TableState → List (Option Entry) → Option Entry → Option Reply
 answer_to worker openings log None = None
 answer_to worker openings log (Some entry) = if entry.ticket.worker == worker then reply_to openings log (Some entry) else None
 
 -- the entry would be refused, whoever's it is, or there is no reply to it
-abbrev pub IsRefused : List Limits → List (Option Entry) → Option Entry → Type 0
+abbrev pub IsRefused : List TableState → List (Option Entry) → Option Entry → Type 0
 IsRefused openings log entry = IfSome (reply_to openings log entry) (λ reply. is_refusal reply ≡ true)
 
 -- there is no entry, or its tenant is unknown
-abbrev pub IsNobodys : List Limits → Option Entry → Type 0
+abbrev pub IsNobodys : List TableState → Option Entry → Type 0
 IsNobodys openings None = Unit {0}
 IsNobodys openings (Some entry) = length openings ≤ entry.tenant
 
--- Empty tables stand for an empty log, and tables that take the effect of one more entry stand for one more place.
-opened : (openings : List Limits) (found : Option Limits) (tenant : ℕ) → option_map empty_table found ≡ option_map (λ opening. state_after opening (own tenant [])) found
-opened openings None tenant = refl
-opened openings (Some opening) tenant = ap Some (sym (state_after-none opening))
+-- The opening tables stand for an empty log, and tables that take the effect of one more entry stand for one more place.
+opened : (found : Option TableState) (tenant : ℕ) → found ≡ option_map (λ opening. state_from opening (own tenant [])) found
+opened None tenant = refl
+opened (Some opening) tenant = ap Some (sym (state_from-none opening))
 
-pub EachStands-none : (openings : List Limits) → EachStands openings [] (empty_tables openings)
-EachStands-none openings tenant = slice_get-map empty_table openings tenant ∙ opened openings (slice_get openings tenant) tenant
+pub HaveRoom-empty : (limits : List Limits) (places : ℕ) → places ≤ 2 ^ 64 - 1 → HaveRoom (empty_tables limits) places
+HaveRoom-empty limits places few tenant state at =
+    let none : state.last_unique ≡ 0 = fresh (slice_get limits tenant) (sym (slice_get-map empty_table limits tenant) ∙ at) in
+    omega (arith, none, few)
+  where
+    fresh : (found : Option Limits) → option_map empty_table found ≡ Some state → state.last_unique ≡ 0
+    fresh None is = absurd (none-some state is)
+    fresh (Some opening) is = sym (ap (λ (s : TableState). s.last_unique) (same_Some _ _ is))
 
-one_more : (opening : Limits) (list : List Command) (command : Option Command) →
-    with_command (state_after opening list) command ≡ state_after opening (list ++ option_to_list command)
-one_more opening list None = ap (state_after opening) (sym (append-nil list))
-one_more opening list (Some command) = sym (state_after-push opening list command)
+pub EachStands-none : (openings : List TableState) → EachStands openings [] openings
+EachStands-none openings tenant = opened (slice_get openings tenant) tenant
 
-taken : (log : List (Option Entry)) (entry : Option Entry) (tenant : ℕ) (found : Option Limits) →
-    option_map (λ state. with_command state (own_command tenant entry)) (option_map (λ opening. state_after opening (own tenant log)) found)
-    ≡ option_map (λ opening. state_after opening (own tenant (log ++ entry ∷ []))) found
+one_more : (opening : TableState) (list : List Command) (command : Option Command) →
+    with_command (state_from opening list) command ≡ state_from opening (list ++ option_to_list command)
+one_more opening list None = ap (state_from opening) (sym (append-nil list))
+one_more opening list (Some command) = sym (state_from-push opening list command)
+
+taken : (log : List (Option Entry)) (entry : Option Entry) (tenant : ℕ) (found : Option TableState) →
+    option_map (λ state. with_command state (own_command tenant entry)) (option_map (λ opening. state_from opening (own tenant log)) found)
+    ≡ option_map (λ opening. state_from opening (own tenant (log ++ entry ∷ []))) found
 taken log entry tenant None = refl
 taken log entry tenant (Some opening) =
-    ap Some (one_more opening (own tenant log) (own_command tenant entry) ∙ ap (state_after opening) (sym (own-push tenant log entry)))
+    ap Some (one_more opening (own tenant log) (own_command tenant entry) ∙ ap (state_from opening) (sym (own-push tenant log entry)))
 
-pub EachStands-push : (openings : List Limits) (log : List (Option Entry)) (entry : Option Entry) (old new : List TableState) →
+pub EachStands-push : (openings : List TableState) (log : List (Option Entry)) (entry : Option Entry) (old new : List TableState) →
     EachStands openings log old → TakeEffect entry old new → EachStands openings (log ++ entry ∷ []) new
 EachStands-push openings log entry old new stands takes tenant =
     takes tenant ∙ ap (option_map (λ state. with_command state (own_command tenant entry))) (stands tenant) ∙ taken log entry tenant (slice_get openings tenant)
@@ -93,28 +106,31 @@ is_mapped : {X Y : Type 0} (f : X → Y) (found : Option X) → is_some (option_
 is_mapped f None = refl
 is_mapped f (Some x) = refl
 
-pub EachStands-length : (openings : List Limits) (log : List (Option Entry)) (tables : List TableState) → EachStands openings log tables → length tables ≡ length openings
+pub EachStands-length : (openings : List TableState) (log : List (Option Entry)) (tables : List TableState) → EachStands openings log tables → length tables ≡ length openings
 EachStands-length openings log tables stands =
     same_length tables openings (λ tenant. ap (λ (found : Option TableState). is_some found) (stands tenant) ∙ is_mapped _ (slice_get openings tenant))
 
-answered : (list : List Command) (command : Command) (found : Option Limits) →
-    option_map (λ opening. answer opening list command) found ≡ option_map (λ table. next_reply table command) (option_map (λ opening. state_after opening list) found)
+answered : (list : List Command) (command : Command) (found : Option TableState) →
+    option_map (λ opening. answer_from opening list command) found ≡ option_map (λ table. next_reply table command) (option_map (λ opening. state_from opening list) found)
 answered list command None = refl
 answered list command (Some opening) = refl
 
-pub reply_to-table : (openings : List Limits) (log : List (Option Entry)) (tables : List TableState) (entry : Entry) → EachStands openings log tables →
+pub reply_to-table : (openings : List TableState) (log : List (Option Entry)) (tables : List TableState) (entry : Entry) → EachStands openings log tables →
     reply_to openings log (Some entry) ≡ option_map (λ table. next_reply table entry.command) (slice_get tables entry.tenant)
 reply_to-table openings log tables entry stands =
     answered (own entry.tenant log) entry.command (slice_get openings entry.tenant) ∙ sym (ap (option_map (λ table. next_reply table entry.command)) (stands entry.tenant))
 
--- A table has had no more changes than the log has places.
-few_changes : (list : List Command) (found : Option Limits) (state : TableState) → Some state ≡ option_map (λ opening. state_after opening list) found → state.last_unique ≤ length list
+-- A table has had no more changes than it had when it was opened, and than the log has places since.
+few_changes : (list : List Command) (found : Option TableState) (state : TableState) → Some state ≡ option_map (λ opening. state_from opening list) found →
+    (opening : TableState) × (found ≡ Some opening) × (state.last_unique ≤ opening.last_unique + length list)
 few_changes list None state is = absurd (none-some state (sym is))
 few_changes list (Some opening) state is =
-    let same : state.last_unique ≡ changes opening list = ap (λ (s : TableState). s.last_unique) (same_Some _ _ is) in
-    omega (arith, same, changes-le opening list)
+    let same : state.last_unique ≡ (state_from opening list).last_unique = ap (λ (s : TableState). s.last_unique) (same_Some _ _ is) in
+    (opening, refl, omega (arith, same, uniques-le opening list))
 
-pub uniques-few : (openings : List Limits) (log : List (Option Entry)) (tables : List TableState) → EachStands openings log tables →
-    (tenant : ℕ) (state : TableState) → slice_get tables tenant ≡ Some state → state.last_unique ≤ length log
+pub uniques-few : (openings : List TableState) (log : List (Option Entry)) (tables : List TableState) → EachStands openings log tables →
+    (tenant : ℕ) (state : TableState) → slice_get tables tenant ≡ Some state →
+    (opening : TableState) × (slice_get openings tenant ≡ Some opening) × (state.last_unique ≤ opening.last_unique + length log)
 uniques-few openings log tables stands tenant state at =
-    omega (arith, few_changes (own tenant log) (slice_get openings tenant) state (sym at ∙ stands tenant), own-few tenant log)
+    let few = few_changes (own tenant log) (slice_get openings tenant) state (sym at ∙ stands tenant) in
+    (few.0, few.1, omega (arith, few.2, own-few tenant log))

@@ -26,16 +26,16 @@ abbrev plenty : Limits
 plenty = record { items = 1048576; bytes = 67108864 }
 
 -- quiet requests aren't answered, others are, and so is a line that is too long
-refusals : owed plenty 65536 [] (refused E4 true ∷ Logged (Store Set (codes "a") 0 []) true ∷ refused E1 false ∷ TooLong ∷ [])
+refusals : owed plenty 65536 (refused E4 true ∷ Logged (Store Set (codes "a") 0 []) true ∷ refused E1 false ∷ TooLong ∷ [])
     ≡ codes "ERROR\r\nCLIENT_ERROR line too long\r\n"
 refusals = refl
 
 -- a set that the quotas have room for is answered
-a_set : answer plenty [] (Store Set (codes "a") 5 (codes "abc")) ≡ Stored → owed plenty 65536 [] (Logged (Store Set (codes "a") 5 (codes "abc")) false ∷ []) ≡ codes "STORED\r\n"
+a_set : answer plenty [] (Store Set (codes "a") 5 (codes "abc")) ≡ Stored → owed plenty 65536 (Logged (Store Set (codes "a") 5 (codes "abc")) false ∷ []) ≡ codes "STORED\r\n"
 a_set given = rw given refl
 
 -- after the last place nothing is done, and a quiet command is not answered
-full_log : owed plenty 1 [] (Logged (Store Set (codes "a") 0 []) true ∷ Logged (Get (codes "a" ∷ []) false) false ∷ Logged (Store Set (codes "a") 0 []) true ∷ refused E1 false ∷ [])
+full_log : owed plenty 1 (Logged (Store Set (codes "a") 0 []) true ∷ Logged (Get (codes "a" ∷ []) false) false ∷ Logged (Store Set (codes "a") 0 []) true ∷ refused E1 false ∷ [])
     ≡ codes "SERVER_ERROR log full\r\nERROR\r\n"
 full_log = refl
 

@@ -9,6 +9,8 @@ use Rattle.mc_model.specs.declared.reply.Reply.TheVariants.{Refused}
 use Rattle.mc_model.specs.declared.reply.WireNo.TheVariants.{E11}
 use Rattle.mc_model.specs.declared.request.Request.{Request}
 use Rattle.mc_model.specs.declared.settings.Limits.{Limits}
+use Rattle.mc_model.specs.History.{state_after-none}
+use Rattle.mc_model.specs.Replay.{empty_tables}
 use Rattle.mc_model.specs.Settings.{Configuration}
 use Rattle.mc_read.specs.Reading.{Kept, ReadsAs, ends_stream}
 use Rattle.mc_read.specs.Readings.{has_reading}
@@ -28,7 +30,7 @@ use Rattle.mc_stream.specs.Pushed.{same_stop}
 use Rattle.mc_stream.specs.Stream.{Inflow, Outflow, Streams, both}
 use Rattle.mc_write.specs.Text.{text}
 use Rattle.uc_worker.specs.declared.worker.Worker.{Worker}
-use Rattle.uc_worker.specs.Worker.{announced_of, history_of, seat_of}
+use Rattle.uc_worker.specs.Worker.{announced_of, history_of, openings_of, seat_of}
 use Rattle.uc_cells.specs.Sighting.{Sighting}
 use Rattle.uc_log.specs.declared.log.Log.{Log}
 use Rattle.uc_log.specs.declared.pass.Pass.{Pass}
@@ -96,16 +98,16 @@ module _ (limits : Limits) (places : ℕ) (start : Scene) (begins : Begins limit
   alone_later worker on = record {
     workers = ap (λ size. size.workers) on.same.0 ∙ begins.alone.workers;
     long = ap (λ size. size.places) on.same.0 ∙ begins.alone.long;
-    tenants = ap (λ log. log.now.settings.tenants) on.log ∙ begins.alone.tenants;
+    openings = on.openings ∙ begins.alone.openings;
   }
 
   -- what is owed is the function of the requests
   answers : (worker : Worker) (requests : List Request) (bytes : List ℕ) (mark : Mark) → IsOnward start.worker worker →
-      Owes worker start.conn.tenant (mark_of start.worker) requests bytes mark → (bytes ≡ owed limits places [] requests) × Answers limits places requests (owed limits places [] requests)
+      Owes worker start.conn.tenant (mark_of start.worker) requests bytes mark → (bytes ≡ owed limits places requests) × Answers limits places requests (owed limits places requests)
   answers worker requests bytes mark on owes =
       let alone = alone_later worker on in
       let first = subst (λ from. Owes worker 0 from requests bytes mark) begins.mark (subst (λ tenant. Owes worker tenant (mark_of start.worker) requests bytes mark) begins.tenant owes) in
-      let is = owes_in_order limits places worker alone requests bytes mark first in
+      let is = owes_in_order limits [] places worker alone requests bytes mark first in
       (is, record { worker = worker; alone = alone; mark = mark; owes = subst (λ it. Owes worker 0 first_mark requests it mark) is first })
 
   -- what was sent, where nothing is queued at the end
@@ -163,7 +165,7 @@ module _ (limits : Limits) (places : ℕ) (start : Scene) (begins : Begins limit
       first_reads : ReadsAs last.first.came last.first.requests
       first_reads = reads_all start last.first.came last.first.requests (holding_of between.conn) begins.holding last.first.reads last.taken
 
-      first_owed : last.first.sent ≡ owed limits places [] last.first.requests
+      first_owed : last.first.sent ≡ owed limits places last.first.requests
       first_owed =
           sent_is between.conn last.first.sent last.first.owed last.first.bytes first_sent.0
           ∙ (answers between.worker last.first.requests last.first.owed (mark_of between.worker) last.first.onward last.first.owes).0
@@ -178,7 +180,7 @@ module _ (limits : Limits) (places : ℕ) (start : Scene) (begins : Begins limit
           ∙ (events
           ∙ (ap (λ known. known ++ last_moved after.streams.input.events) last.first.pulled ∙ append_assoc (moved start.streams.input.events) last.first.came (last_moved after.streams.input.events))))
 
-      sent_on : sent ≡ owed limits places [] last.first.requests ++ last.later
+      sent_on : sent ≡ owed limits places last.first.requests ++ last.later
       sent_on =
           same_behind (moved start.streams.output.events) sent (last.first.sent ++ last.later)
           (sym pushed
@@ -229,14 +231,14 @@ module _ (limits : Limits) (places : ℕ) (start : Scene) (begins : Begins limit
     all_comes : (output : Outflow) → Comes start.streams (both after.streams.input output)
     all_comes output = record { bytes = breaks.came; requests = all_read.0; rest = all_read.1.0; came = breaks.pulled; consumed = breaks.consumed; reads = all_read.1.1 }
 
-    all_answers : (breaks.owed ≡ owed limits places [] breaks.requests) × Answers limits places breaks.requests (owed limits places [] breaks.requests)
+    all_answers : (breaks.owed ≡ owed limits places breaks.requests) × Answers limits places breaks.requests (owed limits places breaks.requests)
     all_answers = answers after.worker breaks.requests breaks.owed breaks.mark breaks.onward breaks.owes
 
-    owed_is : breaks.sent ++ queue_of after.conn ≡ owed limits places [] breaks.requests
+    owed_is : breaks.sent ++ queue_of after.conn ≡ owed limits places breaks.requests
     owed_is = breaks.bytes ∙ (ap (λ queue. queue ++ breaks.owed) begins.queue ∙ all_answers.0)
 
     -- what is told behind was pushed in part
-    in_part : (output : Outflow) (told sent unsent : List ℕ) → owed limits places [] breaks.requests ++ told ≡ sent ++ unsent → Pushes start.streams.output output sent →
+    in_part : (output : Outflow) (told sent unsent : List ℕ) → owed limits places breaks.requests ++ told ≡ sent ++ unsent → Pushes start.streams.output output sent →
         PullsLate start (scene after.conn after.worker (both after.streams.input output)) → (part : ServesInPart limits places start.streams (both after.streams.input output) told) × (part.unsent ≡ unsent)
     unfolding all_comes
     in_part output told sent unsent owes went late = (
@@ -256,13 +258,13 @@ module _ (limits : Limits) (places : ℕ) (start : Scene) (begins : Begins limit
     )
 
     pub untold : PullsLate start after → ServesInPart limits places start.streams after.streams []
-    untold late = (in_part after.streams.output [] breaks.sent (queue_of after.conn) (append-nil (owed limits places [] breaks.requests) ∙ sym owed_is) breaks.pushed late).0
+    untold late = (in_part after.streams.output [] breaks.sent (queue_of after.conn) (append-nil (owed limits places breaks.requests) ∙ sym owed_is) breaks.pushed late).0
 
   -- memory ran out, and that is told behind
   starved : (after : Scene) (output : Outflow) → Breaks Memory start after → PushesAtOnce (queue_of after.conn ++ text (Refused E11)) after.streams.output output →
       PullsLate start (scene after.conn after.worker (both after.streams.input output)) → Stops limits places Memory start.streams (both after.streams.input output)
   starved after output breaks told late =
-      let owes : owed limits places [] breaks.requests ++ text (Refused E11) ≡ (breaks.sent ++ told.1.front) ++ told.0 =
+      let owes : owed limits places breaks.requests ++ text (Refused E11) ≡ (breaks.sent ++ told.1.front) ++ told.0 =
       ap (λ bytes. bytes ++ text (Refused E11)) (sym (owed_is Memory after breaks))
       ∙ (append_assoc breaks.sent (queue_of after.conn) (text (Refused E11))
       ∙ (ap (λ bytes. breaks.sent ++ bytes) told.1.split ∙ sym (append_assoc breaks.sent told.1.front told.0)))
@@ -300,13 +302,13 @@ module _ (limits : Limits) (places : ℕ) (start : Scene) (begins : Begins limit
       subst (λ holding. HoldsOn holding (breaks.came ++ []) last.first.requests) (sym begins.holding) (subst (λ bytes. ReadsAs bytes last.first.requests) (sym (append-nil breaks.came)) reads)
       in
       let follows = breaks.reads [] last.first.requests holds in
-      let more = owed-more limits places [] breaks.requests (breaks.met ++ follows.0) in
-      let owes : owed limits places [] last.first.requests ≡ breaks.sent ++ (queue_of after.conn ++ more.0) =
-      ap (λ requests. owed limits places [] requests) follows.1
+      let more = owed-more limits [] places [] breaks.requests (breaks.met ++ follows.0) in
+      let owes : owed limits places last.first.requests ≡ breaks.sent ++ (queue_of after.conn ++ more.0) =
+      ap (λ requests. owed limits places requests) follows.1
       ∙ (more.1 ∙ (ap (λ bytes. bytes ++ more.0) (sym (owed_is Input after breaks)) ∙ append_assoc breaks.sent (queue_of after.conn) more.0))
       in
       let sent =
-      both_ways (owed limits places [] last.first.requests) breaks.sent (queue_of after.conn ++ more.0) last.later owes
+      both_ways (owed limits places last.first.requests) breaks.sent (queue_of after.conn ++ more.0) last.later owes
       (sent_on after breaks.came breaks.sent breaks.pulled breaks.pushed never pull.0 last)
       in
       let going = (first_sent after breaks.came breaks.sent breaks.pulled breaks.pushed never pull.0 last).1 in
@@ -364,8 +366,8 @@ module _ (limits : Limits) (places : ℕ) (start : Scene) (begins : Begins limit
 -- a connection and a worker as they are opened
 pub begins_new : (limits : Limits) (places : ℕ) (log : Log) (pass : Pass) (conn : Conn) (worker : Worker) (streams : Streams) → IsOpened limits places log pass →
     (conn.tenant ≡ 0) × (holding_of conn ≡ record { waiting = None; held = Kept [] }) × (queue_of conn ≡ []) × (conn.has_ended ≡ false) × (conn.is_over ≡ false) →
-    worker.log.now ≡ log → seat_of worker ≡ seat pass → history_of worker ≡ [] → Begins limits places (scene conn worker streams)
-begins_new limits places log pass conn worker streams opened (tenant, holding, queue, going, on) of seated empty =
+    worker.log.now ≡ log → seat_of worker ≡ seat pass → history_of worker ≡ [] → openings_of worker ≡ empty_tables log.settings.tenants → Begins limits places (scene conn worker streams)
+begins_new limits places log pass conn worker streams opened (tenant, holding, queue, going, on) of seated empty over =
     let new : seat_of worker ≡ new_seat (size_of log) 0 = seated ∙ opened.1.1 in
     let announced : (seat_of worker).state.announced ≡ 0 = ap (λ (view : View). view.state.announced) new in
     let none : length (announced_of worker) ≡ 0 = worker.pass.count ∙ announced in
@@ -378,7 +380,7 @@ begins_new limits places log pass conn worker streams opened (tenant, holding, q
       alone = record {
         workers = ap (λ (view : View). view.size.workers) new ∙ ap (λ settings. settings.workers) opened.0;
         long = ap (λ (view : View). view.size.places) new ∙ ap (λ settings. settings.places) opened.0;
-        tenants = ap (λ log. log.settings.tenants) of ∙ ap (λ settings. settings.tenants) opened.0;
+        openings = over ∙ ap (λ settings. empty_tables settings.tenants) opened.0 ∙ ap (λ state. state ∷ []) (sym (state_after-none limits));
       };
       mark = λ i. record { number = none i; place = (ap (λ (list : List Sighting). length list) empty) i };
     }

@@ -44,14 +44,14 @@ pub record Answers (limits : Limits) (places : ℕ) (requests : List Request) (b
 -- All that came was answered, under these quotas and by a log with so many places, up to the end of the input or a request that ends the stream.
 pub record Serves (limits : Limits) (places : ℕ) (before after : Streams) : Type 0 where
   pub comes : Comes before after
-  pub answers : Answers limits places comes.requests (owed limits places [] comes.requests)
-  pub went : Pushes before.output after.output (owed limits places [] comes.requests)
+  pub answers : Answers limits places comes.requests (owed limits places comes.requests)
+  pub went : Pushes before.output after.output (owed limits places comes.requests)
   pub end : (has_ended after.input.events ≡ true) × IsAtEnd after.input.left ⊎ (list_any ends_stream comes.requests ≡ true)
 
 -- All that came was answered, and more could have come.
 pub record ServesOn (limits : Limits) (places : ℕ) (before after : Streams) : Type 0 where
   pub comes : Comes before after
-  pub went : Pushes before.output after.output (owed limits places [] comes.requests)
+  pub went : Pushes before.output after.output (owed limits places comes.requests)
   pub goes_on : list_any ends_stream comes.requests ≡ false
 
 -- What came before the last pull was answered, and sent first; or nothing came.
@@ -64,7 +64,7 @@ pub record IsCaughtUp (limits : Limits) (places : ℕ) (bytes last_pull sent : L
   pub is_last : (bytes ≡ []) ⊎ (piece ≡ last_pull)
   pub is_short : length piece ≤ PULL_BYTES
   pub reads : ReadsAs earlier requests
-  pub is_sent : sent ≡ owed limits places [] requests ++ later
+  pub is_sent : sent ≡ owed limits places requests ++ later
 
 -- the output took something whenever it was asked
 abbrev pub NeverWaits : Streams → Streams → Type 0
@@ -77,10 +77,10 @@ pub record ServesInPart (limits : Limits) (places : ℕ) (before after : Streams
   pub answered : List Request
   pub others : List Request
   pub split : comes.requests ≡ answered ++ others
-  pub answers : Answers limits places answered (owed limits places [] answered)
+  pub answers : Answers limits places answered (owed limits places answered)
   pub sent : List ℕ
   pub unsent : List ℕ
-  pub owes : owed limits places [] answered ++ told ≡ sent ++ unsent
+  pub owes : owed limits places answered ++ told ≡ sent ++ unsent
   pub went : Pushes before.output after.output sent
   pub caught_up : NeverWaits before after → IsCaughtUp limits places comes.bytes (last_moved after.input.events) sent
 

@@ -5,13 +5,12 @@ use Rattle.std.proofs.lemmas.Iterator.Adapters.{option_map_id}
 use Rattle.std.proofs.lemmas.List.{map-append}
 use Rattle.std.proofs.lemmas.Option.{slice_get_past}
 use Rattle.std.specs.Option.{option_map}
-use Rattle.mc_model.specs.History.{state_after}
+use Rattle.mc_model.specs.History.{state_from}
 use Rattle.mc_model.specs.Log.{own}
 use Rattle.mc_model.specs.State.{TableState, next_state}
 use Rattle.mc_model.specs.declared.request.Entry.{Entry}
 use Rattle.uc_cells.specs.Sighting.{Sighting, entries}
 use Rattle.mc_replica.proofs.Places.{same_by_places}
-use Rattle.mc_model.specs.declared.settings.Limits.{Limits}
 use Rattle.mc_model.specs.Replay.{EachStands, EachStands-length, EachStands-push, IsNobodys, TakeEffect, with_command}
 
 -- without an entry, and with an entry of a tenant without a table, all stay
@@ -28,7 +27,7 @@ TakeEffect-unknown tables entry unknown tenant = elim (entry.tenant == tenant) a
     ] refl
 
 -- an entry that is nobody's leaves all tables
-pub TakeEffect-nobody : (openings : List Limits) (log : List (Option Entry)) (entry : Option Entry) (old new : List TableState) → EachStands openings log old →
+pub TakeEffect-nobody : (openings : List TableState) (log : List (Option Entry)) (entry : Option Entry) (old new : List TableState) → EachStands openings log old →
     TakeEffect entry old new → IsNobodys openings entry → new ≡ old
 TakeEffect-nobody openings log None old new stands takes nobody = same_by_places new old (λ tenant. takes tenant ∙ sym (TakeEffect-none old tenant))
 TakeEffect-nobody openings log (Some entry) old new stands takes unknown =
@@ -39,21 +38,21 @@ TakeEffect-nobody openings log (Some entry) old new stands takes unknown =
 entries-push : (history : List Sighting) (seen : Sighting) → entries (history ++ seen ∷ []) ≡ entries history ++ seen.entry ∷ []
 entries-push history seen = map-append (λ (one : Sighting). one.entry) history (seen ∷ [])
 
-pub EachStands-seen : (openings : List Limits) (history : List Sighting) (seen : Sighting) (found : Option Entry) (old new : List TableState) → found ≡ seen.entry →
+pub EachStands-seen : (openings : List TableState) (history : List Sighting) (seen : Sighting) (found : Option Entry) (old new : List TableState) → found ≡ seen.entry →
     EachStands openings (entries history) old → TakeEffect found old new → EachStands openings (entries (history ++ seen ∷ [])) new
 EachStands-seen openings history seen found old new is stands takes =
     subst (λ log. EachStands openings log new) (ap (λ entry. entries history ++ entry ∷ []) is ∙ sym (entries-push history seen))
     (EachStands-push openings (entries history) found old new stands takes)
 
 -- as many tables as before
-pub tables-stay : (openings : List Limits) (log later : List (Option Entry)) (old new : List TableState) → EachStands openings log old → EachStands openings later new → length new ≡ length old
+pub tables-stay : (openings : List TableState) (log later : List (Option Entry)) (old new : List TableState) → EachStands openings log old → EachStands openings later new → length new ≡ length old
 tables-stay openings log later old new stands stands_later = EachStands-length openings later new stands_later ∙ sym (EachStands-length openings log old stands)
 
--- tables of one history that were opened with the same quotas are the same
-pub tables_agree : (openings openings2 : List Limits) (history history2 : List Sighting) (tables tables2 : List TableState) →
+-- tables of one history that were opened over the same tables are the same
+pub tables_agree : (openings openings2 : List TableState) (history history2 : List Sighting) (tables tables2 : List TableState) →
     openings ≡ openings2 → history ≡ history2 →
     EachStands openings (entries history) tables → EachStands openings2 (entries history2) tables2 → tables ≡ tables2
 tables_agree openings openings2 history history2 tables tables2 quotas seen stands stands2 =
-    let state = λ (tenant : ℕ) (all : List Limits) (log : List Sighting).
-    option_map (λ opening. state_after opening (own tenant (entries log))) (slice_get all tenant) in
+    let state = λ (tenant : ℕ) (all : List TableState) (log : List Sighting).
+    option_map (λ opening. state_from opening (own tenant (entries log))) (slice_get all tenant) in
     same_by_places tables tables2 (λ tenant. stands tenant ∙ (ap₂ (state tenant) quotas seen ∙ sym (stands2 tenant)))

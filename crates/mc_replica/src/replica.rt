@@ -1,7 +1,7 @@
 //! A worker's replica of the shared log: what it has seen of the log's places, replayed on tables of its own.
 ghost use Rattle.std.specs.Prelude.{◌≡◌, ◌≢◌, ◌<◌, ◌≤◌, ◌↔◌, [], ◌∷◌, ◌++◌, length, Some, slice_get, IfOk, IfSome, OnOk, OnErr, IsOk, IsOkUnless, IsTrue};
 ghost use Rattle.std.specs.Option.{option_map};
-ghost use Rattle.mc_model.specs.History.{state_after};
+ghost use Rattle.mc_model.specs.History.{state_from};
 ghost use Rattle.mc_model.specs.Kinds.{IsRetrieval, IsTakingOut};
 ghost use Rattle.mc_model.specs.Log.{own};
 ghost use Rattle.mc_model.specs.Replay.{EachStands, IsNobodys, IsRefused, TakeEffect, answer_to, empty_tables};
@@ -22,7 +22,7 @@ pub struct Replica<'a> {
     worker: WorkerId,
     places: u64,
     /// The quotas that each tenant's table was opened with.
-    openings: Vec<Limits>,
+    limits: Vec<Limits>,
     /// Has room for all places from its opening on.
     history: Vec<Seen<'a>>,
     /// One table a tenant, by the tenants' numbers.
@@ -31,15 +31,16 @@ pub struct Replica<'a> {
 
 impl<'a> Model for Replica<'a> {
     ghost use Rattle.std.specs.Prelude.{vec_capacity};
+    ghost use Rattle.mc_model.specs.Replay.{empty_tables};
     ghost use Rattle.mc_replica.specs.Replica.{IsInOrder, ReplicaState, coded_replica};
 
     ghost Value = { ReplicaState };
 
     ghost coded = { coded_replica };
 
-    ghost view = { λ r. record { worker = r.worker; places = r.places; openings = r.openings.items; history = r.history.items; tables = r.tables.items } };
+    ghost view = { λ r. record { worker = r.worker; places = r.places; openings = empty_tables r.limits.items; history = r.history.items; tables = r.tables.items } };
 
-    ghost invariant = { λ r. IsInOrder r.places (vec_capacity r.history) r.openings.items r.history.items r.tables.items };
+    ghost invariant = { λ r. IsInOrder r.places (vec_capacity r.history) (empty_tables r.limits.items) r.history.items r.tables.items };
 }
 
 impl<'a> Replica<'a> {
@@ -53,19 +54,19 @@ impl<'a> Replica<'a> {
     ) -> Result<Replica<'a>, Fault>
         ensures worker { IfOk result (λ replica. replica.worker ≡ worker) }
         ensures places { IfOk result (λ replica. replica.places ≡ places) }
-        ensures openings { IfOk result (λ replica. replica.openings ≡ limits.now) }
+        ensures openings { IfOk result (λ replica. replica.openings ≡ empty_tables limits.now) }
         ensures history { IfOk result (λ replica. replica.history ≡ []) }
         ensures tables { IfOk result (λ replica. replica.tables ≡ empty_tables limits.now) }
         ensures stands { IfOk result (λ replica. EachStands replica.openings (entries replica.history) replica.tables) }
         ensures memory { IsOkUnless result Fault.Memory }
     {
         let history = Vec::with_capacity(alloc, places as usize)?;
-        let openings = Vec::from_slice(alloc, limits)?;
+        let limits_kept = Vec::from_slice(alloc, limits)?;
         let tables = tables_of(alloc, limits)?;
         Ok(Replica {
             worker,
             places,
-            openings,
+            limits: limits_kept,
             history,
             tables,
         })
@@ -145,8 +146,8 @@ impl<'a> Replica<'a> {
         self.history().len()
     }
 
-    /// Two histories of the same cells are equal, whichever threads saw them, and so are the tables that were opened with the same
-    /// quotas. Needs no memory.
+    /// Two histories of the same cells are equal, whichever threads saw them, and so are the tables that were opened over the same
+    /// tables. Needs no memory.
     pub fn agree(&mut self, other: &mut Replica<'_>)
         requires long { length self.old.history ≡ length other.old.history }
         requires cells { SameCells self.old.history other.old.history }
@@ -162,7 +163,7 @@ impl<'a> Replica<'a> {
     pub fn table(&self, tenant: TenantId) -> &Items
         requires { tenant < length self.now.tables }
         ensures table { slice_get self.now.tables tenant ≡ Some result.now }
-        ensures stands { Some result.now ≡ option_map (λ opening. state_after opening (own tenant (entries self.now.history))) (slice_get self.now.openings tenant) }
+        ensures stands { Some result.now ≡ option_map (λ opening. state_from opening (own tenant (entries self.now.history))) (slice_get self.now.openings tenant) }
     {
         &self.tables[usize::from(tenant.number())]
     }
@@ -190,10 +191,10 @@ impl<'a> Replica<'a> {
     }
 
     /// The quotas that each tenant's table was opened with, by the tenants' numbers.
-    pub fn openings(&self) -> &[Limits]
-        ensures { result.now ≡ self.now.openings }
+    pub fn limits(&self) -> &[Limits]
+        ensures { self.now.openings ≡ empty_tables result.now }
     {
-        self.openings.as_slice()
+        self.limits.as_slice()
     }
 
     /// How many places its history may have.

@@ -8,9 +8,9 @@ use Rattle.mc_model.specs.declared.id.Ticket.{Ticket}
 use Rattle.mc_model.specs.declared.request.Entry.{Entry}
 use Rattle.mc_model.specs.declared.shown.WorkerState.{WorkerState}
 use Rattle.mc_model.specs.Legal.{IsLegal, count}
-use Rattle.mc_model.specs.History.{state_after}
+use Rattle.mc_model.specs.History.{state_from}
 use Rattle.mc_model.specs.Log.{Sighting, own, entries, entry_for, entry_of}
-use Rattle.mc_model.specs.Replay.{EachStands}
+use Rattle.mc_model.specs.Replay.{EachStands, empty_tables}
 use Rattle.uc_core.specs.Core.{CoreState, ReplayState, entry_under, log_of}
 use Rattle.uc_core.specs.Headline.{HasReplica, LogIsSound, ReplicasAgree, StandsOnce, TablesStand, replica_of}
 use Rattle.uc_core.proofs.CoreLaws.{CoreLaw, stands_with_entry}
@@ -70,7 +70,7 @@ module _ (core : CoreState) (law : CoreLaw core) where
         ∙ ap (take r.replayed) (sym (replica_is other w s there));
     tables = λ one other v w r s has there same. same_by_places r.tables s.tables (λ tenant.
         (law.replays one v r has).stands tenant
-        ∙ ap (λ n. option_map (λ opening. state_after opening (own tenant (take n (log_of core)))) (slice_get core.openings tenant)) same
+        ∙ ap (λ n. option_map (λ opening. state_from opening (own tenant (take n (log_of core)))) (slice_get (empty_tables core.openings) tenant)) same
         ∙ sym ((law.replays other w s there).stands tenant));
   }
 
@@ -86,4 +86,4 @@ module _ (core : CoreState) (law : CoreLaw core) where
       let same = ap entries (replica_is number worker replay has)
       ∙ sym (take-map entry_of replay.replayed (map (seen core) core.shown.decided))
       ∙ ap (take replay.replayed) (map-map entry_of (seen core) core.shown.decided ∙ map-agree _ (entry_under core) core.shown.decided counts) in
-      (its.few, subst (λ (log : List (Option Entry)). EachStands core.openings log replay.tables) (sym same) its.stands)
+      (its.few, subst (λ (log : List (Option Entry)). EachStands (empty_tables core.openings) log replay.tables) (sym same) its.stands)

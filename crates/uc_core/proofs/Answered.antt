@@ -2,18 +2,18 @@
 -- has replayed before the run up to those that it has replayed after it.
 use Rattle.std.proofs.Common.{◌≡◌, ◌≢◌, ℕ, ◌+◌, ◌<◌, ◌≤◌, List, [], ◌∷◌, ◌++◌, length, take, Option, Some, None, if◌then◌else◌, slice_get, slice_set, option_map, ⊎_elim, refl, sym, ap, ap₂, subst, ◌∙◌, arith, eq-eqb}
 use Rattle.std.proofs.lemmas.Bool.{cases_eq, cases_lt}
-use Rattle.std.proofs.lemmas.Option.{slice_get_within}
+use Rattle.std.proofs.lemmas.Option.{slice_get-map, slice_get_within}
 use Rattle.std.specs.Option.{option_and_then, option_map_or}
 use Rattle.mc_model.specs.declared.id.Ticket.{Ticket}
 use Rattle.mc_model.specs.declared.reply.Reply.{Reply}
 use Rattle.mc_model.specs.declared.settings.Limits.{Limits}
 use Rattle.mc_model.specs.declared.shown.WorkerState.{WorkerState}
 use Rattle.mc_model.specs.Helping.{BeginsWith}
-use Rattle.mc_model.specs.History.{state_after}
+use Rattle.mc_model.specs.History.{state_after, state_from}
 use Rattle.mc_model.specs.Log.{own}
 use Rattle.mc_model.specs.Replay.{reply_from}
 use Rattle.mc_model.specs.Settings.{Configuration}
-use Rattle.mc_model.specs.State.{TableState, next_reply}
+use Rattle.mc_model.specs.State.{TableState, empty_table, next_reply}
 use Rattle.uc_core.specs.Core.{CoreState, ReplayState, entry_under, log_of, new_core, size_of}
 use Rattle.uc_core.specs.Headline.{HasReplica, HasReply, OfEveryRun, OwnAreAnswered}
 use Rattle.uc_core.specs.Run.{Given, Runs, given_by, replayed_by}
@@ -51,7 +51,8 @@ answers_mine core number place worker replay ticket law has at mine =
     let list = own entry.0.tenant (take replay.replayed (log_of core)) in
     let table : TableState = state_after opening.0 list in
     let found : slice_get replay.tables entry.0.tenant ≡ Some table =
-    (law.replays number worker replay has).stands entry.0.tenant ∙ ap (option_map (λ (it : Limits). state_after it list)) opening.1 in
+    (law.replays number worker replay has).stands entry.0.tenant
+    ∙ ap (option_map (λ (it : TableState). state_from it list)) (slice_get-map empty_table core.openings entry.0.tenant ∙ ap (option_map empty_table) opening.1) in
     let here : entry_at core place ≡ Some entry.0 = ap (option_and_then (entry_under core)) at ∙ entry.1 in
     let own_ticket = eq-eqb entry.0.ticket.worker number (ap (λ (it : Ticket). it.worker) entry.2 ∙ mine) in (
       next_reply table entry.0.command,

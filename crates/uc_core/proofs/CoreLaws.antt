@@ -76,7 +76,7 @@ new_entries settings number announced none = subst (EntriesLaw (new_core setting
 new_replay : (settings : Configuration) (worker : WorkerState) (replay : ReplayState) →
     replay ≡ record { replayed = 0; tables = empty_tables settings.tenants } → ReplayLaw (new_core settings) worker replay
 new_replay settings worker replay new =
-    subst (ReplayLaw (new_core settings) worker) (sym new) record { few = omega arith; stands = EachStands-none settings.tenants }
+    subst (ReplayLaw (new_core settings) worker) (sym new) record { few = omega arith; stands = EachStands-none (empty_tables settings.tenants) }
 
 pub opens : (settings : Configuration) → CoreLaw (new_core settings)
 opens settings =

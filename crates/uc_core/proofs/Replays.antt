@@ -6,7 +6,7 @@ use Rattle.mc_model.specs.declared.request.Entry.{Entry}
 use Rattle.mc_model.specs.declared.settings.Limits.{Limits}
 use Rattle.mc_model.specs.declared.shown.WorkerState.{WorkerState}
 use Rattle.mc_model.specs.Helping.{BeginsWith}
-use Rattle.mc_model.specs.Replay.{EachStands, EachStands-push, TakeEffect}
+use Rattle.mc_model.specs.Replay.{EachStands, EachStands-push, TakeEffect, empty_tables}
 use Rattle.mc_model.specs.State.{TableState}
 use Rattle.uc_core.specs.Core.{CoreState, ReplayState, log_of}
 use Rattle.uc_core.specs.Headline.{HasReplica}
@@ -17,7 +17,7 @@ use Rattle.uc_core.proofs.Lookups.{take-more_at}
 -- a worker has replayed no more than it has learned, and its tables stand for those places of the log
 pub record ReplayLaw (core : CoreState) (worker : WorkerState) (replay : ReplayState) : Type 0 where
   pub few : replay.replayed ≤ length worker.learned
-  pub stands : EachStands core.openings (take replay.replayed (log_of core)) replay.tables
+  pub stands : EachStands (empty_tables core.openings) (take replay.replayed (log_of core)) replay.tables
 
 -- so of every worker
 abbrev pub AreReplays : CoreState → Type 0
@@ -35,7 +35,7 @@ replay_stays old new was worker replay law openings begins inside more =
     let few : replay.replayed ≤ length (log_of old) = omega (arith, law.few, inside) in
     let same = take-begins (log_of new) (log_of old) replay.replayed begins few in record {
       few = omega (arith, law.few, more);
-      stands = subst (λ (it : List Limits × List (Option Entry)). EachStands it.0 it.1 replay.tables) (λ i. (sym openings i, sym same i)) law.stands;
+      stands = subst (λ (it : List Limits × List (Option Entry)). EachStands (empty_tables it.0) it.1 replay.tables) (λ i. (sym openings i, sym same i)) law.stands;
     }
 
 -- one more place is replayed
@@ -44,7 +44,7 @@ pub replay_more : (core : CoreState) (worker : WorkerState) (replay : ReplayStat
     ReplayLaw core worker (record { replayed = replay.replayed + 1; tables = tables })
 replay_more core worker replay tables law more inside takes = record {
   few = omega (arith, more);
-  stands = subst (λ (log : List (Option Entry)). EachStands core.openings log tables)
+  stands = subst (λ (log : List (Option Entry)). EachStands (empty_tables core.openings) log tables)
       (sym (take-more_at (log_of core) replay.replayed (entry_at core replay.replayed) (log-at core replay.replayed inside)))
-      (EachStands-push core.openings (take replay.replayed (log_of core)) (entry_at core replay.replayed) replay.tables tables law.stands takes);
+      (EachStands-push (empty_tables core.openings) (take replay.replayed (log_of core)) (entry_at core replay.replayed) replay.tables tables law.stands takes);
 }

@@ -1,17 +1,17 @@
 -- A run keeps the core's law, the core grows along it, and each reply that it gives is the answer by the log.
 use Rattle.std.proofs.Common.{◌≡◌, ℕ, zero, suc, ◌<◌, ◌≤◌, ◌==◌, Bool, true, false, List, [], ◌∷◌, ◌++◌, length, take, Option, Some, None, if◌then◌else◌, slice_get, option_map, refl, sym, ap, subst, ◌∙◌, arith, eqb-true}
-use Rattle.std.proofs.lemmas.Option.{none-some, same_Some, slice_get_within}
+use Rattle.std.proofs.lemmas.Option.{none-some, slice_get-map, same_Some, slice_get_within}
 use Rattle.std.specs.Option.{option_and_then, option_map_or}
 use Rattle.mc_model.specs.declared.reply.Reply.{Reply}
 use Rattle.mc_model.specs.declared.request.Entry.{Entry}
 use Rattle.mc_model.specs.declared.settings.Limits.{Limits}
 use Rattle.mc_model.specs.declared.shown.WorkerState.{WorkerState}
 use Rattle.mc_model.specs.Helping.{BeginsWith}
-use Rattle.mc_model.specs.History.{answer}
+use Rattle.mc_model.specs.History.{answer, answer_from}
 use Rattle.mc_model.specs.Log.{own}
-use Rattle.mc_model.specs.Replay.{reply_from, reply_to, reply_to-table}
+use Rattle.mc_model.specs.Replay.{empty_tables, reply_from, reply_to, reply_to-table}
 use Rattle.mc_model.specs.Settings.{Configuration}
-use Rattle.mc_model.specs.State.{TableState, next_reply}
+use Rattle.mc_model.specs.State.{TableState, empty_table, next_reply}
 use Rattle.uc_core.specs.Core.{CoreState, ReplayState, entry_under, log_of, new_core, size_of}
 use Rattle.uc_core.specs.Headline.{HasReplica, IsAnswer, RepliesAreAnswers}
 use Rattle.uc_core.specs.Run.{Given, IsRun, Runs, given_by, replayed_by}
@@ -75,12 +75,13 @@ answers_own number tables (Some entry) reply is = by_test (entry.ticket.worker =
     by_test false mine told = absurd (none-some reply told)
 
 -- a known tenant's reply is its answer
-of_opening : (openings : List Limits) (log : List (Option Entry)) (entry : Entry) (reply : Reply) → reply_to openings log (Some entry) ≡ Some reply →
+of_opening : (openings : List Limits) (log : List (Option Entry)) (entry : Entry) (reply : Reply) → reply_to (empty_tables openings) log (Some entry) ≡ Some reply →
     (opening : Limits) × (slice_get openings entry.tenant ≡ Some opening) × (reply ≡ answer opening (own entry.tenant log) entry.command)
-of_opening openings log entry reply is = by_found (slice_get openings entry.tenant) refl is
+of_opening openings log entry reply is =
+    by_found (slice_get openings entry.tenant) refl (ap (option_map (λ opening. answer_from opening (own entry.tenant log) entry.command)) (sym (slice_get-map empty_table openings entry.tenant)) ∙ is)
   where
     by_found : (found : Option Limits) → slice_get openings entry.tenant ≡ found →
-        option_map (λ opening. answer opening (own entry.tenant log) entry.command) found ≡ Some reply →
+        option_map (λ opening. answer_from opening (own entry.tenant log) entry.command) (option_map empty_table found) ≡ Some reply →
         (opening : Limits) × (slice_get openings entry.tenant ≡ Some opening) × (reply ≡ answer opening (own entry.tenant log) entry.command)
     by_found None at told = absurd (none-some reply told)
     by_found (Some opening) at told = (opening, at, sym (same_Some _ reply told))
@@ -99,7 +100,7 @@ replay_answers core number worker replay reply law has more told =
     let here : entry_at core place ≡ entry_under core ticket.0 = ap (option_and_then (entry_under core)) ticket.1 in
     let same : known.0 ≡ mine.0 = same_Some known.0 mine.0 (sym known.1 ∙ sym here ∙ mine.1) in
     let log = take place (log_of core) in
-    let reached = of_opening core.openings log mine.0 reply (reply_to-table core.openings log replay.tables mine.0 its.stands ∙ mine.3) in record {
+    let reached = of_opening core.openings log mine.0 reply (reply_to-table (empty_tables core.openings) log replay.tables mine.0 its.stands ∙ mine.3) in record {
       entry = mine.0;
       opening = reached.0;
       stands = ticket.1 ∙ ap Some (sym known.2 ∙ ap (λ (entry : Entry). entry.ticket) same);

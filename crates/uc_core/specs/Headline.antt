@@ -13,7 +13,7 @@ use Rattle.mc_model.specs.History.{answer}
 use Rattle.mc_model.specs.Lawful.{HasRoom, IsWorker, announced_by}
 use Rattle.mc_model.specs.Legal.{IsLegal, StandsBefore, ticket_of}
 use Rattle.mc_model.specs.Log.{Sighting, entries, own}
-use Rattle.mc_model.specs.Replay.{EachStands}
+use Rattle.mc_model.specs.Replay.{EachStands, empty_tables}
 use Rattle.mc_model.specs.Settings.{Configuration}
 use Rattle.uc_core.specs.Core.{CoreState, ReplayState, entry_under, log_of, size_of}
 use Rattle.uc_core.specs.Run.{Given, IsRun, Runs}
@@ -57,7 +57,7 @@ pub record ReplicasAgree (core : CoreState) : Type 0 where
 -- each worker has replayed no more than it has learned, and each of its tables stands for its tenant's commands that it has replayed
 abbrev pub TablesStand : CoreState → Type 0
 TablesStand core = (number : ℕ) (worker : WorkerState) (replay : ReplayState) → HasReplica core number worker replay →
-    (replay.replayed ≤ length worker.learned) × EachStands core.openings (entries (replica_of core worker replay)) replay.tables
+    (replay.replayed ≤ length worker.learned) × EachStands (empty_tables core.openings) (entries (replica_of core worker replay)) replay.tables
 
 -- the reply to a worker's own command at a place is the answer after only its tenant's commands at the places before
 pub record IsAnswer (core : CoreState) (worker place : ℕ) (reply : Reply) : Type 0 where

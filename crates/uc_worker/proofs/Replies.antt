@@ -4,8 +4,8 @@ use Rattle.std.proofs.lemmas.Option.{same_Some}
 use Rattle.mc_model.specs.declared.id.Ticket.{Ticket}
 use Rattle.mc_model.specs.declared.reply.Reply.{Reply}
 use Rattle.mc_model.specs.declared.request.Entry.{Entry}
-use Rattle.mc_model.specs.declared.settings.Limits.{Limits}
 use Rattle.mc_model.specs.Replay.{answer_to, reply_to}
+use Rattle.mc_model.specs.State.{TableState}
 use Rattle.uc_cells.specs.Sighting.{Sighting, entries, sighting}
 use Rattle.uc_log.specs.declared.pass.Pass.{Pass}
 use Rattle.uc_log.specs.Passes.{own_sightings, state}
@@ -22,12 +22,12 @@ seen_is learned own place worker entry row seen last mine put at found =
     same_Some seen (sighting entry.ticket (Some entry) row) (sym (found (ap (λ (t : Ticket). t.worker) same ∙ mine))
     ∙ (ap (λ (t : Ticket). slice_get own t.number) same ∙ put))
 
-own_answer : (worker : ℕ) (openings : List Limits) (log : List (Option Entry)) (entry : Entry) → entry.ticket.worker ≡ worker →
+own_answer : (worker : ℕ) (openings : List TableState) (log : List (Option Entry)) (entry : Entry) → entry.ticket.worker ≡ worker →
     answer_to worker openings log (Some entry) ≡ reply_to openings log (Some entry)
 own_answer worker openings log entry mine = ap (λ (own : Bool). if own then reply_to openings log (Some entry) else None) (eq-eqb entry.ticket.worker worker mine)
 
 -- the reply is that after the history before
-pub reply_is : (worker place : ℕ) (openings : List Limits) (history new : List Sighting) (entry : Entry) (row : ℕ) (seen : Sighting) (reply : Option Reply) →
+pub reply_is : (worker place : ℕ) (openings : List TableState) (history new : List Sighting) (entry : Entry) (row : ℕ) (seen : Sighting) (reply : Option Reply) →
     seen ≡ sighting entry.ticket (Some entry) row → entry.ticket.worker ≡ worker → new ≡ history ++ seen ∷ [] → length history ≡ place →
     reply ≡ answer_to worker openings (entries history) seen.entry → reply ≡ reply_to openings (entries (take place new)) (Some entry)
 reply_is worker place openings history new entry row seen reply is mine pushed here answered =

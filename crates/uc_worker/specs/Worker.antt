@@ -7,6 +7,7 @@ use Rattle.mc_model.specs.declared.shown.Phase.TheVariants.{Pending}
 use Rattle.mc_model.specs.declared.request.Entry.{Entry}
 use Rattle.mc_model.specs.declared.settings.Limits.{Limits}
 use Rattle.mc_model.specs.Legal.{ticket_of}
+use Rattle.mc_model.specs.State.{TableState}
 use Rattle.uc_cells.specs.Sighting.{Sighting, sighting}
 use Rattle.uc_log.specs.declared.log.Log.{Log}
 use Rattle.uc_log.specs.declared.pass.Pass.{Pass}
@@ -29,6 +30,10 @@ announced_of worker = own_sightings worker.pass
 -- the quotas of the log's tenants
 abbrev pub tenants_of : Worker → List Limits
 tenants_of worker = worker.log.now.settings.tenants
+
+-- the tables that its replica was opened over
+abbrev pub openings_of : Worker → List TableState
+openings_of worker = worker.replica.openings
 
 -- its next command's ticket with this tenant and command, as it is seen in the log's cell
 abbrev pub next_of : Worker → ℕ → Command → Sighting

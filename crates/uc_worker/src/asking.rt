@@ -1,12 +1,12 @@
 //! What a worker shows.
 ghost use Rattle.std.specs.Prelude.{◌≡◌, ◌<◌, true, false, length, Some, slice_get};
 ghost use Rattle.std.specs.Option.{option_map};
-ghost use Rattle.mc_model.specs.History.{state_after};
+ghost use Rattle.mc_model.specs.History.{state_from};
 ghost use Rattle.mc_model.specs.Lawful.{HasRoom};
 ghost use Rattle.mc_model.specs.Log.{own};
 ghost use Rattle.uc_cells.specs.Sighting.{entries};
 ghost use Rattle.uc_worker.specs.Histories.{Follows};
-ghost use Rattle.uc_worker.specs.Worker.{history_of, seat_of, tenants_of};
+ghost use Rattle.uc_worker.specs.Worker.{history_of, openings_of, seat_of, tenants_of};
 ghost use Rattle.uc_places.specs.SeatLaw.{SeatLaw};
 
 use crate::worker::Worker;
@@ -34,7 +34,7 @@ impl<'a> Worker<'a> {
     /// The tenant's table, which stands for its own commands of the history.
     pub fn table(&self, tenant: TenantId) -> &Items
         requires { tenant < length (tenants_of self.now) }
-        ensures { Some result.now ≡ option_map (λ opening. state_after opening (own tenant (entries (history_of self.now)))) (slice_get (tenants_of self.now) tenant) }
+        ensures { Some result.now ≡ option_map (λ opening. state_from opening (own tenant (entries (history_of self.now)))) (slice_get (openings_of self.now) tenant) }
     {
         // Its contract says that there is a table for each tenant.
         let _ = self.replica.history();

@@ -4,7 +4,7 @@ ghost use Rattle.mc_model.specs.declared.fault.Fault.TheVariants as faults;
 ghost use Rattle.mc_model.specs.Helping.{BeginsWith};
 ghost use Rattle.uc_log.specs.Passes.{IsOf, own_sightings, seat, state};
 ghost use Rattle.uc_worker.specs.Steps.{HasReadOn, Later, Rests};
-ghost use Rattle.uc_worker.specs.Worker.{history_of, seat_of};
+ghost use Rattle.uc_worker.specs.Worker.{history_of, openings_of, seat_of};
 
 use crate::gate::{Gate, Step};
 use crate::replaying::replay_to;
@@ -41,6 +41,7 @@ impl<'a> Worker<'a> {
         ensures all { OnOk result (length (history_of self.new) ≡ length (seat_of self.new).state.learned) }
         ensures later { Later (seat_of self.old) (seat_of self.new) }
         ensures log { self.new.log ≡ self.old.log }
+        ensures openings { openings_of self.new ≡ openings_of self.old }
         ensures memory { IsOkUnless result faults.Memory }
     {
         let Worker {

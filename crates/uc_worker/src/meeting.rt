@@ -4,7 +4,7 @@ ghost use Rattle.mc_model.specs.declared.fault.Fault.TheVariants as faults;
 ghost use Rattle.mc_model.specs.Helping.{BeginsWith};
 ghost use Rattle.uc_log.specs.Passes.{IsOf, learned, own_sightings, seat, size, state};
 ghost use Rattle.uc_worker.specs.Steps.{IsSame, Rests};
-ghost use Rattle.uc_worker.specs.Worker.{history_of, seat_of};
+ghost use Rattle.uc_worker.specs.Worker.{history_of, openings_of, seat_of};
 
 use crate::gate::Open;
 use crate::replaying::replay_to;
@@ -57,13 +57,14 @@ impl<'a> Worker<'a> {
     pub fn meet(&mut self, other: &mut Worker<'a>) -> Result<(), Fault>
         requires { self.old.log.now ≡ other.old.log.now }
         ensures equal { OnOk result (history_of self.new ≡ history_of other.new) }
-        ensures tables { OnOk result (self.new.replica.tables ≡ other.new.replica.tables) }
+        ensures tables { openings_of self.old ≡ openings_of other.old → OnOk result (self.new.replica.tables ≡ other.new.replica.tables) }
         ensures all { OnOk result ((length (history_of self.new) ≡ length (seat_of self.new).state.learned) × ((seat_of self.new).state.learned ≡ (seat_of other.new).state.learned)) }
         ensures first { BeginsWith (history_of self.new) (history_of self.old) }
         ensures second { BeginsWith (history_of other.new) (history_of other.old) }
         ensures announced { ((seat_of self.new).state.announced ≡ (seat_of self.old).state.announced) × ((seat_of other.new).state.announced ≡ (seat_of other.old).state.announced) }
         ensures same { IsSame (seat_of self.old) (seat_of self.new) × IsSame (seat_of other.old) (seat_of other.new) }
         ensures log { (self.new.log ≡ self.old.log) × (other.new.log ≡ other.old.log) }
+        ensures openings { (openings_of self.new ≡ openings_of self.old) × (openings_of other.new ≡ openings_of other.old) }
         ensures memory { IsOkUnless result faults.Memory }
     {
         let Worker {

@@ -2,8 +2,9 @@
 ghost use Rattle.std.specs.Prelude.{◌≡◌, [], IfOk, IsOkUnless};
 ghost use Rattle.mc_model.specs.declared.fault.Fault.TheVariants as faults;
 ghost use Rattle.mc_model.specs.declared.shown.Phase.TheVariants as phase;
+ghost use Rattle.mc_model.specs.Replay.{empty_tables};
 ghost use Rattle.uc_log.specs.Passes.{IsOf, learned, seat, state};
-ghost use Rattle.uc_worker.specs.Worker.{history_of, seat_of};
+ghost use Rattle.uc_worker.specs.Worker.{history_of, openings_of, seat_of};
 
 use crate::worker::Worker;
 use mc_model::Fault;
@@ -21,6 +22,7 @@ impl<'a> Worker<'a> {
         ensures log { IfOk result (λ worker. worker.log.now ≡ log.now) }
         ensures seat { IfOk result (λ worker. seat_of worker ≡ seat pass) }
         ensures history { IfOk result (λ worker. history_of worker ≡ []) }
+        ensures openings { IfOk result (λ worker. openings_of worker ≡ empty_tables log.now.settings.tenants) }
         ensures memory { IsOkUnless result faults.Memory }
     {
         let settings = log.settings();

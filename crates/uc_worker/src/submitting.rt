@@ -8,7 +8,7 @@ ghost use Rattle.uc_cells.specs.Sighting.{entries};
 ghost use Rattle.uc_log.specs.Passes.{IsOf, learned, next_entry, next_sighting, own_sightings, seat, size, state, worker};
 ghost use Rattle.uc_worker.specs.Histories.{Follows};
 ghost use Rattle.uc_worker.specs.Steps.{IsSame, Later, Leaves, Rests};
-ghost use Rattle.uc_worker.specs.Worker.{IsSpent, announced_of, history_of, next_of, seat_of, tenants_of};
+ghost use Rattle.uc_worker.specs.Worker.{IsSpent, announced_of, history_of, next_of, openings_of, seat_of, tenants_of};
 
 use crate::announcing::{decide_new, settle};
 use crate::gate::Gate;
@@ -126,7 +126,7 @@ impl<'a> Worker<'a> {
         ensures own { IfOk result (λ answer. slice_get (history_of self.new) answer.place ≡ Some (next_of self.old tenant command)) }
         // The reply is the answer after that tenant's own commands before that place.
         ensures reply { IfOk result (λ answer. Some answer.reply ≡
-            reply_to (tenants_of self.old) (entries (take answer.place (history_of self.new))) (Some (next_entry self.old.pass tenant command))) }
+            reply_to (openings_of self.old) (entries (take answer.place (history_of self.new))) (Some (next_entry self.old.pass tenant command))) }
         ensures proposals { IfOk result (λ answer. (answer.proposals ≡ (seat_of self.new).state.proposals) × (answer.proposals ≤ (seat_of self.new).size.workers + 1)) }
         // One command is announced, and its cell holds what was passed; at a fault, one at most.
         ensures count { OnOk result ((seat_of self.new).state.announced ≡ (seat_of self.old).state.announced + 1) }
@@ -143,6 +143,7 @@ impl<'a> Worker<'a> {
         ensures same { IsSame (seat_of self.old) (seat_of self.new) }
         ensures learned { BeginsWith (seat_of self.new).state.learned (seat_of self.old).state.learned }
         ensures log { self.new.log ≡ self.old.log }
+        ensures openings { openings_of self.new ≡ openings_of self.old }
     {
         let Worker {
             log,

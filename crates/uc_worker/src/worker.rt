@@ -18,7 +18,7 @@ pub struct Worker<'a> {
     pub(crate) replica: Replica<'a>,
     ghost of: { IsOf log.now pass },
     ghost whose: { replica.worker ≡ worker pass },
-    ghost opened: { (replica.places ≡ log.now.settings.places) × (replica.openings ≡ log.now.settings.tenants) },
+    ghost opened: { (replica.places ≡ log.now.settings.places) × (length replica.openings ≡ length log.now.settings.tenants) },
     ghost short: { length replica.history ≤ length (learned pass) },
     ghost follows: { Follows log.now replica.history (learned pass) },
     ghost rests: { Rests (state pass).phase },

@@ -1,7 +1,5 @@
-use Rattle.std.proofs.Common.{ap, ◌∙◌, ◌+◌, Bool, if◌then◌else◌, add-zero}
-use Rattle.mc_model.specs.declared.settings.Limits.{Limits}
-use Rattle.mc_model.specs.Effect.{effect}
-use Rattle.mc_model.specs.History.{StandsFor-push, after, changes, changes-le}
+use Rattle.std.proofs.Common.{ap, refl, ◌∙◌, ◌+◌, Bool, if◌then◌else◌, add-zero}
+use Rattle.mc_model.specs.History.{StandsFor-push, changes, changes-le}
 use Rattle.mc_laws.proofs.Histories.{after-none, after-push, changes-none, changes-push, quotas_stay}
 use Rattle.mc_laws.proofs.tables.commands_act_in_order.Goals as goal
 
@@ -12,11 +10,10 @@ pub returns-clause-no_change : goal.returns-clause-no_change
 returns-clause-no_change c = changes-none
 
 pub returns-clause-reply : goal.returns-clause-reply
-returns-clause-reply c = λ limits list command. ap (λ (l : Limits). (effect l (after limits list) (changes limits list + 1) command).reply) (quotas_stay limits list)
+returns-clause-reply c = λ opening list command. refl
 
 pub returns-clause-table : goal.returns-clause-table
-returns-clause-table c = λ limits list command.
-    after-push limits list command ∙ ap (λ (l : Limits). (effect l (after limits list) (changes limits list + 1) command).table) (quotas_stay limits list)
+returns-clause-table c = after-push
 
 pub returns-clause-change : goal.returns-clause-change
 returns-clause-change c = λ limits list command accepted.

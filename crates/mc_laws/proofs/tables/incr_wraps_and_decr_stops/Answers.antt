@@ -21,9 +21,8 @@ returns-clause-sum c = λ limits list key old number by is value.
 pub returns-clause-refused : goal.returns-clause-refused
 returns-clause-refused c = λ limits list key old number by is value.
     let sum : Item = numbered (quotas limits list) (after limits list) (changes limits list + 1) key old ((number + by) % (2 ^ 64)) in
-    subst (λ (l : Limits). (answer limits list (Incr key by) ≡ Refused E7) ↔ ExceedsQuotas l (map.insert (after limits list) key sum)) (quotas_stay limits list)
-    (rw (ap (λ (e : Effect). e.reply) (incr_there (quotas limits list) (after limits list) (changes limits list + 1) key old number by is value))
-    (stored_refused (quotas limits list) (after limits list) key sum (Number ((number + by) % (2 ^ 64))) (λ same. cc)))
+    rw (ap (λ (e : Effect). e.reply) (incr_there (quotas limits list) (after limits list) (changes limits list + 1) key old number by is value))
+    (stored_refused (quotas limits list) (after limits list) key sum (Number ((number + by) % (2 ^ 64))) (λ same. cc))
 
 pub returns-clause-difference : goal.returns-clause-difference
 returns-clause-difference c = λ limits list key old left by is value.

@@ -10,7 +10,7 @@ returns-in-Left-clause-serves g c =
     begins_new c.args.limits c.args.places c.in-Ok.opened.0 c.in-Ok.opened.1 c.new-conn.result c.in-Ok-open.worker (both (g.I.Input.tells c.args.input.now) (g.O.Output.tells c.args.output.now))
     c.in-Ok.ensures.opened
     (c.new-conn.ensures.tenant ∙ c.first_tenant.ensures, c.new-conn.ensures.holding, c.new-conn.ensures.queue, c.new-conn.ensures.open.0, c.new-conn.ensures.open.1)
-    c.in-Ok-open.ensures.log c.in-Ok-open.ensures.seat c.in-Ok-open.ensures.history
+    c.in-Ok-open.ensures.log c.in-Ok-open.ensures.seat c.in-Ok-open.ensures.history c.in-Ok-open.ensures.openings
     in
     let after = scene c.pump-served.new.conn c.pump-served.new.worker (both (g.I.Input.tells c.pump-served.new.input) (g.O.Output.tells c.pump-served.new.output)) in
     result_serves _ _ _ begins c.pump-served.result after (c.pump-served.ensures.serves c.new-conn.ensures.open.2)
@@ -21,7 +21,7 @@ returns-in-Left-clause-stops g c =
     begins_new c.args.limits c.args.places c.in-Ok.opened.0 c.in-Ok.opened.1 c.new-conn.result c.in-Ok-open.worker (both (g.I.Input.tells c.args.input.now) (g.O.Output.tells c.args.output.now))
     c.in-Ok.ensures.opened
     (c.new-conn.ensures.tenant ∙ c.first_tenant.ensures, c.new-conn.ensures.holding, c.new-conn.ensures.queue, c.new-conn.ensures.open.0, c.new-conn.ensures.open.1)
-    c.in-Ok-open.ensures.log c.in-Ok-open.ensures.seat c.in-Ok-open.ensures.history
+    c.in-Ok-open.ensures.log c.in-Ok-open.ensures.seat c.in-Ok-open.ensures.history c.in-Ok-open.ensures.openings
     in
     let after = scene c.pump-served.new.conn c.pump-served.new.worker (both (g.I.Input.tells c.pump-served.new.input) (g.O.Output.tells c.pump-served.new.output)) in
     result_stops _ _ _ begins c.pump-served.result after c.pump-served.ensures.stops c.pump-served.ensures.late
@@ -32,7 +32,7 @@ returns-in-Left-clause-failures g c =
     begins_new c.args.limits c.args.places c.in-Ok.opened.0 c.in-Ok.opened.1 c.new-conn.result c.in-Ok-open.worker (both (g.I.Input.tells c.args.input.now) (g.O.Output.tells c.args.output.now))
     c.in-Ok.ensures.opened
     (c.new-conn.ensures.tenant ∙ c.first_tenant.ensures, c.new-conn.ensures.holding, c.new-conn.ensures.queue, c.new-conn.ensures.open.0, c.new-conn.ensures.open.1)
-    c.in-Ok-open.ensures.log c.in-Ok-open.ensures.seat c.in-Ok-open.ensures.history
+    c.in-Ok-open.ensures.log c.in-Ok-open.ensures.seat c.in-Ok-open.ensures.history c.in-Ok-open.ensures.openings
     in
     let after = scene c.pump-served.new.conn c.pump-served.new.worker (both (g.I.Input.tells c.pump-served.new.input) (g.O.Output.tells c.pump-served.new.output)) in
     result_counts _ _ _ begins c.pump-served.result after (c.pump-served.ensures.serves c.new-conn.ensures.open.2) c.pump-served.ensures.stops
@@ -43,7 +43,7 @@ returns-in_default-clause-serves g c =
     begins_new c.args.limits c.args.places c.in-Ok.opened.0 c.in-Ok.opened.1 c.new-conn.result c.in-Ok-open.worker (both (g.I.Input.tells c.args.input.now) (g.O.Output.tells c.args.output.now))
     c.in-Ok.ensures.opened
     (c.new-conn.ensures.tenant ∙ c.first_tenant.ensures, c.new-conn.ensures.holding, c.new-conn.ensures.queue, c.new-conn.ensures.open.0, c.new-conn.ensures.open.1)
-    c.in-Ok-open.ensures.log c.in-Ok-open.ensures.seat c.in-Ok-open.ensures.history
+    c.in-Ok-open.ensures.log c.in-Ok-open.ensures.seat c.in-Ok-open.ensures.history c.in-Ok-open.ensures.openings
     in
     let after = scene c.pump-served.new.conn c.pump-served.new.worker (both (g.I.Input.tells c.pump-served.new.input) (g.O.Output.tells c.pump-served.new.output)) in
     result_serves _ _ _ begins c.pump-served.result after (c.pump-served.ensures.serves c.new-conn.ensures.open.2)
@@ -54,7 +54,7 @@ returns-in_default-clause-stops g c =
     begins_new c.args.limits c.args.places c.in-Ok.opened.0 c.in-Ok.opened.1 c.new-conn.result c.in-Ok-open.worker (both (g.I.Input.tells c.args.input.now) (g.O.Output.tells c.args.output.now))
     c.in-Ok.ensures.opened
     (c.new-conn.ensures.tenant ∙ c.first_tenant.ensures, c.new-conn.ensures.holding, c.new-conn.ensures.queue, c.new-conn.ensures.open.0, c.new-conn.ensures.open.1)
-    c.in-Ok-open.ensures.log c.in-Ok-open.ensures.seat c.in-Ok-open.ensures.history
+    c.in-Ok-open.ensures.log c.in-Ok-open.ensures.seat c.in-Ok-open.ensures.history c.in-Ok-open.ensures.openings
     in
     let after = scene c.pump-served.new.conn c.pump-served.new.worker (both (g.I.Input.tells c.pump-served.new.input) (g.O.Output.tells c.pump-served.new.output)) in
     result_stops _ _ _ begins c.pump-served.result after c.pump-served.ensures.stops c.pump-served.ensures.late
@@ -65,7 +65,7 @@ returns-in_default-clause-failures g c =
     begins_new c.args.limits c.args.places c.in-Ok.opened.0 c.in-Ok.opened.1 c.new-conn.result c.in-Ok-open.worker (both (g.I.Input.tells c.args.input.now) (g.O.Output.tells c.args.output.now))
     c.in-Ok.ensures.opened
     (c.new-conn.ensures.tenant ∙ c.first_tenant.ensures, c.new-conn.ensures.holding, c.new-conn.ensures.queue, c.new-conn.ensures.open.0, c.new-conn.ensures.open.1)
-    c.in-Ok-open.ensures.log c.in-Ok-open.ensures.seat c.in-Ok-open.ensures.history
+    c.in-Ok-open.ensures.log c.in-Ok-open.ensures.seat c.in-Ok-open.ensures.history c.in-Ok-open.ensures.openings
     in
     let after = scene c.pump-served.new.conn c.pump-served.new.worker (both (g.I.Input.tells c.pump-served.new.input) (g.O.Output.tells c.pump-served.new.output)) in
     result_counts _ _ _ begins c.pump-served.result after (c.pump-served.ensures.serves c.new-conn.ensures.open.2) c.pump-served.ensures.stops

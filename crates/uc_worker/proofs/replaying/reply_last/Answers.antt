@@ -1,7 +1,7 @@
 -- All before is replayed, and then what was put is seen at the last place.
 use Rattle.std.proofs.Common.{◌≡◌, ℕ, ◌-◌, List, length, take, slice_get, Some, sym, ap, ◌∙◌, subst}
-use Rattle.mc_model.specs.declared.settings.Limits.{Limits}
 use Rattle.mc_model.specs.Replay.{reply_to}
+use Rattle.mc_model.specs.State.{TableState}
 use Rattle.uc_cells.specs.Sighting.{entries}
 use Rattle.uc_log.specs.declared.pass.Pass.{Pass}
 use Rattle.uc_log.specs.Passes.{learned, own_sightings, row_of, worker}
@@ -49,4 +49,4 @@ returns-clause-reply g c =
     ticket found in
     let mine : entry.ticket.worker ≡ replica.worker = c.requires.own ∙ sym (c.replay_to.ensures.worker ∙ c.requires.whose) in
     sym c.in-Some.is ∙ (reply_is replica.worker _ replica.openings replica.history _ entry (row_of log entry.ticket) seen _ is mine c.in_ok-reply.ensures.history here
-    c.in_ok-reply.ensures.reply ∙ ap (λ (openings : List Limits). reply_to openings (entries (take (length (learned pass) - 1) c.replay.new.self.history)) (Some entry)) c.replay_to.ensures.opened.1)
+    c.in_ok-reply.ensures.reply ∙ ap (λ (openings : List TableState). reply_to openings (entries (take (length (learned pass) - 1) c.replay.new.self.history)) (Some entry)) c.replay_to.ensures.opened.1)

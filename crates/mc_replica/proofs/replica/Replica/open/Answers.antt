@@ -1,13 +1,14 @@
 use Rattle.std.proofs.Common.{rules}
-use Rattle.mc_model.specs.Replay.{EachStands-none}
+use Rattle.mc_model.specs.Replay.{EachStands-none, HaveRoom-empty, empty_tables}
 use Rattle.mc_replica.proofs.replica.Replica.open.Goals as goal
 
 pub invariant_of-result : goal.invariant_of-result
 invariant_of-result c = record {
   few = search rules;
   reserved = search rules;
-  stands = rw (c.in_ok-history.ensures.items, c.in_ok-openings.ensures.items, c.in_ok-tables.ensures.tables) (EachStands-none c.args.limits.now);
+  uniques = rw c.in_ok-limits_kept.ensures.items (HaveRoom-empty c.args.limits.now c.args.places (search rules));
+  stands = rw (c.in_ok-history.ensures.items, c.in_ok-limits_kept.ensures.items, c.in_ok-tables.ensures.tables) (EachStands-none (empty_tables c.args.limits.now));
 }
 
 pub returns-clause-stands : goal.returns-clause-stands
-returns-clause-stands c = rw (c.in_ok-history.ensures.items, c.in_ok-openings.ensures.items, c.in_ok-tables.ensures.tables) (EachStands-none c.args.limits.now)
+returns-clause-stands c = rw (c.in_ok-history.ensures.items, c.in_ok-limits_kept.ensures.items, c.in_ok-tables.ensures.tables) (EachStands-none (empty_tables c.args.limits.now))

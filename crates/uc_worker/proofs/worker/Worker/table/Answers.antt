@@ -1,10 +1,9 @@
 -- There is a table for each tenant's quotas.
 use Rattle.std.proofs.Common.{List, length, sym, ap, ◌∙◌, subst, ◌<◌, ℕ}
-use Rattle.mc_model.specs.declared.settings.Limits.{Limits}
 use Rattle.mc_model.specs.Replay.{EachStands-length}
 use Rattle.uc_cells.specs.Sighting.{entries}
 use Rattle.uc_worker.proofs.worker.Worker.table.Goals as goal
 
 pub table-requires : goal.table-requires
 table-requires c = let worker = c.args.self.now in
-    subst (λ (n : ℕ). c.args.tenant < n) (sym (EachStands-length worker.replica.openings (entries worker.replica.history) worker.replica.tables c.history.ensures.stands ∙ ap (λ (list : List Limits). length list) worker.opened.1)) c.requires
+    subst (λ (n : ℕ). c.args.tenant < n) (sym (EachStands-length worker.replica.openings (entries worker.replica.history) worker.replica.tables c.history.ensures.stands ∙ worker.opened.1)) c.requires
