@@ -1,7 +1,7 @@
 //! A memcached server for one client, from standard input to standard output.
 #![tactic(auto)]
 
-use mc_server::{ReadInput, WriteOutput, refuse_words, run_stdin, words_after_name};
+use mc_programs::{ReadInput, WriteOutput, refuse_words, run_stdin, words_after_name};
 use std::process::ExitCode;
 
 fn main(rt: HostRuntime) -> ExitCode {
