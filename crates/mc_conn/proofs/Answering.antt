@@ -17,13 +17,15 @@ use Rattle.uc_worker.specs.declared.worker.Worker.{Worker}
 use Rattle.uc_worker.specs.Steps.{IsSame, Leaves}
 use Rattle.uc_worker.specs.Worker.{announced_of, history_of, next_of, openings_of, seat_of}
 use Rattle.uc_worker.proofs.Lists.{begins_length, begins_pushed, begins_same, begins_self, last_at}
-use Rattle.mc_conn.specs.Onward.{IsOnward, own_entry, own_sighting}
+use Rattle.mc_conn.specs.Onward.{own_entry, own_sighting}
+use Rattle.uc_worker.specs.declared.worker.Answer.{Answer}
+use Rattle.uc_worker.specs.Going.{AnnouncesAtMost, GoesOn, Submits}
 use Rattle.mc_conn.specs.Owed.{answered, mark_of}
 use Rattle.mc_conn.specs.Parts.{Answers, MayAnnounce, MayAnnounceFor, Responds}
 use Rattle.mc_conn.proofs.Counts.{number_below}
 use Rattle.mc_conn.proofs.Owings.{same_entry, same_sighting}
 
-module _ (old new : Worker) (tenant : ℕ) (command : Command) (on : IsOnward old new) where
+module _ (old new : Worker) (tenant : ℕ) (command : Command) (on : GoesOn old new) where
   number : ℕ
   number = length (announced_of old)
 
@@ -43,34 +45,30 @@ module _ (old new : Worker) (tenant : ℕ) (command : Command) (on : IsOnward ol
   unfolding number
   one_more more = ap (λ (list : List Sighting). length list) more ∙ length-append (announced_of old) (next_of old tenant command ∷ [])
 
-  pub placed_answers : (place : ℕ) (reply : Reply) → length (history_of old) ≤ place → length (history_of new) ≡ place + 1 →
-      slice_get (history_of new) place ≡ Some (next_of old tenant command) →
-      Some reply ≡ reply_to (openings_of old) (entries (take place (history_of new))) (Some (next_entry old.pass tenant command)) →
-      announced_of new ≡ announced_of old ++ next_of old tenant command ∷ [] → Answers old new tenant command reply
+  pub placed_answers : (answer : Answer) → Submits old new tenant command answer → Answers old new tenant command answer.reply
   unfolding number
-  placed_answers place reply later last stands replies more = record {
-    next = record { number = number + 1; place = place + 1 };
+  placed_answers answer submits = record {
+    next = record { number = number + 1; place = answer.place + 1 };
     is = inl (record {
-      place = place;
-      not_before = later;
-      announced = announced_at more;
-      stands = stands ∙ ap (λ (seen : Sighting). Some seen) next_now;
-      reply_is = replies ∙ (λ i. reply_to (sym on.openings i) (entries (take place (history_of new))) (Some (entry_is i)));
+      place = answer.place;
+      not_before = submits.place;
+      announced = announced_at submits.announced;
+      stands = submits.own ∙ ap (λ (seen : Sighting). Some seen) next_now;
+      reply_is = submits.reply ∙ (λ i. reply_to (sym on.openings i) (entries (take answer.place (history_of new))) (Some (entry_is i)));
       next = refl;
     });
-    number = one_more more;
-    place = omega (arith, last);
+    number = one_more submits.announced;
+    place = omega (arith, submits.last);
   }
     where
       entry_is : next_entry old.pass tenant command ≡ own_entry new (length (announced_of old)) tenant command
       entry_is = (λ i. own_entry old (sym old.pass.count i) tenant command) ∙ same_entry old new on (length (announced_of old)) tenant command
 
-  pub may_announce : (announced_of new ≡ announced_of old) ⊎ (announced_of new ≡ announced_of old ++ next_of old tenant command ∷ []) → MayAnnounce old new tenant command
+  pub may_announce : AnnouncesAtMost old new tenant command → MayAnnounce old new tenant command
   unfolding number
   may_announce kept = ⊎_elim inl (λ more. inr (more ∙ ap (λ (seen : Sighting). announced_of old ++ seen ∷ []) next_is)) kept
 
-  pub full_answers : (announced_of new ≡ announced_of old) ⊎ (announced_of new ≡ announced_of old ++ next_of old tenant command ∷ []) →
-      (fault : Fault) → fault ≡ LogFull → Leaves fault (seat_of old) (seat_of new) → Answers old new tenant command (Refused E10)
+  pub full_answers : AnnouncesAtMost old new tenant command → (fault : Fault) → fault ≡ LogFull → Leaves fault (seat_of old) (seat_of new) → Answers old new tenant command (Refused E10)
   unfolding number
   full_answers kept fault is leaves =
       let full = leaves.full is in
@@ -122,16 +120,3 @@ responds_reply old new tenant command quiet reply before after answers queued = 
   queued = queued;
   owes = (reply, answers.next, [], answers.is, sym (append-nil (answered quiet reply)), (refl, answers.number, answers.place));
 }
-
--- the worker goes on, whatever a submit answers
-module _ (old new : Worker) (tenant : ℕ) (command : Command) (log : new.log ≡ old.log) (openings : openings_of new ≡ openings_of old) (same : IsSame (seat_of old) (seat_of new))
-    (history : BeginsWith (history_of new) (history_of old)) (learned : BeginsWith (seat_of new).state.learned (seat_of old).state.learned) where
-  pub goes_on : (announced_of new ≡ announced_of old) ⊎ (announced_of new ≡ announced_of old ++ next_of old tenant command ∷ []) → IsOnward old new
-  goes_on kept = record {
-    log = log;
-    openings = openings;
-    same = same;
-    history = history;
-    announced = ⊎_elim (begins_same (announced_of new) (announced_of old)) (λ more. begins_pushed (announced_of new) (announced_of old) (announced_of old) _ more (begins_self (announced_of old))) kept;
-    learned = learned;
-  }

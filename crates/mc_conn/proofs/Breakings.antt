@@ -17,12 +17,14 @@ use Rattle.uc_worker.proofs.Lists.{last_at}
 use Rattle.mc_conn.specs.declared.conn.Conn.{Conn}
 use Rattle.mc_conn.specs.Ending.{Breaks, CountsFailures, Meets}
 use Rattle.mc_conn.specs.Held.{HoldsOn, IsRead}
-use Rattle.mc_conn.specs.Onward.{IsOnward, own_sighting}
+use Rattle.mc_conn.specs.Onward.{own_sighting}
+use Rattle.uc_worker.specs.Going.{GoesOn}
 use Rattle.mc_conn.specs.Owed.{Owes, mark_of}
 use Rattle.mc_conn.specs.Parts.{IsTakeFault, MayAnnounceFor}
 use Rattle.mc_conn.specs.Turn.{NeitherFails, Scene, Takes, holding_of, queue_of, scene}
 use Rattle.mc_conn.proofs.Lists.{appended_twice, joined}
-use Rattle.mc_conn.proofs.Owings.{onward_self, onward_trans, owes_append, owes_grow, same_sighting}
+use Rattle.mc_conn.proofs.Owings.{owes_append, owes_grow, same_sighting}
+use Rattle.uc_worker.proofs.Going.{goes_self, goes_through}
 
 counts_later : (fault : Fault) (first second third : Streams) → NeitherFails first second → CountsFailures fault second third → CountsFailures fault first third
 counts_later Memory first second third one two = (two.0 ∙ one.0, two.1 ∙ one.1)
@@ -49,7 +51,7 @@ breaks_later fault a b c one two = record {
       let ended = two.reads more begun.0 begun.2 in
       (ended.0, begun.1 ∙ (ap (λ (list : List Request). one.requests ++ list) ended.1 ∙ sym (append_assoc one.requests two.requests (two.met ++ ended.0))));
   tenant = two.tenant ∙ one.tenant;
-  onward = onward_trans _ _ _ one.onward two.onward;
+  onward = goes_through _ _ _ one.onward two.onward;
   mark = two.mark;
   owes =
       owes_append c.worker a.conn.tenant (mark_of a.worker) one.requests two.requests one.owed two.owed (mark_of b.worker) two.mark
@@ -76,7 +78,7 @@ breaks_here fault old new worker before after came sent pulled consumed pushed t
   pushed = pushed;
   reads = λ more all reads. (all, refl);
   tenant = tenant;
-  onward = onward_self worker;
+  onward = goes_self worker;
   mark = mark_of worker;
   owes = (refl, refl, omega arith);
   meets = refl;
@@ -112,7 +114,7 @@ breaks_looking fault old new worker streams which tenant queue =
     (take_counts fault streams which) (omega arith)
 
 -- what the request that met a fault announced
-meets_one : (worker later : Worker) (tenant : ℕ) (request : Request) → IsOnward worker later → MayAnnounceFor worker later tenant request → Meets later tenant (mark_of worker) (request ∷ [])
+meets_one : (worker later : Worker) (tenant : ℕ) (request : Request) → GoesOn worker later → MayAnnounceFor worker later tenant request → Meets later tenant (mark_of worker) (request ∷ [])
 meets_one worker later tenant (Logged command quiet) on may = (
   refl,
   ⊎_elim
@@ -130,7 +132,7 @@ meets_one worker later tenant TooLong on may = (refl, ap (λ (list : List Sighti
 
 -- while a request was taken
 pub breaks_taking : (fault : Fault) (old new : Conn) (worker later : Worker) (streams : Streams) (request : Request) → IsTakeFault fault → IsRead (holding_of old) [] (request ∷ []) (holding_of new) →
-    new.tenant ≡ old.tenant → queue_of new ≡ queue_of old → IsOnward worker later → MayAnnounceFor worker later old.tenant request →
+    new.tenant ≡ old.tenant → queue_of new ≡ queue_of old → GoesOn worker later → MayAnnounceFor worker later old.tenant request →
     Breaks fault (scene old worker streams) (scene new later streams)
 breaks_taking fault old new worker later streams request which read tenant queue on may = record {
   came = [];

@@ -15,34 +15,16 @@ use Rattle.uc_cells.specs.Sighting.{Sighting, entries}
 use Rattle.uc_worker.specs.declared.worker.Worker.{Worker}
 use Rattle.uc_worker.specs.Worker.{announced_of, history_of, seat_of, openings_of, sighting_of}
 use Rattle.uc_worker.proofs.Lists.{at_longer, begins_length, begins_self, begins_through, begins_whole}
-use Rattle.mc_conn.specs.Onward.{IsFull, IsOnward, own_entry, own_sighting}
+use Rattle.mc_conn.specs.Onward.{own_entry, own_sighting}
+use Rattle.uc_worker.specs.Going.{GoesOn}
+use Rattle.uc_worker.specs.Worker.{IsFull}
 use Rattle.mc_conn.specs.Owed.{IsAnswered, IsPlaced, IsTurnedAway, Mark, Owes, answered, mark_of}
 use Rattle.mc_conn.proofs.Lists.{take_longer}
-
-pub onward_self : (worker : Worker) → IsOnward worker worker
-onward_self worker = record {
-  log = refl;
-  openings = refl;
-  same = (refl, refl);
-  history = begins_self (history_of worker);
-  announced = begins_self (announced_of worker);
-  learned = begins_self (seat_of worker).state.learned;
-}
-
-pub onward_trans : (first second third : Worker) → IsOnward first second → IsOnward second third → IsOnward first third
-onward_trans first second third one two = record {
-  log = two.log ∙ one.log;
-  openings = two.openings ∙ one.openings;
-  same = (two.same.0 ∙ one.same.0, two.same.1 ∙ one.same.1);
-  history = begins_through _ _ _ two.history one.history;
-  announced = begins_through _ _ _ two.announced one.announced;
-  learned = begins_through _ _ _ two.learned one.learned;
-}
 
 stays_at : (old new : List Sighting) (place : ℕ) (seen : Sighting) → BeginsWith new old → slice_get old place ≡ Some seen → slice_get new place ≡ Some seen
 stays_at old new place seen begins at = ap (λ (list : List Sighting). slice_get list place) begins.1 ∙ at_longer old begins.0 place seen at
 
-module _ (old new : Worker) (on : IsOnward old new) where
+module _ (old new : Worker) (on : GoesOn old new) where
   pub same_entry : (number tenant : ℕ) (command : Command) → own_entry old number tenant command ≡ own_entry new number tenant command
   same_entry number tenant command = ap (λ worker. record { ticket = ticket_of worker number; tenant = tenant; command = command }) (sym on.same.1)
 

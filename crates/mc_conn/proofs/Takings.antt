@@ -15,12 +15,13 @@ use Rattle.mc_stream.specs.Stream.{Inflow, Outflow, Streams, both}
 use Rattle.uc_worker.specs.declared.worker.Worker.{Worker}
 use Rattle.mc_conn.specs.declared.conn.Conn.{Conn}
 use Rattle.mc_conn.specs.Held.{IsRead}
-use Rattle.mc_conn.specs.Onward.{IsOnward}
+use Rattle.uc_worker.specs.Going.{GoesOn}
 use Rattle.mc_conn.specs.Owed.{Owes, mark_of}
 use Rattle.mc_conn.specs.Parts.{Does, Responds}
 use Rattle.mc_conn.specs.Turn.{NeitherFails, RemembersTheEnd, Scene, Takes, amount, holding_of, queue_of, scene}
 use Rattle.mc_conn.proofs.Lists.{appended_twice, joined}
-use Rattle.mc_conn.proofs.Owings.{onward_self, onward_trans, owes_append, owes_grow, owes_nothing}
+use Rattle.mc_conn.proofs.Owings.{owes_append, owes_grow, owes_nothing}
+use Rattle.uc_worker.proofs.Going.{goes_self, goes_through}
 use Rattle.mc_conn.proofs.Readings.{read_refl, read_trans}
 
 -- the end is remembered through two parts
@@ -89,7 +90,7 @@ takes_self a = record {
   pushed = sym (append-nil (moved a.streams.output.events));
   reads = read_refl (holding_of a.conn);
   tenant = refl;
-  onward = onward_self a.worker;
+  onward = goes_self a.worker;
   owes = owes_nothing a.worker a.conn.tenant;
   bytes = sym (append-nil (queue_of a.conn));
   unfailed = (refl, refl);
@@ -109,7 +110,7 @@ takes_trans a b c one two = record {
   pushed = appended_twice _ _ _ one.sent two.sent one.pushed two.pushed;
   reads = read_trans (holding_of a.conn) (holding_of b.conn) (holding_of c.conn) one.came two.came one.requests two.requests one.reads two.reads;
   tenant = two.tenant ∙ one.tenant;
-  onward = onward_trans _ _ _ one.onward two.onward;
+  onward = goes_through _ _ _ one.onward two.onward;
   owes =
       owes_append c.worker a.conn.tenant (mark_of a.worker) one.requests two.requests one.owed two.owed (mark_of b.worker) (mark_of c.worker)
       (owes_grow b.worker c.worker two.onward a.conn.tenant (mark_of a.worker) one.requests one.owed (mark_of b.worker) one.owes)
@@ -175,7 +176,7 @@ module _ (old new : Conn) (worker : Worker) (input : Inflow) (before after : Out
     pushed = went;
     reads = subst (λ holding. IsRead (holding_of old) [] [] holding) (sym same) (read_refl (holding_of old));
     tenant = tenant;
-    onward = onward_self worker;
+    onward = goes_self worker;
     owes = owes_nothing worker old.tenant;
     bytes = ap (λ rest. take count (queue_of old) ++ rest) left ∙ (take-append-drop count (queue_of old) ∙ sym (append-nil (queue_of old)));
     unfailed = (refl, unfailed);
@@ -202,7 +203,7 @@ does_looked old new worker streams read tenant ended queue over = record {
     pushed = sym (append-nil (moved streams.output.events));
     reads = read;
     tenant = tenant;
-    onward = onward_self worker;
+    onward = goes_self worker;
     owes = owes_nothing worker old.tenant;
     bytes = queue ∙ sym (append-nil (queue_of old));
     unfailed = (refl, refl);
@@ -215,7 +216,7 @@ does_looked old new worker streams read tenant ended queue over = record {
 
 -- a request is taken
 pub does_responded : (old new : Conn) (worker later : Worker) (streams : Streams) (request : Request) → IsRead (holding_of old) [] (request ∷ []) (holding_of new) → new.tenant ≡ old.tenant →
-    new.has_ended ≡ old.has_ended → new.is_over ≡ (old.is_over || ends_stream request) → IsOnward worker later →
+    new.has_ended ≡ old.has_ended → new.is_over ≡ (old.is_over || ends_stream request) → GoesOn worker later →
     Responds worker later old.tenant request (queue_of old) (queue_of new) → Does (scene old worker streams) (scene new later streams) true
 does_responded old new worker later streams request read tenant ended over on responds = record {
   takes = record {
@@ -254,7 +255,7 @@ module _ (old new : Conn) (worker : Worker) (before after : Inflow) (output : Ou
     pushed = sym (append-nil (moved output.events));
     reads = read;
     tenant = tenant;
-    onward = onward_self worker;
+    onward = goes_self worker;
     owes = owes_nothing worker old.tenant;
     bytes = queue ∙ sym (append-nil (queue_of old));
     unfailed = (unfailed, refl);

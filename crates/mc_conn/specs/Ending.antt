@@ -18,7 +18,8 @@ use Rattle.mc_conn.specs.declared.conn.State.{State}
 use Rattle.mc_conn.specs.declared.conn.State.TheVariants.{Closed, Idle, Busy}
 use Rattle.mc_conn.specs.declared.conn.TheConstants.{PULL_BYTES, QUEUE_BYTES}
 use Rattle.mc_conn.specs.Held.{HoldsNone, HoldsOn}
-use Rattle.mc_conn.specs.Onward.{IsOnward, own_sighting}
+use Rattle.mc_conn.specs.Onward.{own_sighting}
+use Rattle.uc_worker.specs.Going.{GoesOn}
 use Rattle.mc_conn.specs.Owed.{Mark, Owes, mark_of}
 use Rattle.mc_conn.specs.Turn.{NeitherFails, Scene, Takes, amount, holding_of, queue_of, scene}
 
@@ -106,7 +107,7 @@ pub record Breaks (fault : Fault) (before after : Scene) : Type 0 where
   pub reads : (more : List ℕ) (all : List Request) → HoldsOn (holding_of before.conn) (came ++ more) all →
       (others : List Request) × (all ≡ requests ++ (met ++ others))
   pub tenant : after.conn.tenant ≡ before.conn.tenant
-  pub onward : IsOnward before.worker after.worker
+  pub onward : GoesOn before.worker after.worker
   pub mark : Mark
   pub owes : Owes after.worker before.conn.tenant (mark_of before.worker) requests owed mark
   pub meets : Meets after.worker before.conn.tenant mark met

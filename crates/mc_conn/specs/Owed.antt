@@ -14,7 +14,8 @@ use Rattle.mc_write.specs.Text.{text}
 use Rattle.uc_cells.specs.Sighting.{entries}
 use Rattle.uc_worker.specs.declared.worker.Worker.{Worker}
 use Rattle.uc_worker.specs.Worker.{announced_of, history_of, openings_of, seat_of}
-use Rattle.mc_conn.specs.Onward.{IsFull, own_entry, own_sighting}
+use Rattle.mc_conn.specs.Onward.{own_entry, own_sighting}
+use Rattle.uc_worker.specs.Worker.{IsFull}
 
 -- the text of a reply, or nothing where the request is quiet
 abbrev pub answered : Bool → Reply → List ℕ

@@ -11,7 +11,7 @@ use Rattle.mc_stream.specs.Stream.{Streams}
 use Rattle.uc_worker.specs.declared.worker.Worker.{Worker}
 use Rattle.mc_conn.specs.declared.conn.Conn.{Conn}
 use Rattle.mc_conn.specs.Held.{Holding, IsRead}
-use Rattle.mc_conn.specs.Onward.{IsOnward}
+use Rattle.uc_worker.specs.Going.{GoesOn}
 use Rattle.mc_conn.specs.Owed.{Owes, mark_of}
 
 -- all that a turn sees: the connection, the worker, and what the input and the output tell
@@ -55,7 +55,7 @@ pub record Takes (before after : Scene) : Type 0 where
   pub pushed : Pushes before.streams.output after.streams.output sent
   pub reads : IsRead (holding_of before.conn) came requests (holding_of after.conn)
   pub tenant : after.conn.tenant ≡ before.conn.tenant
-  pub onward : IsOnward before.worker after.worker
+  pub onward : GoesOn before.worker after.worker
   pub owes : Owes after.worker before.conn.tenant (mark_of before.worker) requests owed (mark_of after.worker)
   pub bytes : sent ++ queue_of after.conn ≡ queue_of before.conn ++ owed
   pub unfailed : NeitherFails before.streams after.streams

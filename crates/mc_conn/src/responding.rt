@@ -2,7 +2,7 @@
 ghost use Rattle.std.specs.Prelude.{◌≡◌, ◌<◌, ◌++◌, length, IfOk, IfErr, IsOkUnless, OnOk, OnErr};
 ghost use Rattle.mc_model.specs.declared.fault.Fault.TheVariants as faults;
 ghost use Rattle.uc_worker.specs.Worker.{tenants_of};
-ghost use Rattle.mc_conn.specs.Onward.{IsOnward};
+ghost use Rattle.uc_worker.specs.Going.{GoesOn};
 ghost use Rattle.mc_conn.specs.Owed.{answered};
 ghost use Rattle.mc_conn.specs.Parts.{Answers, IsTakeFault, MayAnnounce, MayAnnounceFor, Responds};
 
@@ -18,7 +18,7 @@ fn answer<G: Gate>(
     gate: &mut G,
 ) -> Result<Reply, Fault>
     requires tenant { tenant < length (tenants_of worker.old) }
-    ensures onward { IsOnward worker.old worker.new }
+    ensures onward { GoesOn worker.old worker.new }
     ensures answers { IfOk result (λ reply. Answers worker.old worker.new tenant command reply) }
     ensures announced { MayAnnounce worker.old worker.new tenant command }
     ensures faults { IfErr result IsTakeFault }
@@ -53,7 +53,7 @@ pub(crate) fn respond<G: Gate>(
     gate: &mut G,
 ) -> Result<(), Fault>
     requires tenant { tenant < length (tenants_of worker.old) }
-    ensures onward { IsOnward worker.old worker.new }
+    ensures onward { GoesOn worker.old worker.new }
     ensures responds { OnOk result (Responds worker.old worker.new tenant request queue.old queue.new) }
     ensures announced { OnErr result (MayAnnounceFor worker.old worker.new tenant request) }
     ensures unchanged { OnErr result (queue.new ≡ queue.old) }

@@ -7,7 +7,7 @@ ghost use Rattle.mc_stream.specs.Stream.{Streams};
 ghost use Rattle.uc_worker.specs.Worker.{tenants_of};
 ghost use Rattle.mc_conn.specs.Ending.{Breaks};
 ghost use Rattle.mc_conn.specs.Held.{HoldsNone, IsRead};
-ghost use Rattle.mc_conn.specs.Onward.{IsOnward};
+ghost use Rattle.uc_worker.specs.Going.{GoesOn};
 ghost use Rattle.mc_conn.specs.Parts.{Does, IsHeldBehind, IsSameBeside, IsTakeFault};
 ghost use Rattle.mc_conn.specs.Turn.{holding_of, queue_of, scene};
 
@@ -45,7 +45,7 @@ impl Conn {
             ((request : Request) × IsRead (holding_of self.old) [] (request ∷ []) (holding_of self.new)) (self.old.waiting ≡ None)) }
         ensures still { IfOk result (λ did. did ≡ false → self.new ≡ self.old) }
         ensures same { IsSameBeside self.old self.new }
-        ensures onward { IsOnward worker.old worker.new }
+        ensures onward { GoesOn worker.old worker.new }
         ensures faults { IfErr result IsTakeFault }
         ensures breaks { IfErr result (λ fault. (streams : Streams) → Breaks fault (scene self.old worker.old streams) (scene self.new worker.new streams)) }
     {
@@ -67,7 +67,7 @@ impl Conn {
         ensures fewer { IfOk result (λ did. did ≡ true → (request : Request) × IsRead (holding_of self.old) [] (request ∷ []) (holding_of self.new)) }
         ensures held { IfOk result (λ did. did ≡ false → IsHeldBehind self.new) }
         ensures same { IsSameBeside self.old self.new }
-        ensures onward { IsOnward worker.old worker.new }
+        ensures onward { GoesOn worker.old worker.new }
         ensures faults { IfErr result IsTakeFault }
         ensures breaks { IfErr result (λ fault. (streams : Streams) → Breaks fault (scene self.old worker.old streams) (scene self.new worker.new streams)) }
     {
@@ -88,7 +88,7 @@ impl Conn {
         ensures does { IfOk result (λ did. (streams : Streams) → Does (scene self.old worker.old streams) (scene self.new worker.new streams) did) }
         ensures held { OnOk result (IsHeldBehind self.new) }
         ensures same { IsSameBeside self.old self.new }
-        ensures onward { IsOnward worker.old worker.new }
+        ensures onward { GoesOn worker.old worker.new }
         ensures faults { IfErr result IsTakeFault }
         ensures breaks { IfErr result (λ fault. (streams : Streams) → Breaks fault (scene self.old worker.old streams) (scene self.new worker.new streams)) }
     {

@@ -5,7 +5,8 @@ use Rattle.std.proofs.lemmas.Option.{none-some, same_Some, slice_get_within}
 use Rattle.std.proofs.lemmas.Bool.{eqb-true}
 use Rattle.mc_conn.specs.Ending.{Breaks, Stops}
 use Rattle.mc_conn.specs.Held.{HoldsOn}
-use Rattle.mc_conn.specs.Onward.{IsOnward, own_sighting}
+use Rattle.mc_conn.specs.Onward.{own_sighting}
+use Rattle.uc_worker.specs.Going.{GoesOn}
 use Rattle.mc_conn.specs.Owed.{mark_of}
 use Rattle.mc_conn.specs.Turn.{Takes, holding_of, scene}
 use Rattle.mc_conn.specs.declared.conn.State.{State}
@@ -106,7 +107,7 @@ record Asking (from : ℕ) (v : View) : Type 0 where
 
 -- what a connection's turns have taken more, and announced
 record Step (before after : Worker) (old new : Connection) (taken : List Request) : Type 0 where
-  onward : IsOnward before after
+  onward : GoesOn before after
   tenant : new.conn.tenant ≡ old.conn.tenant
   more : List Request
   has_taken : HasTaken new (taken ++ more)
@@ -172,14 +173,14 @@ step_later before after old new state taken later opened had =
     later.served
 
 -- what was announced stays so
-announced_on : (before after : Worker) → IsOnward before after → (number tenant : ℕ) (command : _) → slice_get (announced_of before) number ≡ Some (own_sighting before number tenant command) →
+announced_on : (before after : Worker) → GoesOn before after → (number tenant : ℕ) (command : _) → slice_get (announced_of before) number ≡ Some (own_sighting before number tenant command) →
     slice_get (announced_of after) number ≡ Some (own_sighting after number tenant command)
 announced_on before after on number tenant command at =
     ap (λ list. slice_get list number) on.announced.1
     ∙ at_longer (announced_of before) on.announced.0 number _ at
     ∙ ap (λ seen. Some seen) (same_sighting before after on number tenant command)
 
-is_at_on : (before after : Worker) → IsOnward before after → (tenant number : ℕ) (requests more : List Request) (place : ℕ) → IsAt before tenant number requests place →
+is_at_on : (before after : Worker) → GoesOn before after → (tenant number : ℕ) (requests more : List Request) (place : ℕ) → IsAt before tenant number requests place →
     IsAt after tenant number (requests ++ more) place
 is_at_on before after on tenant number requests more place at = record {
   command = at.command;
@@ -188,7 +189,7 @@ is_at_on before after on tenant number requests more place at = record {
   announced = announced_on before after on number tenant at.command at.announced;
 }
 
-was_asked_on : (before after : Worker) → IsOnward before after → (ended : List Connection) (number asker request : ℕ) → WasAsked before ended number asker request →
+was_asked_on : (before after : Worker) → GoesOn before after → (ended : List Connection) (number asker request : ℕ) → WasAsked before ended number asker request →
     WasAsked after ended number asker request
 was_asked_on before after on ended number asker request asked = record {
   connection = asked.connection;

@@ -11,12 +11,13 @@ use Rattle.std.proofs.lemmas.Option.{same_Some}
 use Rattle.mc_conn.specs.Alone.{first_mark}
 use Rattle.mc_conn.specs.Ending.{Breaks, IsDone, Stops}
 use Rattle.mc_conn.specs.Held.{Holding, HoldsNone, HoldsOn, IsRead, Waits}
-use Rattle.mc_conn.specs.Onward.{IsOnward}
+use Rattle.uc_worker.specs.Going.{GoesOn}
 use Rattle.mc_conn.specs.Owed.{Mark, Owes, mark_of}
 use Rattle.mc_conn.specs.Turn.{Takes, holding_of, queue_of, scene}
 use Rattle.mc_conn.specs.declared.conn.State.{State}
 use Rattle.mc_conn.specs.declared.conn.State.TheVariants.{Closed, Idle, Busy}
-use Rattle.mc_conn.proofs.Owings.{onward_self, owes_grow}
+use Rattle.mc_conn.proofs.Owings.{owes_grow}
+use Rattle.uc_worker.proofs.Going.{goes_self}
 use Rattle.mc_conn.proofs.Readings.{read_refl, read_trans}
 use Rattle.mc_model.specs.Helping.{BeginsWith}
 use Rattle.mc_model.specs.declared.fault.Fault.{Fault}
@@ -75,17 +76,17 @@ pub record Lives (worker : Worker) (connection : Connection) : Type 0 where
   end : connection.conn.has_ended ≡ true → has_ended connection.received.events ≡ true
 
 -- what is owed in parts stays owed
-parts_grow : (old new : Worker) → IsOnward old new → (tenant : ℕ) (requests : List Request) (bytes : List ℕ) (to : Mark) → OwesInParts old tenant requests bytes to →
+parts_grow : (old new : Worker) → GoesOn old new → (tenant : ℕ) (requests : List Request) (bytes : List ℕ) (to : Mark) → OwesInParts old tenant requests bytes to →
     OwesInParts new tenant requests bytes to
 parts_grow old new on tenant _ _ _ none_yet = none_yet
 parts_grow old new on tenant _ _ _ (and_then requests more bytes others to from last parts behind owes) =
     and_then requests more bytes others to from last (parts_grow old new on tenant requests bytes to parts) behind (owes_grow old new on tenant from more others last owes)
 
-behind_grows : (old new : Worker) (to : Mark) → IsOnward old new → IsBehind to (mark_of old) → IsBehind to (mark_of new)
+behind_grows : (old new : Worker) (to : Mark) → GoesOn old new → IsBehind to (mark_of old) → IsBehind to (mark_of new)
 behind_grows old new to on behind =
     (omega (arith, behind.0, begins_length _ _ on.announced), omega (arith, behind.1, begins_length _ _ on.history))
 
-lives_on : (old new : Worker) (connection : Connection) → IsOnward old new → Lives old connection → Lives new connection
+lives_on : (old new : Worker) (connection : Connection) → GoesOn old new → Lives old connection → Lives new connection
 lives_on old new connection on lives = record {
   going = lives.going;
   unfailed = lives.unfailed;
@@ -100,7 +101,7 @@ lives_on old new connection on lives = record {
   end = lives.end;
 }
 
-answered_on : (old new : Worker) (connection : Connection) → IsOnward old new → WasAnswered old connection → WasAnswered new connection
+answered_on : (old new : Worker) (connection : Connection) → GoesOn old new → WasAnswered old connection → WasAnswered new connection
 answered_on old new connection on answered = record {
   requests = answered.requests;
   owed = answered.owed;
@@ -136,7 +137,7 @@ reads_from_earlier old new came more all pulled reads =
 
 module _ (before after : Worker) (old new : Connection) (tenant : new.conn.tenant ≡ old.conn.tenant) (lives : Lives before old) where
   -- the parts so far, over the worker as it is later on
-  parts_so_far : IsOnward before after → OwesInParts after new.conn.tenant lives.requests lives.owed lives.to
+  parts_so_far : GoesOn before after → OwesInParts after new.conn.tenant lives.requests lives.owed lives.to
   parts_so_far on =
       subst (λ (tenant : ℕ). OwesInParts after tenant lives.requests lives.owed lives.to) (sym tenant)
       (parts_grow before after on old.conn.tenant lives.requests lives.owed lives.to lives.owes)
@@ -249,14 +250,14 @@ answered_done worker connection lives done = record {
 
 -- one step of a table under a key: the worker goes on, what stays lives, and what has ended was answered
 record Steps (before after : Standing) (new : Option Connection) : Type 0 where
-  onward : IsOnward before.worker after.worker
+  onward : GoesOn before.worker after.worker
   stays : (connection : Connection) → new ≡ Some connection → Lives after.worker connection
   ended : All (WasAnswered before.worker) before.table.past.ended → All (WasAnswered after.worker) after.table.past.ended
 
-all_on : (old new : Worker) → IsOnward old new → (list : List Connection) → All (WasAnswered old) list → All (WasAnswered new) list
+all_on : (old new : Worker) → GoesOn old new → (list : List Connection) → All (WasAnswered old) list → All (WasAnswered new) list
 all_on old new on list all = λ i d inside. answered_on old new (slice_index_or list i d) on (all i d inside)
 
-later_onward : (before after : Worker) (old new : Connection) (state : State) → IsLater before after old new state → IsOnward before after
+later_onward : (before after : Worker) (old new : Connection) (state : State) → IsLater before after old new state → GoesOn before after
 later_onward before after old new state later =
     ⊎_elim (λ served. served.0.onward) (λ stopped. stops_onward stopped.0 (scene_of old before) (scene_of new after) stopped.1) later.served
 
@@ -285,7 +286,7 @@ steps_at : (before after : Standing) (state : State) (old new : Option Connectio
     ((connection : Connection) → old ≡ Some connection → Lives before.worker connection) →
     Becomes (IsLater before.worker after.worker) (after.worker ≡ before.worker) state before.table.past.ended after.table.past.ended old new → Steps before after new
 steps_at before after state None new lives (gone, still, idle, past) = record {
-  onward = subst (IsOnward before.worker) (sym still) (onward_self before.worker);
+  onward = subst (GoesOn before.worker) (sym still) (goes_self before.worker);
   stays = λ connection is. let no : None ≡ Some connection = sym gone ∙ is in cc;
   ended = λ all. subst (λ (worker : Worker). All (WasAnswered worker) after.table.past.ended) (sym still) (subst (All (WasAnswered before.worker)) (sym past) all);
 }

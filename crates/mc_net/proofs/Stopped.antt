@@ -2,10 +2,10 @@
 use Rattle.mc_model.specs.declared.fault.Fault.{Fault}
 use Rattle.mc_model.specs.declared.fault.Fault.TheVariants.{Memory, LogFull, Taken, Input, Output, BadEvent, BadSettings}
 use Rattle.mc_conn.specs.Ending.{Stops}
-use Rattle.mc_conn.specs.Onward.{IsOnward}
+use Rattle.uc_worker.specs.Going.{GoesOn}
 use Rattle.mc_conn.specs.Turn.{Scene}
 
-pub stops_onward : (fault : Fault) (before after : Scene) → Stops fault before after → IsOnward before.worker after.worker
+pub stops_onward : (fault : Fault) (before after : Scene) → Stops fault before after → GoesOn before.worker after.worker
 stops_onward Memory before after stops = stops.1.onward
 stops_onward LogFull before after stops = absurd stops
 stops_onward Taken before after stops = stops.onward

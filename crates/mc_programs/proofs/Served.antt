@@ -19,7 +19,7 @@ use Rattle.mc_conn.proofs.AloneOwed.{owes_in_order}
 use Rattle.mc_conn.specs.Alone.{IsAlone, first_mark, owed}
 use Rattle.mc_conn.specs.Ending.{Breaks, PullsAfter, PullsLate, Serves as ServesAll, Stops as StopsSo}
 use Rattle.mc_conn.specs.Held.{Holding, HoldsNone, HoldsOn, IsRead}
-use Rattle.mc_conn.specs.Onward.{IsOnward}
+use Rattle.uc_worker.specs.Going.{GoesOn}
 use Rattle.mc_conn.specs.Owed.{Mark, Owes, mark_of}
 use Rattle.mc_conn.specs.Turn.{Scene, holding_of, queue_of, scene}
 use Rattle.mc_programs.proofs.Owings.{owed-more}
@@ -94,7 +94,7 @@ reads_all start came requests after begun read none =
     none_follow held others nothing holds = (nothing.1 others).0 (subst (λ waiting. HoldsOn (record { waiting = waiting; held = held.held }) [] others) nothing.0 holds)
 
 module _ (limits : Limits) (places : ℕ) (start : Scene) (begins : Begins limits places start) where
-  alone_later : (worker : Worker) → IsOnward start.worker worker → IsAlone limits places worker
+  alone_later : (worker : Worker) → GoesOn start.worker worker → IsAlone limits places worker
   alone_later worker on = record {
     workers = ap (λ size. size.workers) on.same.0 ∙ begins.alone.workers;
     long = ap (λ size. size.places) on.same.0 ∙ begins.alone.long;
@@ -102,7 +102,7 @@ module _ (limits : Limits) (places : ℕ) (start : Scene) (begins : Begins limit
   }
 
   -- what is owed is the function of the requests
-  answers : (worker : Worker) (requests : List Request) (bytes : List ℕ) (mark : Mark) → IsOnward start.worker worker →
+  answers : (worker : Worker) (requests : List Request) (bytes : List ℕ) (mark : Mark) → GoesOn start.worker worker →
       Owes worker start.conn.tenant (mark_of start.worker) requests bytes mark → (bytes ≡ owed limits places requests) × Answers limits places requests (owed limits places requests)
   answers worker requests bytes mark on owes =
       let alone = alone_later worker on in

@@ -11,25 +11,16 @@ use Rattle.mc_model.specs.Helping.{BeginsWith}
 use Rattle.mc_model.specs.Legal.{IsLegal, count}
 use Rattle.mc_model.specs.Settings.{Configuration}
 use Rattle.mc_server.specs.Listeners.{CountsFrom}
-use Rattle.mc_server.specs.Network.{AreOf, AreWorkersOf, HasMet, HaveMet, IsLater, IsUpToDate, Meets, WasAnnounced, number_of, tickets_of}
+use Rattle.mc_server.specs.Network.{AreOf, AreWorkersOf, HasMet, HaveMet, Meets, WasAnnounced, number_of, tickets_of}
+use Rattle.uc_worker.specs.Going.{CatchesUp}
+use Rattle.uc_worker.specs.Worker.{IsUpToDate}
 use Rattle.uc_cells.specs.Sighting.{Sighting}
 use Rattle.uc_log.specs.declared.log.Log.{Log}
+use Rattle.uc_worker.proofs.Going.{catches_self, catches_through, same_count}
 use Rattle.uc_worker.proofs.Lists.{begins_length, begins_self, begins_through, begins_whole}
 use Rattle.uc_worker.proofs.Onward.{rests_either}
 use Rattle.uc_worker.specs.declared.worker.Worker.{Worker}
 use Rattle.uc_worker.specs.Worker.{announced_of, history_of, seat_of}
-
--- a worker is its own later one, and the later one of a later one
-pub later_self : (worker : Worker) → IsLater worker worker
-later_self worker = record { log = refl; same = (refl, refl); announced = refl; history = begins_self (history_of worker) }
-
-pub later_on : (old middle new : Worker) → IsLater old middle → IsLater middle new → IsLater old new
-later_on old middle new first second = record {
-  log = second.log ∙ first.log;
-  same = (second.same.0 ∙ first.same.0, second.same.1 ∙ first.same.1);
-  announced = second.announced ∙ first.announced;
-  history = begins_through (history_of new) (history_of middle) (history_of old) second.history first.history;
-}
 
 -- a history that is as long as the learned list has its tickets
 tickets_are : (history : List Sighting) (learned : List Ticket) →
@@ -60,27 +51,27 @@ own_commands worker whole =
     (rests_either (seat_of worker).state.phase worker.rests)
 
 -- two whose histories are equal have met
-pub has_met : (one other later : Worker) → other.log.now ≡ one.log.now → IsLater other later → history_of one ≡ history_of later → IsUpToDate later → HasMet one other
+pub has_met : (one other later : Worker) → other.log.now ≡ one.log.now → CatchesUp other later → history_of one ≡ history_of later → IsUpToDate later → HasMet one other
 has_met one other later of is equal whole =
     let own = own_commands later whole in
     let counted : count (number_of later) (tickets_of later) ≡ count (number_of other) (tickets_of one) =
-    λ i. count (is.same.1 i) (map (λ (seen : Sighting). seen.ticket) (sym equal i)) in
+    λ i. count (is.goes.same.1 i) (map (λ (seen : Sighting). seen.ticket) (sym equal i)) in
     record {
       log = of;
-      front = subst (λ history. BeginsWith history (history_of other)) (sym equal) is.history;
-      commands = omega (arith, own, counted, is.announced);
+      front = subst (λ history. BeginsWith history (history_of other)) (sym equal) is.goes.history;
+      commands = omega (arith, own, counted, same_count other later is);
     }
 
 -- one more has met, while the one came further
-meets_still : (old one new other after : Worker) → IsLater one new → Meets old one other after → Meets old new other after
+meets_still : (old one new other after : Worker) → CatchesUp one new → Meets old one other after → Meets old new other after
 meets_still old one new other after step met = record {
   later = met.later;
   whole = met.whole;
   most = met.most;
-  front = begins_through (history_of new) (history_of one) (history_of after) step.history met.front;
+  front = begins_through (history_of new) (history_of one) (history_of after) step.goes.history met.front;
 }
 
-pub one_more_met : (old one new : Worker) (others met : List Worker) (other after : Worker) → AllZip (Meets old one) others met → IsLater one new → Meets old new other after
+pub one_more_met : (old one new : Worker) (others met : List Worker) (other after : Worker) → AllZip (Meets old one) others met → CatchesUp one new → Meets old new other after
     → AllZip (Meets old new) (others ++ other ∷ []) (met ++ after ∷ [])
 one_more_met old one new [] [] other after before step now = (now, tt)
 one_more_met old one new [] (y ∷ ys) other after before step now = absurd before
@@ -89,26 +80,26 @@ one_more_met old one new (x ∷ xs) (y ∷ ys) other after before step now =
     (meets_still old one new x y step before.0, one_more_met old one new xs ys other after before.1 step now)
 
 -- the other's history is the one's then
-pub meets : (old one new other after : Worker) → IsLater old one → IsLater one new → IsLater other after → history_of new ≡ history_of after → IsUpToDate after → Meets old new other after
+pub meets : (old one new other after : Worker) → CatchesUp old one → CatchesUp one new → CatchesUp other after → history_of new ≡ history_of after → IsUpToDate after → Meets old new other after
 meets old one new other after before step later equal whole = record {
   later = later;
   whole = whole;
-  most = subst (λ history. BeginsWith history (history_of old)) equal (later_on old one new before step).history;
+  most = subst (λ history. BeginsWith history (history_of old)) equal (catches_through old one new before step).goes.history;
   front = subst (λ history. BeginsWith (history_of new) history) equal (begins_self (history_of new));
 }
 
 -- workers later on, after a round in which they met one
-pub all_later_self : (workers : List Worker) → AllZip IsLater workers workers
+pub all_later_self : (workers : List Worker) → AllZip CatchesUp workers workers
 all_later_self [] = tt
-all_later_self (x ∷ xs) = (later_self x, all_later_self xs)
+all_later_self (x ∷ xs) = (catches_self x, all_later_self xs)
 
-pub all_later_on : (old new : Worker) (workers between after : List Worker) → AllZip IsLater workers between → AllZip (Meets old new) between after → AllZip IsLater workers after
+pub all_later_on : (old new : Worker) (workers between after : List Worker) → AllZip CatchesUp workers between → AllZip (Meets old new) between after → AllZip CatchesUp workers after
 all_later_on old new [] [] [] later met = tt
 all_later_on old new [] [] (z ∷ zs) later met = absurd met
 all_later_on old new [] (y ∷ ys) after later met = absurd later
 all_later_on old new (x ∷ xs) [] after later met = absurd later
 all_later_on old new (x ∷ xs) (y ∷ ys) [] later met = absurd met
-all_later_on old new (x ∷ xs) (y ∷ ys) (z ∷ zs) later met = (later_on x y z later.0 met.0.later, all_later_on old new xs ys zs later.1 met.1)
+all_later_on old new (x ∷ xs) (y ∷ ys) (z ∷ zs) later met = (catches_through x y z later.0 met.0.later, all_later_on old new xs ys zs later.1 met.1)
 
 pub all_of : (log : Log) (old new : Worker) (workers after : List Worker) → AllZip (Meets old new) workers after → AreOf log workers → AreOf log after
 all_of log old new [] [] met of = of
@@ -116,26 +107,26 @@ all_of log old new [] (y ∷ ys) met of = absurd met
 all_of log old new (x ∷ xs) [] met of = absurd met
 all_of log old new (x ∷ xs) (y ∷ ys) met of =
     let P = λ (worker : Worker). worker.log.now ≡ log in
-    All-cons P y ys (ap (λ lent. lent.now) met.0.later.log ∙ All-head P x xs of) (all_of log old new xs ys met.1 (All-tail P x xs of))
+    All-cons P y ys (ap (λ lent. lent.now) met.0.later.goes.log ∙ All-head P x xs of) (all_of log old new xs ys met.1 (All-tail P x xs of))
 
 -- A worker later on, which has replayed all that it has learned, has the same history as the one.
 pub record HasCome (one worker after : Worker) : Type 0 where
-  pub later : IsLater worker after
+  pub later : CatchesUp worker after
   pub whole : IsUpToDate after
   pub equal : history_of one ≡ history_of after
 
-has_come : (old one worker between after : Worker) → length (history_of one) ≡ length (history_of old) → IsLater worker between → Meets old one between after → HasCome one worker after
+has_come : (old one worker between after : Worker) → length (history_of one) ≡ length (history_of old) → CatchesUp worker between → Meets old one between after → HasCome one worker after
 has_come old one worker between after still later met =
     let few = begins_length (history_of one) (history_of after) met.front in
     let most = begins_length (history_of after) (history_of old) met.most in
     record {
-      later = later_on worker between after later met.later;
+      later = catches_through worker between after later met.later;
       whole = met.whole;
       equal = sym (begins_whole (history_of one) (history_of after) met.front (omega arith));
     }
 
 -- so it is with all, after a round in which the one learned nothing more
-pub all_have_come : (old one : Worker) (workers between after : List Worker) → length (history_of one) ≡ length (history_of old) → AllZip IsLater workers between
+pub all_have_come : (old one : Worker) (workers between after : List Worker) → length (history_of one) ≡ length (history_of old) → AllZip CatchesUp workers between
     → AllZip (Meets old one) between after → AllZip (HasCome one) workers after
 all_have_come old one [] [] [] still later met = tt
 all_have_come old one [] [] (z ∷ zs) still later met = absurd met
@@ -159,9 +150,9 @@ own_announced : (one worker after : Worker) (place : ℕ) (ticket : Ticket) → 
 own_announced one worker after place ticket come at whose =
     let same : tickets_of one ≡ (seat_of after).state.learned = ap (map (λ (seen : Sighting). seen.ticket)) come.equal ∙ tickets_learned after come.whole in
     let there = subst (λ (tickets : List Ticket). slice_get tickets place ≡ Some ticket) same at in
-    let below : ticket.number < (seat_of after).state.announced = after.pass.desk.law.own place ticket there (whose ∙ sym come.later.same.1) in
+    let below : ticket.number < (seat_of after).state.announced = after.pass.desk.law.own place ticket there (whose ∙ sym come.later.goes.same.1) in
     let count : length (announced_of worker) ≡ (seat_of worker).state.announced = worker.pass.count in
-    omega (arith, below, count, come.later.announced)
+    omega (arith, below, count, same_count worker after come.later)
 
 -- of workers under numbers that go up by one, one has announced it
 was_announced : (one : Worker) (place : ℕ) (ticket : Ticket) → slice_get (tickets_of one) place ≡ Some ticket → (first : ℕ) (workers after : List Worker) → AllZip (HasCome one) workers after
@@ -182,9 +173,9 @@ was_announced one place ticket at first (x ∷ xs) (y ∷ ys) come numbers least
 
 -- Workers of a log whose histories are one worker's have met.
 pub have_met : (settings : Configuration) (log : Log) (workers after : List Worker) (first one : Worker) (number : ℕ) → AreWorkersOf settings log workers → Contains workers first
-    → IsLater first one → IsUpToDate one → AllZip (HasCome one) workers after → length (history_of one) ≡ number → HaveMet workers number
+    → CatchesUp first one → IsUpToDate one → AllZip (HasCome one) workers after → length (history_of one) ≡ number → HaveMet workers number
 have_met settings log workers after first one number all among later whole come long =
-    let of_one : one.log.now ≡ log = ap (λ lent. lent.now) later.log ∙ All-contains (λ (worker : Worker). worker.log.now ≡ log) workers first all.of among in
+    let of_one : one.log.now ≡ log = ap (λ lent. lent.now) later.goes.log ∙ All-contains (λ (worker : Worker). worker.log.now ≡ log) workers first all.of among in
     let size : (seat_of one).size.workers ≡ settings.workers =
     ap (λ (size : LogSize). size.workers) one.of.1 ∙ ap (λ (log : Log). log.settings.workers) of_one ∙ ap (λ (settings : Configuration). settings.workers) all.opened in
     record {

@@ -28,8 +28,8 @@ use Rattle.uc_log.specs.declared.log.Log.{Log}
 use Rattle.uc_log.specs.declared.pass.Pass.{Pass}
 use Rattle.uc_log.specs.Passes.{IsOf, learned, state}
 use Rattle.uc_worker.specs.declared.worker.Worker.{Worker}
-use Rattle.uc_worker.specs.Steps.{IsSame}
-use Rattle.uc_worker.specs.Worker.{announced_of, history_of, seat_of}
+use Rattle.uc_worker.specs.Going.{CatchesUp}
+use Rattle.uc_worker.specs.Worker.{IsUpToDate, announced_of, history_of, seat_of}
 
 -- the pass is of the log, and its worker has done nothing
 pub record IsFresh (log : Log) (pass : Pass) : Type 0 where
@@ -54,23 +54,12 @@ number_of worker = (seat_of worker).worker
 abbrev pub tickets_of : Worker → List Ticket
 tickets_of worker = map (λ (seen : Sighting). seen.ticket) (history_of worker)
 
--- it has replayed all that it has learned
-abbrev pub IsUpToDate : Worker → Type 0
-IsUpToDate worker = length (history_of worker) ≡ length (seat_of worker).state.learned
-
 -- The workers of a log with these settings, one for each number.
 pub record AreWorkersOf (settings : Configuration) (log : Log) (workers : List Worker) : Type 0 where
   pub opened : log.settings ≡ settings
   pub of : AreOf log workers
   pub many : length workers ≡ settings.workers
   pub numbers : CountsFrom 0 (map number_of workers)
-
--- the same worker later on: it has announced nothing more, and its history goes on
-pub record IsLater (old new : Worker) : Type 0 where
-  pub log : new.log ≡ old.log
-  pub same : IsSame (seat_of old) (seat_of new)
-  pub announced : (seat_of new).state.announced ≡ (seat_of old).state.announced
-  pub history : BeginsWith (history_of new) (history_of old)
 
 -- This worker has met the other: its history begins with the other's, and each command that the other has announced stands in it, but for
 -- one at most, which waits (Herlihy, Wait-Free Synchronization, TOPLAS 1991, the universal construction: all processes agree on one order
@@ -83,7 +72,7 @@ pub record HasMet (one other : Worker) : Type 0 where
 -- While a worker came from the first of these to the second, another met it and became the last: that one has replayed all that it has learned, which is no
 -- less than the worker had replayed at first, and a front of what it has replayed at last.
 pub record Meets (old new other after : Worker) : Type 0 where
-  pub later : IsLater other after
+  pub later : CatchesUp other after
   pub whole : IsUpToDate after
   pub most : BeginsWith (history_of after) (history_of old)
   pub front : BeginsWith (history_of new) (history_of after)
@@ -101,7 +90,7 @@ pub record HaveMet (workers : List Worker) (number : ℕ) : Type 0 where
   pub first : Worker
   pub among : Contains workers first
   pub one : Worker
-  pub later : IsLater first one
+  pub later : CatchesUp first one
   pub met : All (HasMet one) workers
   pub whole : IsUpToDate one
   pub once : IsLegal (tickets_of one)

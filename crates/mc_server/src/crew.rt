@@ -3,7 +3,9 @@ ghost use Rattle.std.specs.List.{AllZip};
 ghost use Rattle.std.specs.Prelude.{◌≡◌, ◌<◌, All, IfOk, IsOkUnless, OnOk, length, map, slice_get, Some, ℕ};
 ghost use Rattle.mc_model.specs.declared.fault.Fault.TheVariants as faults;
 ghost use Rattle.mc_server.specs.Listeners.{CountsFrom};
-ghost use Rattle.mc_server.specs.Network.{AreOf, AreWorkersOf, HasDoneNothing, HaveMet, IsLater, IsUpToDate, Meets, number_of};
+ghost use Rattle.mc_server.specs.Network.{AreOf, AreWorkersOf, HasDoneNothing, HaveMet, Meets, number_of};
+ghost use Rattle.uc_worker.specs.Going.{CatchesUp};
+ghost use Rattle.uc_worker.specs.Worker.{IsUpToDate};
 ghost use Rattle.uc_log.specs.Passes.{IsNew};
 
 use mc_model::Fault;
@@ -42,7 +44,7 @@ fn meet_others<'a>(
     requires whole { IsUpToDate one.old }
     ensures met { IfOk result (λ met. AllZip (Meets one.old one.new) others.entry.items met.items) }
     ensures whole { OnOk result (IsUpToDate one.new) }
-    ensures later { IsLater one.old one.new }
+    ensures later { CatchesUp one.old one.new }
     ensures memory { IsOkUnless result faults.Memory }
 {
     let mut met = Vec::with_capacity(alloc, others.len())?;

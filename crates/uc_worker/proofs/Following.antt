@@ -1,5 +1,5 @@
 -- Histories follow the learned lists.
-use Rattle.std.proofs.Common.{◌≡◌, ◌⊎◌, ℕ, ◌+◌, List, [], ◌∷◌, ◌++◌, length, length-append, slice_get, Some, sym, ap, ◌∙◌, subst, ⊎_elim}
+use Rattle.std.proofs.Common.{◌≡◌, ◌⊎◌, ◌≤◌, ◌<◌, ℕ, ◌+◌, List, [], ◌∷◌, ◌++◌, length, length-append, slice_get, Some, Result, Ok, Err, OnOk, OnErr, sym, ap, ◌∙◌, subst, ⊎_elim, arith}
 use Rattle.std.proofs.lemmas.Option.{same_Some}
 use Rattle.mc_model.specs.declared.id.Ticket.{Ticket}
 use Rattle.mc_model.specs.Helping.{BeginsWith}
@@ -39,3 +39,17 @@ same_cells log ones others learned same_learned is first second place one other 
 
 pub one_longer : (history new : List Sighting) (seen : Sighting) (place : ℕ) → new ≡ history ++ seen ∷ [] → length history ≡ place → length new ≡ place + 1
 one_longer history new seen place pushed here = ap length pushed ∙ (length-append history (seen ∷ []) ∙ ap (λ (n : ℕ). n + 1) here)
+
+-- a place is replayed, or memory ran out and nothing has changed
+pub follows_replayed : {T E R : Type 0} (result : Result T E) (log : Log) (history new : List Sighting) (learned : List Ticket) (seen : Sighting) (place : ℕ) →
+    OnOk result (new ≡ history ++ seen ∷ []) → OnErr result R → (R → new ≡ history) →
+    Follows log history learned → length history ≡ place → slice_get learned place ≡ Some seen.ticket → seen.row ≡ row_of log seen.ticket → Follows log new learned
+follows_replayed (Ok done) log history new learned seen place pushed same as_old follows here ticket row =
+    follows_pushed log history new learned seen place pushed follows here ticket row
+follows_replayed (Err fault) log history new learned seen place pushed same as_old follows here ticket row =
+    subst (λ (list : List Sighting). Follows log list learned) (sym (as_old same)) follows
+
+pub short_replayed : {T E R : Type 0} (result : Result T E) (history new : List Sighting) (seen : Sighting) (place bound : ℕ) →
+    OnOk result (new ≡ history ++ seen ∷ []) → OnErr result R → (R → new ≡ history) → length history ≡ place → place < bound → length new ≤ bound
+short_replayed (Ok done) history new seen place bound pushed same as_old here below = let longer = one_longer history new seen place pushed here in omega (arith, longer, below)
+short_replayed (Err fault) history new seen place bound pushed same as_old here below = let still = ap length (as_old same) in omega (arith, still, here, below)

@@ -4,3 +4,4 @@ pub mod Onward
 pub mod Following
 pub mod Told
 pub mod Replies
+pub mod Going

@@ -35,14 +35,26 @@ tenants_of worker = worker.log.now.settings.tenants
 abbrev pub openings_of : Worker → List TableState
 openings_of worker = worker.replica.openings
 
+-- its tables now, after what it has replayed
+abbrev pub tables_of : Worker → List TableState
+tables_of worker = worker.replica.tables
+
 -- its next command's ticket with this tenant and command, as it is seen in the log's cell
 abbrev pub next_of : Worker → ℕ → Command → Sighting
 next_of worker tenant command = next_sighting worker.log.now worker.pass tenant command
 
+-- it has learned all places
+abbrev pub IsFull : Worker → Type 0
+IsFull worker = length (seat_of worker).state.learned ≡ (seat_of worker).size.places
+
+-- it has replayed all that it has learned
+abbrev pub IsUpToDate : Worker → Type 0
+IsUpToDate worker = length (history_of worker) ≡ length (seat_of worker).state.learned
+
 -- it has learned all places, and its command isn't among them, or it has replayed them all
 abbrev pub IsSpent : Worker → Type 0
-IsSpent worker = (length (seat_of worker).state.learned ≡ (seat_of worker).size.places)
-    × (((seat_of worker).state.phase ≡ Pending) ⊎ (length (history_of worker) ≡ length (seat_of worker).state.learned))
+IsSpent worker = IsFull worker
+    × (((seat_of worker).state.phase ≡ Pending) ⊎ IsUpToDate worker)
 
 -- an entry as it is seen in the cell of its ticket
 abbrev pub sighting_of : Log → Entry → Sighting

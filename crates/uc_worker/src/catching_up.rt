@@ -1,13 +1,12 @@
 //! A worker catches up with the log.
-ghost use Rattle.std.specs.Prelude.{◌≡◌, length, IsOkUnless, OnOk};
+ghost use Rattle.std.specs.Prelude.{◌≡◌, IsOkUnless, OnOk};
 ghost use Rattle.mc_model.specs.declared.fault.Fault.TheVariants as faults;
-ghost use Rattle.mc_model.specs.Helping.{BeginsWith};
 ghost use Rattle.uc_log.specs.Passes.{IsOf, own_sightings, seat, state};
 ghost use Rattle.uc_worker.specs.Steps.{HasReadOn, Later, Rests};
-ghost use Rattle.uc_worker.specs.Worker.{history_of, openings_of, seat_of};
+ghost use Rattle.uc_worker.specs.Going.{CatchesUp};
+ghost use Rattle.uc_worker.specs.Worker.{IsUpToDate, seat_of};
 
 use crate::gate::{Gate, Step};
-use crate::replaying::replay_to;
 use crate::worker::Worker;
 use mc_model::Fault;
 use uc_log::{Log, Pass};
@@ -35,23 +34,15 @@ impl<'a> Worker<'a> {
     /// Reads up to a place that is found empty, or to the end, and replays all that is learned then. Where memory runs out: `Memory`; some
     /// of it may be replayed then.
     pub fn catch_up<G: Gate>(&mut self, gate: &mut G) -> Result<(), Fault>
-        ensures history { BeginsWith (history_of self.new) (history_of self.old) }
-        // Behind what is learned stood nothing, in the log's state after the worker's last event.
+        ensures catches { CatchesUp self.old self.new }
+        // After what is learned stood nothing, in the log's state after the worker's last event.
         ensures read { HasReadOn (seat_of self.new) }
-        ensures all { OnOk result (length (history_of self.new) ≡ length (seat_of self.new).state.learned) }
-        ensures later { Later (seat_of self.old) (seat_of self.new) }
-        ensures log { self.new.log ≡ self.old.log }
-        ensures openings { openings_of self.new ≡ openings_of self.old }
+        ensures told { (seat_of self.new).told ≡ (seat_of self.old).told }
+        ensures all { OnOk result (IsUpToDate self.new) }
         ensures memory { IsOkUnless result faults.Memory }
     {
-        let Worker {
-            log,
-            alloc,
-            pass,
-            replica,
-        } = self;
-        read_up(log, pass, gate);
-        let end = pass.learned();
-        replay_to(log, *alloc, pass, replica, end, gate)
+        read_up(self.log, &mut self.pass, gate);
+        let end = self.pass.learned();
+        self.replay_to(end, gate)
     }
 }

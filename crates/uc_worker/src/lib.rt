@@ -10,6 +10,7 @@ mod asking;
 mod catching_up;
 mod deciding;
 pub mod gate;
+pub mod laws;
 mod meeting;
 mod opening;
 mod replaying;

@@ -4,10 +4,10 @@ ghost use Rattle.mc_model.specs.declared.fault.Fault.TheVariants as faults;
 ghost use Rattle.mc_model.specs.Helping.{BeginsWith};
 ghost use Rattle.uc_log.specs.Passes.{IsOf, learned, own_sightings, seat, size, state};
 ghost use Rattle.uc_worker.specs.Steps.{IsSame, Rests};
-ghost use Rattle.uc_worker.specs.Worker.{history_of, openings_of, seat_of};
+ghost use Rattle.uc_worker.specs.Going.{CatchesUp};
+ghost use Rattle.uc_worker.specs.Worker.{IsUpToDate, history_of, openings_of, seat_of, tables_of};
 
 use crate::gate::Open;
-use crate::replaying::replay_to;
 use crate::worker::Worker;
 use mc_model::Fault;
 use uc_log::{Log, Pass};
@@ -22,7 +22,7 @@ fn read_told(log: &Log, pass: &mut Pass, end: usize)
     ensures of { IsOf log.now pass.new }
     ensures rests { Rests (state pass.new).phase }
     ensures same { IsSame (seat pass.old) (seat pass.new) }
-    ensures announced { (state pass.new).announced ≡ (state pass.old).announced }
+    ensures own { own_sightings pass.new ≡ own_sightings pass.old }
     ensures learned { learned pass.new ≡ (seat pass.old).told }
 {
     for _place in pass.learned()..end {
@@ -37,7 +37,7 @@ fn even(log: &Log, one: &mut Pass, other: &mut Pass)
     ensures of { IsOf log.now one.new × IsOf log.now other.new }
     ensures rests { Rests (state one.new).phase × Rests (state other.new).phase }
     ensures same { IsSame (seat one.old) (seat one.new) × IsSame (seat other.old) (seat other.new) }
-    ensures announced { ((state one.new).announced ≡ (state one.old).announced) × ((state other.new).announced ≡ (state other.old).announced) }
+    ensures own { (own_sightings one.new ≡ own_sightings one.old) × (own_sightings other.new ≡ own_sightings other.old) }
     ensures learned { learned one.new ≡ learned other.new }
     ensures first { BeginsWith (learned one.new) (learned one.old) }
     ensures second { BeginsWith (learned other.new) (learned other.old) }
@@ -56,34 +56,18 @@ impl<'a> Worker<'a> {
     /// `Memory`; then some of it may be replayed.
     pub fn meet(&mut self, other: &mut Worker<'a>) -> Result<(), Fault>
         requires { self.old.log.now ≡ other.old.log.now }
+        ensures one { CatchesUp self.old self.new }
+        ensures other { CatchesUp other.old other.new }
         ensures equal { OnOk result (history_of self.new ≡ history_of other.new) }
-        ensures tables { openings_of self.old ≡ openings_of other.old → OnOk result (self.new.replica.tables ≡ other.new.replica.tables) }
-        ensures all { OnOk result ((length (history_of self.new) ≡ length (seat_of self.new).state.learned) × ((seat_of self.new).state.learned ≡ (seat_of other.new).state.learned)) }
-        ensures first { BeginsWith (history_of self.new) (history_of self.old) }
-        ensures second { BeginsWith (history_of other.new) (history_of other.old) }
-        ensures announced { ((seat_of self.new).state.announced ≡ (seat_of self.old).state.announced) × ((seat_of other.new).state.announced ≡ (seat_of other.old).state.announced) }
-        ensures same { IsSame (seat_of self.old) (seat_of self.new) × IsSame (seat_of other.old) (seat_of other.new) }
-        ensures log { (self.new.log ≡ self.old.log) × (other.new.log ≡ other.old.log) }
-        ensures openings { (openings_of self.new ≡ openings_of self.old) × (openings_of other.new ≡ openings_of other.old) }
+        ensures tables { openings_of self.old ≡ openings_of other.old → OnOk result (tables_of self.new ≡ tables_of other.new) }
+        ensures all { OnOk result (IsUpToDate self.new × ((seat_of self.new).state.learned ≡ (seat_of other.new).state.learned)) }
         ensures memory { IsOkUnless result faults.Memory }
     {
-        let Worker {
-            log,
-            alloc,
-            pass: one,
-            replica: mine,
-        } = self;
-        let Worker {
-            log: _,
-            alloc: _,
-            pass: two,
-            replica: theirs,
-        } = other;
-        even(log, one, two);
-        let end = one.learned();
-        replay_to(log, *alloc, one, mine, end, &mut Open)?;
-        replay_to(log, *alloc, two, theirs, end, &mut Open)?;
-        mine.agree(theirs);
+        even(self.log, &mut self.pass, &mut other.pass);
+        let end = self.pass.learned();
+        self.replay_to(end, &mut Open)?;
+        other.replay_to(end, &mut Open)?;
+        self.replica.agree(&mut other.replica);
         Ok(())
     }
 }

@@ -1,6 +1,6 @@
 -- The turns so far went well, pulled once each at most, kept the connection's tenant, and led the worker onward.
 use Rattle.std.proofs.Common.{◌≡◌, ◌+◌, ◌≤◌, length}
-use Rattle.mc_conn.specs.Onward.{IsOnward}
+use Rattle.uc_worker.specs.Going.{GoesOn}
 use Rattle.mc_conn.specs.Turn.{Takes, scene}
 use Rattle.mc_stream.specs.Stream.{both}
 use Rattle.mc_net.proofs.connecting.turns.Given as goal
@@ -13,5 +13,5 @@ invariant-loop g l = record {
       × (l.conn.is_closed ≡ l.fn.conn.is_closed);
   few : 1 + length (g.I.Input.tells l.input).events ≤ l.counter + length (g.I.Input.tells l.fn.input).events;
   tenant : l.conn.tenant ≡ l.fn.conn.tenant;
-  onward : IsOnward l.fn.worker l.worker;
+  onward : GoesOn l.fn.worker l.worker;
 }

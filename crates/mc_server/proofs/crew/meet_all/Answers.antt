@@ -4,8 +4,10 @@ use Rattle.std.proofs.lemmas.Slice.Zip.{all_zipped_more}
 use Rattle.uc_cells.specs.Sighting.{Sighting}
 use Rattle.uc_worker.specs.declared.worker.Worker.{Worker}
 use Rattle.uc_worker.specs.Worker.{history_of}
-use Rattle.mc_server.specs.Network.{AreWorkersOf, HaveMet, IsLater}
-use Rattle.mc_server.proofs.Meetings.{HasCome, all_have_come, all_later_on, all_later_self, all_of, have_met, later_on, later_self}
+use Rattle.mc_server.specs.Network.{AreWorkersOf, HaveMet}
+use Rattle.uc_worker.specs.Going.{CatchesUp}
+use Rattle.mc_server.proofs.Meetings.{HasCome, all_have_come, all_later_on, all_later_self, all_of, have_met}
+use Rattle.uc_worker.proofs.Going.{catches_self, catches_through}
 use Rattle.mc_server.proofs.crew.meet_all.Goals as goal
 
 pub loop-last-init : goal.loop-last-init
@@ -13,10 +15,10 @@ loop-last-init c =
     let log = c.requires.all.1 in
     let both = All-pop (λ (worker : Worker). worker.log.now ≡ log) _ _ (Some c.in-Some.last) c.in-Some.ensures.items c.requires.all.2.of in
     record {
-      later = later_self c.catch_up.new.self;
+      later = catches_self c.catch_up.new.self;
       whole = c.in_ok-catch_up.ensures.all;
       of = All-weaker (λ (worker : Worker). worker.log.now ≡ log) (λ (worker : Worker). worker.log.now ≡ c.catch_up.new.self.log.now)
-          (λ worker of. of ∙ (sym both.1 ∙ ap (λ lent. lent.now) (sym c.catch_up.ensures.log))) c.pop.new.self.items both.0;
+          (λ worker of. of ∙ (sym both.1 ∙ ap (λ lent. lent.now) (sym c.catch_up.ensures.catches.goes.log))) c.pop.new.self.items both.0;
       others = all_later_self c.pop.new.self.items;
     }
 
@@ -27,11 +29,11 @@ loop-last-preserved c =
     let later = c.meet_others.ensures.later in
     let log = c.meet_others.new.one.log.now in
     record {
-      later = later_on _ _ _ before.later later;
+      later = catches_through _ _ _ before.later later;
       whole = c.in_ok-others.ensures.whole;
       of = all_of log c.loop-last.last c.meet_others.new.one c.loop-last.others.items c.in_ok-others.others.items met
           (All-weaker (λ (worker : Worker). worker.log.now ≡ c.loop-last.last.log.now) (λ (worker : Worker). worker.log.now ≡ log)
-          (λ worker of. of ∙ ap (λ lent. lent.now) (sym later.log)) c.loop-last.others.items before.of);
+          (λ worker of. of ∙ ap (λ lent. lent.now) (sym later.goes.log)) c.loop-last.others.items before.of);
       others = all_later_on c.loop-last.last c.meet_others.new.one _ c.loop-last.others.items c.in_ok-others.others.items before.others met;
     }
 
@@ -43,8 +45,7 @@ returns-then-history-known-clause-met c =
     let first = c.in-Some.last in
     let old = c.loop-last.last in
     let one = c.meet_others.new.one in
-    let caught : IsLater first c.catch_up.new.self = record { log = c.catch_up.ensures.log; same = c.catch_up.ensures.later.same; announced = c.catch_up.ensures.later.announced; history = c.catch_up.ensures.history } in
-    let later = later_on first old one (later_on first c.catch_up.new.self old caught before.later) c.meet_others.ensures.later in
+    let later = catches_through first old one (catches_through first c.catch_up.new.self old c.catch_up.ensures.catches before.later) c.meet_others.ensures.later in
     let whole = c.in_ok-others.ensures.whole in
     let same : length c.history.result.now ≡ length c.history-known.result.now = c.if-history-known.true in
     let known : length (history_of old) ≡ length c.history-known.result.now = ap (length {A = Sighting}) (sym c.history-known.ensures.history) in

@@ -1,16 +1,18 @@
 -- The last worker is the one that it was, later on, and so are the others; it has replayed all that it has learned.
 use Rattle.std.proofs.Common.{◌-◌, length}
 use Rattle.std.specs.List.{AllZip}
-use Rattle.mc_server.specs.Network.{AreOf, IsLater, IsUpToDate}
+use Rattle.mc_server.specs.Network.{AreOf}
+use Rattle.uc_worker.specs.Going.{CatchesUp}
+use Rattle.uc_worker.specs.Worker.{IsUpToDate}
 use Rattle.uc_worker.specs.Worker.{history_of, seat_of}
 use Rattle.mc_server.proofs.crew.meet_all.Given as goal
 
 abbrev pub invariant-loop-last : goal.invariant-loop-last
 invariant-loop-last l = record {
-  later : IsLater l.initial.last l.last;
+  later : CatchesUp l.initial.last l.last;
   whole : IsUpToDate l.last;
   of : AreOf l.last.log.now l.others.items;
-  others : AllZip IsLater l.initial.others.items l.others.items;
+  others : AllZip CatchesUp l.initial.others.items l.others.items;
 }
 
 abbrev pub decreases-loop-last : goal.decreases-loop-last

@@ -5,13 +5,16 @@ use Rattle.std.specs.List.{AllZip}
 use Rattle.uc_cells.specs.Sighting.{Sighting}
 use Rattle.mc_model.specs.declared.id.Ticket.{Ticket}
 use Rattle.uc_worker.specs.declared.worker.Worker.{Worker}
-use Rattle.mc_server.specs.Network.{AreOf, IsLater, IsUpToDate, Meets}
-use Rattle.mc_server.proofs.Meetings.{later_on, later_self, meets, one_more_met}
+use Rattle.mc_server.specs.Network.{AreOf, Meets}
+use Rattle.uc_worker.specs.Going.{CatchesUp}
+use Rattle.uc_worker.specs.Worker.{IsUpToDate}
+use Rattle.mc_server.proofs.Meetings.{meets, one_more_met}
+use Rattle.uc_worker.proofs.Going.{catches_self, catches_through}
 use Rattle.mc_server.proofs.crew.meet_others.Goals as goal
 
 pub loop-other-init : goal.loop-other-init
 loop-other-init c = record {
-  later = later_self c.args.one.now;
+  later = catches_self c.args.one.now;
   whole = c.requires.whole;
   left = subst (AreOf c.args.one.now.log.now) (sym c.into_iter-other-iterator.ensures.into_iter_gives.0) c.requires.log;
   met = ([], c.into_iter-other-iterator.ensures.into_iter_gives.0, subst (AllZip (Meets c.args.one.now c.args.one.now) []) (sym {A = List Worker} c.in_ok-met.ensures.items) tt);
@@ -24,19 +27,19 @@ meet-requires c =
 pub loop-other-preserved : goal.loop-other-preserved
 loop-other-preserved c =
     let before = c.loop-other.invariant in
-    let step : IsLater c.loop-other.one c.meet.new.self = record { log = c.meet.ensures.log.0; same = c.meet.ensures.same.0; announced = c.meet.ensures.announced.0; history = c.meet.ensures.first } in
-    let others : IsLater c.in-Some.other c.meet.new.other = record { log = c.meet.ensures.log.1; same = c.meet.ensures.same.1; announced = c.meet.ensures.announced.1; history = c.meet.ensures.second } in
+    let step = c.meet.ensures.one in
+    let others = c.meet.ensures.other in
     let equal = c.in_ok-meet.ensures.equal in
     let all = c.in_ok-meet.ensures.all in
     let whole : IsUpToDate c.meet.new.other = sym (ap (length {A = Sighting}) equal) ∙ (all.0 ∙ ap (length {A = Ticket}) all.1) in
-    let same = ap (λ log. log.now) (sym c.meet.ensures.log.0) in
+    let same = ap (λ log. log.now) (sym step.goes.log) in
     let left = All-rest (λ (other : Worker). other.log.now ≡ c.loop-other.one.log.now) c.in-Some.other _ _ c.in-Some.ensures.steps.0 before.left in
     let now : Meets c.args.one.now c.meet.new.self c.in-Some.other c.meet.new.other = meets _ _ _ _ _ before.later step others equal whole in
     let done = before.met.0 in
     let split = append_assoc done (c.in-Some.other ∷ []) c.next.new.self.rest.items ∙ ap (λ rest. done ++ rest) (sym c.in-Some.ensures.steps.0) ∙ before.met.1 in
     let met = one_more_met c.args.one.now c.loop-other.one c.meet.new.self done c.loop-other.met.items c.in-Some.other c.meet.new.other before.met.2 step now in
     record {
-      later = later_on _ _ _ before.later step;
+      later = catches_through _ _ _ before.later step;
       whole = all.0;
       left = subst (λ log. AreOf log c.next.new.self.rest.items) same left;
       met = (done ++ c.in-Some.other ∷ [], split, subst (AllZip (Meets c.args.one.now c.meet.new.self) (done ++ c.in-Some.other ∷ [])) (sym {A = List Worker} c.in_ok-push.ensures.items) met);

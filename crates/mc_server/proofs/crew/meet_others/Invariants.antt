@@ -1,13 +1,15 @@
 -- It is up to date and those before this one have met it, and the others are of its log.
 use Rattle.std.proofs.Common.{◌≡◌, ◌++◌, List}
 use Rattle.std.specs.List.{AllZip}
-use Rattle.mc_server.specs.Network.{AreOf, IsLater, IsUpToDate, Meets}
+use Rattle.mc_server.specs.Network.{AreOf, Meets}
+use Rattle.uc_worker.specs.Going.{CatchesUp}
+use Rattle.uc_worker.specs.Worker.{IsUpToDate}
 use Rattle.uc_worker.specs.declared.worker.Worker.{Worker}
 use Rattle.mc_server.proofs.crew.meet_others.Given as goal
 
 abbrev pub invariant-loop-other : goal.invariant-loop-other
 invariant-loop-other l = record {
-  later : IsLater l.fn.one l.one;
+  later : CatchesUp l.fn.one l.one;
   whole : IsUpToDate l.one;
   left : AreOf l.one.log.now l.other-iterator.rest.items;
   met : (done : List Worker) × (done ++ l.other-iterator.rest.items ≡ l.fn.others.items) × AllZip (Meets l.fn.one l.one) done l.met.items;

@@ -17,7 +17,7 @@ loop-place-preserved c =
       rests = one.rests;
       same = (one.same.0 ∙ i.same.0, one.same.1 ∙ i.same.1);
       told = one.told ∙ i.told;
-      announced = one.announced ∙ i.announced;
+      own = c.read.ensures.own ∙ i.own;
       begins = (one.begins.0, sym i.told ∙ one.begins.1);
       here = one.more ∙ ap (λ (n : ℕ). n + 1) i.here;
     }

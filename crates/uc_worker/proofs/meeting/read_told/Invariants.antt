@@ -1,7 +1,7 @@
 -- The places before this one are learned as they were told.
 use Rattle.std.proofs.Common.{◌≡◌, length}
 use Rattle.mc_model.specs.Helping.{BeginsWith}
-use Rattle.uc_log.specs.Passes.{IsOf, learned, seat, state}
+use Rattle.uc_log.specs.Passes.{IsOf, learned, own_sightings, seat, state}
 use Rattle.uc_worker.specs.Steps.{IsSame, Rests}
 use Rattle.uc_worker.proofs.meeting.read_told.Given as goal
 
@@ -11,7 +11,7 @@ invariant-loop-place l = record {
   rests : Rests (state l.pass).phase;
   same : IsSame (seat l.fn.pass) (seat l.pass);
   told : (seat l.pass).told ≡ (seat l.fn.pass).told;
-  announced : (state l.pass).announced ≡ (state l.fn.pass).announced;
+  own : own_sightings l.pass ≡ own_sightings l.fn.pass;
   begins : BeginsWith (seat l.fn.pass).told (learned l.pass);
   here : length (learned l.pass) ≡ l._place;
 }

@@ -2,7 +2,7 @@ use Rattle.std.proofs.Common.{refl, ◌∙◌}
 use Rattle.std.proofs.lemmas.Result.{err_from_is_err_and}
 use Rattle.mc_conn.specs.Turn.{holding_of}
 use Rattle.mc_conn.proofs.Breakings.{breaks_later}
-use Rattle.mc_conn.proofs.Owings.{onward_self, onward_trans}
+use Rattle.uc_worker.proofs.Going.{goes_self, goes_through}
 use Rattle.mc_conn.proofs.Readings.{one_fewer}
 use Rattle.mc_conn.proofs.Takings.{did_not, did_then, does_nothing}
 use Rattle.mc_conn.proofs.conn.Conn.take.Goals as goal
@@ -11,7 +11,7 @@ pub loop-did-init : goal.loop-did-init
 loop-did-init g c = record {
   does = λ streams. does_nothing _;
   same = record { tenant = refl; has_ended = refl; is_closed = refl };
-  onward = onward_self _;
+  onward = goes_self _;
 }
 
 pub returns-in_err-take_one-clause-breaks : goal.returns-in_err-take_one-clause-breaks
@@ -28,7 +28,7 @@ loop-did-preserved g c =
     let after = c.take_one.ensures.same in record {
       does = λ streams. did_then _ _ _ _ _ c.if-branch.true (c.loop-did.invariant.does streams) (c.in_ok-take_one.ensures.does streams);
       same = record { tenant = after.tenant ∙ before.tenant; has_ended = after.has_ended ∙ before.has_ended; is_closed = after.is_closed ∙ before.is_closed };
-      onward = onward_trans _ _ _ c.loop-did.invariant.onward c.take_one.ensures.onward;
+      onward = goes_through _ _ _ c.loop-did.invariant.onward c.take_one.ensures.onward;
     }
 
 pub returns-clause-does : goal.returns-clause-does

@@ -1,5 +1,5 @@
 use Rattle.mc_stream.specs.Stream.{Streams}
-use Rattle.mc_conn.specs.Onward.{IsOnward}
+use Rattle.uc_worker.specs.Going.{GoesOn}
 use Rattle.mc_conn.specs.Parts.{Does, IsSameBeside}
 use Rattle.mc_conn.specs.Turn.{holding_of, scene}
 use Rattle.mc_conn.proofs.Readings.{requests_held}
@@ -10,7 +10,7 @@ abbrev pub invariant-loop-did : goal.invariant-loop-did
 invariant-loop-did g l = record {
   does : (streams : Streams) → Does (scene l.fn.self l.fn.worker streams) (scene l.self l.worker streams) l.did;
   same : IsSameBeside l.fn.self l.self;
-  onward : IsOnward l.fn.worker l.worker;
+  onward : GoesOn l.fn.worker l.worker;
 }
 
 abbrev pub decreases-loop-did : goal.decreases-loop-did

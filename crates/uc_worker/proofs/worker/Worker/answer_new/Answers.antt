@@ -1,0 +1,40 @@
+-- What was put last is the tenant's command, and it is the last that was replayed.
+use Rattle.std.proofs.Common.{◌≡◌, ℕ, ◌-◌, ◌∷◌, [], length, take, slice_get, Some, sym, ap, ◌∙◌, arith, refl, ⊎_elim}
+use Rattle.mc_model.specs.declared.request.Entry.{Entry}
+use Rattle.mc_model.specs.Replay.{reply_to}
+use Rattle.uc_cells.specs.Sighting.{entries}
+use Rattle.uc_log.specs.declared.pass.Pass.{Pass}
+use Rattle.uc_log.specs.Passes.{learned, next_entry, next_ticket, own_sightings, row_of, state}
+use Rattle.uc_worker.specs.Worker.{announced_of, history_of, last_entry, openings_of, sighting_of}
+use Rattle.uc_worker.proofs.Lists.{begins_same, begins_self}
+use Rattle.uc_worker.proofs.Replies.{last_is}
+use Rattle.uc_worker.proofs.worker.Worker.answer_new.Goals as goal
+
+pub returns-in_err-decide_new-clause-goes : goal.returns-in_err-decide_new-clause-goes
+returns-in_err-decide_new-clause-goes g c = record {
+  log = refl;
+  openings = refl;
+  same = c.decide_new.ensures.same;
+  history = begins_self (history_of c.args.self.now);
+  announced = ⊎_elim (begins_same _ (announced_of c.args.self.now)) (λ more. (_ ∷ [], more)) c.in_err-decide_new.ensures.kept;
+  learned = c.decide_new.ensures.begins;
+}
+
+pub returns-clause-submits : goal.returns-clause-submits
+returns-clause-submits g c =
+    let worker = c.args.self.now in let old = worker.pass in let pass = c.decide_new.new.pass in let next = next_entry old c.args.tenant c.args.command in
+    let new = c.reply_last.new.self in let same_pass = c.reply_last.ensures.replays.pass in
+    let same : last_entry pass ≡ next = last_is pass (state old).announced next (row_of worker.log.now (next_ticket old))
+    c.in_ok-decide_new.ensures.put c.in_ok-decide_new.ensures.announced in
+    let long : length (learned pass) ≡ c.learned.result = ap (λ (p : Pass). length (learned p)) (sym same_pass) ∙ sym c.learned.ensures.value in
+    let place : c.learned.result - 1 ≡ length (learned pass) - 1 = ap (λ (n : ℕ). n - 1) (sym long) in
+    let short = worker.short in let more = c.in_ok-decide_new.ensures.more in let all = c.in_ok-reply.ensures.all in record {
+      announced = ap own_sightings same_pass ∙ c.in_ok-decide_new.ensures.own;
+      count = ap (λ (p : Pass). (state p).announced) same_pass ∙ c.in_ok-decide_new.ensures.announced;
+      place = omega (arith, short, more, long);
+      last = omega (arith, more, long, all);
+      own = ap (λ (n : ℕ). slice_get (history_of new) n) place ∙ c.in_ok-reply.ensures.stands
+          ∙ ap (λ (entry : Entry). Some (sighting_of worker.log.now entry)) same;
+      reply = c.in_ok-reply.ensures.reply ∙ (λ i. reply_to (openings_of worker) (entries (take (long i - 1) (history_of new))) (Some (same i)));
+      proposals = (c.proposals.ensures.value, c.proposals.ensures.few);
+    }

@@ -1,0 +1,52 @@
+-- What a worker's calls do to it, between what it was before and what it is after: this project's profile. A command's way to its answer is
+-- that of Herlihy's universal construction (Wait-Free Synchronization, TOPLAS 1991): announced, decided at a place of one log, and answered
+-- by all that stands before it.
+use Rattle.std.specs.Prelude.{◌≡◌, ◌⊎◌, ◌≤◌, ◌+◌, ◌∷◌, ◌++◌, [], ℕ, length, take, Some, slice_get}
+use Rattle.mc_model.specs.declared.command.Command.{Command}
+use Rattle.mc_model.specs.Helping.{BeginsWith}
+use Rattle.mc_model.specs.Replay.{reply_to}
+use Rattle.uc_cells.specs.Sighting.{entries}
+use Rattle.uc_log.specs.Passes.{next_entry}
+use Rattle.uc_worker.specs.declared.worker.Answer.{Answer}
+use Rattle.uc_worker.specs.declared.worker.Worker.{Worker}
+use Rattle.uc_worker.specs.Steps.{IsSame}
+use Rattle.uc_worker.specs.Worker.{announced_of, history_of, next_of, openings_of, seat_of}
+
+-- the same worker of the same log over the same tables, later on: what it has replayed, announced and learned stays
+pub record GoesOn (old new : Worker) : Type 0 where
+  pub log : new.log ≡ old.log
+  pub openings : openings_of new ≡ openings_of old
+  pub same : IsSame (seat_of old) (seat_of new)
+  pub history : BeginsWith (history_of new) (history_of old)
+  pub announced : BeginsWith (announced_of new) (announced_of old)
+  pub learned : BeginsWith (seat_of new).state.learned (seat_of old).state.learned
+
+-- later on, and it has announced nothing meanwhile
+pub record CatchesUp (old new : Worker) : Type 0 where
+  pub goes : GoesOn old new
+  pub announced : announced_of new ≡ announced_of old
+
+-- it has replayed more, and taken no step
+pub record Replays (old new : Worker) : Type 0 where
+  pub log : new.log ≡ old.log
+  pub openings : openings_of new ≡ openings_of old
+  pub pass : new.pass ≡ old.pass
+  pub history : BeginsWith (history_of new) (history_of old)
+
+-- the tenant's command was announced under the number that comes next, or nothing was
+abbrev pub AnnouncesAtMost : Worker → Worker → ℕ → Command → Type 0
+AnnouncesAtMost old new tenant command =
+    (announced_of new ≡ announced_of old) ⊎ (announced_of new ≡ announced_of old ++ next_of old tenant command ∷ [])
+
+-- The tenant's command was announced under the number that comes next, and nothing else was. It stands last in the history, at a place that
+-- wasn't replayed before, and the reply is the answer after that tenant's own commands before that place. No more proposals were made
+-- for it than there are workers, and one.
+pub record Submits (old new : Worker) (tenant : ℕ) (command : Command) (answer : Answer) : Type 0 where
+  pub announced : announced_of new ≡ announced_of old ++ next_of old tenant command ∷ []
+  pub count : (seat_of new).state.announced ≡ (seat_of old).state.announced + 1
+  pub place : length (history_of old) ≤ answer.place
+  pub last : length (history_of new) ≡ answer.place + 1
+  pub own : slice_get (history_of new) answer.place ≡ Some (next_of old tenant command)
+  pub reply : Some answer.reply
+      ≡ reply_to (openings_of old) (entries (take answer.place (history_of new))) (Some (next_entry old.pass tenant command))
+  pub proposals : (answer.proposals ≡ (seat_of new).state.proposals) × (answer.proposals ≤ (seat_of new).size.workers + 1)
