@@ -1,12 +1,14 @@
 -- What one entry does to a list of tables.
-use Rattle.std.proofs.Common.{◌≡◌, ◌≢◌, ℕ, zero, suc, ◌<◌, List, [], ◌∷◌, length, get_or, Some, None, true, false, refl, sym, ap, ◌∙◌, arith, slice_get, slice_set, ◌==◌, if◌then◌else◌}
+use Rattle.std.proofs.Common.{◌≡◌, ◌≢◌, ℕ, zero, suc, ◌<◌, List, [], ◌∷◌, length, get_or, Option, Some, None, Bool, true, false, true≢false, refl, sym, ap, ◌∙◌, arith, slice_get, slice_set, ◌==◌, if◌then◌else◌}
 use Rattle.std.proofs.lemmas.Bool.Decides.{nat_tests}
 use Rattle.std.proofs.lemmas.Iterator.Adapters.{option_map_id}
 use Rattle.std.proofs.lemmas.Option.{slice_get_read}
 use Rattle.std.specs.Option.{option_map}
-use Rattle.mc_model.specs.State.{TableState, next_state}
+use Rattle.mc_model.specs.State.{TableState, next_reply, next_state}
 use Rattle.mc_model.specs.declared.request.Entry.{Entry}
-use Rattle.mc_model.specs.Replay.{TakeEffect, with_command}
+use Rattle.mc_model.specs.Replay.{EachStands, TakeEffect, reply_to, reply_to-table, with_command}
+use Rattle.mc_model.specs.declared.reply.Reply.{Reply}
+use Rattle.mc_items.specs.Asker.{answer_for, is_own, reply_for}
 
 -- what was set at a place is read there
 get_set_same : {X : Type 0} (xs : List X) (i : ℕ) (x : X) → i < length xs → slice_get (slice_set xs i x) i ≡ Some x
@@ -36,3 +38,28 @@ TakeEffect-set tables place state next entry own inside at is tenant = elim (ent
           let elsewhere : place ≢ tenant = grind (arith, nat_tests) in
           get_set_other tables place tenant next elsewhere ∙ sym (option_map_id (slice_get tables tenant))
     ] refl
+
+-- the asker's own entry is answered by its tenant's table
+module _ (asker : Option ℕ) (entry : Entry) (tables : List TableState) (own : is_own asker entry ≡ true) where
+  abbrev reply_of : Option Reply
+  reply_of = option_map (λ (table : TableState). next_reply table entry.command) (slice_get tables entry.tenant)
+
+  pub reply_for-own : reply_for asker tables (Some entry) ≡ reply_of
+  reply_for-own = by_asker asker own
+    where
+      by_asker : (some : Option ℕ) → is_own some entry ≡ true → reply_for some tables (Some entry) ≡ reply_of
+      by_asker None is = absurd (true≢false (sym is))
+      by_asker (Some worker) is = ap (λ (b : Bool). if b then reply_of else None) is
+
+  pub answer_for-own : (openings : List TableState) (log : List (Option Entry)) → EachStands openings log tables →
+      answer_for asker openings log (Some entry) ≡ reply_of
+  answer_for-own openings log stands = by_asker asker own
+    where
+      by_asker : (some : Option ℕ) → is_own some entry ≡ true → answer_for some openings log (Some entry) ≡ reply_of
+      by_asker None is = absurd (true≢false (sym is))
+      by_asker (Some worker) is = ap (λ (b : Bool). if b then reply_to openings log (Some entry) else None) is ∙ reply_to-table openings log tables entry stands
+
+  pub own_reply : (place : ℕ) (state : TableState) (reply : Reply) → place ≡ entry.tenant → place < length tables → state ≡ get_or tables place state →
+      reply ≡ next_reply state entry.command → Some reply ≡ reply_of
+  own_reply place state reply here inside at is = ap Some is
+      ∙ sym (ap (option_map (λ (table : TableState). next_reply table entry.command)) (ap (slice_get tables) (sym here) ∙ slice_get_read tables (length tables) place state refl inside at))

@@ -1,2 +1,3 @@
+pub mod Asker
 pub mod Held
 pub mod Storing

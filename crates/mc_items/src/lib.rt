@@ -9,4 +9,3 @@ mod blocks;
 mod held;
 pub mod items;
 pub mod tables;
-pub mod unanswered;

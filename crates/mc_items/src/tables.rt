@@ -1,8 +1,9 @@
 //! The tables of all tenants: a tenant's number is the place of its table.
 ghost use Rattle.std.specs.Option.{option_copied};
-ghost use Rattle.std.specs.Prelude.{◌≡◌, ◌≢◌, ℕ, ◌-◌, ◌^◌, ◌<◌, List, Option, Some, slice_get, IfOk, IfSome, OnOk, OnErr, IsOk, IsOkUnless};
+ghost use Rattle.std.specs.Prelude.{◌≡◌, false, ℕ, ◌-◌, ◌^◌, ◌<◌, List, Option, Some, slice_get, IfOk, IfSome, OnOk, OnErr, IsOk, IsOkUnless};
 ghost use Rattle.mc_model.specs.Kinds.{IsRetrieval, IsTakingOut};
-ghost use Rattle.mc_model.specs.Replay.{EachStands, IsRefused, TakeEffect, answer_to, empty_tables, reply_from};
+ghost use Rattle.mc_items.specs.Asker.{answer_for, is_own, reply_for};
+ghost use Rattle.mc_model.specs.Replay.{EachStands, IsRefused, TakeEffect, empty_tables};
 ghost use Rattle.mc_model.specs.State.{TableState, empty_table};
 ghost use Rattle.mc_model.specs.declared.request.Entry.{Entry};
 ghost use Rattle.mc_model.specs.declared.settings.Limits.{Limits};
@@ -30,21 +31,32 @@ pub fn tables_of(alloc: Global, limits: &[Limits]) -> Result<Vec<Items>, Fault>
     Ok(tables)
 }
 
+/// Whether the entry is the asker's own.
+fn is_own(asker: Option<WorkerId>, entry: &Entry) -> bool
+    ensures { result ≡ is_own asker entry.now }
+{
+    match asker {
+        Some(worker) => entry.ticket.worker == worker,
+        None => false,
+    }
+}
+
 /// Does what an entry says to its tenant's table, if there is an entry and its tenant is among these, and answers where it
-/// is the worker's own. Where memory runs out: `Memory`, and nothing changes.
+/// is the asker's own. Where nobody asks, nothing is answered: so a retrieval, whose reply may be large, needs no memory.
+/// Where memory runs out: `Memory`, and nothing changes.
 pub fn take_effect(
     tables: &mut Vec<Items>,
-    worker: WorkerId,
+    asker: Option<WorkerId>,
     found: Option<&Entry>,
 ) -> Result<Option<Reply>, Fault>
     requires { (tenant : ℕ) (state : TableState) → slice_get tables.old.items tenant ≡ Some state → state.last_unique < 2 ^ 64 - 1 }
     ensures reply { IfOk result (λ reply. (openings : List TableState) (log : List (Option Entry)) → EachStands openings log tables.old.items →
-        reply ≡ answer_to worker openings log (option_copied found.entry)) }
+        reply ≡ answer_for asker openings log (option_copied found.entry)) }
     // The same by these tables alone.
-    ensures answer { IfOk result (λ reply. reply ≡ reply_from worker tables.old.items (option_copied found.entry)) }
+    ensures answer { IfOk result (λ reply. reply ≡ reply_for asker tables.old.items (option_copied found.entry)) }
     ensures tables { OnOk result (TakeEffect (option_copied found.entry) tables.old.items tables.new.items) }
     ensures takes_out { IfSome (option_copied found.entry) (λ entry. IsTakingOut entry.command) → IsOk result }
-    ensures reads { IfSome (option_copied found.entry) (λ entry. IsRetrieval entry.command × (entry.ticket.worker ≢ worker)) → IsOk result }
+    ensures reads { IfSome (option_copied found.entry) (λ entry. IsRetrieval entry.command × (is_own asker entry ≡ false)) → IsOk result }
     ensures refused { (openings : List TableState) (log : List (Option Entry)) → EachStands openings log tables.old.items → IsRefused openings log (option_copied found.entry) → IsOk result }
     ensures memory { IsOkUnless result Fault.Memory }
     ensures unchanged { OnErr result (tables.new.items ≡ tables.old.items) }
@@ -57,7 +69,7 @@ pub fn take_effect(
         return Ok(None);
     }
     let table = &mut tables[place];
-    if entry.ticket.worker == worker {
+    if is_own(asker, entry) {
         let reply = table.apply(&entry.command)?;
         Ok(Some(reply))
     } else {

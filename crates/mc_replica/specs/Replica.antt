@@ -1,8 +1,12 @@
 -- What a replica is to contracts: this project's profile.
-use Rattle.std.specs.Prelude.{◌≡◌, ℕ, ◌≤◌, List, length, Option, Some, refl, slice_get}
+use Rattle.std.specs.Prelude.{◌≡◌, ℕ, ◌≤◌, false, List, [], ◌∷◌, ◌++◌, length, Option, Some, Result, IfSome, IsOk, IsOkUnless, OnErr, OnOk, refl, slice_get}
 use Rattle.std.specs.Coded.{Coded, code_by, coded×, coded_ℕ, coded_list}
 use Rattle.mc_model.specs.declared.request.Entry.{Entry}
-use Rattle.mc_model.specs.Replay.{EachStands, HaveRoom}
+use Rattle.mc_items.specs.Asker.{is_own}
+use Rattle.mc_model.specs.declared.fault.Fault.{Fault}
+use Rattle.mc_model.specs.declared.fault.Fault.TheVariants.{Memory}
+use Rattle.mc_model.specs.Kinds.{IsRetrieval, IsTakingOut}
+use Rattle.mc_model.specs.Replay.{EachStands, HaveRoom, IsNobodys, IsRefused, TakeEffect}
 use Rattle.mc_model.specs.State.{TableState, coded_state}
 use Rattle.uc_cells.specs.Sighting.{Sighting, coded_sighting, entries}
 
@@ -37,3 +41,21 @@ pub record IsInOrder (places room : ℕ) (openings : List TableState) (history :
   pub reserved : places ≤ room
   pub uniques : HaveRoom openings places
   pub stands : EachStands openings (entries history) tables
+
+-- what the replay of one more place does, where this was seen there and the asker is answered. A table takes its own tenant's command
+-- alone, and all others are equal to what they were. An entry that is nobody's changes no table, and counts as refused; what is refused
+-- needs no memory, nor does what takes out, nor a retrieval that isn't the asker's own. Where memory runs out nothing changes.
+pub record Replays {A : Type 0} (asker : Option ℕ) (seen : Sighting) (old new : ReplicaState) (result : Result A Fault) : Type 0 where
+  pub history : OnOk result (new.history ≡ old.history ++ seen ∷ [])
+  pub tables : OnOk result (TakeEffect seen.entry old.tables new.tables)
+  pub untouched : IsNobodys old.openings seen.entry → new.tables ≡ old.tables
+  pub tenants : length new.tables ≡ length old.tables
+  pub stands : EachStands new.openings (entries new.history) new.tables
+  pub openings : new.openings ≡ old.openings
+  pub worker : new.worker ≡ old.worker
+  pub places : new.places ≡ old.places
+  pub takes_out : IfSome seen.entry (λ entry. IsTakingOut entry.command) → IsOk result
+  pub reads : IfSome seen.entry (λ entry. IsRetrieval entry.command × (is_own asker entry ≡ false)) → IsOk result
+  pub refused : IsRefused old.openings (entries old.history) seen.entry → IsOk result
+  pub memory : IsOkUnless result Memory
+  pub unchanged : OnErr result (new ≡ old)

@@ -2,15 +2,14 @@
 ghost use Rattle.std.specs.Prelude.{◌≡◌, ◌≢◌, ◌<◌, ◌≤◌, ◌↔◌, [], ◌∷◌, ◌++◌, length, Some, slice_get, IfOk, IfSome, OnOk, OnErr, IsOk, IsOkUnless, IsTrue};
 ghost use Rattle.std.specs.Option.{option_map};
 ghost use Rattle.mc_model.specs.History.{state_from};
-ghost use Rattle.mc_model.specs.Kinds.{IsRetrieval, IsTakingOut};
 ghost use Rattle.mc_model.specs.Log.{own};
-ghost use Rattle.mc_model.specs.Replay.{EachStands, IsNobodys, IsRefused, TakeEffect, answer_to, empty_tables};
-ghost use Rattle.mc_replica.specs.Replica.{SameCells, entry_of};
+ghost use Rattle.mc_model.specs.Replay.{EachStands, answer_to, empty_tables};
+ghost use Rattle.mc_items.specs.Asker.{answer_for};
+ghost use Rattle.mc_replica.specs.Replica.{Replays, SameCells, entry_of};
 ghost use Rattle.uc_cells.specs.Sighting.{entries};
 
 use mc_items::Items;
 use mc_items::tables::{tables_of, take_effect};
-use mc_items::unanswered::take_effect_unanswered;
 use mc_model::{Fault, Limits, Reply, TenantId, WorkerId};
 use std::alloc::Global;
 use std::marker::Model;
@@ -78,56 +77,39 @@ impl<'a> Replica<'a> {
     /// `Memory`, and nothing changes; the history itself never needs any.
     pub fn replay(&mut self, seen: Seen<'a>) -> Result<Option<Reply>, Fault>
         requires { length self.old.history < self.old.places }
-
         ensures reply { IfOk result (λ reply.
             reply ≡ answer_to self.old.worker self.old.openings (entries self.old.history) (entry_of seen.entry)) }
-        ensures history { OnOk result (self.new.history ≡ self.old.history ++ seen.entry ∷ []) }
-
-        // A table takes its own tenant's command alone; all others are equal to what they were.
-        ensures tables { OnOk result (TakeEffect (entry_of seen.entry) self.old.tables self.new.tables) }
-        ensures untouched { IsNobodys self.old.openings (entry_of seen.entry) → self.new.tables ≡ self.old.tables }
-        ensures tenants { length self.new.tables ≡ length self.old.tables }
-        ensures stands { EachStands self.new.openings (entries self.new.history) self.new.tables }
-        ensures openings { self.new.openings ≡ self.old.openings }
-        ensures worker { self.new.worker ≡ self.old.worker }
-        ensures places { self.new.places ≡ self.old.places }
-
-        // What needs no memory. An entry that is nobody's counts as refused.
-        ensures takes_out { IfSome (entry_of seen.entry) (λ entry. IsTakingOut entry.command) → IsOk result }
-        ensures reads { IfSome (entry_of seen.entry) (λ entry. IsRetrieval entry.command × (entry.ticket.worker ≢ self.old.worker)) → IsOk result }
-        ensures refused { IsRefused self.old.openings (entries self.old.history) (entry_of seen.entry) → IsOk result }
-        ensures memory { IsOkUnless result Fault.Memory }
-        ensures unchanged { OnErr result (self.new ≡ self.old) }
+        ensures replays { Replays (Some self.old.worker) seen.entry self.old self.new result }
     {
-        let reply = take_effect(&mut self.tables, self.worker, seen.entry())?;
-        self.history.push_reserved(seen);
-        Ok(reply)
+        let worker = self.worker;
+        self.replay_for(Some(worker), seen)
     }
 
     /// Puts what was seen at the next place at the end of the history, and does what its entry says to its tenant's table, as
-    /// `replay` does, but answers nobody: so a retrieval needs no memory, however large its reply would be. Where memory runs out:
-    /// `Memory`, and nothing changes.
+    /// `replay` does, but answers nobody: so a retrieval needs no memory, however large its reply would be. Where memory runs
+    /// out: `Memory`, and nothing changes.
     pub fn advance(&mut self, seen: Seen<'a>) -> Result<(), Fault>
         requires { length self.old.history < self.old.places }
-        ensures history { OnOk result (self.new.history ≡ self.old.history ++ seen.entry ∷ []) }
-        ensures tables { OnOk result (TakeEffect (entry_of seen.entry) self.old.tables self.new.tables) }
-        ensures untouched { IsNobodys self.old.openings (entry_of seen.entry) → self.new.tables ≡ self.old.tables }
-        ensures tenants { length self.new.tables ≡ length self.old.tables }
-        ensures stands { EachStands self.new.openings (entries self.new.history) self.new.tables }
-        ensures openings { self.new.openings ≡ self.old.openings }
-        ensures worker { self.new.worker ≡ self.old.worker }
-        ensures places { self.new.places ≡ self.old.places }
-
-        // What needs no memory. An entry that is nobody's counts as refused.
-        ensures takes_out { IfSome (entry_of seen.entry) (λ entry. IsTakingOut entry.command) → IsOk result }
-        ensures reads { IfSome (entry_of seen.entry) (λ entry. IsRetrieval entry.command) → IsOk result }
-        ensures refused { IsRefused self.old.openings (entries self.old.history) (entry_of seen.entry) → IsOk result }
-        ensures memory { IsOkUnless result Fault.Memory }
-        ensures unchanged { OnErr result (self.new ≡ self.old) }
+        ensures { Replays None seen.entry self.old self.new result }
     {
-        take_effect_unanswered(&mut self.tables, seen.entry())?;
-        self.history.push_reserved(seen);
+        self.replay_for(None, seen)?;
         Ok(())
+    }
+
+    /// Replays the next place, and answers the asker where the entry is its own.
+    fn replay_for(
+        &mut self,
+        asker: Option<WorkerId>,
+        seen: Seen<'a>,
+    ) -> Result<Option<Reply>, Fault>
+        requires { length self.old.history < self.old.places }
+        ensures reply { IfOk result (λ reply.
+            reply ≡ answer_for asker self.old.openings (entries self.old.history) (entry_of seen.entry)) }
+        ensures replays { Replays asker seen.entry self.old self.new result }
+    {
+        let reply = take_effect(&mut self.tables, asker, seen.entry())?;
+        self.history.push_reserved(seen);
+        Ok(reply)
     }
 
     /// What was seen at each place that was replayed.

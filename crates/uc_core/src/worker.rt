@@ -175,7 +175,7 @@ impl Worker {
         ensures memory { IsOkUnless result Fault.Memory }
         ensures unchanged { OnErr result (replay_of self.new ≡ replay_of self.old) }
     {
-        let reply = take_effect(&mut self.tables, number, found)?;
+        let reply = take_effect(&mut self.tables, Some(number), found)?;
         self.replayed += 1;
         Ok(reply)
     }

@@ -56,6 +56,11 @@ abbrev pub IsOf : Log → Pass → Type 0
 IsOf log pass = IsSeatOf log.places pass.desk × (size pass ≡ size_of log)
     × ((number : ℕ) (seen : Sighting) → slice_get (own_sightings pass) number ≡ Some seen → seen.row ≡ row_of log seen.ticket)
 
+-- the pass is of the log still, and what it put into the log's cells is what it was
+pub record Keeps (log : Log) (old new : Pass) : Type 0 where
+  pub of : IsOf log new
+  pub own : own_sightings new ≡ own_sightings old
+
 -- the entry that its next ticket would have with this tenant and command, and a sighting of it
 abbrev pub next_entry : Pass → ℕ → Command → Entry
 next_entry pass tenant command = record { ticket = next_ticket pass; tenant = tenant; command = command }

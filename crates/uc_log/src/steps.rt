@@ -1,14 +1,10 @@
 //! What a worker does with its pass.
-ghost use Rattle.std.specs.Prelude.{◌≡◌, ◌≢◌, ◌⊎◌, ℕ, ◌<◌, ◌∷◌, ◌++◌, [], length, slice_get, None, Some, IfOk, IfErr, IsOkUnless, OnErr, OnOk};
+ghost use Rattle.std.specs.Prelude.{◌≡◌, ◌≢◌, ◌⊎◌, ◌<◌, ◌∷◌, ◌++◌, [], length, slice_get, None, Some, IfOk, IfErr, IsOkUnless, OnErr, OnOk};
 ghost use Rattle.mc_model.specs.declared.fault.Fault.TheVariants as faults;
-ghost use Rattle.mc_model.specs.declared.id.Ticket as ticket;
 ghost use Rattle.mc_model.specs.declared.shown.Phase.TheVariants as phase;
-ghost use Rattle.mc_model.specs.Helping.{BeginsWith};
-ghost use Rattle.mc_model.specs.Lawful.{HasRoom, announced_by, announces, looks, proposes, reads, turn};
-ghost use Rattle.mc_model.specs.Shown.{announce, look, propose, read};
-ghost use Rattle.uc_log.specs.Passes.{IsOf, desk, learned, next_sighting, own_sightings, row_of, seat, size, state, worker};
-ghost use Rattle.uc_places.specs.Calls.{Makes, last_of};
-ghost use Rattle.uc_places.specs.Told.{told_list};
+ghost use Rattle.mc_model.specs.Lawful.{HasRoom};
+ghost use Rattle.uc_log.specs.Passes.{IsOf, Keeps, desk, learned, next_sighting, own_sightings, row_of, size, state, worker};
+ghost use Rattle.uc_places.specs.Calls.{Announces, Looks, Proposes, Reads, Tells};
 
 use crate::log::Log;
 use crate::pass::Pass;
@@ -30,7 +26,7 @@ impl Log {
         requires idle { (state pass.old).phase ≡ phase.Idle }
         requires room { HasRoom (size pass.old) (state pass.old) }
         ensures of { IsOf self.now pass.new }
-        ensures made { OnOk result (Makes (desk pass.old) (desk pass.new) (announces (worker pass.old)) (announce (state pass.old))) }
+        ensures announced { OnOk result (Announces (desk pass.old) (desk pass.new)) }
         // The cell of the announced ticket holds the tenant's command.
         ensures put { OnOk result (own_sightings pass.new ≡ own_sightings pass.old ++ next_sighting self.now pass.old tenant command ∷ []) }
         ensures faults { IfErr result (λ fault. (fault ≡ faults.Memory) ⊎ (fault ≡ faults.Taken)) }
@@ -59,13 +55,8 @@ impl Log {
         requires of { IsOf self.now pass.old }
         requires phase { ((state pass.old).phase ≡ phase.Idle) ⊎ ((state pass.old).phase ≡ phase.Pending) }
         requires room { HasRoom (size pass.old) (state pass.old) }
-        ensures of { IsOf self.now pass.new }
-        ensures made { Makes (desk pass.old) (desk pass.new) (reads (worker pass.old)) (read (worker pass.old) result (state pass.old)) }
-        // What is given is what stands at the next place.
-        ensures stands { slice_get (last_of (desk pass.new)).decided (length (learned pass.old)) ≡ result }
-        // What the pass was told of that place is what it finds.
-        ensures told { (x : ticket.Ticket) → slice_get (seat pass.old).told (length (learned pass.old)) ≡ Some x → result ≡ Some x }
-        ensures own { own_sightings pass.new ≡ own_sightings pass.old }
+        ensures read { Reads (desk pass.old) (desk pass.new) result }
+        ensures kept { Keeps self.now pass.old pass.new }
     {
         // Its parts, since a ticket that is passed twice gets no proof.
         let Ticket { worker, number } = pass.desk.read(&self.places)?;
@@ -79,10 +70,8 @@ impl Log {
         requires pending { (state pass.old).phase ≡ phase.Pending }
         requires room { HasRoom (size pass.old) (state pass.old) }
         requires marked { (state pass.old).mark ≢ None }
-        ensures of { IsOf self.now pass.new }
-        ensures made { Makes (desk pass.old) (desk pass.new) (looks (worker pass.old)) (look (turn (size pass.old) (state pass.old))
-            (announced_by (last_of (desk pass.new)) (turn (size pass.old) (state pass.old))) (state pass.old)) }
-        ensures own { own_sightings pass.new ≡ own_sightings pass.old }
+        ensures looked { Looks (desk pass.old) (desk pass.new) }
+        ensures kept { Keeps self.now pass.old pass.new }
     {
         pass.desk.look(&self.places);
     }
@@ -92,11 +81,8 @@ impl Log {
     pub fn propose(&self, pass: &mut Pass) -> Ticket
         requires of { IsOf self.now pass.old }
         requires looked { (state pass.old).phase ≡ phase.Looked }
-        ensures of { IsOf self.now pass.new }
-        ensures made { Makes (desk pass.old) (desk pass.new) (proposes (worker pass.old)) (propose (worker pass.old) (Some result) (state pass.old)) }
-        // What is given is what stands at the next place.
-        ensures stands { slice_get (last_of (desk pass.new)).decided (length (learned pass.old)) ≡ Some result }
-        ensures own { own_sightings pass.new ≡ own_sightings pass.old }
+        ensures proposed { Proposes (desk pass.old) (desk pass.new) result }
+        ensures kept { Keeps self.now pass.old pass.new }
     {
         // Its parts, since a ticket that is passed twice gets no proof.
         let Ticket { worker, number } = pass.desk.propose(&self.places);
@@ -126,10 +112,8 @@ impl Log {
     /// have learned, one begins with the other.
     pub fn tell(&self, from: &mut Pass, to: &mut Pass)
         requires { IsOf self.now from.old × IsOf self.now to.old }
-        ensures of { IsOf self.now from.new × IsOf self.now to.new }
-        ensures first { (seat from.new ≡ seat from.old) × (own_sightings from.new ≡ own_sightings from.old) }
-        ensures second { (seat to.new ≡ told_list (seat to.old) (learned from.old)) × (own_sightings to.new ≡ own_sightings to.old) }
-        ensures compared { BeginsWith (learned from.old) (learned to.old) ⊎ BeginsWith (learned to.old) (learned from.old) }
+        ensures told { Tells (desk from.old) (desk to.old) (desk from.new) (desk to.new) }
+        ensures kept { Keeps self.now from.old from.new × Keeps self.now to.old to.new }
     {
         from.desk.tell(&self.places, &mut to.desk);
     }

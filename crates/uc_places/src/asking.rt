@@ -1,10 +1,8 @@
 //! What a seat tells of its worker.
-ghost use Rattle.std.specs.Prelude.{◌≡◌, ◌≢◌, ◌+◌, ◌<◌, ◌≤◌, None, true, false, length};
+ghost use Rattle.std.specs.Prelude.{◌≡◌, ◌<◌, ◌≤◌, true, false, length};
 ghost use Rattle.mc_model.specs.declared.settings.TheConstants.{MAX_PLACES};
 ghost use Rattle.mc_model.specs.declared.shown.Phase.TheVariants as phase;
-ghost use Rattle.mc_model.specs.Lawful.{HasRoom};
-ghost use Rattle.uc_places.specs.Calls.{size_of, state_of, worker_of};
-ghost use Rattle.uc_places.specs.SeatLaw.{SeatLaw};
+ghost use Rattle.uc_places.specs.Calls.{HasLearned, HasProposed, TellsFull, TellsMarked, TellsPhase, known, size_of, state_of, worker_of};
 ghost use Rattle.uc_places.specs.Seats.{desk_of, is_idle};
 
 use crate::desk::Desk;
@@ -29,9 +27,7 @@ impl Desk {
 
     /// How many places its worker has learned.
     pub fn learned(&self) -> usize
-        ensures value { result ≡ length (state_of self.now).learned }
-        ensures few { result ≤ (size_of self.now).places }
-        ensures law { SeatLaw (size_of self.now) (worker_of self.now) (state_of self.now) }
+        ensures { HasLearned (known self.now) result }
     {
         self.numbers.learned
     }
@@ -46,16 +42,14 @@ impl Desk {
 
     /// Whether its worker has learned all places. If not, it can announce where it is idle, read, and look once it is marked.
     pub fn is_full(&self) -> bool
-        ensures full { result ≡ true → length (state_of self.now).learned ≡ (size_of self.now).places }
-        ensures room { result ≡ false → HasRoom (size_of self.now) (state_of self.now) }
+        ensures { TellsFull (known self.now) result }
     {
         self.numbers.learned >= self.numbers.places
     }
 
     /// How many proposals its worker has made for the command that it announced last: at most one more than there are workers.
     pub fn proposals(&self) -> u64
-        ensures value { result ≡ (state_of self.now).proposals }
-        ensures few { result ≤ (size_of self.now).workers + 1 }
+        ensures { HasProposed (known self.now) result }
     {
         self.numbers.proposals
     }
@@ -69,8 +63,7 @@ impl Desk {
 
     /// Whether its worker has found a place empty since it announced the command that waits.
     pub fn is_marked(&self) -> bool
-        ensures marked { result ≡ true → (state_of self.now).mark ≢ None }
-        ensures unmarked { result ≡ false → (state_of self.now).mark ≡ None }
+        ensures { TellsMarked (known self.now) result }
     {
         self.numbers.mark.is_some()
     }
@@ -84,24 +77,21 @@ impl Desk {
 
     /// Whether its worker has no command that waits.
     pub fn is_idle(&self) -> bool
-        ensures idle { result ≡ true → (state_of self.now).phase ≡ phase.Idle }
-        ensures other { result ≡ false → (state_of self.now).phase ≢ phase.Idle }
+        ensures { TellsPhase phase.Idle (known self.now) result }
     {
         self.numbers.phase == Phase::Idle
     }
 
     /// Whether its worker has a command that waits, and hasn't looked at its next place.
     pub fn is_pending(&self) -> bool
-        ensures pending { result ≡ true → (state_of self.now).phase ≡ phase.Pending }
-        ensures other { result ≡ false → (state_of self.now).phase ≢ phase.Pending }
+        ensures { TellsPhase phase.Pending (known self.now) result }
     {
         self.numbers.phase == Phase::Pending
     }
 
     /// Whether its worker has looked at whom to help at its next place.
     pub fn is_looked(&self) -> bool
-        ensures looked { result ≡ true → (state_of self.now).phase ≡ phase.Looked }
-        ensures other { result ≡ false → (state_of self.now).phase ≢ phase.Looked }
+        ensures { TellsPhase phase.Looked (known self.now) result }
     {
         self.numbers.phase == Phase::Looked
     }
@@ -126,16 +116,14 @@ impl Idle {
 
     /// Whether it has learned all places. If not, it can announce and read.
     pub fn is_full(&self) -> bool
-        ensures full { result ≡ true → length (state_of self.now.desk).learned ≡ (size_of self.now.desk).places }
-        ensures room { result ≡ false → HasRoom (size_of self.now.desk) (state_of self.now.desk) }
+        ensures { TellsFull (known self.now.desk) result }
     {
         self.desk.is_full()
     }
 
     /// How many proposals its worker has made for the command that it announced last: at most one more than there are workers.
     pub fn proposals(&self) -> u64
-        ensures value { result ≡ (state_of self.now.desk).proposals }
-        ensures few { result ≤ (size_of self.now.desk).workers + 1 }
+        ensures { HasProposed (known self.now.desk) result }
     {
         self.desk.proposals()
     }
@@ -151,8 +139,7 @@ impl Pending {
 
     /// Whether it has learned all places. If not, it can read, and look once it is marked.
     pub fn is_full(&self) -> bool
-        ensures full { result ≡ true → length (state_of self.now.desk).learned ≡ (size_of self.now.desk).places }
-        ensures room { result ≡ false → HasRoom (size_of self.now.desk) (state_of self.now.desk) }
+        ensures { TellsFull (known self.now.desk) result }
     {
         self.desk.is_full()
     }
@@ -166,16 +153,14 @@ impl Pending {
 
     /// Whether its worker has found a place empty since it announced the command that waits.
     pub fn is_marked(&self) -> bool
-        ensures marked { result ≡ true → (state_of self.now.desk).mark ≢ None }
-        ensures unmarked { result ≡ false → (state_of self.now.desk).mark ≡ None }
+        ensures { TellsMarked (known self.now.desk) result }
     {
         self.desk.is_marked()
     }
 
     /// How many proposals its worker has made for the command that waits: at most one more than there are workers.
     pub fn proposals(&self) -> u64
-        ensures value { result ≡ (state_of self.now.desk).proposals }
-        ensures few { result ≤ (size_of self.now.desk).workers + 1 }
+        ensures { HasProposed (known self.now.desk) result }
     {
         self.desk.proposals()
     }
@@ -191,8 +176,7 @@ impl Looked {
 
     /// How many proposals its worker has made for the command that waits: at most one more than there are workers.
     pub fn proposals(&self) -> u64
-        ensures value { result ≡ (state_of self.now.desk).proposals }
-        ensures few { result ≤ (size_of self.now.desk).workers + 1 }
+        ensures { HasProposed (known self.now.desk) result }
     {
         self.desk.proposals()
     }
@@ -235,16 +219,14 @@ impl Seat {
 
     /// Whether it has learned all places.
     pub fn is_full(&self) -> bool
-        ensures full { result ≡ true → length (state_of (desk_of self.now)).learned ≡ (size_of (desk_of self.now)).places }
-        ensures room { result ≡ false → HasRoom (size_of (desk_of self.now)) (state_of (desk_of self.now)) }
+        ensures { TellsFull (known (desk_of self.now)) result }
     {
         self.desk().is_full()
     }
 
     /// How many proposals its worker has made for the command that it announced last: at most one more than there are workers.
     pub fn proposals(&self) -> u64
-        ensures value { result ≡ (state_of (desk_of self.now)).proposals }
-        ensures few { result ≤ (size_of (desk_of self.now)).workers + 1 }
+        ensures { HasProposed (known (desk_of self.now)) result }
     {
         self.desk().proposals()
     }

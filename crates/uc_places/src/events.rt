@@ -1,10 +1,8 @@
 //! The events of a desk, in place: each is one operation on one word, and one event of the log.
-ghost use Rattle.std.specs.Prelude.{◌≡◌, ◌≢◌, ◌⊎◌, ◌<◌, None, Some, length, slice_get};
-ghost use Rattle.mc_model.specs.declared.id.Ticket.{Ticket};
+ghost use Rattle.std.specs.Prelude.{◌≡◌, ◌≢◌, ◌⊎◌, None};
 ghost use Rattle.mc_model.specs.declared.shown.Phase.TheVariants as phase;
-ghost use Rattle.mc_model.specs.Lawful.{HasRoom, announced_by, announces, looks, proposes, reads, turn};
-ghost use Rattle.mc_model.specs.Shown.{announce, look, propose, read};
-ghost use Rattle.uc_places.specs.Calls.{IsSeatOf, Makes, known, last_of, size_of, state_of, worker_of};
+ghost use Rattle.mc_model.specs.Lawful.{HasRoom};
+ghost use Rattle.uc_places.specs.Calls.{Announces, IsSeatOf, Looks, Proposes, Reads, size_of, state_of};
 
 use crate::desk::{Desk, Places};
 use crate::rule::{Announcing, Looking, Proposing, Reading};
@@ -17,7 +15,7 @@ impl Desk {
         requires place { IsSeatOf places.now self.old }
         requires idle { (state_of self.old).phase ≡ phase.Idle }
         requires room { HasRoom (size_of self.old) (state_of self.old) }
-        ensures { Makes self.old self.new (announces (worker_of self.old)) (announce (state_of self.old)) }
+        ensures { Announces self.old self.new }
     {
         let word = self.numbers.own_word();
         let shared = &places.table.shared;
@@ -34,11 +32,7 @@ impl Desk {
         requires place { IsSeatOf places.now self.old }
         requires phase { ((state_of self.old).phase ≡ phase.Idle) ⊎ ((state_of self.old).phase ≡ phase.Pending) }
         requires room { HasRoom (size_of self.old) (state_of self.old) }
-        ensures made { Makes self.old self.new (reads (worker_of self.old)) (read (worker_of self.old) result (state_of self.old)) }
-        // What is given is what stands at the next place.
-        ensures stands { slice_get (last_of self.new).decided (length (state_of self.old).learned) ≡ result }
-        // What the seat was told of that place is what it finds.
-        ensures told { (ticket : Ticket) → slice_get (known self.old).told (length (state_of self.old).learned) ≡ Some ticket → result ≡ Some ticket }
+        ensures { Reads self.old self.new result }
     {
         let word = self.numbers.next_word();
         let shared = &places.table.shared;
@@ -59,8 +53,7 @@ impl Desk {
         requires pending { (state_of self.old).phase ≡ phase.Pending }
         requires room { HasRoom (size_of self.old) (state_of self.old) }
         requires marked { (state_of self.old).mark ≢ None }
-        ensures { Makes self.old self.new (looks (worker_of self.old)) (look (turn (size_of self.old) (state_of self.old))
-            (announced_by (last_of self.new) (turn (size_of self.old) (state_of self.old))) (state_of self.old)) }
+        ensures { Looks self.old self.new }
     {
         let turn = self.numbers.learned % self.numbers.workers;
         let shared = &places.table.shared;
@@ -74,9 +67,7 @@ impl Desk {
     pub fn propose(&mut self, places: &Places) -> Ticket
         requires place { IsSeatOf places.now self.old }
         requires looked { (state_of self.old).phase ≡ phase.Looked }
-        ensures made { Makes self.old self.new (proposes (worker_of self.old)) (propose (worker_of self.old) (Some result) (state_of self.old)) }
-        // What is given is what stands at the next place.
-        ensures stands { slice_get (last_of self.new).decided (length (state_of self.old).learned) ≡ Some result }
+        ensures { Proposes self.old self.new result }
     {
         let place = self.numbers.next_word();
         let word = self.numbers.proposal;

@@ -1,9 +1,8 @@
 //! The calls of a seat: each is an event of its desk.
-ghost use Rattle.std.specs.Prelude.{◌≡◌, ◌≢◌, ◌⊎◌, None, Some, true, false, length, slice_get};
+ghost use Rattle.std.specs.Prelude.{◌≡◌, ◌≢◌, ◌⊎◌, None, true, false};
 ghost use Rattle.mc_model.specs.declared.shown.Phase.TheVariants as phase;
-ghost use Rattle.mc_model.specs.Lawful.{HasRoom, announced_by, announces, looks, proposes, reads, turn};
-ghost use Rattle.mc_model.specs.Shown.{announce, look, propose, read};
-ghost use Rattle.uc_places.specs.Calls.{IsSeatOf, Makes, known, last_of, size_of, state_of, worker_of};
+ghost use Rattle.mc_model.specs.Lawful.{HasRoom};
+ghost use Rattle.uc_places.specs.Calls.{Announces, IsSeatOf, Looks, Proposes, Reads, size_of, state_of};
 ghost use Rattle.uc_places.specs.Seats.{desk_of, is_idle};
 
 use crate::desk::{Desk, Places};
@@ -29,7 +28,7 @@ impl Idle {
     pub fn announce(self, places: &Places) -> Pending
         requires place { IsSeatOf places.now self.desk }
         requires room { HasRoom (size_of self.desk) (state_of self.desk) }
-        ensures { Makes self.desk result.desk (announces (worker_of self.desk)) (announce (state_of self.desk)) }
+        ensures { Announces self.desk result.desk }
     {
         let Idle { mut desk } = self;
         desk.announce(places);
@@ -40,13 +39,7 @@ impl Idle {
     pub fn read(&mut self, places: &Places) -> Option<Ticket>
         requires place { IsSeatOf places.now self.old.desk }
         requires room { HasRoom (size_of self.old.desk) (state_of self.old.desk) }
-        ensures made { Makes self.old.desk self.new.desk (reads (worker_of self.old.desk))
-            (read (worker_of self.old.desk) result (state_of self.old.desk)) }
-        // What is given is what stands at the next place.
-        ensures stands { slice_get (last_of self.new.desk).decided (length (state_of self.old.desk).learned) ≡ result }
-        // What the seat was told of that place is what it finds.
-        ensures told { (ticket : Ticket) → slice_get (known self.old.desk).told (length (state_of self.old.desk).learned) ≡ Some ticket →
-            result ≡ Some ticket }
+        ensures { Reads self.old.desk self.new.desk result }
     {
         self.desk.read(places)
     }
@@ -58,12 +51,7 @@ impl Pending {
     pub fn read(self, places: &Places) -> (Seat, Option<Ticket>)
         requires place { IsSeatOf places.now self.desk }
         requires room { HasRoom (size_of self.desk) (state_of self.desk) }
-        ensures made { Makes self.desk (desk_of result.0) (reads (worker_of self.desk)) (read (worker_of self.desk) result.1 (state_of self.desk)) }
-        // What is given is what stands at the next place.
-        ensures stands { slice_get (last_of (desk_of result.0)).decided (length (state_of self.desk).learned) ≡ result.1 }
-        // What the seat was told of that place is what it finds.
-        ensures told { (ticket : Ticket) → slice_get (known self.desk).told (length (state_of self.desk).learned) ≡ Some ticket →
-            result.1 ≡ Some ticket }
+        ensures { Reads self.desk (desk_of result.0) result.1 }
     {
         let Pending { mut desk } = self;
         let found = desk.read(places);
@@ -75,8 +63,7 @@ impl Pending {
         requires place { IsSeatOf places.now self.desk }
         requires room { HasRoom (size_of self.desk) (state_of self.desk) }
         requires marked { (state_of self.desk).mark ≢ None }
-        ensures { Makes self.desk result.desk (looks (worker_of self.desk)) (look (turn (size_of self.desk) (state_of self.desk))
-            (announced_by (last_of result.desk) (turn (size_of self.desk) (state_of self.desk))) (state_of self.desk)) }
+        ensures { Looks self.desk result.desk }
     {
         let Pending { mut desk } = self;
         desk.look(places);
@@ -89,10 +76,7 @@ impl Looked {
     /// there then: where it is its own, the worker is idle.
     pub fn propose(self, places: &Places) -> (Seat, Ticket)
         requires { IsSeatOf places.now self.desk }
-        ensures made { Makes self.desk (desk_of result.0) (proposes (worker_of self.desk))
-            (propose (worker_of self.desk) (Some result.1) (state_of self.desk)) }
-        // What is given is what stands at the next place.
-        ensures stands { slice_get (last_of (desk_of result.0)).decided (length (state_of self.desk).learned) ≡ Some result.1 }
+        ensures { Proposes self.desk (desk_of result.0) result.1 }
     {
         let Looked { mut desk } = self;
         let ticket = desk.propose(places);

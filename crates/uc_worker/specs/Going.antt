@@ -27,7 +27,7 @@ pub record CatchesUp (old new : Worker) : Type 0 where
   pub announced : announced_of new ≡ announced_of old
 
 -- it has replayed more, and taken no step
-pub record Replays (old new : Worker) : Type 0 where
+pub record ReplaysMore (old new : Worker) : Type 0 where
   pub log : new.log ≡ old.log
   pub openings : openings_of new ≡ openings_of old
   pub pass : new.pass ≡ old.pass

@@ -4,7 +4,8 @@ ghost use Rattle.mc_model.specs.declared.fault.Fault.TheVariants as faults;
 ghost use Rattle.mc_model.specs.declared.shown.Phase.TheVariants as phase;
 ghost use Rattle.mc_model.specs.Helping.{BeginsWith};
 ghost use Rattle.uc_log.specs.Passes.{IsOf, learned, next_sighting, next_ticket, own_sightings, seat, size, state};
-ghost use Rattle.uc_worker.specs.Steps.{IsSame, Later, Leaves, Rests};
+ghost use Rattle.uc_worker.specs.Steps.{IsSame, Leaves, Rests};
+ghost use Rattle.uc_worker.specs.Waiting.{LearnsOn};
 
 use crate::deciding::decide;
 use crate::gate::{Gate, Step};
@@ -16,9 +17,7 @@ use uc_log::{Log, Pass};
 pub(crate) fn settle<G: Gate>(log: &Log, pass: &mut Pass, gate: &mut G) -> bool
     requires of { IsOf log.now pass.old }
     requires rests { Rests (state pass.old).phase }
-    ensures of { IsOf log.now pass.new }
-    ensures own { own_sightings pass.new ≡ own_sightings pass.old }
-    ensures later { Later (seat pass.old) (seat pass.new) }
+    ensures on { LearnsOn log.now pass.old pass.new }
     ensures idle { result ≡ true → (state pass.new).phase ≡ phase.Idle }
     ensures pending { result ≡ false → (state pass.new).phase ≡ phase.Pending }
     ensures full { result ≡ false → length (learned pass.new) ≡ (size pass.new).places }

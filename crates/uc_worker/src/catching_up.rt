@@ -1,9 +1,10 @@
 //! A worker catches up with the log.
 ghost use Rattle.std.specs.Prelude.{◌≡◌, IsOkUnless, OnOk};
 ghost use Rattle.mc_model.specs.declared.fault.Fault.TheVariants as faults;
-ghost use Rattle.uc_log.specs.Passes.{IsOf, own_sightings, seat, state};
-ghost use Rattle.uc_worker.specs.Steps.{HasReadOn, Later, Rests};
+ghost use Rattle.uc_log.specs.Passes.{IsOf, seat, state};
 ghost use Rattle.uc_worker.specs.Going.{CatchesUp};
+ghost use Rattle.uc_worker.specs.Steps.{HasReadOn, Rests};
+ghost use Rattle.uc_worker.specs.Waiting.{LearnsOn};
 ghost use Rattle.uc_worker.specs.Worker.{IsUpToDate, seat_of};
 
 use crate::gate::{Gate, Step};
@@ -15,10 +16,8 @@ use uc_log::{Log, Pass};
 fn read_up<G: Gate>(log: &Log, pass: &mut Pass, gate: &mut G)
     requires of { IsOf log.now pass.old }
     requires rests { Rests (state pass.old).phase }
-    ensures of { IsOf log.now pass.new }
+    ensures on { LearnsOn log.now pass.old pass.new }
     ensures rests { Rests (state pass.new).phase }
-    ensures own { own_sightings pass.new ≡ own_sightings pass.old }
-    ensures later { Later (seat pass.old) (seat pass.new) }
     ensures read { HasReadOn (seat pass.new) }
 {
     for _place in pass.learned()..pass.places() {

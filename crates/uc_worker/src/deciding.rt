@@ -2,8 +2,9 @@
 ghost use Rattle.std.specs.Prelude.{◌≡◌, ◌≢◌, length, None, true, false};
 ghost use Rattle.mc_model.specs.declared.shown.Phase.TheVariants as phase;
 ghost use Rattle.mc_model.specs.Lawful.{HasRoom};
-ghost use Rattle.uc_log.specs.Passes.{IsOf, learned, own_sightings, seat, size, state};
-ghost use Rattle.uc_worker.specs.Steps.{Decided, Later};
+ghost use Rattle.uc_log.specs.Passes.{IsOf, learned, seat, size, state};
+ghost use Rattle.uc_worker.specs.Steps.{Decided};
+ghost use Rattle.uc_worker.specs.Waiting.{LearnsOn};
 
 use crate::gate::{Gate, Step};
 use uc_log::{Log, Pass};
@@ -12,9 +13,7 @@ use uc_log::{Log, Pass};
 fn read_on<G: Gate>(log: &Log, pass: &mut Pass, gate: &mut G) -> bool
     requires of { IsOf log.now pass.old }
     requires pending { (state pass.old).phase ≡ phase.Pending }
-    ensures of { IsOf log.now pass.new }
-    ensures own { own_sightings pass.new ≡ own_sightings pass.old }
-    ensures later { Later (seat pass.old) (seat pass.new) }
+    ensures on { LearnsOn log.now pass.old pass.new }
     ensures decided { result ≡ true → Decided (seat pass.old) (seat pass.new) }
     ensures pending { result ≡ false → (state pass.new).phase ≡ phase.Pending }
     ensures marked { result ≡ false → HasRoom (size pass.new) (state pass.new) → (state pass.new).mark ≢ None }
@@ -37,9 +36,7 @@ fn propose_on<G: Gate>(log: &Log, pass: &mut Pass, gate: &mut G) -> bool
     requires of { IsOf log.now pass.old }
     requires pending { (state pass.old).phase ≡ phase.Pending }
     requires marked { (state pass.old).mark ≢ None }
-    ensures of { IsOf log.now pass.new }
-    ensures own { own_sightings pass.new ≡ own_sightings pass.old }
-    ensures later { Later (seat pass.old) (seat pass.new) }
+    ensures on { LearnsOn log.now pass.old pass.new }
     ensures decided { result ≡ true → Decided (seat pass.old) (seat pass.new) }
     ensures pending { result ≡ false → (state pass.new).phase ≡ phase.Pending }
     ensures full { result ≡ false → length (learned pass.new) ≡ (size pass.new).places }
@@ -60,9 +57,7 @@ fn propose_on<G: Gate>(log: &Log, pass: &mut Pass, gate: &mut G) -> bool
 pub(crate) fn decide<G: Gate>(log: &Log, pass: &mut Pass, gate: &mut G) -> bool
     requires of { IsOf log.now pass.old }
     requires pending { (state pass.old).phase ≡ phase.Pending }
-    ensures of { IsOf log.now pass.new }
-    ensures own { own_sightings pass.new ≡ own_sightings pass.old }
-    ensures later { Later (seat pass.old) (seat pass.new) }
+    ensures on { LearnsOn log.now pass.old pass.new }
     ensures decided { result ≡ true → Decided (seat pass.old) (seat pass.new) }
     ensures pending { result ≡ false → (state pass.new).phase ≡ phase.Pending }
     ensures full { result ≡ false → length (learned pass.new) ≡ (size pass.new).places }

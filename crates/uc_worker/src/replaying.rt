@@ -4,7 +4,7 @@ ghost use Rattle.mc_model.specs.declared.fault.Fault.TheVariants as faults;
 ghost use Rattle.mc_model.specs.Replay.{reply_to};
 ghost use Rattle.uc_cells.specs.Sighting.{entries};
 ghost use Rattle.uc_log.specs.Passes.{learned, own_sightings, worker};
-ghost use Rattle.uc_worker.specs.Going.{Replays};
+ghost use Rattle.uc_worker.specs.Going.{ReplaysMore};
 ghost use Rattle.uc_worker.specs.Worker.{history_of, last_entry, openings_of, sighting_of};
 
 use crate::gate::{Gate, Step};
@@ -12,12 +12,12 @@ use crate::worker::Worker;
 use mc_model::{Fault, Reply};
 
 impl<'a> Worker<'a> {
-    /// Replays what was learned before this place. Nobody waits for an answer there, so none is made: not of an own command either, which an
+    /// ReplaysMore what was learned before this place. Nobody waits for an answer there, so none is made: not of an own command either, which an
     /// earlier call has left behind.
     pub(crate) fn replay_to<G: Gate>(&mut self, end: usize, gate: &mut G) -> Result<(), Fault>
         requires learned { end ≤ length (learned self.old.pass) }
         requires behind { length (history_of self.old) ≤ end }
-        ensures replays { Replays self.old self.new }
+        ensures replays { ReplaysMore self.old self.new }
         ensures all { OnOk result (length (history_of self.new) ≡ end) }
         ensures some { length (history_of self.new) ≤ end }
         ensures memory { IsOkUnless result faults.Memory }
@@ -31,7 +31,7 @@ impl<'a> Worker<'a> {
         Ok(())
     }
 
-    /// Replays what was learned up to the place that was learned last, where an own command stands, and gives its reply.
+    /// ReplaysMore what was learned up to the place that was learned last, where an own command stands, and gives its reply.
     pub(crate) fn reply_last<G: Gate>(&mut self, gate: &mut G) -> Result<Reply, Fault>
         requires behind { length (history_of self.old) < length (learned self.old.pass) }
         requires last { slice_get (learned self.old.pass) (length (learned self.old.pass) - 1) ≡ Some (last_entry self.old.pass).ticket }
@@ -39,7 +39,7 @@ impl<'a> Worker<'a> {
         requires put { slice_get (own_sightings self.old.pass) (last_entry self.old.pass).ticket.number
             ≡ Some (sighting_of self.old.log.now (last_entry self.old.pass)) }
         requires tenant { (last_entry self.old.pass).tenant < length (openings_of self.old) }
-        ensures replays { Replays self.old self.new }
+        ensures replays { ReplaysMore self.old self.new }
         ensures all { OnOk result (length (history_of self.new) ≡ length (learned self.old.pass)) }
         ensures stands { OnOk result (slice_get (history_of self.new) (length (learned self.old.pass) - 1)
             ≡ Some (sighting_of self.old.log.now (last_entry self.old.pass))) }

@@ -1,16 +1,12 @@
-use Rattle.std.proofs.Common.{◌≡◌, ◌+◌, ◌-◌, ◌%◌, ◌^◌, ◌∙◌, ◌↔◌, ap, arith, subst}
-use Rattle.std.specs.FinMap as map
-use Rattle.mc_model.specs.declared.command.Command.TheVariants.{Incr}
+use Rattle.std.proofs.Common.{◌≡◌, ◌+◌, ◌-◌, ◌%◌, ◌^◌, ◌∙◌, ap, arith}
 use Rattle.mc_model.specs.declared.item.Item.{Item}
-use Rattle.mc_model.specs.declared.reply.Reply.TheVariants.{Number, Refused}
-use Rattle.mc_model.specs.declared.reply.WireNo.TheVariants.{E7}
-use Rattle.mc_model.specs.declared.settings.Limits.{Limits}
+use Rattle.mc_model.specs.declared.reply.Reply.TheVariants.{Number}
 use Rattle.mc_model.specs.Effect.{Effect}
-use Rattle.mc_model.specs.History.{after, answer, changes}
+use Rattle.mc_model.specs.History.{after, changes}
 use Rattle.mc_laws.proofs.Counting.{decr_there, incr_there, numbered}
-use Rattle.mc_laws.proofs.Histories.{quotas, quotas_stay, within_quotas}
+use Rattle.mc_laws.proofs.Histories.{quotas, within_quotas}
 use Rattle.mc_laws.proofs.OneKey.{stored_or_refused}
-use Rattle.mc_laws.proofs.Quotas.{ExceedsQuotas, stored_refused}
+use Rattle.mc_laws.proofs.Quotas.{stored_refused}
 use Rattle.mc_laws.proofs.tables.incr_wraps_and_decr_stops.Goals as goal
 
 pub returns-clause-sum : goal.returns-clause-sum

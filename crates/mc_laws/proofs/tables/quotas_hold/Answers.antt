@@ -1,11 +1,9 @@
-use Rattle.std.proofs.Common.{◌≡◌, ◌≤◌, ◌+◌, subst, sym}
+use Rattle.std.proofs.Common.{◌+◌}
 use Rattle.mc_model.specs.declared.item.Item.{Item}
 use Rattle.mc_model.specs.declared.reply.Reply.TheVariants.{Stored}
-use Rattle.mc_model.specs.declared.settings.Limits.{Limits}
 use Rattle.mc_model.specs.History.{after, changes, limits_after}
-use Rattle.mc_model.specs.Table.{count_of, use_of}
 use Rattle.mc_model.specs.Use.{within_parts}
-use Rattle.mc_laws.proofs.Histories.{quotas_stay, stays_within, within_quotas}
+use Rattle.mc_laws.proofs.Histories.{within_quotas}
 use Rattle.mc_laws.proofs.Quotas.{stored_refused}
 use Rattle.mc_laws.proofs.Refusals.{refused_exactly}
 use Rattle.mc_laws.proofs.tables.quotas_hold.Goals as goal

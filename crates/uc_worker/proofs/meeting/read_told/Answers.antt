@@ -12,12 +12,12 @@ loop-place-preserved c =
     let begins : BeginsWith (known old).told (state_of old).learned = (i.begins.0, i.told ∙ i.begins.1) in
     let long = ap (λ (list : List Ticket). length list) i.told in let here = i.here in let end = c.requires.end in let below = c.loop-place-test.true in
     let shorter : length (state_of old).learned < length (known old).told = omega arith in
-    let one = reads_told old new c.read.result c.read.ensures.made i.rests c.read.ensures.told begins shorter in record {
-      of = c.read.ensures.of;
+    let one = reads_told old new c.read.result c.read.ensures.read.made i.rests c.read.ensures.read.told begins shorter in record {
+      of = c.read.ensures.kept.of;
       rests = one.rests;
       same = (one.same.0 ∙ i.same.0, one.same.1 ∙ i.same.1);
       told = one.told ∙ i.told;
-      own = c.read.ensures.own ∙ i.own;
+      own = c.read.ensures.kept.own ∙ i.own;
       begins = (one.begins.0, sym i.told ∙ one.begins.1);
       here = one.more ∙ ap (λ (n : ℕ). n + 1) i.here;
     }

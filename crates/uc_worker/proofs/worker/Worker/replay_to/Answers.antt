@@ -10,13 +10,13 @@ pub invariant_of-self-in-loop-place-clause-follows : goal.invariant_of-self-in-l
 invariant_of-self-in-loop-place-clause-follows g c =
     let worker = c.loop-place.self in let log = worker.log.now in let new = c.advance.new.self.history in
     subst (λ (p : Pass). Follows log new (learned p)) (sym c.seen.ensures.same) (follows_replayed c.advance.result log worker.replica.history new (learned worker.pass)
-        c.in_ok-seen.seen c.loop-place.place c.advance.ensures.history c.advance.ensures.unchanged (λ same i. (same i).history) worker.follows c.loop-place.invariant.here
-        c.in_ok-seen.ensures.ticket c.in_ok-seen.ensures.row)
+    c.in_ok-seen.seen c.loop-place.place c.advance.ensures.history c.advance.ensures.unchanged (λ same i. (same i).history) worker.follows c.loop-place.invariant.here
+    c.in_ok-seen.ensures.ticket c.in_ok-seen.ensures.row)
 
 pub invariant_of-self-in-loop-place-clause-short : goal.invariant_of-self-in-loop-place-clause-short
 invariant_of-self-in-loop-place-clause-short g c =
     let same : length (learned c.seen.new.pass) ≡ length (learned c.args.self.now.pass)
-      = ap (λ (p : Pass). length (learned p)) (c.seen.ensures.same ∙ c.loop-place.invariant.replays.pass) in
+    = ap (λ (p : Pass). length (learned p)) (c.seen.ensures.same ∙ c.loop-place.invariant.replays.pass) in
     let below : c.loop-place.place < length (learned c.seen.new.pass) = omega (arith, same, c.requires.learned, c.loop-place-test.true) in
     short_replayed c.advance.result c.loop-place.self.replica.history c.advance.new.self.history c.in_ok-seen.seen c.loop-place.place _
-        c.advance.ensures.history c.advance.ensures.unchanged (λ same i. (same i).history) c.loop-place.invariant.here below
+    c.advance.ensures.history c.advance.ensures.unchanged (λ same i. (same i).history) c.loop-place.invariant.here below

@@ -15,16 +15,16 @@ pub invariant_of-self-2-clause-follows : goal.invariant_of-self-2-clause-follows
 invariant_of-self-2-clause-follows g c =
     let self = c.replay_to.new.self in let log = self.log.now in let new = c.replay.new.self.history in
     subst (λ (p : Pass). Follows log new (learned p)) (sym c.seen.ensures.same) (follows_replayed c.replay.result log self.replica.history new (learned self.pass)
-        c.in_ok-seen.seen (c.learned-place.result - 1) c.replay.ensures.history c.replay.ensures.unchanged (λ same i. (same i).history) self.follows c.in_ok-replay_to.ensures.all
-        c.in_ok-seen.ensures.ticket c.in_ok-seen.ensures.row)
+    c.in_ok-seen.seen (c.learned-place.result - 1) c.replay.ensures.replays.history c.replay.ensures.replays.unchanged (λ same i. (same i).history) self.follows c.in_ok-replay_to.ensures.all
+    c.in_ok-seen.ensures.ticket c.in_ok-seen.ensures.row)
 
 pub invariant_of-self-2-clause-short : goal.invariant_of-self-2-clause-short
 invariant_of-self-2-clause-short g c =
     let same : length (learned c.seen.new.pass) ≡ length (learned c.args.self.now.pass)
-      = ap (λ (p : Pass). length (learned p)) (c.seen.ensures.same ∙ c.replay_to.ensures.replays.pass) in
+    = ap (λ (p : Pass). length (learned p)) (c.seen.ensures.same ∙ c.replay_to.ensures.replays.pass) in
     let below : c.learned-place.result - 1 < length (learned c.seen.new.pass) = omega (arith, same, c.requires.behind, c.learned-place.ensures.value) in
     short_replayed c.replay.result c.replay_to.new.self.replica.history c.replay.new.self.history c.in_ok-seen.seen (c.learned-place.result - 1) _
-        c.replay.ensures.history c.replay.ensures.unchanged (λ same i. (same i).history) c.in_ok-replay_to.ensures.all below
+    c.replay.ensures.replays.history c.replay.ensures.replays.unchanged (λ same i. (same i).history) c.in_ok-replay_to.ensures.all below
 
 pub returns-clause-stands : goal.returns-clause-stands
 returns-clause-stands g c =
@@ -39,7 +39,7 @@ returns-clause-stands g c =
     let entry = last_entry pass in
     let is = seen_is (learned pass) (own_sightings pass) _ (worker pass) entry (row_of log entry.ticket) seen c.requires.last c.requires.own c.requires.put
     ticket found in
-    stands_last replica.history _ seen (sighting_of log entry) _ c.in_ok-reply.ensures.history here is
+    stands_last replica.history _ seen (sighting_of log entry) _ c.in_ok-reply.ensures.replays.history here is
 
 pub returns-clause-reply : goal.returns-clause-reply
 returns-clause-reply g c =
@@ -55,5 +55,5 @@ returns-clause-reply g c =
     let is = seen_is (learned pass) (own_sightings pass) _ (worker pass) entry (row_of log entry.ticket) seen c.requires.last c.requires.own c.requires.put
     ticket found in
     let mine : entry.ticket.worker ≡ replica.worker = c.requires.own ∙ (ap worker (sym same) ∙ sym c.replay_to.new.self.whose) in
-    sym c.in-Some.is ∙ (reply_is replica.worker _ replica.openings replica.history _ entry (row_of log entry.ticket) seen _ is mine c.in_ok-reply.ensures.history here
+    sym c.in-Some.is ∙ (reply_is replica.worker _ replica.openings replica.history _ entry (row_of log entry.ticket) seen _ is mine c.in_ok-reply.ensures.replays.history here
     c.in_ok-reply.ensures.reply ∙ ap (λ (openings : List TableState). reply_to openings (entries (take (length (learned pass) - 1) c.replay.new.self.history)) (Some entry)) c.replay_to.ensures.replays.openings)
