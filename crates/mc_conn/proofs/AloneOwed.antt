@@ -110,7 +110,7 @@ module _ (limits : Limits) (base : List Command) (places : ℕ) (worker : Worker
       let others = in_order requests next to (applied_with places applied command) rest one.1 owes in
       all ∙ (ap (λ it. answered quiet it ++ rest) one.0 ∙ ap (λ it. answered quiet (logged_reply limits base places applied command) ++ it) others)
   in_order (Local reply quiet ∷ requests) from to applied bytes up (rest, all, owes) = all ∙ ap (λ it. answered quiet reply ++ it) (in_order requests from to applied rest up owes)
-  in_order (Quit ∷ requests) from to applied bytes up owes = in_order requests from to applied bytes up owes
+  in_order (Quit ∷ requests) from to applied bytes up (rest, all, owes) = all ∙ in_order requests from to applied rest up owes
   in_order (TooLong ∷ requests) from to applied bytes up (rest, all, owes) = all ∙ ap (λ it. text (Refused E5) ++ it) (in_order requests from to applied rest up owes)
 
   pub owes_in_order : (requests : List Request) (bytes : List ℕ) (to : Mark) → Owes worker 0 first_mark requests bytes to → bytes ≡ owed_after limits base places [] requests

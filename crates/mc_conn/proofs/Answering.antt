@@ -1,5 +1,5 @@
 -- What a submit says is an answer.
-use Rattle.std.proofs.Common.{◌≡◌, ◌⊎◌, ℕ, ◌+◌, ◌≤◌, Bool, List, [], ◌∷◌, ◌++◌, length, take, slice_get, Some, sym, refl, ap, ◌∙◌, subst, inl, inr, ⊎_elim, arith, append-nil, length-append}
+use Rattle.std.proofs.Common.{◌≡◌, ℕ, ◌+◌, Bool, List, [], ◌∷◌, ◌++◌, length, take, slice_get, Some, sym, refl, ap, ◌∙◌, subst, inl, inr, ⊎_elim, arith, append-nil, length-append}
 use Rattle.mc_model.specs.declared.command.Command.{Command}
 use Rattle.mc_model.specs.declared.fault.Fault.{Fault}
 use Rattle.mc_model.specs.declared.fault.Fault.TheVariants.{LogFull}
@@ -8,24 +8,23 @@ use Rattle.mc_model.specs.declared.reply.Reply.TheVariants.{Refused}
 use Rattle.mc_model.specs.declared.reply.WireNo.TheVariants.{E10}
 use Rattle.mc_model.specs.declared.request.Request.{Request}
 use Rattle.mc_model.specs.declared.request.Request.TheVariants.{Logged}
-use Rattle.mc_model.specs.Helping.{BeginsWith}
 use Rattle.mc_model.specs.Replay.{reply_to}
 use Rattle.uc_cells.specs.Sighting.{Sighting, entries}
 use Rattle.uc_log.specs.Passes.{next_entry}
 use Rattle.uc_places.specs.SeatLaw.{SeatLaw}
 use Rattle.uc_worker.specs.declared.worker.Worker.{Worker}
-use Rattle.uc_worker.specs.Steps.{IsSame, Leaves}
-use Rattle.uc_worker.specs.Worker.{announced_of, history_of, next_of, openings_of, seat_of}
-use Rattle.uc_worker.proofs.Lists.{begins_length, begins_pushed, begins_same, begins_self, last_at}
+use Rattle.uc_worker.specs.Steps.{Leaves}
+use Rattle.uc_worker.specs.Worker.{announced_of, history_of, next_of, seat_of}
+use Rattle.uc_worker.proofs.Lists.{begins_length, last_at}
 use Rattle.mc_conn.specs.Onward.{own_entry, own_sighting}
 use Rattle.uc_worker.specs.declared.worker.Answer.{Answer}
-use Rattle.uc_worker.specs.Going.{AnnouncesAtMost, GoesOn, Submits}
-use Rattle.mc_conn.specs.Owed.{answered, mark_of}
+use Rattle.uc_worker.specs.Going.{AnnouncesAtMost, Continues, Submits}
+use Rattle.mc_conn.specs.Owed.{answered, demand_of, mark_of}
 use Rattle.mc_conn.specs.Parts.{Answers, MayAnnounce, MayAnnounceFor, Responds}
 use Rattle.mc_conn.proofs.Counts.{number_below}
 use Rattle.mc_conn.proofs.Owings.{same_entry, same_sighting}
 
-module _ (old new : Worker) (tenant : ℕ) (command : Command) (on : GoesOn old new) where
+module _ (old new : Worker) (tenant : ℕ) (command : Command) (on : Continues old new) where
   number : ℕ
   number = length (announced_of old)
 
@@ -109,8 +108,8 @@ module _ (old new : Worker) (tenant : ℕ) (command : Command) (on : GoesOn old 
 
 -- the command of a request that met a fault may be announced
 pub for_logged : (old new : Worker) (tenant : ℕ) (request : Request) (command : Command) (quiet : Bool) → request ≡ Logged command quiet → MayAnnounce old new tenant command →
-    MayAnnounceFor old new tenant request
-for_logged old new tenant request command quiet is may = subst (MayAnnounceFor old new tenant) (sym is) may
+    MayAnnounceFor old new (demand_of tenant request)
+for_logged old new tenant request command quiet is may = subst (λ request. MayAnnounceFor old new (demand_of tenant request)) (sym is) may
 
 -- what a reply owes
 pub responds_reply : (old new : Worker) (tenant : ℕ) (command : Command) (quiet : Bool) (reply : Reply) (before after : List ℕ) → Answers old new tenant command reply →

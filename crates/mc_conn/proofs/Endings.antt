@@ -2,7 +2,7 @@
 use Rattle.std.proofs.Common.{◌≡◌, ◌≢◌, ◌⊎◌, ℕ, ◌+◌, ◌≤◌, ◌<◌, ◌||◌, ◌&&◌, Bool, true, false, List, [], ◌∷◌, ◌++◌, length, Option, Some, None, is_some, sym, refl, ap, ◌∙◌, subst, inl, inr, ⊎_elim, arith, append-nil, length-append}
 use Rattle.std.specs.Bool.{MatchBool, ◌==◌}
 use Rattle.mc_model.specs.declared.fault.Fault.{Fault}
-use Rattle.mc_model.specs.declared.fault.Fault.TheVariants.{Memory, LogFull, Taken, Input, Output, BadEvent, BadSettings}
+use Rattle.mc_model.specs.declared.fault.Fault.TheVariants.{Memory, Taken, Input, Output}
 use Rattle.mc_model.specs.declared.request.Request.{Request}
 use Rattle.mc_stream.specs.Event.{Event, last_moved, moved, waits}
 use Rattle.mc_stream.specs.Pushing.{Pushes}
@@ -12,10 +12,11 @@ use Rattle.mc_conn.specs.declared.conn.Conn.{Conn}
 use Rattle.mc_conn.specs.declared.conn.TheConstants.{PULL_BYTES, QUEUE_BYTES}
 use Rattle.mc_conn.specs.declared.conn.State.{State}
 use Rattle.mc_conn.specs.declared.conn.State.TheVariants.{Closed, Idle, Busy}
-use Rattle.mc_conn.specs.Ending.{Breaks, HoldsOnlyBehind, IsDone, IsState, IsStuck, PullsAfter, PullsLate, Serves, Stops, Turns}
+use Rattle.mc_conn.specs.ConnFault.{CellTaken, ConnFault, InputFailed, IsTold, OutOfMemory, OutputFailed, fault_of}
+use Rattle.mc_conn.specs.Ending.{Breaks, HoldsOnlyBehind, IsDone, IsState, IsStuck, Pulls, PullsAfter, PullsLate, PullsOnce, Serves, Stops, Turns}
 use Rattle.mc_conn.specs.Held.{HoldsNone, Holding}
 use Rattle.mc_conn.specs.Owed.{Mark, Owes, mark_of}
-use Rattle.mc_conn.specs.Parts.{Does, IsAtRest, IsHeldBehind, IsTold, StateIs}
+use Rattle.mc_conn.specs.Parts.{Does, IsAtRest, IsHeldBehind, StateIs, TellsOf}
 use Rattle.mc_conn.specs.Turn.{Scene, Takes, amount, holding_of, queue_of, scene}
 use Rattle.mc_conn.proofs.Breakings.{breaks_later}
 use Rattle.mc_conn.proofs.Lists.{appended_twice}
@@ -65,7 +66,7 @@ still_on queue over empty Full is going left =
     ⊎_elim (λ (none : queue ≡ []). inl (none, and_left over empty (is ∙ ap (λ bytes. length bytes == 0) none) going)) inr left
 
 -- a pull behind a push
-pub pulls_late : (a between z : Scene) → Takes a between → HoldsNone (holding_of between.conn) →
+pulls_late : (a between z : Scene) → Takes a between → HoldsNone (holding_of between.conn) →
     (queue_of between.conn ≡ []) × (between.conn.is_over ≡ false) ⊎ (waits between.streams.output.events ≡ waits a.streams.output.events + 1) →
     (event : Event) → z.streams.input.events ≡ event ∷ between.streams.input.events → length (last_moved z.streams.input.events) ≤ PULL_BYTES →
     z.streams.output ≡ between.streams.output → PullsLate a z
@@ -84,8 +85,17 @@ pulls_late a between z first none left event pull short same = inr (
   },
 )
 
+pub pulls_once : (a between z : Scene) → Takes a between → between.streams.input ≡ a.streams.input → HoldsNone (holding_of between.conn) →
+    (queue_of between.conn ≡ []) × (between.conn.is_over ≡ false) ⊎ (waits between.streams.output.events ≡ waits a.streams.output.events + 1) →
+    (event : Event) → z.streams.input.events ≡ event ∷ between.streams.input.events → length (last_moved z.streams.input.events) ≤ PULL_BYTES →
+    z.streams.output ≡ between.streams.output → Pulls a z
+pulls_once a between z first before none left event pull short same = record {
+  once = inr (event, pull ∙ ap (λ (input : Inflow). event ∷ input.events) before, short);
+  late = pulls_late a between z first none left event pull short same;
+}
+
 -- more is sent behind the last pull
-pub late_more : (a n z : Scene) → PullsLate a n → z.streams.input ≡ n.streams.input → (more : List ℕ) → Pushes n.streams.output z.streams.output more →
+late_more : (a n z : Scene) → PullsLate a n → z.streams.input ≡ n.streams.input → (more : List ℕ) → Pushes n.streams.output z.streams.output more →
     waits n.streams.output.events ≤ waits z.streams.output.events → PullsLate a z
 late_more a n z late same more went waited =
     ⊎_elim
@@ -113,7 +123,7 @@ late_behind a m n between one pulled = inr (
   record {
     first = takes_trans a m between one pulled.first;
     taken = pulled.taken;
-    sent = ⊎_elim inl (λ (full : waits m.streams.output.events < waits between.streams.output.events). inr (omega (arith, full, one.waited))) pulled.sent;
+    sent = ⊎_elim inl (λ (full : waits m.streams.output.events < waits between.streams.output.events). inr (omega (arith, full, one.taken.waited))) pulled.sent;
     event = pulled.event;
     pull = pulled.pull;
     short = pulled.short;
@@ -124,13 +134,20 @@ late_behind a m n between one pulled = inr (
 )
 
 -- what is done before a pull and after it
-pub late_within : (a m n z : Scene) → Takes a m → m.streams.input ≡ a.streams.input → PullsLate m n → z.streams.input ≡ n.streams.input → (more : List ℕ) →
+late_within : (a m n z : Scene) → Takes a m → m.streams.input ≡ a.streams.input → PullsLate m n → z.streams.input ≡ n.streams.input → (more : List ℕ) →
     Pushes n.streams.output z.streams.output more → waits n.streams.output.events ≤ waits z.streams.output.events → PullsLate a z
 late_within a m n z one before late after more went waited =
     ⊎_elim
     (λ (none : n.streams.input ≡ m.streams.input). inl (after ∙ (none ∙ before)))
     (λ (pulled : (between : Scene) × PullsAfter m between n). late_more a n z (late_behind a m n pulled.0 one pulled.1) after more went waited)
     late
+
+pub pulls_within : (a m n z : Scene) → Takes a m → m.streams.input ≡ a.streams.input → Pulls m n → z.streams.input ≡ n.streams.input → (more : List ℕ) →
+    Pushes n.streams.output z.streams.output more → waits n.streams.output.events ≤ waits z.streams.output.events → Pulls a z
+pulls_within a m n z one before pulls after more went waited = record {
+  once = subst (λ (input : Inflow). PullsOnce a.streams.input input) (sym after) (subst (λ (input : Inflow). PullsOnce input n.streams.input) before pulls.once);
+  late = late_within a m n z one before pulls.late after more went waited;
+}
 
 -- turns behind turns
 pub late_later : (a b c : Scene) → Takes a b → PullsLate a b → PullsLate b c → (more : List ℕ) → Pushes b.streams.output c.streams.output more →
@@ -149,35 +166,25 @@ untold_pushes before after same = (
   omega (arith, ap (λ (output : Outflow). waits output.events) same),
 )
 
-told_pushes : (fault : Fault) (queue : List ℕ) (before after : Outflow) → IsTold fault queue before after → (more : List ℕ) × Pushes before after more × (waits before.events ≤ waits after.events)
-told_pushes Memory queue before after told = (told.0.1.front, told.0.1.went, told.1)
-told_pushes LogFull queue before after told = untold_pushes before after told
-told_pushes Taken queue before after told = untold_pushes before after told
-told_pushes Input queue before after told = untold_pushes before after told
-told_pushes Output queue before after told = untold_pushes before after told
-told_pushes BadEvent queue before after told = untold_pushes before after told
-told_pushes BadSettings queue before after told = untold_pushes before after told
+told_pushes : (cause : ConnFault) (queue : List ℕ) (before after : Outflow) → IsTold cause queue before after → (more : List ℕ) × Pushes before after more × (waits before.events ≤ waits after.events)
+told_pushes OutOfMemory queue before after told = (told.0.1.front, told.0.1.went, told.1)
+told_pushes CellTaken queue before after told = untold_pushes before after told
+told_pushes InputFailed queue before after told = untold_pushes before after told
+told_pushes OutputFailed queue before after told = untold_pushes before after told
 
-pub late_told : (fault : Fault) (a : Scene) (old new : Conn) (worker : Worker) (input : Inflow) (between after : Outflow) (queue : List ℕ) →
-    PullsLate a (scene old worker (both input between)) → IsTold fault queue between after → PullsLate a (scene new worker (both input after))
-late_told fault a old new worker input between after queue late told =
-    let more = told_pushes fault queue between after told in
+late_told : (cause : ConnFault) (a : Scene) (old new : Conn) (worker : Worker) (input : Inflow) (between after : Outflow) (queue : List ℕ) →
+    PullsLate a (scene old worker (both input between)) → IsTold cause queue between after → PullsLate a (scene new worker (both input after))
+late_told cause a old new worker input between after queue late told =
+    let more = told_pushes cause queue between after told in
     late_more a (scene old worker (both input between)) (scene new worker (both input after)) late refl more.0 more.1 more.2
 
 -- what is sent up to a fault
-pub stops_push : (fault : Fault) (a b : Scene) → Stops fault a b →
+pub stops_push : (fault : Fault) (a b : Scene) → Stops a b fault →
     (more : List ℕ) × Pushes a.streams.output b.streams.output more × (waits a.streams.output.events ≤ waits b.streams.output.events)
-stops_push Memory a b stops = (
-  stops.1.sent ++ stops.2.1.front,
-  appended_twice _ _ _ stops.1.sent stops.2.1.front stops.1.pushed stops.2.1.went,
-  omega (arith, stops.1.waited, stops.3),
-)
-stops_push LogFull a b stops = absurd stops
-stops_push Taken a b stops = (stops.sent, stops.pushed, stops.waited)
-stops_push Input a b stops = (stops.sent, stops.pushed, stops.waited)
-stops_push Output a b stops = (stops.sent, stops.pushed, stops.waited)
-stops_push BadEvent a b stops = absurd stops
-stops_push BadSettings a b stops = absurd stops
+stops_push fault a b stops =
+    let taken = stops.breaks.taken in
+    let more = told_pushes stops.breaks.cause (queue_of b.conn) stops.told_from b.streams.output stops.told in
+    (taken.sent ++ more.0, appended_twice _ _ _ taken.sent more.0 taken.pushed more.1, omega (arith, taken.waited, more.2))
 
 -- nothing is owed for no request
 owed_none : (worker : Worker) (tenant : ℕ) (from to : Mark) (requests : List Request) (bytes : List ℕ) → length requests ≡ 0 → Owes worker tenant from requests bytes to → length bytes ≡ 0
@@ -197,15 +204,15 @@ module _ (a m n z : Scene) (before pulled last : Bool) (one : Does a m before) (
   all = does_trans a n z (before || pulled) last (does_trans a m n before pulled one two) three
 
   -- the queue before the last push was sent by it or is still there
-  queue_left : length (queue_of n.conn) ≤ length three.takes.sent + length (queue_of z.conn)
-  queue_left = omega (arith, ap length three.takes.bytes, length-append three.takes.sent (queue_of z.conn), length-append (queue_of n.conn) three.takes.owed)
+  queue_left : length (queue_of n.conn) ≤ length three.takes.taken.sent + length (queue_of z.conn)
+  queue_left = omega (arith, ap length three.takes.taken.bytes, length-append three.takes.taken.sent (queue_of z.conn), length-append (queue_of n.conn) three.takes.taken.owed)
 
-  sent_all : length three.takes.sent ≤ length all.takes.sent
+  sent_all : length three.takes.taken.sent ≤ length all.takes.taken.sent
   unfolding all
   sent_all = sent_last a n z (before || pulled) last (does_trans a m n before pulled one two) three
 
   waits_so_far : waits a.streams.output.events ≤ waits n.streams.output.events
-  waits_so_far = omega (arith, one.takes.waited, two.takes.waited)
+  waits_so_far = omega (arith, one.takes.taken.waited, two.takes.taken.waited)
 
   first_waits : waits m.streams.input.events ≡ waits a.streams.input.events
   first_waits = ap (λ (input : Inflow). waits input.events) first_input
@@ -231,10 +238,10 @@ module _ (a m n z : Scene) (before pulled last : Bool) (one : Does a m before) (
   -- a request has ended the stream, and all is sent
   over_rests : amount three.takes ≡ 0 → n.conn.is_over ≡ true → queue_of n.conn ≡ [] → IsAtRest z.conn
   over_rests still is empty =
-      let owed = owed_none z.worker n.conn.tenant (mark_of n.worker) (mark_of z.worker) three.takes.requests three.takes.owed (omega (arith, still)) three.takes.owes in
+      let owed = owed_none z.worker n.conn.tenant (mark_of n.worker) (mark_of z.worker) three.takes.taken.requests three.takes.taken.owed (omega (arith, still)) three.takes.taken.owes in
       let queue =
       nothing_in (queue_of z.conn)
-      (omega (arith, ap length three.takes.bytes, length-append three.takes.sent (queue_of z.conn), length-append (queue_of n.conn) three.takes.owed, owed, ap length empty))
+      (omega (arith, ap length three.takes.taken.bytes, length-append three.takes.taken.sent (queue_of z.conn), length-append (queue_of n.conn) three.takes.taken.owed, owed, ap length empty))
       in
       ⊎_elim
       (λ (none : HoldsNone (holding_of n.conn)). (inr (over ∙ is), ap (λ (h : Holding). h.waiting) same ∙ none.0, queue))
@@ -278,60 +285,65 @@ module _ (a m n z : Scene) (before pulled last : Bool) (one : Does a m before) (
   pub turns : (state : State) → StateIs z.conn ((before || pulled) || last) state → Turns a z state
   turns state is = record { takes = all.takes; state_is = state_of state is; held = held_behind }
 
--- a fault that was told
-module _ (before : Scene) (old new : Conn) (worker : Worker) (input : Inflow) (between after : Outflow) (tenant : new.tenant ≡ old.tenant) (queue : queue_of new ≡ queue_of old) where
-  closed : (fault : Fault) → Breaks fault before (scene old worker (both input between)) → Breaks fault before (scene new worker (both input between))
-  closed fault breaks = record {
-    came = breaks.came;
-    requests = breaks.requests;
+-- what closing tells of a fault is what is told of its cause
+told_of : (cause : ConnFault) (fault : Fault) (queue : List ℕ) (before after : Outflow) → fault ≡ fault_of cause → TellsOf fault queue before after → IsTold cause queue before after
+told_of OutOfMemory fault queue before after is tells = tells.0 is
+told_of CellTaken fault queue before after is tells = tells.1 (λ memory. let no : Taken ≡ Memory = sym is ∙ memory in cc)
+told_of InputFailed fault queue before after is tells = tells.1 (λ memory. let no : Input ≡ Memory = sym is ∙ memory in cc)
+told_of OutputFailed fault queue before after is tells = tells.1 (λ memory. let no : Output ≡ Memory = sym is ∙ memory in cc)
+
+-- a fault that was told, behind which the connection is closed
+module _ (before : Scene) (old new : Conn) (worker : Worker) (input : Inflow) (between after : Outflow) (fault : Fault) (same : (new.tenant ≡ old.tenant) × (queue_of new ≡ queue_of old))
+    (breaks : Breaks before (scene old worker (both input between)) fault) (tells : TellsOf fault (queue_of old) between after) where
+  closed : Breaks before (scene new worker (both input between)) fault
+  closed = record {
+    cause = breaks.cause;
+    is = breaks.is;
+    to = breaks.to;
+    taken = record {
+      came = breaks.taken.came;
+      requests = breaks.taken.requests;
+      owed = breaks.taken.owed;
+      sent = breaks.taken.sent;
+      pulled = breaks.taken.pulled;
+      consumed = breaks.taken.consumed;
+      pushed = breaks.taken.pushed;
+      tenant = same.0 ∙ breaks.taken.tenant;
+      onward = breaks.taken.onward;
+      owes = breaks.taken.owes;
+      bytes = ap (λ rest. breaks.taken.sent ++ rest) same.1 ∙ breaks.taken.bytes;
+      waited = breaks.taken.waited;
+    };
     met = breaks.met;
-    owed = breaks.owed;
-    sent = breaks.sent;
-    pulled = breaks.pulled;
-    consumed = breaks.consumed;
-    pushed = breaks.pushed;
     reads = breaks.reads;
-    tenant = tenant ∙ breaks.tenant;
-    onward = breaks.onward;
-    mark = breaks.mark;
-    owes = breaks.owes;
     meets = breaks.meets;
-    bytes = ap (λ rest. breaks.sent ++ rest) queue ∙ breaks.bytes;
     failures = breaks.failures;
-    waited = breaks.waited;
   }
 
-  at_once : (fault : Fault) → after ≡ between → Breaks fault before (scene old worker (both input between)) → Breaks fault before (scene new worker (both input after))
-  at_once fault same breaks = subst (λ output. Breaks fault before (scene new worker (both input output))) (sym same) (closed fault breaks)
+  pub stops : new.is_closed ≡ true → Stops before (scene new worker (both input after)) fault
+  unfolding closed
+  stops shut = record {
+    told_from = between;
+    breaks = closed;
+    told = subst (λ bytes. IsTold breaks.cause bytes between after) (sym same.1) (told_of breaks.cause fault (queue_of old) between after breaks.is tells);
+    shut = shut;
+  }
 
-  pub stops : (fault : Fault) → Breaks fault before (scene old worker (both input between)) → IsTold fault (queue_of old) between after → Stops fault before (scene new worker (both input after))
-  stops Memory breaks told = let said = subst (λ bytes. IsTold Memory bytes between after) (sym queue) told in (between, closed Memory breaks, said.0, said.1)
-  stops LogFull breaks told = breaks.failures
-  stops Taken breaks told = at_once Taken told breaks
-  stops Input breaks told = at_once Input told breaks
-  stops Output breaks told = at_once Output told breaks
-  stops BadEvent breaks told = breaks.failures
-  stops BadSettings breaks told = breaks.failures
-
--- nothing is told but of want of memory
-pub untold : (fault : Fault) (queue : List ℕ) (before after : Outflow) → fault ≢ Memory → after ≡ before → IsTold fault queue before after
-untold Memory queue before after other same = absurd (other refl)
-untold LogFull queue before after other same = same
-untold Taken queue before after other same = same
-untold Input queue before after other same = same
-untold Output queue before after other same = same
-untold BadEvent queue before after other same = same
-untold BadSettings queue before after other same = same
+  pub pulls_told : Pulls before (scene old worker (both input between)) → Pulls before (scene new worker (both input after))
+  pulls_told pulls = record {
+    once = pulls.once;
+    late = late_told breaks.cause before old new worker input between after (queue_of old) pulls.late (told_of breaks.cause fault (queue_of old) between after breaks.is tells);
+  }
 
 -- a fault behind turns that went well
-pub stops_later : (fault : Fault) (a b c : Scene) → Takes a b → Stops fault b c → Stops fault a c
-stops_later Memory a b c one two = (two.0, breaks_later Memory a b (scene c.conn c.worker (both c.streams.input two.0)) one two.1, two.2, two.3)
-stops_later LogFull a b c one two = two
-stops_later Taken a b c one two = breaks_later Taken a b c one two
-stops_later Input a b c one two = breaks_later Input a b c one two
-stops_later Output a b c one two = breaks_later Output a b c one two
-stops_later BadEvent a b c one two = two
-stops_later BadSettings a b c one two = two
+pub stops_later : (fault : Fault) (a b c : Scene) → Takes a b → Stops b c fault → Stops a c fault
+unfolding breaks_later
+stops_later fault a b c one two = record {
+  told_from = two.told_from;
+  breaks = breaks_later fault a b (scene c.conn c.worker (both c.streams.input two.told_from)) one two.breaks;
+  told = two.told;
+  shut = two.shut;
+}
 
 -- turns that went well, and one that closes
 pub serves : (a b c : Scene) (state : State) → Takes a b → Turns b c state → state ≡ Closed → Serves a c

@@ -14,9 +14,9 @@ use Rattle.mc_write.specs.Text.{text}
 use Rattle.uc_cells.specs.Sighting.{Sighting, entries}
 use Rattle.uc_worker.specs.declared.worker.Worker.{Worker}
 use Rattle.uc_worker.specs.Worker.{announced_of, history_of, seat_of, openings_of, sighting_of}
-use Rattle.uc_worker.proofs.Lists.{at_longer, begins_length, begins_self, begins_through, begins_whole}
+use Rattle.uc_worker.proofs.Lists.{at_longer, begins_length, begins_whole}
 use Rattle.mc_conn.specs.Onward.{own_entry, own_sighting}
-use Rattle.uc_worker.specs.Going.{GoesOn}
+use Rattle.uc_worker.specs.Going.{Continues}
 use Rattle.uc_worker.specs.Worker.{IsFull}
 use Rattle.mc_conn.specs.Owed.{IsAnswered, IsPlaced, IsTurnedAway, Mark, Owes, answered, mark_of}
 use Rattle.mc_conn.proofs.Lists.{take_longer}
@@ -24,7 +24,7 @@ use Rattle.mc_conn.proofs.Lists.{take_longer}
 stays_at : (old new : List Sighting) (place : ℕ) (seen : Sighting) → BeginsWith new old → slice_get old place ≡ Some seen → slice_get new place ≡ Some seen
 stays_at old new place seen begins at = ap (λ (list : List Sighting). slice_get list place) begins.1 ∙ at_longer old begins.0 place seen at
 
-module _ (old new : Worker) (on : GoesOn old new) where
+module _ (old new : Worker) (on : Continues old new) where
   pub same_entry : (number tenant : ℕ) (command : Command) → own_entry old number tenant command ≡ own_entry new number tenant command
   same_entry number tenant command = ap (λ worker. record { ticket = ticket_of worker number; tenant = tenant; command = command }) (sym on.same.1)
 
@@ -79,7 +79,7 @@ module _ (old new : Worker) (on : GoesOn old new) where
   owes_grow tenant from (Logged command quiet ∷ requests) bytes to (reply, next, rest, is, are, more) =
       (reply, next, rest, answered_grows tenant from command reply next is, are, owes_grow tenant next requests rest to more)
   owes_grow tenant from (Local reply quiet ∷ requests) bytes to (rest, are, more) = (rest, are, owes_grow tenant from requests rest to more)
-  owes_grow tenant from (Quit ∷ requests) bytes to more = owes_grow tenant from requests bytes to more
+  owes_grow tenant from (Quit ∷ requests) bytes to (rest, are, more) = (rest, are, owes_grow tenant from requests rest to more)
   owes_grow tenant from (TooLong ∷ requests) bytes to (rest, are, more) = (rest, are, owes_grow tenant from requests rest to more)
 
 module _ (worker : Worker) (tenant : ℕ) where
@@ -131,7 +131,7 @@ module _ (worker : Worker) (tenant : ℕ) where
       let lower = answered_lower low from command reply next same before is in
       (reply, lower.0, rest, lower.1, are, owes_lower lower.0 next requests rest to lower.2 lower.3 more)
   owes_lower low from (Local reply quiet ∷ requests) bytes to same before (rest, are, more) = (rest, are, owes_lower low from requests rest to same before more)
-  owes_lower low from (Quit ∷ requests) bytes to same before more = owes_lower low from requests bytes to same before more
+  owes_lower low from (Quit ∷ requests) bytes to same before (rest, are, more) = (rest, are, owes_lower low from requests rest to same before more)
   owes_lower low from (TooLong ∷ requests) bytes to same before (rest, are, more) = (rest, are, owes_lower low from requests rest to same before more)
 
   -- one part after another
@@ -143,7 +143,8 @@ module _ (worker : Worker) (tenant : ℕ) where
       (reply, next, rest ++ more, is, ap (λ some. some ++ more) are ∙ append_assoc (answered quiet reply) rest more, owes_append next first second rest more between to then later)
   owes_append from (Local reply quiet ∷ first) second bytes more between to (rest, are, then) later =
       (rest ++ more, ap (λ some. some ++ more) are ∙ append_assoc (answered quiet reply) rest more, owes_append from first second rest more between to then later)
-  owes_append from (Quit ∷ first) second bytes more between to then later = owes_append from first second bytes more between to then later
+  owes_append from (Quit ∷ first) second bytes more between to (rest, are, then) later =
+      (rest ++ more, ap (λ some. some ++ more) are, owes_append from first second rest more between to then later)
   owes_append from (TooLong ∷ first) second bytes more between to (rest, are, then) later =
       (rest ++ more, ap (λ some. some ++ more) are ∙ append_assoc (text (Refused E5)) rest more, owes_append from first second rest more between to then later)
 

@@ -15,13 +15,13 @@ use Rattle.mc_stream.specs.Stream.{Inflow, Outflow, Streams, both}
 use Rattle.uc_worker.specs.declared.worker.Worker.{Worker}
 use Rattle.mc_conn.specs.declared.conn.Conn.{Conn}
 use Rattle.mc_conn.specs.Held.{IsRead}
-use Rattle.uc_worker.specs.Going.{GoesOn}
-use Rattle.mc_conn.specs.Owed.{Owes, mark_of}
-use Rattle.mc_conn.specs.Parts.{Does, Responds}
-use Rattle.mc_conn.specs.Turn.{NeitherFails, RemembersTheEnd, Scene, Takes, amount, holding_of, queue_of, scene}
+use Rattle.uc_worker.specs.Going.{Continues}
+use Rattle.mc_conn.specs.Owed.{Mark, Owes, mark_of}
+use Rattle.mc_conn.specs.Parts.{Does, Looks, Responds}
+use Rattle.mc_conn.specs.Turn.{NeitherFails, RemembersTheEnd, Scene, Taken, Takes, amount, holding_of, queue_of, scene}
 use Rattle.mc_conn.proofs.Lists.{appended_twice, joined}
 use Rattle.mc_conn.proofs.Owings.{owes_append, owes_grow, owes_nothing}
-use Rattle.uc_worker.proofs.Going.{goes_self, goes_through}
+use Rattle.uc_worker.proofs.Going.{continues_self, continues_through}
 use Rattle.mc_conn.proofs.Readings.{read_refl, read_trans}
 
 -- the end is remembered through two parts
@@ -78,29 +78,33 @@ over_trans first second third one two begun ended =
 unfailed_trans : (first second third : Streams) → NeitherFails first second → NeitherFails second third → NeitherFails first third
 unfailed_trans first second third one two = (two.0 ∙ one.0, two.1 ∙ one.1)
 
--- a part that does nothing
-pub takes_self : (a : Scene) → Takes a a
-takes_self a = record {
-  came = [];
+-- what was taken where no request was
+unfoldable pub taken_none : (old new : Conn) (worker : Worker) (before after : Streams) (came sent : List ℕ) → moved after.input.events ≡ moved before.input.events ++ came →
+    Consumes before.input.left after.input.left came → Pushes before.output after.output sent → new.tenant ≡ old.tenant → sent ++ queue_of new ≡ queue_of old →
+    waits before.output.events ≤ waits after.output.events → Taken (scene old worker before) (scene new worker after) (mark_of worker)
+taken_none old new worker before after came sent pulled consumed pushed tenant bytes waited = record {
+  came = came;
   requests = [];
   owed = [];
-  sent = [];
-  pulled = sym (append-nil (moved a.streams.input.events));
-  consumed = Consumes-nil a.streams.input.left;
-  pushed = sym (append-nil (moved a.streams.output.events));
-  reads = read_refl (holding_of a.conn);
-  tenant = refl;
-  onward = goes_self a.worker;
-  owes = owes_nothing a.worker a.conn.tenant;
-  bytes = sym (append-nil (queue_of a.conn));
-  unfailed = (refl, refl);
-  waited = omega arith;
-  end = remembers_self a.conn.has_ended a.streams.input;
-  over = over_same a.conn.is_over a.conn.is_over refl;
+  sent = sent;
+  pulled = pulled;
+  consumed = consumed;
+  pushed = pushed;
+  tenant = tenant;
+  onward = continues_self worker;
+  owes = owes_nothing worker old.tenant;
+  bytes = bytes ∙ sym (append-nil (queue_of old));
+  waited = waited;
 }
 
-pub takes_trans : (a b c : Scene) → Takes a b → Takes b c → Takes a c
-takes_trans a b c one two = record {
+-- and where nothing came or was sent
+unfoldable pub taken_still : (old new : Conn) (worker : Worker) (streams : Streams) → new.tenant ≡ old.tenant → queue_of new ≡ queue_of old →
+    Taken (scene old worker streams) (scene new worker streams) (mark_of worker)
+taken_still old new worker streams tenant queue =
+    taken_none old new worker streams streams [] [] (sym (append-nil (moved streams.input.events))) (Consumes-nil streams.input.left) (sym (append-nil (moved streams.output.events))) tenant queue (omega arith)
+
+unfoldable pub taken_trans : (a b c : Scene) (to : Mark) → Taken a b (mark_of b.worker) → Taken b c to → Taken a c to
+taken_trans a b c to one two = record {
   came = one.came ++ two.came;
   requests = one.requests ++ two.requests;
   owed = one.owed ++ two.owed;
@@ -108,23 +112,44 @@ takes_trans a b c one two = record {
   pulled = appended_twice _ _ _ one.came two.came one.pulled two.pulled;
   consumed = Consumes-trans _ _ _ _ _ one.consumed two.consumed;
   pushed = appended_twice _ _ _ one.sent two.sent one.pushed two.pushed;
-  reads = read_trans (holding_of a.conn) (holding_of b.conn) (holding_of c.conn) one.came two.came one.requests two.requests one.reads two.reads;
   tenant = two.tenant ∙ one.tenant;
-  onward = goes_through _ _ _ one.onward two.onward;
+  onward = continues_through _ _ _ one.onward two.onward;
   owes =
-      owes_append c.worker a.conn.tenant (mark_of a.worker) one.requests two.requests one.owed two.owed (mark_of b.worker) (mark_of c.worker)
+      owes_append c.worker a.conn.tenant (mark_of a.worker) one.requests two.requests one.owed two.owed (mark_of b.worker) to
       (owes_grow b.worker c.worker two.onward a.conn.tenant (mark_of a.worker) one.requests one.owed (mark_of b.worker) one.owes)
-      (subst (λ tenant. Owes c.worker tenant (mark_of b.worker) two.requests two.owed (mark_of c.worker)) one.tenant two.owes);
+      (subst (λ tenant. Owes c.worker tenant (mark_of b.worker) two.requests two.owed to) one.tenant two.owes);
   bytes = joined one.sent two.sent (queue_of a.conn) (queue_of b.conn) (queue_of c.conn) one.owed two.owed one.bytes two.bytes;
-  unfailed = unfailed_trans a.streams b.streams c.streams one.unfailed two.unfailed;
   waited = omega (arith, one.waited, two.waited);
+}
+
+-- a part that does nothing
+pub takes_self : (a : Scene) → Takes a a
+unfolding taken_still taken_none
+takes_self a = record {
+  taken = taken_still a.conn a.conn a.worker a.streams refl refl;
+  reads = read_refl (holding_of a.conn);
+  unfailed = (refl, refl);
+  end = remembers_self a.conn.has_ended a.streams.input;
+  over = over_same a.conn.is_over a.conn.is_over refl;
+  shut = refl;
+}
+
+pub takes_trans : (a b c : Scene) → Takes a b → Takes b c → Takes a c
+unfolding taken_trans
+takes_trans a b c one two = record {
+  taken = taken_trans a b c (mark_of c.worker) one.taken two.taken;
+  reads =
+      read_trans (holding_of a.conn) (holding_of b.conn) (holding_of c.conn) one.taken.came two.taken.came one.taken.requests two.taken.requests one.reads two.reads;
+  unfailed = unfailed_trans a.streams b.streams c.streams one.unfailed two.unfailed;
   end = remembers_trans a.conn.has_ended b.conn.has_ended c.conn.has_ended a.streams.input b.streams.input c.streams.input one.end two.end;
-  over = over_trans a.conn.is_over b.conn.is_over c.conn.is_over one.requests two.requests one.over two.over;
+  over = over_trans a.conn.is_over b.conn.is_over c.conn.is_over one.taken.requests two.taken.requests one.over two.over;
+  shut = two.shut ∙ one.shut;
 }
 
 amount_trans : (a b c : Scene) (one : Takes a b) (two : Takes b c) → amount (takes_trans a b c one two) ≡ amount one + amount two
-unfolding takes_trans
-amount_trans a b c one two = omega (arith, length-append one.came two.came, length-append one.requests two.requests, length-append one.sent two.sent)
+unfolding takes_trans taken_trans
+amount_trans a b c one two =
+    omega (arith, length-append one.taken.came two.taken.came, length-append one.taken.requests two.taken.requests, length-append one.taken.sent two.taken.sent)
 
 did_or : (x y : Bool) (m n k : ℕ) → k ≡ m + n → MatchBool x (0 < m) (m ≡ 0) → MatchBool y (0 < n) (n ≡ 0) → MatchBool (x || y) (0 < k) (k ≡ 0)
 did_or true y m n k sum p q = omega (arith, sum, p)
@@ -138,7 +163,7 @@ does_trans a b c x y one two = record {
 }
 
 pub does_nothing : (a : Scene) → Does a a false
-unfolding takes_self
+unfolding takes_self taken_still taken_none
 does_nothing a = record { takes = takes_self a; did_is = refl }
 
 -- a part of which it is known whether it did something
@@ -153,9 +178,9 @@ pub did_not : (a b c : Scene) (x y : Bool) → y ≡ false → Does a b x → Do
 did_not a b c x y is one two = subst (Does a c) (ap (λ did. x || did) is ∙ or_none x) (does_trans a b c x y one two)
 
 -- what the second part sent is sent in all
-pub sent_last : (a b c : Scene) (x y : Bool) (one : Does a b x) (two : Does b c y) → length two.takes.sent ≤ length (does_trans a b c x y one two).takes.sent
-unfolding does_trans takes_trans
-sent_last a b c x y one two = omega (arith, length-append one.takes.sent two.takes.sent)
+pub sent_last : (a b c : Scene) (x y : Bool) (one : Does a b x) (two : Does b c y) → length two.takes.taken.sent ≤ length (does_trans a b c x y one two).takes.taken.sent
+unfolding does_trans takes_trans taken_trans
+sent_last a b c x y one two = omega (arith, length-append one.takes.taken.sent two.takes.taken.sent)
 
 did_some : (count n : ℕ) → n ≡ count → MatchBool (nat_lt 0 count) (0 < n) (n ≡ 0)
 did_some zero n same = same
@@ -163,111 +188,91 @@ did_some (suc count) n same = let some : 0 < n = omega (arith, same) in subst (�
 
 -- a front of the queue is pushed
 module _ (old new : Conn) (worker : Worker) (input : Inflow) (before after : Outflow) (count : ℕ) (same : holding_of new ≡ holding_of old) (tenant : new.tenant ≡ old.tenant)
-    (ended : new.has_ended ≡ old.has_ended) (over : new.is_over ≡ old.is_over) (few : count ≤ length (queue_of old)) (left : queue_of new ≡ drop count (queue_of old))
-    (went : Pushes before after (take count (queue_of old))) (waited : waits before.events ≤ waits after.events) (unfailed : IsUnfailed before after) where
+    (ended : new.has_ended ≡ old.has_ended) (over : new.is_over ≡ old.is_over) (shut : new.is_closed ≡ old.is_closed) (few : count ≤ length (queue_of old))
+    (left : queue_of new ≡ drop count (queue_of old)) (went : Pushes before after (take count (queue_of old))) (waited : waits before.events ≤ waits after.events)
+    (unfailed : IsUnfailed before after) where
   takes_pushed : Takes (scene old worker (both input before)) (scene new worker (both input after))
+  unfolding taken_none
   takes_pushed = record {
-    came = [];
-    requests = [];
-    owed = [];
-    sent = take count (queue_of old);
-    pulled = sym (append-nil (moved input.events));
-    consumed = Consumes-nil input.left;
-    pushed = went;
+    taken =
+        taken_none old new worker (both input before) (both input after) [] (take count (queue_of old)) (sym (append-nil (moved input.events))) (Consumes-nil input.left) went tenant
+        (ap (λ rest. take count (queue_of old) ++ rest) left ∙ take-append-drop count (queue_of old)) waited;
     reads = subst (λ holding. IsRead (holding_of old) [] [] holding) (sym same) (read_refl (holding_of old));
-    tenant = tenant;
-    onward = goes_self worker;
-    owes = owes_nothing worker old.tenant;
-    bytes = ap (λ rest. take count (queue_of old) ++ rest) left ∙ (take-append-drop count (queue_of old) ∙ sym (append-nil (queue_of old)));
     unfailed = (refl, unfailed);
-    waited = waited;
     end = end_same old new worker worker input before after ended;
     over = over_same old.is_over new.is_over over;
+    shut = shut;
   }
 
   pub does_pushed : Does (scene old worker (both input before)) (scene new worker (both input after)) (nat_lt 0 count)
-  unfolding takes_pushed
+  unfolding takes_pushed taken_none
   does_pushed = let taken = length-take-le count (queue_of old) few in record { takes = takes_pushed; did_is = did_some count (amount takes_pushed) (omega (arith, taken)) }
 
 -- the reader looks for a request
-pub does_looked : (old new : Conn) (worker : Worker) (streams : Streams) → IsRead (holding_of old) [] [] (holding_of new) → new.tenant ≡ old.tenant → new.has_ended ≡ old.has_ended →
-    queue_of new ≡ queue_of old → new.is_over ≡ old.is_over → Does (scene old worker streams) (scene new worker streams) false
-does_looked old new worker streams read tenant ended queue over = record {
+pub does_looked : (old new : Conn) (worker : Worker) (streams : Streams) → IsRead (holding_of old) [] [] (holding_of new) → Looks old new →
+    Does (scene old worker streams) (scene new worker streams) false
+unfolding taken_still taken_none
+does_looked old new worker streams read looks = record {
   takes = record {
-    came = [];
-    requests = [];
-    owed = [];
-    sent = [];
-    pulled = sym (append-nil (moved streams.input.events));
-    consumed = Consumes-nil streams.input.left;
-    pushed = sym (append-nil (moved streams.output.events));
+    taken = taken_still old new worker streams looks.tenant looks.queue;
     reads = read;
-    tenant = tenant;
-    onward = goes_self worker;
-    owes = owes_nothing worker old.tenant;
-    bytes = queue ∙ sym (append-nil (queue_of old));
     unfailed = (refl, refl);
-    waited = omega arith;
-    end = end_same old new worker worker streams.input streams.output streams.output ended;
-    over = over_same old.is_over new.is_over over;
+    end = end_same old new worker worker streams.input streams.output streams.output looks.has_ended;
+    over = over_same old.is_over new.is_over looks.over;
+    shut = looks.is_closed;
   };
   did_is = refl;
 }
 
 -- a request is taken
 pub does_responded : (old new : Conn) (worker later : Worker) (streams : Streams) (request : Request) → IsRead (holding_of old) [] (request ∷ []) (holding_of new) → new.tenant ≡ old.tenant →
-    new.has_ended ≡ old.has_ended → new.is_over ≡ (old.is_over || ends_stream request) → GoesOn worker later →
+    new.has_ended ≡ old.has_ended → new.is_closed ≡ old.is_closed → new.is_over ≡ (old.is_over || ends_stream request) → Continues worker later →
     Responds worker later old.tenant request (queue_of old) (queue_of new) → Does (scene old worker streams) (scene new later streams) true
-does_responded old new worker later streams request read tenant ended over on responds = record {
+does_responded old new worker later streams request read tenant ended shut over on responds = record {
   takes = record {
-    came = [];
-    requests = request ∷ [];
-    owed = responds.bytes;
-    sent = [];
-    pulled = sym (append-nil (moved streams.input.events));
-    consumed = Consumes-nil streams.input.left;
-    pushed = sym (append-nil (moved streams.output.events));
+    taken = record {
+      came = [];
+      requests = request ∷ [];
+      owed = responds.bytes;
+      sent = [];
+      pulled = sym (append-nil (moved streams.input.events));
+      consumed = Consumes-nil streams.input.left;
+      pushed = sym (append-nil (moved streams.output.events));
+      tenant = tenant;
+      onward = on;
+      owes = responds.owes;
+      bytes = responds.queued;
+      waited = omega arith;
+    };
     reads = read;
-    tenant = tenant;
-    onward = on;
-    owes = responds.owes;
-    bytes = responds.queued;
     unfailed = (refl, refl);
-    waited = omega arith;
     end = end_same old new worker later streams.input streams.output streams.output ended;
     over = over ∙ ap (λ ends. old.is_over || ends) (sym (or_none (ends_stream request)));
+    shut = shut;
   };
   did_is = omega arith;
 }
 
 -- a piece came, or none
 module _ (old new : Conn) (worker : Worker) (before after : Inflow) (output : Outflow) (piece : List ℕ) (read : IsRead (holding_of old) piece [] (holding_of new)) (tenant : new.tenant ≡ old.tenant)
-    (queue : queue_of new ≡ queue_of old) (pulled : moved after.events ≡ moved before.events ++ piece) (consumed : Consumes before.left after.left piece)
+    (queue : queue_of new ≡ queue_of old) (shut : new.is_closed ≡ old.is_closed) (pulled : moved after.events ≡ moved before.events ++ piece) (consumed : Consumes before.left after.left piece)
     (unfailed : failures after.events ≡ failures before.events) (end : Remembers old.has_ended before new.has_ended after) (over : new.is_over ≡ old.is_over) where
   takes_fed : Takes (scene old worker (both before output)) (scene new worker (both after output))
+  unfolding taken_none
   takes_fed = record {
-    came = piece;
-    requests = [];
-    owed = [];
-    sent = [];
-    pulled = pulled;
-    consumed = consumed;
-    pushed = sym (append-nil (moved output.events));
+    taken =
+        taken_none old new worker (both before output) (both after output) piece [] pulled consumed (sym (append-nil (moved output.events))) tenant queue (omega arith);
     reads = read;
-    tenant = tenant;
-    onward = goes_self worker;
-    owes = owes_nothing worker old.tenant;
-    bytes = queue ∙ sym (append-nil (queue_of old));
     unfailed = (unfailed, refl);
-    waited = omega arith;
     end = end;
     over = over_same old.is_over new.is_over over;
+    shut = shut;
   }
 
   pub does_fed : 0 < length piece → Does (scene old worker (both before output)) (scene new worker (both after output)) true
-  unfolding takes_fed
+  unfolding takes_fed taken_none
   does_fed some = record { takes = takes_fed; did_is = omega (arith, some) }
 
   pub does_waited : piece ≡ [] → Does (scene old worker (both before output)) (scene new worker (both after output)) false
-  unfolding takes_fed
+  unfolding takes_fed taken_none
   does_waited none = record { takes = takes_fed; did_is = omega (arith, ap length none) }

@@ -53,14 +53,28 @@ pub record IsTurnedAway (worker : Worker) (tenant : ℕ) (from : Mark) (command 
 abbrev pub IsAnswered : Worker → ℕ → Mark → Command → Reply → Mark → Type 0
 IsAnswered worker tenant from command reply to = IsPlaced worker tenant from command reply to ⊎ IsTurnedAway worker tenant from command reply to
 
+-- What a request comes to: a command of a tenant is logged, and its reply is owed unless the request is
+-- quiet; or a text is owed without the log.
+pub data Demand : Type 0 where
+  Logs : ℕ → Command → Bool → Demand
+  Says : List ℕ → Demand
+
+-- what a request on this tenant's connection comes to
+abbrev pub demand_of : ℕ → Request → Demand
+demand_of tenant (Logged command quiet) = Logs tenant command quiet
+demand_of tenant (Local reply quiet) = Says (answered quiet reply)
+demand_of tenant Quit = Says []
+demand_of tenant TooLong = Says (text (Refused E5))
+
+-- what is owed for a demand from a mark on, and then for what comes later
+abbrev pub OwesFor : Worker → Mark → Demand → List ℕ → (Mark → List ℕ → Type 0) → Type 0
+OwesFor worker from (Logs tenant command quiet) bytes Later =
+    (reply : Reply) × (next : Mark) × (rest : List ℕ)
+    × IsAnswered worker tenant from command reply next × (bytes ≡ answered quiet reply ++ rest) × Later next rest
+OwesFor worker from (Says said) bytes Later = (rest : List ℕ) × (bytes ≡ said ++ rest) × Later from rest
+
 -- what the tenant is owed for requests that this worker took from the one mark on, and how far the worker is then
 abbrev pub Owes : Worker → ℕ → Mark → List Request → List ℕ → Mark → Type 0
 Owes worker tenant from [] bytes to = (bytes ≡ []) × (to.number ≡ from.number) × (from.place ≤ to.place)
-Owes worker tenant from (Logged command quiet ∷ requests) bytes to =
-    (reply : Reply) × (next : Mark) × (rest : List ℕ)
-    × IsAnswered worker tenant from command reply next × (bytes ≡ answered quiet reply ++ rest) × Owes worker tenant next requests rest to
-Owes worker tenant from (Local reply quiet ∷ requests) bytes to =
-    (rest : List ℕ) × (bytes ≡ answered quiet reply ++ rest) × Owes worker tenant from requests rest to
-Owes worker tenant from (Quit ∷ requests) bytes to = Owes worker tenant from requests bytes to
-Owes worker tenant from (TooLong ∷ requests) bytes to =
-    (rest : List ℕ) × (bytes ≡ text (Refused E5) ++ rest) × Owes worker tenant from requests rest to
+Owes worker tenant from (request ∷ requests) bytes to =
+    OwesFor worker from (demand_of tenant request) bytes (λ next rest. Owes worker tenant next requests rest to)

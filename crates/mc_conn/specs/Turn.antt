@@ -11,8 +11,8 @@ use Rattle.mc_stream.specs.Stream.{Streams}
 use Rattle.uc_worker.specs.declared.worker.Worker.{Worker}
 use Rattle.mc_conn.specs.declared.conn.Conn.{Conn}
 use Rattle.mc_conn.specs.Held.{Holding, IsRead}
-use Rattle.uc_worker.specs.Going.{GoesOn}
-use Rattle.mc_conn.specs.Owed.{Owes, mark_of}
+use Rattle.uc_worker.specs.Going.{Continues}
+use Rattle.mc_conn.specs.Owed.{Mark, Owes, mark_of}
 
 -- all that a turn sees: the connection, the worker, and what the input and the output tell
 pub record Scene : Type 0 where
@@ -42,10 +42,10 @@ RemembersTheEnd before after =
     ((before.conn.has_ended ≡ true) × (after.streams.input ≡ before.streams.input) ⊎ (has_ended after.streams.input.events ≡ true) × IsAtEnd after.streams.input.left)
     ((before.conn.has_ended ≡ false) × (ends after.streams.input.events ≡ ends before.streams.input.events))
 
--- Bytes came, and read as requests, which were taken; what was sent and what is queued then is what was queued and what is owed for these
--- requests; each was taken for the connection's tenant, from the worker's mark before to its mark after. A request that ends the stream
--- is remembered.
-pub record Takes (before after : Scene) : Type 0 where
+-- What was taken from one scene to another: bytes came, requests were taken, and what was sent and
+-- what is queued then is what was queued and what is owed for these requests; each was taken for the
+-- connection's tenant, from the worker's mark before up to this one.
+pub record Taken (before after : Scene) (to : Mark) : Type 0 where
   pub came : List ℕ
   pub requests : List Request
   pub owed : List ℕ
@@ -53,16 +53,22 @@ pub record Takes (before after : Scene) : Type 0 where
   pub pulled : moved after.streams.input.events ≡ moved before.streams.input.events ++ came
   pub consumed : Consumes before.streams.input.left after.streams.input.left came
   pub pushed : Pushes before.streams.output after.streams.output sent
-  pub reads : IsRead (holding_of before.conn) came requests (holding_of after.conn)
   pub tenant : after.conn.tenant ≡ before.conn.tenant
-  pub onward : GoesOn before.worker after.worker
-  pub owes : Owes after.worker before.conn.tenant (mark_of before.worker) requests owed (mark_of after.worker)
+  pub onward : Continues before.worker after.worker
+  pub owes : Owes after.worker before.conn.tenant (mark_of before.worker) requests owed to
   pub bytes : sent ++ queue_of after.conn ≡ queue_of before.conn ++ owed
-  pub unfailed : NeitherFails before.streams after.streams
   pub waited : waits before.streams.output.events ≤ waits after.streams.output.events
+
+-- No fault: what was taken goes up to the worker's mark then, and is what the bytes that came read
+-- as. The end of the input is remembered, and a request that ends the stream.
+pub record Takes (before after : Scene) : Type 0 where
+  pub taken : Taken before after (mark_of after.worker)
+  pub reads : IsRead (holding_of before.conn) taken.came taken.requests (holding_of after.conn)
+  pub unfailed : NeitherFails before.streams after.streams
   pub end : RemembersTheEnd before after
-  pub over : after.conn.is_over ≡ (before.conn.is_over || list_any ends_stream requests)
+  pub over : after.conn.is_over ≡ (before.conn.is_over || list_any ends_stream taken.requests)
+  pub shut : after.conn.is_closed ≡ before.conn.is_closed
 
 -- how much was done: bytes that came, requests that were taken, and bytes that were sent
 abbrev pub amount : {before after : Scene} → Takes before after → ℕ
-amount takes = length takes.came + length takes.requests + length takes.sent
+amount takes = length takes.taken.came + length takes.taken.requests + length takes.taken.sent

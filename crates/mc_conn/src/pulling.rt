@@ -1,12 +1,12 @@
 //! Bytes are pulled.
-ghost use Rattle.std.specs.Prelude.{◌≡◌, ◌≢◌, ◌⊎◌, ◌+◌, ◌<◌, ◌≤◌, ◌∷◌, [], true, false, length, None, IfOk, IfErr, OnOk};
+ghost use Rattle.std.specs.Prelude.{◌≡◌, ◌≢◌, ◌⊎◌, ◌+◌, ◌<◌, ◌≤◌, ◌∷◌, [], true, false, length, None, IfOk, MatchResult, OnOk};
 ghost use Rattle.mc_stream.specs.Event.{Event, last_moved, waits};
 ghost use Rattle.mc_stream.specs.Stream.{Outflow, both};
 ghost use Rattle.uc_worker.specs.declared.worker.Worker.{Worker};
 ghost use Rattle.uc_worker.specs.Worker.{tenants_of};
 ghost use Rattle.mc_conn.specs.declared.conn.TheConstants.{PULL_BYTES, QUEUE_BYTES};
-ghost use Rattle.mc_conn.specs.Ending.{Breaks, PullsLate, PullsOnce};
-ghost use Rattle.mc_conn.specs.Parts.{Does, IsHeldBehind, IsPullFault, IsSameBeside};
+ghost use Rattle.mc_conn.specs.Ending.{Breaks, Pulls};
+ghost use Rattle.mc_conn.specs.Parts.{Does, IsHeldBehind};
 ghost use Rattle.mc_conn.specs.Turn.{queue_of, scene};
 
 use crate::conn::{Conn, PULL_BYTES, QUEUE_BYTES};
@@ -23,17 +23,16 @@ impl Conn {
     ) -> Result<bool, Fault>
         requires waiting { self.old.waiting ≡ None }
         requires going { self.old.has_ended ≡ false }
-        ensures does { IfOk result (λ did. (worker : Worker) (output : Outflow) →
-            Does (scene self.old worker (both (I.tells input.old) output)) (scene self.new worker (both (I.tells input.new) output)) did) }
+        ensures outcome { MatchResult result
+            (λ did. (worker : Worker) (output : Outflow) → Does (scene self.old worker (both (I.tells input.old) output))
+            (scene self.new worker (both (I.tells input.new) output)) did)
+            (λ fault. (worker : Worker) (output : Outflow) → Breaks (scene self.old worker (both (I.tells input.old) output))
+            (scene self.new worker (both (I.tells input.new) output)) fault) }
         ensures stuck { IfOk result (λ did. did ≡ false →
             (waits (I.tells input.new).events ≡ waits (I.tells input.old).events + 1) ⊎ (self.new.has_ended ≡ true)) }
         ensures once { (event : Event) × ((I.tells input.new).events ≡ event ∷ (I.tells input.old).events) }
         ensures short { length (last_moved (I.tells input.new).events) ≤ PULL_BYTES }
         ensures tenant { self.new.tenant ≡ self.old.tenant }
-        ensures is_closed { self.new.is_closed ≡ self.old.is_closed }
-        ensures faults { IfErr result IsPullFault }
-        ensures breaks { IfErr result (λ fault. (worker : Worker) (output : Outflow) →
-            Breaks fault (scene self.old worker (both (I.tells input.old) output)) (scene self.new worker (both (I.tells input.new) output))) }
     {
         match input.pull(buffer) {
             Pull::Bytes(count) => {
@@ -61,17 +60,16 @@ impl Conn {
     ) -> Result<bool, Fault>
         requires tenant { self.old.tenant < length (tenants_of worker.old) }
         requires held { IsHeldBehind self.old }
-        ensures does { IfOk result (λ did. Does (scene self.old worker.old (both (I.tells input.old) (O.tells output.old)))
-            (scene self.new worker.new (both (I.tells input.new) (O.tells output.new))) did) }
+        ensures outcome { MatchResult result
+            (Does (scene self.old worker.old (both (I.tells input.old) (O.tells output.old)))
+            (scene self.new worker.new (both (I.tells input.new) (O.tells output.new))))
+            (Breaks (scene self.old worker.old (both (I.tells input.old) (O.tells output.old)))
+            (scene self.new worker.new (both (I.tells input.new) (O.tells output.new)))) }
         ensures held { OnOk result (IsHeldBehind self.new) }
         ensures stuck { IfOk result (λ did. did ≡ false → (waits (I.tells input.new).events ≡ waits (I.tells input.old).events + 1)
             ⊎ (self.new.has_ended ≡ true) ⊎ (QUEUE_BYTES < length (queue_of self.new)) ⊎ (self.new.is_over ≡ true) × (queue_of self.new ≡ [])) }
-        ensures once { PullsOnce (I.tells input.old) (I.tells input.new) }
-        ensures late { PullsLate (scene self.old worker.old (both (I.tells input.old) (O.tells output.old)))
+        ensures pulls { Pulls (scene self.old worker.old (both (I.tells input.old) (O.tells output.old)))
             (scene self.new worker.new (both (I.tells input.new) (O.tells output.new))) }
-        ensures breaks { IfErr result (λ fault. Breaks fault (scene self.old worker.old (both (I.tells input.old) (O.tells output.old)))
-            (scene self.new worker.new (both (I.tells input.new) (O.tells output.new)))) }
-        ensures is_closed { self.new.is_closed ≡ self.old.is_closed }
     {
         if self.waiting.is_some() | (self.queue.len() > QUEUE_BYTES) | self.has_ended {
             return Ok(false);

@@ -1,5 +1,5 @@
 //! A connection from its beginning to its end.
-ghost use Rattle.std.specs.Prelude.{◌≡◌, ◌<◌, true, false, length, Ok, IfErr, OnOk};
+ghost use Rattle.std.specs.Prelude.{◌≡◌, ◌<◌, true, false, length, Ok, MatchResult};
 ghost use Rattle.mc_stream.specs.Stream.{both};
 ghost use Rattle.uc_worker.specs.Worker.{tenants_of};
 ghost use Rattle.mc_conn.specs.Ending.{PullsLate, Serves, Stops};
@@ -21,9 +21,10 @@ pub fn pump<R: Wait, I: Input, O: Output>(
     output: &mut O,
 ) -> Result<(), Fault>
     requires tenant { conn.old.tenant < length (tenants_of worker.old) }
-    ensures serves { conn.old.is_closed ≡ false → OnOk result (Serves (scene conn.old worker.old (both (I.tells input.old) (O.tells output.old)))
-        (scene conn.new worker.new (both (I.tells input.new) (O.tells output.new)))) }
-    ensures stops { IfErr result (λ fault. Stops fault (scene conn.old worker.old (both (I.tells input.old) (O.tells output.old)))
+    ensures outcome { conn.old.is_closed ≡ false → MatchResult result
+        (λ _. Serves (scene conn.old worker.old (both (I.tells input.old) (O.tells output.old)))
+        (scene conn.new worker.new (both (I.tells input.new) (O.tells output.new))))
+        (Stops (scene conn.old worker.old (both (I.tells input.old) (O.tells output.old)))
         (scene conn.new worker.new (both (I.tells input.new) (O.tells output.new)))) }
     ensures late { PullsLate (scene conn.old worker.old (both (I.tells input.old) (O.tells output.old)))
         (scene conn.new worker.new (both (I.tells input.new) (O.tells output.new))) }

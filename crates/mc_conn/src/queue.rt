@@ -1,5 +1,5 @@
 //! The reply bytes that are to be pushed.
-ghost use Rattle.std.specs.Prelude.{◌≡◌, ℕ, ◌==◌, ◌≤◌, List, [], ◌++◌, drop, length, vec_len, IsOkUnless, OnOk, OnErr};
+ghost use Rattle.std.specs.Prelude.{◌≡◌, ℕ, ◌==◌, ◌≤◌, List, [], ◌++◌, drop, length, vec_len, MatchResult};
 ghost use Rattle.mc_model.specs.declared.fault.Fault.TheVariants as faults;
 ghost use Rattle.mc_write.specs.Text.{text};
 
@@ -72,9 +72,8 @@ impl Queue {
 
     /// Appends a reply's text. Where memory runs out the queue stays as it was.
     pub fn append(&mut self, reply: &Reply) -> Result<(), Fault>
-        ensures queued { OnOk result (self.new ≡ self.old ++ text reply.now) }
-        ensures memory { IsOkUnless result faults.Memory }
-        ensures unchanged { OnErr result (self.new ≡ self.old) }
+        ensures { MatchResult result (λ _. self.new ≡ self.old ++ text reply.now)
+            (λ fault. (fault ≡ faults.Memory) × (self.new ≡ self.old)) }
     {
         self.settle();
         write_reply(reply, &mut self.bytes)

@@ -1,10 +1,10 @@
 //! What a request asks for is done, and its reply queued.
-ghost use Rattle.std.specs.Prelude.{◌≡◌, ◌<◌, ◌++◌, length, IfOk, IfErr, IsOkUnless, OnOk, OnErr};
+ghost use Rattle.std.specs.Prelude.{◌≡◌, ◌<◌, ◌++◌, length, MatchResult};
 ghost use Rattle.mc_model.specs.declared.fault.Fault.TheVariants as faults;
 ghost use Rattle.uc_worker.specs.Worker.{tenants_of};
-ghost use Rattle.uc_worker.specs.Going.{GoesOn};
+ghost use Rattle.uc_worker.specs.Going.{Continues};
 ghost use Rattle.mc_conn.specs.Owed.{answered};
-ghost use Rattle.mc_conn.specs.Parts.{Answers, IsTakeFault, MayAnnounce, MayAnnounceFor, Responds};
+ghost use Rattle.mc_conn.specs.Parts.{Answers, IsTakeFault, MayAnnounce, Refuses, Responds};
 
 use crate::queue::Queue;
 use mc_model::{Command, Fault, Reply, Request, TenantId, WireNo};
@@ -18,25 +18,24 @@ fn answer<G: Gate>(
     gate: &mut G,
 ) -> Result<Reply, Fault>
     requires tenant { tenant < length (tenants_of worker.old) }
-    ensures onward { GoesOn worker.old worker.new }
-    ensures answers { IfOk result (λ reply. Answers worker.old worker.new tenant command reply) }
+    ensures onward { Continues worker.old worker.new }
+    ensures outcome { MatchResult result (Answers worker.old worker.new tenant command) IsTakeFault }
     ensures announced { MayAnnounce worker.old worker.new tenant command }
-    ensures faults { IfErr result IsTakeFault }
 {
     match worker.submit(tenant, command, gate) {
         Ok(answer) => Ok(answer.reply),
         Err(Fault::LogFull) => Ok(Reply::Refused(WireNo::E10)),
+        Err(Fault::Memory) => Err(Fault::Memory),
         Err(Fault::Taken) => Err(Fault::Taken),
         // A submit has no other fault.
-        Err(_) => Err(Fault::Memory),
+        Err(Fault::Input | Fault::Output | Fault::BadEvent | Fault::BadSettings) => unreachable!(),
     }
 }
 
 /// Queues a reply, but for a quiet request.
 fn queue_reply(reply: &Reply, quiet: bool, queue: &mut Queue) -> Result<(), Fault>
-    ensures queued { OnOk result (queue.new ≡ queue.old ++ answered quiet reply.now) }
-    ensures memory { IsOkUnless result faults.Memory }
-    ensures unchanged { OnErr result (queue.new ≡ queue.old) }
+    ensures { MatchResult result (λ _. queue.new ≡ queue.old ++ answered quiet reply.now)
+        (λ fault. (fault ≡ faults.Memory) × (queue.new ≡ queue.old)) }
 {
     if quiet {
         return Ok(());
@@ -53,11 +52,9 @@ pub(crate) fn respond<G: Gate>(
     gate: &mut G,
 ) -> Result<(), Fault>
     requires tenant { tenant < length (tenants_of worker.old) }
-    ensures onward { GoesOn worker.old worker.new }
-    ensures responds { OnOk result (Responds worker.old worker.new tenant request queue.old queue.new) }
-    ensures announced { OnErr result (MayAnnounceFor worker.old worker.new tenant request) }
-    ensures unchanged { OnErr result (queue.new ≡ queue.old) }
-    ensures faults { IfErr result IsTakeFault }
+    ensures onward { Continues worker.old worker.new }
+    ensures outcome { MatchResult result (λ _. Responds worker.old worker.new tenant request queue.old queue.new)
+        (Refuses worker.old worker.new tenant request queue.old queue.new) }
 {
     match request {
         Request::Logged { command, quiet } => {

@@ -1,13 +1,12 @@
 //! What is queued is pushed.
-ghost use Rattle.std.specs.Prelude.{◌≡◌, ◌⊎◌, ◌+◌, ◌≤◌, [], length, take, drop, IfOk, IfErr, IsOkUnless, OnOk};
-ghost use Rattle.mc_model.specs.declared.fault.Fault.TheVariants as faults;
+ghost use Rattle.std.specs.Prelude.{◌≡◌, ◌⊎◌, ◌+◌, ◌≤◌, [], length, take, drop, MatchResult, OnOk};
 ghost use Rattle.mc_stream.specs.Event.{waits};
 ghost use Rattle.mc_stream.specs.Pushing.{Pushes, StopsAs};
 ghost use Rattle.mc_stream.specs.Stream.{Inflow, both};
 ghost use Rattle.uc_worker.specs.declared.worker.Worker.{Worker};
 ghost use Rattle.mc_conn.specs.Ending.{Breaks};
-ghost use Rattle.mc_conn.specs.Parts.{Does, IsSameBeside};
-ghost use Rattle.mc_conn.specs.Turn.{holding_of, queue_of, scene};
+ghost use Rattle.mc_conn.specs.Parts.{Does, IsSameBesideQueue};
+ghost use Rattle.mc_conn.specs.Turn.{queue_of, scene};
 
 use crate::conn::Conn;
 use crate::queue::Queue;
@@ -29,15 +28,13 @@ fn push_queue<O: Output>(queue: &mut Queue, output: &mut O) -> (usize, Stop)
 impl Conn {
     /// Pushes what is queued, until all is taken or the output takes no more. Says whether any was.
     pub(crate) fn push<O: Output>(&mut self, output: &mut O) -> Result<bool, Fault>
-        ensures does { IfOk result (λ did. (worker : Worker) (input : Inflow) →
-            Does (scene self.old worker (both input (O.tells output.old))) (scene self.new worker (both input (O.tells output.new))) did) }
+        ensures outcome { MatchResult result
+            (λ did. (worker : Worker) (input : Inflow) → Does (scene self.old worker (both input (O.tells output.old)))
+            (scene self.new worker (both input (O.tells output.new))) did)
+            (λ fault. (worker : Worker) (input : Inflow) → Breaks (scene self.old worker (both input (O.tells output.old)))
+            (scene self.new worker (both input (O.tells output.new))) fault) }
         ensures left { OnOk result ((queue_of self.new ≡ []) ⊎ (waits (O.tells output.new).events ≡ waits (O.tells output.old).events + 1)) }
-        ensures same { IsSameBeside self.old self.new }
-        ensures holding { holding_of self.new ≡ holding_of self.old }
-        ensures over { self.new.is_over ≡ self.old.is_over }
-        ensures fault { IsOkUnless result faults.Output }
-        ensures breaks { IfErr result (λ fault. (worker : Worker) (input : Inflow) →
-            Breaks fault (scene self.old worker (both input (O.tells output.old))) (scene self.new worker (both input (O.tells output.new)))) }
+        ensures same { IsSameBesideQueue self.old self.new }
     {
         let (count, stop) = push_queue(&mut self.queue, output);
         match stop {

@@ -1,14 +1,13 @@
 //! Requests are read and taken.
 ghost use Rattle.std.specs.Bool.{MatchBool};
-ghost use Rattle.std.specs.Prelude.{◌≡◌, ◌≢◌, ◌⊎◌, ◌<◌, ◌∷◌, [], true, false, length, None, IfOk, IfErr, IsOkUnless, OnOk, OnErr};
+ghost use Rattle.std.specs.Prelude.{◌≡◌, ◌≢◌, ◌⊎◌, ◌<◌, ◌∷◌, [], true, false, length, None, IfOk, IsOkUnless, MatchResult, OnOk};
 ghost use Rattle.mc_model.specs.declared.fault.Fault.TheVariants as faults;
 ghost use Rattle.mc_model.specs.declared.request.Request.{Request};
 ghost use Rattle.mc_stream.specs.Stream.{Streams};
 ghost use Rattle.uc_worker.specs.Worker.{tenants_of};
 ghost use Rattle.mc_conn.specs.Ending.{Breaks};
 ghost use Rattle.mc_conn.specs.Held.{HoldsNone, IsRead};
-ghost use Rattle.uc_worker.specs.Going.{GoesOn};
-ghost use Rattle.mc_conn.specs.Parts.{Does, IsHeldBehind, IsSameBeside, IsTakeFault};
+ghost use Rattle.mc_conn.specs.Parts.{Does, IsHeldBehind, Keeps, Looks};
 ghost use Rattle.mc_conn.specs.Turn.{holding_of, queue_of, scene};
 
 use crate::conn::{Conn, QUEUE_BYTES};
@@ -22,9 +21,7 @@ impl Conn {
     fn look(&mut self) -> Result<(), Fault>
         ensures read { OnOk result (IsRead (holding_of self.old) [] [] (holding_of self.new)) }
         ensures found { OnOk result (HoldsNone (holding_of self.new) ⊎ (self.new.waiting ≢ None)) }
-        ensures same { IsSameBeside self.old self.new }
-        ensures queue { queue_of self.new ≡ queue_of self.old }
-        ensures over { self.new.is_over ≡ self.old.is_over }
+        ensures looks { Looks self.old self.new }
         ensures memory { IsOkUnless result faults.Memory }
     {
         if self.waiting.is_none() {
@@ -40,14 +37,13 @@ impl Conn {
         gate: &mut G,
     ) -> Result<bool, Fault>
         requires tenant { self.old.tenant < length (tenants_of worker.old) }
-        ensures does { IfOk result (λ did. (streams : Streams) → Does (scene self.old worker.old streams) (scene self.new worker.new streams) did) }
+        ensures outcome { MatchResult result
+            (λ did. (streams : Streams) → Does (scene self.old worker.old streams) (scene self.new worker.new streams) did)
+            (λ fault. (streams : Streams) → Breaks (scene self.old worker.old streams) (scene self.new worker.new streams) fault) }
         ensures read { IfOk result (λ did. MatchBool did
-            ((request : Request) × IsRead (holding_of self.old) [] (request ∷ []) (holding_of self.new)) (self.old.waiting ≡ None)) }
-        ensures still { IfOk result (λ did. did ≡ false → self.new ≡ self.old) }
-        ensures same { IsSameBeside self.old self.new }
-        ensures onward { GoesOn worker.old worker.new }
-        ensures faults { IfErr result IsTakeFault }
-        ensures breaks { IfErr result (λ fault. (streams : Streams) → Breaks fault (scene self.old worker.old streams) (scene self.new worker.new streams)) }
+            ((request : Request) × IsRead (holding_of self.old) [] (request ∷ []) (holding_of self.new))
+            ((self.old.waiting ≡ None) × (self.new ≡ self.old))) }
+        ensures keeps { Keeps self.old self.new worker.old worker.new }
     {
         match self.waiting.take() {
             Some(request) => {
@@ -63,13 +59,12 @@ impl Conn {
     /// Takes a request, where one is held and the queue isn't too long. Says whether it did.
     fn take_one<G: Gate>(&mut self, worker: &mut Worker<'_>, gate: &mut G) -> Result<bool, Fault>
         requires tenant { self.old.tenant < length (tenants_of worker.old) }
-        ensures does { IfOk result (λ did. (streams : Streams) → Does (scene self.old worker.old streams) (scene self.new worker.new streams) did) }
+        ensures outcome { MatchResult result
+            (λ did. (streams : Streams) → Does (scene self.old worker.old streams) (scene self.new worker.new streams) did)
+            (λ fault. (streams : Streams) → Breaks (scene self.old worker.old streams) (scene self.new worker.new streams) fault) }
         ensures fewer { IfOk result (λ did. did ≡ true → (request : Request) × IsRead (holding_of self.old) [] (request ∷ []) (holding_of self.new)) }
         ensures held { IfOk result (λ did. did ≡ false → IsHeldBehind self.new) }
-        ensures same { IsSameBeside self.old self.new }
-        ensures onward { GoesOn worker.old worker.new }
-        ensures faults { IfErr result IsTakeFault }
-        ensures breaks { IfErr result (λ fault. (streams : Streams) → Breaks fault (scene self.old worker.old streams) (scene self.new worker.new streams)) }
+        ensures keeps { Keeps self.old self.new worker.old worker.new }
     {
         self.look()?;
         if self.queue.len() > QUEUE_BYTES {
@@ -85,12 +80,11 @@ impl Conn {
         gate: &mut G,
     ) -> Result<bool, Fault>
         requires tenant { self.old.tenant < length (tenants_of worker.old) }
-        ensures does { IfOk result (λ did. (streams : Streams) → Does (scene self.old worker.old streams) (scene self.new worker.new streams) did) }
+        ensures outcome { MatchResult result
+            (λ did. (streams : Streams) → Does (scene self.old worker.old streams) (scene self.new worker.new streams) did)
+            (λ fault. (streams : Streams) → Breaks (scene self.old worker.old streams) (scene self.new worker.new streams) fault) }
         ensures held { OnOk result (IsHeldBehind self.new) }
-        ensures same { IsSameBeside self.old self.new }
-        ensures onward { GoesOn worker.old worker.new }
-        ensures faults { IfErr result IsTakeFault }
-        ensures breaks { IfErr result (λ fault. (streams : Streams) → Breaks fault (scene self.old worker.old streams) (scene self.new worker.new streams)) }
+        ensures keeps { Keeps self.old self.new worker.old worker.new }
     {
         let mut did = false;
         while self.take_one(worker, gate)? {

@@ -1,14 +1,10 @@
 //! A turn of a connection.
-ghost use Rattle.std.specs.Prelude.{◌≡◌, ◌<◌, ◌≤◌, ◌++◌, true, false, length, Ok, IfOk, IfErr, MatchResult};
-ghost use Rattle.mc_stream.specs.Event.{waits};
-ghost use Rattle.mc_stream.specs.Pushing.{PushesAtOnce};
+ghost use Rattle.std.specs.Prelude.{◌≡◌, ◌<◌, true, false, length, Ok, MatchResult};
 ghost use Rattle.mc_stream.specs.Stream.{both};
-ghost use Rattle.mc_model.specs.declared.reply.Reply.TheVariants.{Refused};
-ghost use Rattle.mc_model.specs.declared.reply.WireNo.TheVariants.{E11};
-ghost use Rattle.mc_write.specs.Text.{text};
 ghost use Rattle.uc_worker.specs.Worker.{tenants_of};
-ghost use Rattle.mc_conn.specs.Ending.{Breaks, PullsLate, PullsOnce, Stops, Turns};
-ghost use Rattle.mc_conn.specs.Parts.{IsTold, StateIs};
+ghost use Rattle.mc_conn.specs.ConnFault.{TellsStarved};
+ghost use Rattle.mc_conn.specs.Ending.{Breaks, Pulls, Stops, Turns};
+ghost use Rattle.mc_conn.specs.Parts.{StateIs, TellsOf};
 ghost use Rattle.mc_conn.specs.Turn.{queue_of, scene};
 
 use crate::conn::{Conn, PULL_BYTES, State};
@@ -19,8 +15,7 @@ use uc_worker::{Gate, Worker};
 
 /// Tells the client that memory ran out, after the replies that are queued, as far as the output takes it at once.
 fn tell_starved<O: Output>(queue: &[u8], output: &mut O)
-    ensures pushed { PushesAtOnce (queue.now ++ text (Refused E11)) (O.tells output.old) (O.tells output.new) }
-    ensures waited { waits (O.tells output.old).events ≤ waits (O.tells output.new).events }
+    ensures { TellsStarved queue.now (O.tells output.old) (O.tells output.new) }
 {
     if push_while_taken(queue, output) {
         push_while_taken(refusal_text(WireNo::E11), output);
@@ -51,14 +46,13 @@ impl Conn {
         buffer: &mut [u8; PULL_BYTES],
     ) -> Result<State, Fault>
         requires tenant { self.old.tenant < length (tenants_of worker.old) }
-        ensures turns { IfOk result (λ state. Turns (scene self.old worker.old (both (I.tells input.old) (O.tells output.old)))
-            (scene self.new worker.new (both (I.tells input.new) (O.tells output.new))) state) }
-        ensures breaks { IfErr result (λ fault. Breaks fault (scene self.old worker.old (both (I.tells input.old) (O.tells output.old)))
+        ensures outcome { MatchResult result
+            (Turns (scene self.old worker.old (both (I.tells input.old) (O.tells output.old)))
+            (scene self.new worker.new (both (I.tells input.new) (O.tells output.new))))
+            (Breaks (scene self.old worker.old (both (I.tells input.old) (O.tells output.old)))
             (scene self.new worker.new (both (I.tells input.new) (O.tells output.new)))) }
-        ensures once { PullsOnce (I.tells input.old) (I.tells input.new) }
-        ensures late { PullsLate (scene self.old worker.old (both (I.tells input.old) (O.tells output.old)))
+        ensures pulls { Pulls (scene self.old worker.old (both (I.tells input.old) (O.tells output.old)))
             (scene self.new worker.new (both (I.tells input.new) (O.tells output.new))) }
-        ensures is_closed { self.new.is_closed ≡ self.old.is_closed }
     {
         let first = self.push(output)?;
         let taken = self.take(worker, gate)?;
@@ -70,9 +64,8 @@ impl Conn {
     /// Closes the connection for good. Where memory ran out, the client is told.
     fn close<O: Output>(&mut self, fault: Fault, output: &mut O)
         ensures closed { self.new.is_closed ≡ true }
-        ensures tenant { self.new.tenant ≡ self.old.tenant }
-        ensures queue { queue_of self.new ≡ queue_of self.old }
-        ensures told { IsTold fault (queue_of self.old) (O.tells output.old) (O.tells output.new) }
+        ensures same { (self.new.tenant ≡ self.old.tenant) × (queue_of self.new ≡ queue_of self.old) }
+        ensures told { TellsOf fault (queue_of self.old) (O.tells output.old) (O.tells output.new) }
     {
         self.is_closed = true;
         if fault == Fault::Memory {
@@ -94,14 +87,13 @@ impl Conn {
         buffer: &mut [u8; PULL_BYTES],
     ) -> Result<State, Fault>
         requires tenant { self.old.tenant < length (tenants_of worker.old) }
-        ensures turns { self.old.is_closed ≡ false → IfOk result (λ state. Turns (scene self.old worker.old (both (I.tells input.old) (O.tells output.old)))
-            (scene self.new worker.new (both (I.tells input.new) (O.tells output.new))) state) }
-        ensures stops { IfErr result (λ fault. Stops fault (scene self.old worker.old (both (I.tells input.old) (O.tells output.old)))
+        ensures outcome { self.old.is_closed ≡ false → MatchResult result
+            (Turns (scene self.old worker.old (both (I.tells input.old) (O.tells output.old)))
+            (scene self.new worker.new (both (I.tells input.new) (O.tells output.new))))
+            (Stops (scene self.old worker.old (both (I.tells input.old) (O.tells output.old)))
             (scene self.new worker.new (both (I.tells input.new) (O.tells output.new)))) }
-        ensures once { PullsOnce (I.tells input.old) (I.tells input.new) }
-        ensures late { PullsLate (scene self.old worker.old (both (I.tells input.old) (O.tells output.old)))
+        ensures pulls { Pulls (scene self.old worker.old (both (I.tells input.old) (O.tells output.old)))
             (scene self.new worker.new (both (I.tells input.new) (O.tells output.new))) }
-        ensures shut { MatchResult result (λ _. self.new.is_closed ≡ self.old.is_closed) (λ _. self.new.is_closed ≡ true) }
         ensures same { (self.new.tenant ≡ self.old.tenant) × (worker.new.log ≡ worker.old.log) }
         ensures closed { self.old.is_closed ≡ true → (result ≡ Ok State.Closed) × (self.new ≡ self.old) × (worker.new ≡ worker.old)
             × (input.new ≡ input.old) × (output.new ≡ output.old) }

@@ -6,14 +6,13 @@ use Rattle.std.proofs.lemmas.Bool.{eqb-true}
 use Rattle.mc_conn.specs.Ending.{Breaks, Stops}
 use Rattle.mc_conn.specs.Held.{HoldsOn}
 use Rattle.mc_conn.specs.Onward.{own_sighting}
-use Rattle.uc_worker.specs.Going.{GoesOn}
+use Rattle.uc_worker.specs.Going.{Continues}
 use Rattle.mc_conn.specs.Owed.{mark_of}
 use Rattle.mc_conn.specs.Turn.{Takes, holding_of, scene}
 use Rattle.mc_conn.specs.declared.conn.State.{State}
 use Rattle.mc_conn.specs.declared.conn.State.TheVariants.{Closed}
 use Rattle.mc_conn.proofs.Owings.{same_sighting}
 use Rattle.mc_model.specs.declared.fault.Fault.{Fault}
-use Rattle.mc_model.specs.declared.fault.Fault.TheVariants.{Memory, LogFull, Taken, Input, Output, BadEvent, BadSettings}
 use Rattle.mc_model.specs.declared.request.Request.{Request}
 use Rattle.mc_net.specs.Asking.{HasBeenAsked, WasAsked}
 use Rattle.mc_net.specs.Life.{came_of}
@@ -107,7 +106,7 @@ record Asking (from : ℕ) (v : View) : Type 0 where
 
 -- what a connection's turns have taken more, and announced
 record Step (before after : Worker) (old new : Connection) (taken : List Request) : Type 0 where
-  onward : GoesOn before after
+  onward : Continues before after
   tenant : new.conn.tenant ≡ old.conn.tenant
   more : List Request
   has_taken : HasTaken new (taken ++ more)
@@ -123,64 +122,58 @@ module _ (before after : Worker) (old new : Connection) (taken : List Request) (
 
   step_taking : Takes (scene_of old before) (scene_of new after) → Step before after old new taken
   step_taking takes = record {
-    onward = takes.onward;
+    onward = takes.taken.onward;
     tenant = tenant;
-    more = takes.requests;
+    more = takes.taken.requests;
     has_taken = λ more all reads.
-        let one = came_on takes.came more all takes.pulled reads in
+        let one = came_on takes.taken.came more all takes.taken.pulled reads in
         let two = (takes.reads more one.0).0 one.2 in
-        (two.0, one.1 ∙ ap (λ (others : List Request). taken ++ others) two.1 ∙ sym (append_assoc taken takes.requests two.0), λ still. two.2);
-    numbers = subst (λ (tenant : ℕ). Numbers after tenant (length (announced_of before)) (length (announced_of after)) takes.requests) (sym tenant)
-        (taken_numbers after old.conn.tenant (mark_of before) (mark_of after) takes.requests takes.owed takes.owes);
+        (two.0, one.1 ∙ ap (λ (others : List Request). taken ++ others) two.1 ∙ sym (append_assoc taken takes.taken.requests two.0), λ still. two.2);
+    numbers = subst (λ (tenant : ℕ). Numbers after tenant (length (announced_of before)) (length (announced_of after)) takes.taken.requests) (sym tenant)
+        (taken_numbers after old.conn.tenant (mark_of before) (mark_of after) takes.taken.requests takes.taken.owed takes.taken.owes);
   }
 
   step_breaking : (fault : Fault) (between : Outflow) → new.conn.is_closed ≡ true →
-      Breaks fault (scene_of old before) (scene new.conn after (both (record { events = new.received.events; left = None }) between)) → Step before after old new taken
+      Breaks (scene_of old before) (scene new.conn after (both (record { events = new.received.events; left = None }) between)) fault → Step before after old new taken
   step_breaking fault between closed breaks = record {
-    onward = breaks.onward;
+    onward = breaks.taken.onward;
     tenant = tenant;
-    more = breaks.requests ++ breaks.met;
+    more = breaks.taken.requests ++ breaks.met;
     has_taken = λ more all reads.
-        let one = came_on breaks.came more all breaks.pulled reads in
+        let one = came_on breaks.taken.came more all breaks.taken.pulled reads in
         let two = breaks.reads more one.0 one.2 in (
           two.0,
           one.1
-              ∙ ap (λ (others : List Request). taken ++ others) (two.1 ∙ sym (append_assoc breaks.requests breaks.met two.0))
-              ∙ sym (append_assoc taken (breaks.requests ++ breaks.met) two.0),
+              ∙ ap (λ (others : List Request). taken ++ others) (two.1 ∙ sym (append_assoc breaks.taken.requests breaks.met two.0))
+              ∙ sym (append_assoc taken (breaks.taken.requests ++ breaks.met) two.0),
           λ still. let no : true ≡ false = sym closed ∙ still in cc,
         );
     numbers =
-        subst (λ (tenant : ℕ). Numbers after tenant (length (announced_of before)) (length (announced_of after)) (breaks.requests ++ breaks.met)) (sym tenant)
-        (owed_numbers after old.conn.tenant (mark_of before) breaks.mark _ breaks.requests breaks.met breaks.owed breaks.owes
-        (met_numbers after old.conn.tenant breaks.mark breaks.met breaks.meets));
+        subst (λ (tenant : ℕ). Numbers after tenant (length (announced_of before)) (length (announced_of after)) (breaks.taken.requests ++ breaks.met)) (sym tenant)
+        (owed_numbers after old.conn.tenant (mark_of before) breaks.to _ breaks.taken.requests breaks.met breaks.taken.owed breaks.taken.owes
+        (met_numbers after old.conn.tenant breaks.to breaks.met breaks.meets));
   }
 
-  step_stopping : (fault : Fault) → new.conn.is_closed ≡ true → Stops fault (scene_of old before) (scene_of new after) → Step before after old new taken
-  step_stopping Memory closed stops = step_breaking Memory stops.0 closed stops.1
-  step_stopping LogFull closed stops = absurd stops
-  step_stopping Taken closed stops = step_breaking Taken (record { events = new.sent.events }) closed stops
-  step_stopping Input closed stops = step_breaking Input (record { events = new.sent.events }) closed stops
-  step_stopping Output closed stops = step_breaking Output (record { events = new.sent.events }) closed stops
-  step_stopping BadEvent closed stops = absurd stops
-  step_stopping BadSettings closed stops = absurd stops
+  step_stopping : (fault : Fault) → Stops (scene_of old before) (scene_of new after) fault → Step before after old new taken
+  step_stopping fault stops = step_breaking fault stops.told_from stops.shut stops.breaks
 
 step_later : (before after : Worker) (old new : Connection) (state : State) (taken : List Request) → IsLater before after old new state →
     old.conn.is_closed ≡ false → HasTaken old taken → Step before after old new taken
 step_later before after old new state taken later opened had =
     ⊎_elim
-    (λ served. step_taking before after old new taken later.tenant opened had served.0)
-    (λ stopped. step_stopping before after old new taken later.tenant opened had stopped.0 stopped.2 stopped.1)
+    (λ served. step_taking before after old new taken later.tenant opened had served)
+    (λ stopped. step_stopping before after old new taken later.tenant opened had stopped.0 stopped.1)
     later.served
 
 -- what was announced stays so
-announced_on : (before after : Worker) → GoesOn before after → (number tenant : ℕ) (command : _) → slice_get (announced_of before) number ≡ Some (own_sighting before number tenant command) →
+announced_on : (before after : Worker) → Continues before after → (number tenant : ℕ) (command : _) → slice_get (announced_of before) number ≡ Some (own_sighting before number tenant command) →
     slice_get (announced_of after) number ≡ Some (own_sighting after number tenant command)
 announced_on before after on number tenant command at =
     ap (λ list. slice_get list number) on.announced.1
     ∙ at_longer (announced_of before) on.announced.0 number _ at
     ∙ ap (λ seen. Some seen) (same_sighting before after on number tenant command)
 
-is_at_on : (before after : Worker) → GoesOn before after → (tenant number : ℕ) (requests more : List Request) (place : ℕ) → IsAt before tenant number requests place →
+is_at_on : (before after : Worker) → Continues before after → (tenant number : ℕ) (requests more : List Request) (place : ℕ) → IsAt before tenant number requests place →
     IsAt after tenant number (requests ++ more) place
 is_at_on before after on tenant number requests more place at = record {
   command = at.command;
@@ -189,7 +182,7 @@ is_at_on before after on tenant number requests more place at = record {
   announced = announced_on before after on number tenant at.command at.announced;
 }
 
-was_asked_on : (before after : Worker) → GoesOn before after → (ended : List Connection) (number asker request : ℕ) → WasAsked before ended number asker request →
+was_asked_on : (before after : Worker) → Continues before after → (ended : List Connection) (number asker request : ℕ) → WasAsked before ended number asker request →
     WasAsked after ended number asker request
 was_asked_on before after on ended number asker request asked = record {
   connection = asked.connection;

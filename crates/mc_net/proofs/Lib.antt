@@ -3,5 +3,4 @@ pub mod Lives
 pub mod Numbers
 pub mod Seatings
 pub mod Servings
-pub mod Stopped
 pub mod Workings

@@ -9,19 +9,19 @@ use Rattle.std.proofs.lemmas.List.Folds.{list_any-append}
 use Rattle.std.proofs.lemmas.List.Sums.{sum_by-cons}
 use Rattle.std.proofs.lemmas.Option.{same_Some}
 use Rattle.mc_conn.specs.Alone.{first_mark}
+use Rattle.mc_conn.specs.ConnFault.{CellTaken, ConnFault, CountsFailures, InputFailed, IsTold, OutOfMemory, OutputFailed}
 use Rattle.mc_conn.specs.Ending.{Breaks, IsDone, Stops}
 use Rattle.mc_conn.specs.Held.{Holding, HoldsNone, HoldsOn, IsRead, Waits}
-use Rattle.uc_worker.specs.Going.{GoesOn}
+use Rattle.uc_worker.specs.Going.{Continues}
 use Rattle.mc_conn.specs.Owed.{Mark, Owes, mark_of}
 use Rattle.mc_conn.specs.Turn.{Takes, holding_of, queue_of, scene}
 use Rattle.mc_conn.specs.declared.conn.State.{State}
 use Rattle.mc_conn.specs.declared.conn.State.TheVariants.{Closed, Idle, Busy}
 use Rattle.mc_conn.proofs.Owings.{owes_grow}
-use Rattle.uc_worker.proofs.Going.{goes_self}
+use Rattle.uc_worker.proofs.Going.{continues_self}
 use Rattle.mc_conn.proofs.Readings.{read_refl, read_trans}
 use Rattle.mc_model.specs.Helping.{BeginsWith}
 use Rattle.mc_model.specs.declared.fault.Fault.{Fault}
-use Rattle.mc_model.specs.declared.fault.Fault.TheVariants.{Memory, LogFull, Taken, Input, Output, BadEvent, BadSettings}
 use Rattle.mc_model.specs.declared.reply.Reply.TheVariants.{Refused}
 use Rattle.mc_model.specs.declared.reply.WireNo.TheVariants.{E11}
 use Rattle.mc_model.specs.declared.request.Request.{Request}
@@ -38,7 +38,6 @@ use Rattle.mc_net.specs.declared.door.Arrival.{Arrival}
 use Rattle.mc_net.specs.declared.past.Past.{Past}
 use Rattle.mc_net.specs.declared.seat.Returned.{Returned}
 use Rattle.mc_net.specs.declared.table.Connection.{Connection}
-use Rattle.mc_net.proofs.Stopped.{stops_onward}
 
 -- the end that a turn remembers was found
 end_seen : (X Y : Type 0) (is was : Bool) (before after : Inflow) → MatchBool is ((was ≡ true) × (after ≡ before) ⊎ (has_ended after.events ≡ true) × X) Y →
@@ -76,17 +75,17 @@ pub record Lives (worker : Worker) (connection : Connection) : Type 0 where
   end : connection.conn.has_ended ≡ true → has_ended connection.received.events ≡ true
 
 -- what is owed in parts stays owed
-parts_grow : (old new : Worker) → GoesOn old new → (tenant : ℕ) (requests : List Request) (bytes : List ℕ) (to : Mark) → OwesInParts old tenant requests bytes to →
+parts_grow : (old new : Worker) → Continues old new → (tenant : ℕ) (requests : List Request) (bytes : List ℕ) (to : Mark) → OwesInParts old tenant requests bytes to →
     OwesInParts new tenant requests bytes to
 parts_grow old new on tenant _ _ _ none_yet = none_yet
 parts_grow old new on tenant _ _ _ (and_then requests more bytes others to from last parts behind owes) =
     and_then requests more bytes others to from last (parts_grow old new on tenant requests bytes to parts) behind (owes_grow old new on tenant from more others last owes)
 
-behind_grows : (old new : Worker) (to : Mark) → GoesOn old new → IsBehind to (mark_of old) → IsBehind to (mark_of new)
+behind_grows : (old new : Worker) (to : Mark) → Continues old new → IsBehind to (mark_of old) → IsBehind to (mark_of new)
 behind_grows old new to on behind =
     (omega (arith, behind.0, begins_length _ _ on.announced), omega (arith, behind.1, begins_length _ _ on.history))
 
-lives_on : (old new : Worker) (connection : Connection) → GoesOn old new → Lives old connection → Lives new connection
+lives_on : (old new : Worker) (connection : Connection) → Continues old new → Lives old connection → Lives new connection
 lives_on old new connection on lives = record {
   going = lives.going;
   unfailed = lives.unfailed;
@@ -101,7 +100,7 @@ lives_on old new connection on lives = record {
   end = lives.end;
 }
 
-answered_on : (old new : Worker) (connection : Connection) → GoesOn old new → WasAnswered old connection → WasAnswered new connection
+answered_on : (old new : Worker) (connection : Connection) → Continues old new → WasAnswered old connection → WasAnswered new connection
 answered_on old new connection on answered = record {
   requests = answered.requests;
   owed = answered.owed;
@@ -137,100 +136,107 @@ reads_from_earlier old new came more all pulled reads =
 
 module _ (before after : Worker) (old new : Connection) (tenant : new.conn.tenant ≡ old.conn.tenant) (lives : Lives before old) where
   -- the parts so far, over the worker as it is later on
-  parts_so_far : GoesOn before after → OwesInParts after new.conn.tenant lives.requests lives.owed lives.to
+  parts_so_far : Continues before after → OwesInParts after new.conn.tenant lives.requests lives.owed lives.to
   parts_so_far on =
       subst (λ (tenant : ℕ). OwesInParts after tenant lives.requests lives.owed lives.to) (sym tenant)
       (parts_grow before after on old.conn.tenant lives.requests lives.owed lives.to lives.owes)
 
   -- turns without a fault
-  lives_taking : Takes (scene_of old before) (scene_of new after) → new.conn.is_closed ≡ old.conn.is_closed → Lives after new
-  lives_taking takes closed = record {
-    going = closed ∙ lives.going;
+  lives_taking : Takes (scene_of old before) (scene_of new after) → Lives after new
+  lives_taking takes = record {
+    going = takes.shut ∙ lives.going;
     unfailed = (takes.unfailed.0 ∙ lives.unfailed.0, takes.unfailed.1 ∙ lives.unfailed.1);
-    requests = lives.requests ++ takes.requests;
-    owed = lives.owed ++ takes.owed;
+    requests = lives.requests ++ takes.taken.requests;
+    owed = lives.owed ++ takes.taken.owed;
     to = mark_of after;
     reads =
-        subst (λ (came : List ℕ). IsRead nothing_held came (lives.requests ++ takes.requests) (holding_of new.conn)) (sym takes.pulled)
-        (read_trans nothing_held (holding_of old.conn) (holding_of new.conn) (came_of old) takes.came lives.requests takes.requests lives.reads takes.reads);
+        subst (λ (came : List ℕ). IsRead nothing_held came (lives.requests ++ takes.taken.requests) (holding_of new.conn)) (sym takes.taken.pulled)
+        (read_trans nothing_held (holding_of old.conn) (holding_of new.conn) (came_of old) takes.taken.came lives.requests takes.taken.requests lives.reads takes.reads);
     owes =
-        and_then lives.requests takes.requests lives.owed takes.owed lives.to (mark_of before) (mark_of after) (parts_so_far takes.onward) lives.behind
-        (subst (λ (tenant : ℕ). Owes after tenant (mark_of before) takes.requests takes.owed (mark_of after)) (sym tenant) takes.owes);
+        and_then lives.requests takes.taken.requests lives.owed takes.taken.owed lives.to (mark_of before) (mark_of after) (parts_so_far takes.taken.onward) lives.behind
+        (subst (λ (tenant : ℕ). Owes after tenant (mark_of before) takes.taken.requests takes.taken.owed (mark_of after)) (sym tenant) takes.taken.owes);
     behind = (omega arith, omega arith);
     bytes =
-        ap (λ (sent : List ℕ). sent ++ queue_of new.conn) takes.pushed
-        ∙ append_assoc (sent_of old) takes.sent (queue_of new.conn)
-        ∙ ap (λ (bytes : List ℕ). sent_of old ++ bytes) takes.bytes
-        ∙ sym (append_assoc (sent_of old) (queue_of old.conn) takes.owed)
-        ∙ ap (λ (bytes : List ℕ). bytes ++ takes.owed) lives.bytes;
+        ap (λ (sent : List ℕ). sent ++ queue_of new.conn) takes.taken.pushed
+        ∙ append_assoc (sent_of old) takes.taken.sent (queue_of new.conn)
+        ∙ ap (λ (bytes : List ℕ). sent_of old ++ bytes) takes.taken.bytes
+        ∙ sym (append_assoc (sent_of old) (queue_of old.conn) takes.taken.owed)
+        ∙ ap (λ (bytes : List ℕ). bytes ++ takes.taken.owed) lives.bytes;
     over =
         takes.over
-        ∙ ap (λ (is : Bool). is || list_any ends_stream takes.requests) lives.over
-        ∙ sym (list_any-append ends_stream lives.requests takes.requests);
+        ∙ ap (λ (is : Bool). is || list_any ends_stream takes.taken.requests) lives.over
+        ∙ sym (list_any-append ends_stream lives.requests takes.taken.requests);
     end = end_seen _ _ new.conn.has_ended old.conn.has_ended (scene_of old before).streams.input (scene_of new after).streams.input takes.end lives.end;
   }
 
   -- Up to a fault. The output then is told of apart, since words about the fault may have been sent behind it.
   module _ (fault : Fault) (between : Outflow)
-      (breaks : Breaks fault (scene_of old before) (scene new.conn after (both (record { events = new.received.events; left = None }) between))) where
+      (breaks : Breaks (scene_of old before) (scene new.conn after (both (record { events = new.received.events; left = None }) between)) fault) where
     abbrev owed_then : List ℕ
-    owed_then = lives.owed ++ breaks.owed
+    owed_then = lives.owed ++ breaks.taken.owed
 
     all_queued : moved between.events ++ queue_of new.conn ≡ owed_then
     all_queued =
-        ap (λ (sent : List ℕ). sent ++ queue_of new.conn) breaks.pushed
-        ∙ append_assoc (sent_of old) breaks.sent (queue_of new.conn)
-        ∙ ap (λ (bytes : List ℕ). sent_of old ++ bytes) breaks.bytes
-        ∙ sym (append_assoc (sent_of old) (queue_of old.conn) breaks.owed)
-        ∙ ap (λ (bytes : List ℕ). bytes ++ breaks.owed) lives.bytes
+        ap (λ (sent : List ℕ). sent ++ queue_of new.conn) breaks.taken.pushed
+        ∙ append_assoc (sent_of old) breaks.taken.sent (queue_of new.conn)
+        ∙ ap (λ (bytes : List ℕ). sent_of old ++ bytes) breaks.taken.bytes
+        ∙ sym (append_assoc (sent_of old) (queue_of old.conn) breaks.taken.owed)
+        ∙ ap (λ (bytes : List ℕ). bytes ++ breaks.taken.owed) lives.bytes
 
-    first_requests : (more : List ℕ) (all : List Request) → ReadsAs (came_of new ++ more) all → BeginsWith all (lives.requests ++ breaks.requests)
+    first_requests : (more : List ℕ) (all : List Request) → ReadsAs (came_of new ++ more) all → BeginsWith all (lives.requests ++ breaks.taken.requests)
     first_requests more all reads =
-        let one = (lives.reads (breaks.came ++ more) all).0 (reads_from_earlier old new breaks.came more all breaks.pulled reads) in
+        let one = (lives.reads (breaks.taken.came ++ more) all).0 (reads_from_earlier old new breaks.taken.came more all breaks.taken.pulled reads) in
         let two = breaks.reads more one.0 one.2 in (
           breaks.met ++ two.0,
-          one.1 ∙ ap (λ (others : List Request). lives.requests ++ others) two.1 ∙ sym (append_assoc lives.requests breaks.requests (breaks.met ++ two.0)),
+          one.1 ∙ ap (λ (others : List Request). lives.requests ++ others) two.1 ∙ sym (append_assoc lives.requests breaks.taken.requests (breaks.met ++ two.0)),
         )
 
-    answered_broken : HasFault fault new → BeginsWith ((moved between.events ++ queue_of new.conn) ++ words_of fault) (sent_of new) → WasAnswered after new
-    answered_broken why sent = record {
-      requests = lives.requests ++ breaks.requests;
+    answered_broken : (cause : ConnFault) → HasFault cause new → BeginsWith ((moved between.events ++ queue_of new.conn) ++ words_of cause) (sent_of new) → WasAnswered after new
+    answered_broken cause why sent = record {
+      requests = lives.requests ++ breaks.taken.requests;
       owed = owed_then;
-      to = breaks.mark;
+      to = breaks.to;
       first = first_requests;
       owes =
-          and_then lives.requests breaks.requests lives.owed breaks.owed lives.to (mark_of before) breaks.mark (parts_so_far breaks.onward) lives.behind
-          (subst (λ (tenant : ℕ). Owes after tenant (mark_of before) breaks.requests breaks.owed breaks.mark) (sym tenant) breaks.owes);
-      ending = inr (record { fault = fault; why = why; sent = subst (λ (owed : List ℕ). BeginsWith (owed ++ words_of fault) (sent_of new)) all_queued sent });
+          and_then lives.requests breaks.taken.requests lives.owed breaks.taken.owed lives.to (mark_of before) breaks.to (parts_so_far breaks.taken.onward) lives.behind
+          (subst (λ (tenant : ℕ). Owes after tenant (mark_of before) breaks.taken.requests breaks.taken.owed breaks.to) (sym tenant) breaks.taken.owes);
+      ending = inr (record { fault = cause; why = why; sent = subst (λ (owed : List ℕ). BeginsWith (owed ++ words_of cause) (sent_of new)) all_queued sent });
     }
 
-  -- a fault of which nothing was told
-  answered_untold : (fault : Fault) → words_of fault ≡ [] → HasFault fault new → Breaks fault (scene_of old before) (scene_of new after) → WasAnswered after new
-  answered_untold fault untold why breaks =
-      answered_broken fault (record { events = new.sent.events }) breaks why
-      (queue_of new.conn, ap (λ (words : List ℕ). (sent_of new ++ queue_of new.conn) ++ words) untold ∙ append-nil (sent_of new ++ queue_of new.conn))
-
-  answered_stopping : (fault : Fault) → Stops fault (scene_of old before) (scene_of new after) → WasAnswered after new
-  answered_stopping Memory stops =
-      let between = stops.0 in
-      let rest = stops.2.0 in
-      let unqueues = stops.2.1 in
-      answered_broken Memory between stops.1 (stops.1.failures.0 ∙ lives.unfailed.0) (
-        rest,
-        append_assoc (moved between.events) (queue_of new.conn) (text (Refused E11))
-            ∙ ap (λ (bytes : List ℕ). moved between.events ++ bytes) unqueues.split
-            ∙ sym (append_assoc (moved between.events) unqueues.front rest)
-            ∙ ap (λ (sent : List ℕ). sent ++ rest) (sym unqueues.went),
+    -- what was told of it, if anything was
+    module _ (told_to : Outflow) (said : told_to ≡ record { events = new.sent.events }) where
+      -- nothing was told
+      untold : told_to ≡ between → BeginsWith ((moved between.events ++ queue_of new.conn) ++ []) (sent_of new)
+      untold same = (
+        queue_of new.conn,
+        append-nil (moved between.events ++ queue_of new.conn) ∙ ap (λ (output : Outflow). moved output.events ++ queue_of new.conn) (sym same ∙ said),
       )
-  answered_stopping LogFull stops = absurd stops
-  answered_stopping Taken stops =
-      answered_untold Taken refl (stops.failures.0 ∙ lives.unfailed.0, stops.failures.1 ∙ lives.unfailed.1) stops
-  answered_stopping Input stops =
-      answered_untold Input refl (stops.failures.0 ∙ ap (λ n. n + 1) lives.unfailed.0, stops.failures.1 ∙ lives.unfailed.1) stops
-  answered_stopping Output stops =
-      answered_untold Output refl (stops.failures.0 ∙ lives.unfailed.0, stops.failures.1 ∙ ap (λ n. n + 1) lives.unfailed.1) stops
-  answered_stopping BadEvent stops = absurd stops
-  answered_stopping BadSettings stops = absurd stops
+
+      failed_before : told_to ≡ between → failures new.sent.events ≡ failures between.events
+      failed_before same = ap (λ (output : Outflow). failures output.events) (sym said ∙ same)
+
+      answered_told : (cause : ConnFault) → CountsFailures cause (scene_of old before).streams (both (record { events = new.received.events; left = None }) between) →
+          IsTold cause (queue_of new.conn) between told_to → WasAnswered after new
+      answered_told OutOfMemory counts told =
+          let rest = told.0.0 in
+          let unqueues = told.0.1 in
+          answered_broken OutOfMemory (counts.0 ∙ lives.unfailed.0) (
+            rest,
+            append_assoc (moved between.events) (queue_of new.conn) (text (Refused E11))
+                ∙ ap (λ (bytes : List ℕ). moved between.events ++ bytes) unqueues.split
+                ∙ sym (append_assoc (moved between.events) unqueues.front rest)
+                ∙ ap (λ (sent : List ℕ). sent ++ rest) (sym unqueues.went ∙ ap (λ (output : Outflow). moved output.events) said),
+          )
+      answered_told CellTaken counts told =
+          answered_broken CellTaken (counts.0 ∙ lives.unfailed.0, failed_before told ∙ counts.1 ∙ lives.unfailed.1) (untold told)
+      answered_told InputFailed counts told =
+          answered_broken InputFailed (counts.0 ∙ ap (λ n. n + 1) lives.unfailed.0, failed_before told ∙ counts.1 ∙ lives.unfailed.1) (untold told)
+      answered_told OutputFailed counts told =
+          answered_broken OutputFailed (counts.0 ∙ lives.unfailed.0, failed_before told ∙ counts.1 ∙ ap (λ n. n + 1) lives.unfailed.1) (untold told)
+
+  answered_stopping : (fault : Fault) → Stops (scene_of old before) (scene_of new after) fault → WasAnswered after new
+  answered_stopping fault stops =
+      answered_told fault stops.told_from stops.breaks (record { events = new.sent.events }) refl stops.breaks.cause stops.breaks.failures stops.told
 
 -- a connection on which nothing is left to be done
 answered_done : (worker : Worker) (connection : Connection) → Lives worker connection → IsDone connection.conn → WasAnswered worker connection
@@ -250,16 +256,16 @@ answered_done worker connection lives done = record {
 
 -- one step of a table under a key: the worker goes on, what stays lives, and what has ended was answered
 record Steps (before after : Standing) (new : Option Connection) : Type 0 where
-  onward : GoesOn before.worker after.worker
+  onward : Continues before.worker after.worker
   stays : (connection : Connection) → new ≡ Some connection → Lives after.worker connection
   ended : All (WasAnswered before.worker) before.table.past.ended → All (WasAnswered after.worker) after.table.past.ended
 
-all_on : (old new : Worker) → GoesOn old new → (list : List Connection) → All (WasAnswered old) list → All (WasAnswered new) list
+all_on : (old new : Worker) → Continues old new → (list : List Connection) → All (WasAnswered old) list → All (WasAnswered new) list
 all_on old new on list all = λ i d inside. answered_on old new (slice_index_or list i d) on (all i d inside)
 
-later_onward : (before after : Worker) (old new : Connection) (state : State) → IsLater before after old new state → GoesOn before after
+later_onward : (before after : Worker) (old new : Connection) (state : State) → IsLater before after old new state → Continues before after
 later_onward before after old new state later =
-    ⊎_elim (λ served. served.0.onward) (λ stopped. stops_onward stopped.0 (scene_of old before) (scene_of new after) stopped.1) later.served
+    ⊎_elim (λ served. served.taken.onward) (λ stopped. stopped.1.breaks.taken.onward) later.served
 
 going_on : (before after : Worker) (old new : Connection) (state : State) → state ≢ Closed → IsLater before after old new state → ¬ (HasEnded new.conn)
 going_on before after old new Closed isnt later = absurd (isnt refl)
@@ -269,15 +275,15 @@ going_on before after old new Busy isnt later = later.stands.going
 later_lives : (before after : Worker) (old new : Connection) (state : State) → state ≢ Closed → IsLater before after old new state → Lives before old → Lives after new
 later_lives before after old new state isnt later lives =
     ⊎_elim
-    (λ served. lives_taking before after old new later.tenant lives served.0 served.1)
-    (λ stopped. absurd (going_on before after old new state isnt later (inl stopped.2)))
+    (λ served. lives_taking before after old new later.tenant lives served)
+    (λ stopped. absurd (going_on before after old new state isnt later (inl stopped.1.shut)))
     later.served
 
 later_answered : (before after : Worker) (old new : Connection) → IsLater before after old new Closed → Lives before old → WasAnswered after new
 later_answered before after old new later lives =
     ⊎_elim
     (λ served.
-    let still = lives_taking before after old new later.tenant lives served.0 served.1 in
+    let still = lives_taking before after old new later.tenant lives served in
     ⊎_elim (λ closed. let no : false ≡ true = sym still.going ∙ closed in cc) (answered_done after new still) later.stands)
     (λ stopped. answered_stopping before after old new later.tenant lives stopped.0 stopped.1)
     later.served
@@ -286,7 +292,7 @@ steps_at : (before after : Standing) (state : State) (old new : Option Connectio
     ((connection : Connection) → old ≡ Some connection → Lives before.worker connection) →
     Becomes (IsLater before.worker after.worker) (after.worker ≡ before.worker) state before.table.past.ended after.table.past.ended old new → Steps before after new
 steps_at before after state None new lives (gone, still, idle, past) = record {
-  onward = subst (GoesOn before.worker) (sym still) (goes_self before.worker);
+  onward = subst (Continues before.worker) (sym still) (continues_self before.worker);
   stays = λ connection is. let no : None ≡ Some connection = sym gone ∙ is in cc;
   ended = λ all. subst (λ (worker : Worker). All (WasAnswered worker) after.table.past.ended) (sym still) (subst (All (WasAnswered before.worker)) (sym past) all);
 }

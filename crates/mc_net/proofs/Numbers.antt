@@ -84,8 +84,8 @@ module _ (worker : Worker) (tenant : ℕ) where
       behind_answer from next high command quiet reply (requests ++ tail) is (owed_numbers next to high requests tail rest more numbers)
   owed_numbers from to high (Local reply quiet ∷ requests) tail bytes (rest, are, more) numbers =
       behind_one from.number high (Local reply quiet) (requests ++ tail) (owed_numbers from to high requests tail rest more numbers)
-  owed_numbers from to high (Quit ∷ requests) tail bytes more numbers =
-      behind_one from.number high Quit (requests ++ tail) (owed_numbers from to high requests tail bytes more numbers)
+  owed_numbers from to high (Quit ∷ requests) tail bytes (rest, are, more) numbers =
+      behind_one from.number high Quit (requests ++ tail) (owed_numbers from to high requests tail rest more numbers)
   owed_numbers from to high (TooLong ∷ requests) tail bytes (rest, are, more) numbers =
       behind_one from.number high TooLong (requests ++ tail) (owed_numbers from to high requests tail rest more numbers)
 

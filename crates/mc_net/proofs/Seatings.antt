@@ -3,7 +3,7 @@ use Rattle.std.proofs.Common.{◌≡◌, ℕ, ◌<◌, suc, List, [], ◌∷◌,
 use Rattle.std.specs.List.{AllZip}
 use Rattle.std.proofs.lemmas.List.Elements.{AllZip-get_or, length_all_zip}
 use Rattle.uc_log.specs.declared.log.Log.{Log}
-use Rattle.uc_worker.specs.Going.{GoesOn}
+use Rattle.uc_worker.specs.Going.{Continues}
 use Rattle.mc_net.specs.declared.halt.Halt.{Halt}
 use Rattle.mc_net.specs.declared.seat.Returned.{Returned}
 use Rattle.mc_net.specs.declared.seat.Seat.{Seat}
@@ -12,13 +12,13 @@ use Rattle.mc_net.specs.Seating.{HasRun, HasWorked, HaveRun, IsReturned, worker_
 use Rattle.mc_net.specs.Working.{HasServed, IsNew, Works, standing}
 
 all_onward_of : {G : Type 0} (old new : List (Seat G)) → length new ≡ length old →
-    ((i : ℕ) (d : Seat G) → i < length old → HasRun (slice_index_or old i d) (slice_index_or new i d)) → AllZip GoesOn (workers_of old) (workers_of new)
+    ((i : ℕ) (d : Seat G) → i < length old → HasRun (slice_index_or old i d) (slice_index_or new i d)) → AllZip Continues (workers_of old) (workers_of new)
 all_onward_of [] [] long each = tt
 all_onward_of [] (y ∷ ys) long each = let no : ⊥ = omega arith in absurd no
 all_onward_of (x ∷ xs) [] long each = let no : ⊥ = omega arith in absurd no
 all_onward_of (x ∷ xs) (y ∷ ys) long each = ((each 0 x (omega arith)).onward, all_onward_of xs ys (omega arith) (λ i d inside. each (suc i) d (omega arith)))
 
-pub all_onward : {G : Type 0} (old new : List (Seat G)) → HaveRun old new → AllZip GoesOn (workers_of old) (workers_of new)
+pub all_onward : {G : Type 0} (old new : List (Seat G)) → HaveRun old new → AllZip Continues (workers_of old) (workers_of new)
 all_onward old new run = all_onward_of old new run.long run.each
 
 -- one more seat, in front of the workers that are left
@@ -39,7 +39,7 @@ served_by : {G : Type 0} (old new : Seat G) (back : Returned) → HasRun old new
 served_by {G} old new back run fresh is =
     let worked : HasWorked old new = subst (λ (outcome : Result (Unit {0}) Halt). IfOk outcome (λ _. HasWorked old new)) is.well run.worked in
     record {
-      onward = subst (GoesOn old.worker) (sym is.worker) run.onward;
+      onward = subst (Continues old.worker) (sym is.worker) run.onward;
       first = old.desk.rota.table;
       last = new.desk.rota.table;
       new = fresh;
@@ -66,7 +66,7 @@ pub all_served : {G : Type 0} (old new : List (Seat G)) (back : List Returned) �
 all_served old new back run = all_served_of old new back run.long run.each
 
 -- workers that have gone onward are of the log that they were of
-pub all_of : (log : Log) (old new : List Worker) → AllZip GoesOn old new → All (λ (worker : Worker). worker.log.now ≡ log) old → All (λ (worker : Worker). worker.log.now ≡ log) new
+pub all_of : (log : Log) (old new : List Worker) → AllZip Continues old new → All (λ (worker : Worker). worker.log.now ≡ log) old → All (λ (worker : Worker). worker.log.now ≡ log) new
 all_of log old new onward of = λ i d inside.
-    let within : i < length old = rw (length_all_zip GoesOn old new onward) inside in
-    ap (λ (log : Bor Log). log.now) (AllZip-get_or GoesOn old new i d d onward within).log ∙ of i d within
+    let within : i < length old = rw (length_all_zip Continues old new onward) inside in
+    ap (λ (log : Bor Log). log.now) (AllZip-get_or Continues old new i d d onward within).log ∙ of i d within

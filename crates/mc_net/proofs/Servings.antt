@@ -40,45 +40,47 @@ abbrev pub state_answered : Result State Fault → State
 state_answered (Ok state) = state
 state_answered (Err fault) = Closed
 
+-- a turn that met a fault wasn't of a closed connection
+pub met_fault : (is : Bool) (result : Result State Fault) (fault : Fault) → result ≡ Err fault → (is ≡ true → result ≡ Ok Closed) → is ≡ false
+met_fault false result fault bad closed = refl
+met_fault true result fault bad closed = let good = closed refl in cc
+
 -- a turn without a fault
-module _ (a : Scene) (conn : Conn) (worker : Worker) (streams : Streams) (state : State) (shut : conn.is_closed ≡ a.conn.is_closed)
+module _ (a : Scene) (conn : Conn) (worker : Worker) (streams : Streams) (state : State)
     (once : PullsOnce a.streams.input streams.input)
     (opened : a.conn.is_closed ≡ false → Turns a (scene conn worker streams) state)
     (closed : a.conn.is_closed ≡ true → (state ≡ Closed) × (conn ≡ a.conn) × (worker ≡ a.worker) × (streams ≡ a.streams)) where
   pub served_turn : IsServed a (scene conn worker streams)
   served_turn =
       ⊎_elim
-      (λ (is : a.conn.is_closed ≡ true). let same = closed is in inl (takes_same a conn worker streams same.1 same.2 same.3, shut))
-      (λ (is : a.conn.is_closed ≡ false). inl ((opened is).takes, shut))
+      (λ (is : a.conn.is_closed ≡ true). let same = closed is in inl (takes_same a conn worker streams same.1 same.2 same.3))
+      (λ (is : a.conn.is_closed ≡ false). inl (opened is).takes)
       (true_or_false a.conn.is_closed)
 
   pub stands_turn : Stands a (scene conn worker streams) state
   stands_turn =
       ⊎_elim
-      (λ (is : a.conn.is_closed ≡ true). subst (Stands a (scene conn worker streams)) (sym (closed is).0) (inl (shut ∙ is)))
-      (λ (is : a.conn.is_closed ≡ false). stands_going a (scene conn worker streams) state (shut ∙ is) once (opened is))
+      (λ (is : a.conn.is_closed ≡ true).
+      subst (Stands a (scene conn worker streams)) (sym (closed is).0) (inl (ap (λ (conn : Conn). conn.is_closed) (closed is).1 ∙ is)))
+      (λ (is : a.conn.is_closed ≡ false). stands_going a (scene conn worker streams) state ((opened is).takes.shut ∙ is) once (opened is))
       (true_or_false a.conn.is_closed)
 
 -- a connection that may have more to do met no fault
-pub still_going : (a b : Scene) (state : State) → state ≡ Busy → Stands a b state → IsServed a b → Takes a b × (b.conn.is_closed ≡ a.conn.is_closed)
+pub still_going : (a b : Scene) (state : State) → state ≡ Busy → Stands a b state → IsServed a b → Takes a b
 still_going a b state busy stands served =
     let going : ¬ (HasEnded b.conn) = (subst (Stands a b) busy stands).going in
     ⊎_elim
-    (λ (takes : Takes a b × (b.conn.is_closed ≡ a.conn.is_closed)). takes)
-    (λ (stopped : (fault : Fault) × Stops fault a b × (b.conn.is_closed ≡ true)). absurd (going (inl stopped.2)))
+    (λ (takes : Takes a b). takes)
+    (λ (stopped : (fault : Fault) × Stops a b fault). absurd (going (inl stopped.1.shut)))
     served
 
 -- turns behind turns without a fault
-pub served_later : (a b c : Scene) → Takes a b × (b.conn.is_closed ≡ a.conn.is_closed) → IsServed b c → IsServed a c
+pub served_later : (a b c : Scene) → Takes a b → IsServed b c → IsServed a c
 served_later a b c one two =
     ⊎_elim
-    (λ (takes : Takes b c × (c.conn.is_closed ≡ b.conn.is_closed)). inl (takes_trans a b c one.0 takes.0, takes.1 ∙ one.1))
-    (λ (stopped : (fault : Fault) × Stops fault b c × (c.conn.is_closed ≡ true)). inr (stopped.0, stops_later stopped.0 a b c one.0 stopped.1, stopped.2))
+    (λ (takes : Takes b c). inl (takes_trans a b c one takes))
+    (λ (stopped : (fault : Fault) × Stops b c fault). inr (stopped.0, stops_later stopped.0 a b c one stopped.1))
     two
-
-pub going_later : (a b c : Scene) → Takes a b × (b.conn.is_closed ≡ a.conn.is_closed) → Takes b c × (c.conn.is_closed ≡ b.conn.is_closed) →
-    Takes a c × (c.conn.is_closed ≡ a.conn.is_closed)
-going_later a b c one two = (takes_trans a b c one.0 two.0, two.1 ∙ one.1)
 
 stays_later : (a b c : Scene) (state : State) → Takes a b → Stays b c state → Stays a c state
 stays_later a b c state takes stays = record {
@@ -89,10 +91,10 @@ stays_later a b c state takes stays = record {
   last = stays.last;
 }
 
-pub stands_later : (a b c : Scene) (state : State) → Takes a b × (b.conn.is_closed ≡ a.conn.is_closed) → IsServed b c → Stands b c state → Stands a c state
+pub stands_later : (a b c : Scene) (state : State) → Takes a b → IsServed b c → Stands b c state → Stands a c state
 stands_later a b c Closed one two stands = stands
-stands_later a b c Idle one two stands = stays_later a b c Idle one.0 stands
-stands_later a b c Busy one two stands = stays_later a b c Busy one.0 stands
+stands_later a b c Idle one two stands = stays_later a b c Idle one stands
+stands_later a b c Busy one two stands = stays_later a b c Busy one stands
 
 -- a turn pulls once at most
 pub once_few : (before after : Inflow) → PullsOnce before after → length after.events ≤ 1 + length before.events

@@ -1,6 +1,6 @@
 -- Work behind work, one connection at a time.
 use Rattle.std.proofs.Common.{◌≡◌, ℕ, length, Option, Some, None, IfSome, IfNone, ap, inl, inr, refl, sym, subst}
-use Rattle.uc_worker.specs.Going.{GoesOn}
+use Rattle.uc_worker.specs.Going.{Continues}
 use Rattle.mc_conn.specs.declared.conn.State.{State}
 use Rattle.mc_net.specs.Serving.{Admits, Becomes, IsLater, Serves}
 use Rattle.mc_net.specs.Working.{Standing, Works, begins, goes_on, standing}
@@ -28,5 +28,5 @@ works_admitting first worker table after arrival (Some key) works admits same =
     goes_on (standing worker table) (standing worker after) works (inl (record { worker = refl; arrival = arrival; key = key; admits = admits }))
 
 -- the log has as many tenants as ever
-pub same_tenants : (before after : Worker) → GoesOn before after → length (tenants_of before) ≡ length (tenants_of after)
+pub same_tenants : (before after : Worker) → Continues before after → length (tenants_of before) ≡ length (tenants_of after)
 same_tenants before after onward = sym (ap (λ log. length log.now.settings.tenants) onward.log)

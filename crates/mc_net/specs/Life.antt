@@ -4,10 +4,9 @@
 use Rattle.std.specs.List.{list_any}
 use Rattle.std.specs.Prelude.{◌≡◌, ◌⊎◌, ℕ, ◌≤◌, true, List, [], ◌++◌, All}
 use Rattle.mc_conn.specs.Alone.{first_mark}
+use Rattle.mc_conn.specs.ConnFault.{CellTaken, ConnFault, InputFailed, OutOfMemory, OutputFailed}
 use Rattle.mc_conn.specs.Owed.{Mark, Owes}
 use Rattle.mc_model.specs.Helping.{BeginsWith}
-use Rattle.mc_model.specs.declared.fault.Fault.{Fault}
-use Rattle.mc_model.specs.declared.fault.Fault.TheVariants.{Memory, LogFull, Taken, Input, Output, BadEvent, BadSettings}
 use Rattle.mc_model.specs.declared.reply.Reply.TheVariants.{Refused}
 use Rattle.mc_model.specs.declared.reply.WireNo.TheVariants.{E11}
 use Rattle.mc_model.specs.declared.request.Request.{Request}
@@ -48,28 +47,22 @@ pub record EndsWell (connection : Connection) (requests : List Request) (owed : 
 
 -- What a connection's stream has of a fault that ended it: one read has failed, or one write. Where memory ran out no read has; of writes nothing is
 -- said then, since those that tell it may fail.
-abbrev pub HasFault : Fault → Connection → Type 0
-HasFault Memory connection = failures connection.received.events ≡ 0
-HasFault Taken connection = FailedSoOften connection 0 0
-HasFault Input connection = FailedSoOften connection 1 0
-HasFault Output connection = FailedSoOften connection 0 1
-HasFault LogFull connection = ⊥
-HasFault BadEvent connection = ⊥
-HasFault BadSettings connection = ⊥
+abbrev pub HasFault : ConnFault → Connection → Type 0
+HasFault OutOfMemory connection = failures connection.received.events ≡ 0
+HasFault CellTaken connection = FailedSoOften connection 0 0
+HasFault InputFailed connection = FailedSoOften connection 1 0
+HasFault OutputFailed connection = FailedSoOften connection 0 1
 
 -- what is told of a fault
-abbrev pub words_of : Fault → List ℕ
-words_of Memory = text (Refused E11)
-words_of Taken = []
-words_of Input = []
-words_of Output = []
-words_of LogFull = []
-words_of BadEvent = []
-words_of BadSettings = []
+abbrev pub words_of : ConnFault → List ℕ
+words_of OutOfMemory = text (Refused E11)
+words_of CellTaken = []
+words_of InputFailed = []
+words_of OutputFailed = []
 
 -- a fault: a front was sent of what is owed and then of what is told
 pub record IsCut (connection : Connection) (owed : List ℕ) : Type 0 where
-  pub fault : Fault
+  pub fault : ConnFault
   pub why : HasFault fault connection
   pub sent : BeginsWith (owed ++ words_of fault) (sent_of connection)
 

@@ -1,6 +1,6 @@
 -- Who sits where; this project's profile.
 use Rattle.std.specs.Prelude.{◌≡◌, ◌<◌, ℕ, List, length, map, slice_index_or, IfOk, Ok}
-use Rattle.uc_worker.specs.Going.{GoesOn}
+use Rattle.uc_worker.specs.Going.{Continues}
 use Rattle.mc_net.specs.declared.door.Door.{Door}
 use Rattle.mc_net.specs.Working.{IsEmpty, Works, standing}
 use Rattle.mc_net.specs.declared.seat.Returned.{Returned}
@@ -26,7 +26,7 @@ pub record HasWorked {G : Type 0} (old new : Seat G) : Type 0 where
 
 -- a seat has the worker that it had, later on; and where its loop has ended well, it has worked
 pub record HasRun {G : Type 0} (old new : Seat G) : Type 0 where
-  pub onward : GoesOn old.worker new.worker
+  pub onward : Continues old.worker new.worker
   pub worked : IfOk new.outcome (λ _. HasWorked old new)
 
 -- so of each seat

@@ -49,7 +49,7 @@ pub record Admits (before after : Table) (arrival : Arrival _) (key : ℕ) : Typ
 -- then is what was queued and what is owed for them; or a fault stopped this, and has closed the connection for good.
 abbrev pub IsServed : Scene → Scene → Type 0
 IsServed before after =
-    Takes before after × (after.conn.is_closed ≡ before.conn.is_closed) ⊎ (fault : Fault) × Stops fault before after × (after.conn.is_closed ≡ true)
+    Takes before after ⊎ (fault : Fault) × Stops before after fault
 
 -- a fault has closed the connection, or nothing is left to be done
 abbrev pub HasEnded : Conn → Type 0

@@ -1,7 +1,7 @@
 -- What a worker's loop does with its connections; this project's profile.
 use Rattle.std.specs.Prelude.{◌≡◌, ◌==◌, ◌⊎◌, ℕ, true, []}
 use Rattle.slab.specs.Slab.{slab_len}
-use Rattle.uc_worker.specs.Going.{GoesOn}
+use Rattle.uc_worker.specs.Going.{Continues}
 use Rattle.mc_conn.specs.declared.conn.State.{State}
 use Rattle.mc_net.specs.Serving.{Admits, Becomes, IsLater, Serves}
 use Rattle.mc_net.specs.declared.door.Arrival.{Arrival}
@@ -48,7 +48,7 @@ IsNew table = IsEmpty table × (table.past.ended ≡ [])
 
 -- a worker came back later on, behind connections that it had taken in and served until each had ended: those on what it brought back
 pub record HasServed (worker : Worker) (back : Returned) : Type 0 where
-  pub onward : GoesOn worker back.worker
+  pub onward : Continues worker back.worker
   pub first : Table
   pub last : Table
   pub new : IsNew first

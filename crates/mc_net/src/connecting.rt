@@ -1,7 +1,7 @@
 //! A worker takes connections in and serves them.
 ghost use Rattle.std.specs.Prelude.{◌≡◌, ◌<◌, length, None, IfNone, IfSome};
 ghost use Rattle.mc_conn.specs.Ending.{PullsOnce};
-ghost use Rattle.uc_worker.specs.Going.{GoesOn};
+ghost use Rattle.uc_worker.specs.Going.{Continues};
 ghost use Rattle.mc_conn.specs.Turn.{scene};
 ghost use Rattle.mc_net.specs.Serving.{Admits, Becomes, HasAtMost, HasTurns, IsLater, IsServed, Serves, Stands, connection_at};
 ghost use Rattle.mc_stream.specs.Stream.{both};
@@ -38,7 +38,7 @@ fn turn<I: Input, O: Output, G: Gate>(
         (scene conn.new worker.new (both (I.tells input.new) (O.tells output.new))) result }
     ensures once { PullsOnce (I.tells input.old) (I.tells input.new) }
     ensures tenant { conn.new.tenant ≡ conn.old.tenant }
-    ensures onward { GoesOn worker.old worker.new }
+    ensures onward { Continues worker.old worker.new }
 {
     match conn.turn(worker, input, output, gate, buffer) {
         Ok(state) => state,
@@ -62,7 +62,7 @@ fn turns<I: Input, O: Output, G: Gate>(
         (scene conn.new worker.new (both (I.tells input.new) (O.tells output.new))) result }
     ensures few { HasAtMost TURNS (I.tells input.old).events (I.tells input.new).events }
     ensures tenant { conn.new.tenant ≡ conn.old.tenant }
-    ensures onward { GoesOn worker.old worker.new }
+    ensures onward { Continues worker.old worker.new }
 {
     for _ in 1..TURNS {
         let state = turn(conn, worker, input, output, gate, buffer);
@@ -84,7 +84,7 @@ impl Connection {
     ) -> State
         requires { self.old.conn.tenant < length (tenants_of worker.old) }
         ensures later { IsLater worker.old worker.new self.old self.new result }
-        ensures onward { GoesOn worker.old worker.new }
+        ensures onward { Continues worker.old worker.new }
     {
         let Connection {
             stream,
@@ -148,7 +148,7 @@ impl Table {
         requires { self.old.tenants ≡ length (tenants_of worker.old) }
         ensures serves { Serves (HasTurns (IsLater worker.old worker.new) (worker.new ≡ worker.old) result) self.old self.new key }
         ensures past { self.new.past ≡ self.old.past }
-        ensures onward { GoesOn worker.old worker.new }
+        ensures onward { Continues worker.old worker.new }
     {
         match self.connections.get_mut(key) {
             Some(connection) => connection.serve(worker, gate, buffer, stops_short),
@@ -177,7 +177,7 @@ impl Table {
     ) -> State
         requires { self.old.tenants ≡ length (tenants_of worker.old) }
         ensures serves { Serves (Becomes (IsLater worker.old worker.new) (worker.new ≡ worker.old) result self.old.past.ended self.new.past.ended) self.old self.new key }
-        ensures onward { GoesOn worker.old worker.new }
+        ensures onward { Continues worker.old worker.new }
     {
         let state = self.turns_at(worker, gate, buffer, key, stops_short);
         if state == State::Closed {

@@ -1,6 +1,6 @@
 //! Whose turn it is among the connections of a worker.
 ghost use Rattle.std.specs.Prelude.{◌≡◌, length, IfOk};
-ghost use Rattle.uc_worker.specs.Going.{GoesOn};
+ghost use Rattle.uc_worker.specs.Going.{Continues};
 ghost use Rattle.mc_net.specs.Working.{IsNew, Works, standing};
 ghost use Rattle.uc_worker.specs.Worker.{tenants_of};
 
@@ -59,7 +59,7 @@ impl Rota {
     ) -> Result<(), Halt>
         requires { self.old.table.tenants ≡ length (tenants_of worker.old) }
         ensures works { Works (standing worker.old self.old.table) (standing worker.new self.new.table) }
-        ensures onward { GoesOn worker.old worker.new }
+        ensures onward { Continues worker.old worker.new }
         ensures tenants { self.new.table.tenants ≡ self.old.table.tenants }
     {
         let State::Busy = self.table.serve(worker, gate, buffer, key, stops_short) else {
@@ -77,7 +77,7 @@ impl Rota {
     ) -> Result<(), Halt>
         requires { self.old.table.tenants ≡ length (tenants_of worker.old) }
         ensures works { Works (standing worker.old self.old.table) (standing worker.new self.new.table) }
-        ensures onward { GoesOn worker.old worker.new }
+        ensures onward { Continues worker.old worker.new }
         ensures tenants { self.new.table.tenants ≡ self.old.table.tenants }
     {
         for i in 0..self.again.len() {
@@ -99,7 +99,7 @@ impl Rota {
     ) -> Result<bool, Halt>
         requires { self.old.table.tenants ≡ length (tenants_of worker.old) }
         ensures works { Works (standing worker.old self.old.table) (standing worker.new self.new.table) }
-        ensures onward { GoesOn worker.old worker.new }
+        ensures onward { Continues worker.old worker.new }
         ensures tenants { self.new.table.tenants ≡ self.old.table.tenants }
     {
         let mut is_woken = false;
@@ -125,7 +125,7 @@ impl Rota {
     ) -> Result<bool, Halt>
         requires { self.old.table.tenants ≡ length (tenants_of worker.old) }
         ensures works { Works (standing worker.old self.old.table) (standing worker.new self.new.table) }
-        ensures onward { GoesOn worker.old worker.new }
+        ensures onward { Continues worker.old worker.new }
         ensures tenants { self.new.table.tenants ≡ self.old.table.tenants }
     {
         self.next.clear();

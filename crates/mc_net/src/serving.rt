@@ -1,7 +1,7 @@
 //! The acceptor and the workers, each in a thread of its own.
 ghost use Rattle.std.specs.List.{AllZip};
 ghost use Rattle.std.specs.Prelude.{◌≡◌, ◌<◌, ℕ, All, IfErr, IfOk, length, map, slice_index_or, vec_len};
-ghost use Rattle.uc_worker.specs.Going.{GoesOn};
+ghost use Rattle.uc_worker.specs.Going.{Continues};
 ghost use Rattle.mc_net.specs.Asking.{HasBeenAsked};
 ghost use Rattle.mc_net.specs.Life.{HasAnswered};
 ghost use Rattle.mc_net.specs.Seating.{HasRun, HaveRun, IsReturned, listeners_of, worker_of, workers_of};
@@ -236,7 +236,7 @@ pub fn serve<'a, R: Threads + Wait + Net + Sync, G: Gate + Send + Drop>(
     requires logs { All (λ worker. worker.log.now ≡ log.now) workers.items }
     requires tenants { All (λ listener. listener.0 < length log.now.settings.tenants) listeners.items }
     requires gates { vec_len gates ≡ vec_len workers }
-    ensures back { IfOk result (λ back. AllZip GoesOn workers.entry.items (map worker_of back.items)) }
+    ensures back { IfOk result (λ back. AllZip Continues workers.entry.items (map worker_of back.items)) }
     ensures served { IfOk result (λ back. AllZip HasServed workers.entry.items back.items) }
     ensures answered { IfOk result (λ back. All HasAnswered back.items) }
     ensures asked { IfOk result (λ back. AllZip HasBeenAsked workers.entry.items back.items) }

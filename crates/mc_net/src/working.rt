@@ -1,6 +1,6 @@
 //! A worker's loop.
 ghost use Rattle.std.specs.Prelude.{◌≡◌, length, IfOk};
-ghost use Rattle.uc_worker.specs.Going.{GoesOn};
+ghost use Rattle.uc_worker.specs.Going.{Continues};
 ghost use Rattle.mc_net.specs.Working.{IsEmpty, IsNew, Works, standing};
 ghost use Rattle.uc_worker.specs.Worker.{tenants_of};
 ghost use Rattle.uc_worker.specs.declared.worker.Worker.{Worker};
@@ -90,7 +90,7 @@ impl Desk {
     ) -> Result<bool, Halt>
         requires { self.old.rota.table.tenants ≡ length (tenants_of worker.old) }
         ensures works { Works (standing worker.old self.old.rota.table) (standing worker.new self.new.rota.table) }
-        ensures onward { GoesOn worker.old worker.new }
+        ensures onward { Continues worker.old worker.new }
         ensures tenants { self.new.rota.table.tenants ≡ self.old.rota.table.tenants }
     {
         let timeout = if order != Order::LookAgain && self.rota.may_wait() {
@@ -116,7 +116,7 @@ impl Desk {
         requires { self.old.rota.table.tenants ≡ length (tenants_of worker.old) }
         ensures works { IfOk result (λ _. Works (standing worker.old self.old.rota.table) (standing worker.new self.new.rota.table)) }
         ensures empty { IfOk result (λ _. IsEmpty self.new.rota.table) }
-        ensures onward { GoesOn worker.old worker.new }
+        ensures onward { Continues worker.old worker.new }
         ensures tenants { self.new.rota.table.tenants ≡ self.old.rota.table.tenants }
     {
         station.begin(rt);

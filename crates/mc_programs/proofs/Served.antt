@@ -1,29 +1,31 @@
 -- What a connection does with the one worker of a log, in bytes that came and bytes that went.
-use Rattle.std.proofs.Common.{◌≡◌, ◌⊎◌, ℕ, ◌+◌, ◌≤◌, ◌<◌, ◌||◌, Bool, true, false, Result, Ok, Err, OnOk, IfErr, List, [], ◌∷◌, ◌++◌, length, None, Some, slice_get, sym, refl, ap, ◌∙◌, subst, inl, inr, ⊎_elim, arith, append_assoc, append-nil, length-append}
+use Rattle.std.proofs.Common.{◌≡◌, ◌⊎◌, ℕ, ◌+◌, ◌≤◌, ◌<◌, ◌||◌, Bool, true, false, Result, Ok, Err, List, [], ◌∷◌, ◌++◌, length, None, Some, slice_get, sym, refl, ap, ◌∙◌, subst, inl, inr, ⊎_elim, arith, append_assoc, append-nil, length-append}
 use Rattle.std.specs.Bool.{MatchBool}
 use Rattle.std.specs.Io.KnownBytes.{IsAtEnd}
 use Rattle.std.specs.List.{list_any}
+use Rattle.std.specs.Prelude.{MatchResult}
 use Rattle.mc_model.specs.declared.fault.Fault.{Fault}
-use Rattle.mc_model.specs.declared.fault.Fault.TheVariants.{Memory, LogFull, Taken, Input, Output, BadEvent, BadSettings}
+use Rattle.mc_model.specs.declared.fault.Fault.TheVariants.{Memory, BadSettings}
 use Rattle.mc_model.specs.declared.reply.Reply.TheVariants.{Refused}
 use Rattle.mc_model.specs.declared.reply.WireNo.TheVariants.{E11}
 use Rattle.mc_model.specs.declared.request.Request.{Request}
 use Rattle.mc_model.specs.declared.settings.Limits.{Limits}
 use Rattle.mc_model.specs.History.{state_after-none}
 use Rattle.mc_model.specs.Replay.{empty_tables}
-use Rattle.mc_model.specs.Settings.{Configuration}
+use Rattle.mc_model.specs.Settings.{Configuration, IsLawful}
 use Rattle.mc_read.specs.Reading.{Kept, ReadsAs, ends_stream}
 use Rattle.mc_read.specs.Readings.{has_reading}
 use Rattle.mc_read.specs.Text.{IsRequestText}
 use Rattle.mc_conn.proofs.AloneOwed.{owes_in_order}
 use Rattle.mc_conn.specs.Alone.{IsAlone, first_mark, owed}
+use Rattle.mc_conn.specs.ConnFault.{CellTaken, ConnFault, CountsFailures, InputFailed, IsTold, OutOfMemory, OutputFailed}
 use Rattle.mc_conn.specs.Ending.{Breaks, PullsAfter, PullsLate, Serves as ServesAll, Stops as StopsSo}
 use Rattle.mc_conn.specs.Held.{Holding, HoldsNone, HoldsOn, IsRead}
-use Rattle.uc_worker.specs.Going.{GoesOn}
+use Rattle.uc_worker.specs.Going.{Continues}
 use Rattle.mc_conn.specs.Owed.{Mark, Owes, mark_of}
-use Rattle.mc_conn.specs.Turn.{Scene, holding_of, queue_of, scene}
+use Rattle.mc_conn.specs.Turn.{NeitherFails, Scene, holding_of, queue_of, scene}
 use Rattle.mc_programs.proofs.Owings.{owed-more}
-use Rattle.mc_programs.specs.Serving.{Answers, Comes, CountsFailures, IsCaughtUp, NeverWaits, Serves, ServesInPart, ServesOn, Stops}
+use Rattle.mc_programs.specs.Serving.{Answers, Comes, EndsBy, IsCaughtUp, NeverWaits, Serves, ServesInPart, ServesOn, ServesUntilStarved, Stops, settings_alone}
 use Rattle.mc_stream.specs.Event.{Event, Moves, Waits, Ends, Fails, ends, failures, has_ended, last_moved, moved, waits}
 use Rattle.mc_stream.specs.Pushing.{IsAllOrStopped, Pushes, PushesAtOnce}
 use Rattle.mc_stream.specs.Pushed.{same_stop}
@@ -38,7 +40,7 @@ use Rattle.uc_log.specs.Passes.{IsNew, seat, size_of}
 use Rattle.uc_places.specs.Told.{new_seat}
 use Rattle.uc_places.specs.declared.view.View.{View}
 use Rattle.mc_conn.specs.declared.conn.Conn.{Conn}
-use Rattle.mc_programs.specs.Opening.{IsOpened}
+use Rattle.mc_programs.specs.Opening.{IsOpened, RefusesToOpen}
 
 -- a list's front taken off both sides
 same_behind : {X : Type 0} (front one two : List X) → front ++ one ≡ front ++ two → one ≡ two
@@ -93,8 +95,16 @@ reads_all start came requests after begun read none =
     none_follow : (held : Holding) (others : List Request) → HoldsNone held → HoldsOn held [] others → others ≡ []
     none_follow held others nothing holds = (nothing.1 others).0 (subst (λ waiting. HoldsOn (record { waiting = waiting; held = held.held }) [] others) nothing.0 holds)
 
+-- how often the output failed while the client was told
+told_counts : (unsent : List ℕ) (before now : Outflow) → IsAllOrStopped unsent before now → (failures before.events ≤ failures now.events) × (failures now.events ≤ failures before.events + 1)
+told_counts unsent before now stopped =
+    ⊎_elim
+    (λ all. (omega (arith, all.1), omega (arith, all.1)))
+    (λ short. ⊎_elim (λ full. (omega (arith, full.1), omega (arith, full.1))) (λ failed. (omega (arith, failed), omega (arith, failed))) short)
+    stopped
+
 module _ (limits : Limits) (places : ℕ) (start : Scene) (begins : Begins limits places start) where
-  alone_later : (worker : Worker) → GoesOn start.worker worker → IsAlone limits places worker
+  alone_later : (worker : Worker) → Continues start.worker worker → IsAlone limits places worker
   alone_later worker on = record {
     workers = ap (λ size. size.workers) on.same.0 ∙ begins.alone.workers;
     long = ap (λ size. size.places) on.same.0 ∙ begins.alone.long;
@@ -102,7 +112,7 @@ module _ (limits : Limits) (places : ℕ) (start : Scene) (begins : Begins limit
   }
 
   -- what is owed is the function of the requests
-  answers : (worker : Worker) (requests : List Request) (bytes : List ℕ) (mark : Mark) → GoesOn start.worker worker →
+  answers : (worker : Worker) (requests : List Request) (bytes : List ℕ) (mark : Mark) → Continues start.worker worker →
       Owes worker start.conn.tenant (mark_of start.worker) requests bytes mark → (bytes ≡ owed limits places requests) × Answers limits places requests (owed limits places requests)
   answers worker requests bytes mark on owes =
       let alone = alone_later worker on in
@@ -128,17 +138,18 @@ module _ (limits : Limits) (places : ℕ) (start : Scene) (begins : Begins limit
   pub serves : (after : Scene) → ServesAll start after → Serves limits places start.streams after.streams
   serves after all =
       let takes = all.takes in
-      let whole = reads_all start takes.came takes.requests (holding_of after.conn) begins.holding takes.reads all.done.1 in
-      let said = answers after.worker takes.requests takes.owed (mark_of after.worker) takes.onward takes.owes in
-      let sent = sent_is after.conn takes.sent takes.owed takes.bytes all.done.2 in
+      let whole = reads_all start takes.taken.came takes.taken.requests (holding_of after.conn) begins.holding takes.reads all.done.1 in
+      let said = answers after.worker takes.taken.requests takes.taken.owed (mark_of after.worker) takes.taken.onward takes.taken.owes in
+      let sent = sent_is after.conn takes.taken.sent takes.taken.owed takes.taken.bytes all.done.2 in
       record {
-        comes = record { bytes = takes.came; requests = takes.requests; rest = whole.0; came = takes.pulled; consumed = takes.consumed; reads = whole.1 };
+        comes = record { bytes = takes.taken.came; requests = takes.taken.requests; rest = whole.0; came = takes.taken.pulled; consumed = takes.taken.consumed; reads = whole.1 };
         answers = said.1;
-        went = subst (Pushes start.streams.output after.streams.output) (sent ∙ said.0) takes.pushed;
+        went = subst (Pushes start.streams.output after.streams.output) (sent ∙ said.0) takes.taken.pushed;
         end = ⊎_elim
             (λ (ended : after.conn.has_ended ≡ true). inl (remembered start.conn.has_ended after.conn.has_ended start.streams.input after.streams.input begins.going ended takes.end))
-            (λ (over : after.conn.is_over ≡ true). inr (sym (over_is after.conn.is_over takes.requests takes.over) ∙ over))
+            (λ (over : after.conn.is_over ≡ true). inr (sym (over_is after.conn.is_over takes.taken.requests takes.over) ∙ over))
             all.done.0;
+        unfailed = takes.unfailed;
       }
 
   -- what came before the last pull
@@ -162,29 +173,29 @@ module _ (limits : Limits) (places : ℕ) (start : Scene) (begins : Begins limit
           ⊎_elim (λ (all : (queue_of between.conn ≡ []) × (between.conn.is_over ≡ false)). all)
           (λ (full : waits start.streams.output.events < waits between.streams.output.events). absurd (omega (arith, full, last.waited, never))) last.sent
 
-      first_reads : ReadsAs last.first.came last.first.requests
-      first_reads = reads_all start last.first.came last.first.requests (holding_of between.conn) begins.holding last.first.reads last.taken
+      first_reads : ReadsAs last.first.taken.came last.first.taken.requests
+      first_reads = reads_all start last.first.taken.came last.first.taken.requests (holding_of between.conn) begins.holding last.first.reads last.taken
 
-      first_owed : last.first.sent ≡ owed limits places last.first.requests
+      first_owed : last.first.taken.sent ≡ owed limits places last.first.taken.requests
       first_owed =
-          sent_is between.conn last.first.sent last.first.owed last.first.bytes first_sent.0
-          ∙ (answers between.worker last.first.requests last.first.owed (mark_of between.worker) last.first.onward last.first.owes).0
+          sent_is between.conn last.first.taken.sent last.first.taken.owed last.first.taken.bytes first_sent.0
+          ∙ (answers between.worker last.first.taken.requests last.first.taken.owed (mark_of between.worker) last.first.taken.onward last.first.taken.owes).0
 
-      came_is : came ≡ last.first.came ++ last_moved after.streams.input.events
+      came_is : came ≡ last.first.taken.came ++ last_moved after.streams.input.events
       came_is =
           let events : moved after.streams.input.events ≡ moved between.streams.input.events ++ last_moved after.streams.input.events =
           subst (λ events. moved events ≡ moved between.streams.input.events ++ last_moved events) (sym last.pull) (moved_last last.event between.streams.input.events)
           in
-          same_behind (moved start.streams.input.events) came (last.first.came ++ last_moved after.streams.input.events)
+          same_behind (moved start.streams.input.events) came (last.first.taken.came ++ last_moved after.streams.input.events)
           (sym pulled
           ∙ (events
-          ∙ (ap (λ known. known ++ last_moved after.streams.input.events) last.first.pulled ∙ append_assoc (moved start.streams.input.events) last.first.came (last_moved after.streams.input.events))))
+          ∙ (ap (λ known. known ++ last_moved after.streams.input.events) last.first.taken.pulled ∙ append_assoc (moved start.streams.input.events) last.first.taken.came (last_moved after.streams.input.events))))
 
-      sent_on : sent ≡ owed limits places last.first.requests ++ last.later
+      sent_on : sent ≡ owed limits places last.first.taken.requests ++ last.later
       sent_on =
-          same_behind (moved start.streams.output.events) sent (last.first.sent ++ last.later)
+          same_behind (moved start.streams.output.events) sent (last.first.taken.sent ++ last.later)
           (sym pushed
-          ∙ (last.pushed ∙ (ap (λ known. known ++ last.later) last.first.pushed ∙ append_assoc (moved start.streams.output.events) last.first.sent last.later)))
+          ∙ (last.pushed ∙ (ap (λ known. known ++ last.later) last.first.taken.pushed ∙ append_assoc (moved start.streams.output.events) last.first.taken.sent last.later)))
           ∙ ap (λ first. first ++ last.later) first_owed
 
     caught_up : PullsLate start after → IsCaughtUp limits places came (last_moved after.streams.input.events) sent
@@ -202,9 +213,9 @@ module _ (limits : Limits) (places : ℕ) (start : Scene) (begins : Begins limit
           is_sent = refl;
         })
         (λ (pull : (between : Scene) × PullsAfter start between after). record {
-          earlier = pull.1.first.came;
+          earlier = pull.1.first.taken.came;
           piece = last_moved after.streams.input.events;
-          requests = pull.1.first.requests;
+          requests = pull.1.first.taken.requests;
           later = pull.1.later;
           is_bytes = came_is pull.0 pull.1;
           is_last = inr refl;
@@ -215,36 +226,36 @@ module _ (limits : Limits) (places : ℕ) (start : Scene) (begins : Begins limit
         late
 
   -- the first requests that came were answered
-  module _ (fault : Fault) (after : Scene) (breaks : Breaks fault start after) where
+  module _ (fault : Fault) (after : Scene) (breaks : Breaks start after fault) where
     -- what all that came reads as
-    all_read : (requests : List Request) × ReadsAs breaks.came requests
-    all_read = let reading = has_reading breaks.came in (reading.0, (reading.1, reading.2))
+    all_read : (requests : List Request) × ReadsAs breaks.taken.came requests
+    all_read = let reading = has_reading breaks.taken.came in (reading.0, (reading.1, reading.2))
 
-    all_split : (others : List Request) × (all_read.0 ≡ breaks.requests ++ others)
+    all_split : (others : List Request) × (all_read.0 ≡ breaks.taken.requests ++ others)
     all_split =
-        let holds : HoldsOn (holding_of start.conn) (breaks.came ++ []) all_read.0 =
-        subst (λ holding. HoldsOn holding (breaks.came ++ []) all_read.0) (sym begins.holding) (subst (λ bytes. ReadsAs bytes all_read.0) (sym (append-nil breaks.came)) all_read.1)
+        let holds : HoldsOn (holding_of start.conn) (breaks.taken.came ++ []) all_read.0 =
+        subst (λ holding. HoldsOn holding (breaks.taken.came ++ []) all_read.0) (sym begins.holding) (subst (λ bytes. ReadsAs bytes all_read.0) (sym (append-nil breaks.taken.came)) all_read.1)
         in
         let follows = breaks.reads [] all_read.0 holds in
         (breaks.met ++ follows.0, follows.1)
 
     all_comes : (output : Outflow) → Comes start.streams (both after.streams.input output)
-    all_comes output = record { bytes = breaks.came; requests = all_read.0; rest = all_read.1.0; came = breaks.pulled; consumed = breaks.consumed; reads = all_read.1.1 }
+    all_comes output = record { bytes = breaks.taken.came; requests = all_read.0; rest = all_read.1.0; came = breaks.taken.pulled; consumed = breaks.taken.consumed; reads = all_read.1.1 }
 
-    all_answers : (breaks.owed ≡ owed limits places breaks.requests) × Answers limits places breaks.requests (owed limits places breaks.requests)
-    all_answers = answers after.worker breaks.requests breaks.owed breaks.mark breaks.onward breaks.owes
+    all_answers : (breaks.taken.owed ≡ owed limits places breaks.taken.requests) × Answers limits places breaks.taken.requests (owed limits places breaks.taken.requests)
+    all_answers = answers after.worker breaks.taken.requests breaks.taken.owed breaks.to breaks.taken.onward breaks.taken.owes
 
-    owed_is : breaks.sent ++ queue_of after.conn ≡ owed limits places breaks.requests
-    owed_is = breaks.bytes ∙ (ap (λ queue. queue ++ breaks.owed) begins.queue ∙ all_answers.0)
+    owed_is : breaks.taken.sent ++ queue_of after.conn ≡ owed limits places breaks.taken.requests
+    owed_is = breaks.taken.bytes ∙ (ap (λ queue. queue ++ breaks.taken.owed) begins.queue ∙ all_answers.0)
 
     -- what is told behind was pushed in part
-    in_part : (output : Outflow) (told sent unsent : List ℕ) → owed limits places breaks.requests ++ told ≡ sent ++ unsent → Pushes start.streams.output output sent →
+    in_part : (output : Outflow) (told sent unsent : List ℕ) → owed limits places breaks.taken.requests ++ told ≡ sent ++ unsent → Pushes start.streams.output output sent →
         PullsLate start (scene after.conn after.worker (both after.streams.input output)) → (part : ServesInPart limits places start.streams (both after.streams.input output) told) × (part.unsent ≡ unsent)
     unfolding all_comes
     in_part output told sent unsent owes went late = (
       record {
         comes = all_comes output;
-        answered = breaks.requests;
+        answered = breaks.taken.requests;
         others = all_split.0;
         split = all_split.1;
         answers = all_answers.1;
@@ -252,27 +263,27 @@ module _ (limits : Limits) (places : ℕ) (start : Scene) (begins : Begins limit
         unsent = unsent;
         owes = owes;
         went = went;
-        caught_up = λ never. caught_up (scene after.conn after.worker (both after.streams.input output)) breaks.came sent breaks.pulled went never late;
+        caught_up = λ never. caught_up (scene after.conn after.worker (both after.streams.input output)) breaks.taken.came sent breaks.taken.pulled went never late;
       },
       refl,
     )
 
     pub untold : PullsLate start after → ServesInPart limits places start.streams after.streams []
-    untold late = (in_part after.streams.output [] breaks.sent (queue_of after.conn) (append-nil (owed limits places breaks.requests) ∙ sym owed_is) breaks.pushed late).0
+    untold late = (in_part after.streams.output [] breaks.taken.sent (queue_of after.conn) (append-nil (owed limits places breaks.taken.requests) ∙ sym owed_is) breaks.taken.pushed late).0
 
   -- memory ran out, and that is told behind
-  starved : (after : Scene) (output : Outflow) → Breaks Memory start after → PushesAtOnce (queue_of after.conn ++ text (Refused E11)) after.streams.output output →
-      PullsLate start (scene after.conn after.worker (both after.streams.input output)) → Stops limits places Memory start.streams (both after.streams.input output)
-  starved after output breaks told late =
-      let owes : owed limits places breaks.requests ++ text (Refused E11) ≡ (breaks.sent ++ told.1.front) ++ told.0 =
-      ap (λ bytes. bytes ++ text (Refused E11)) (sym (owed_is Memory after breaks))
-      ∙ (append_assoc breaks.sent (queue_of after.conn) (text (Refused E11))
-      ∙ (ap (λ bytes. breaks.sent ++ bytes) told.1.split ∙ sym (append_assoc breaks.sent told.1.front told.0)))
+  starved : (fault : Fault) (after : Scene) (output : Outflow) → Breaks start after fault → NeitherFails start.streams after.streams →
+      PushesAtOnce (queue_of after.conn ++ text (Refused E11)) after.streams.output output →
+      PullsLate start (scene after.conn after.worker (both after.streams.input output)) → ServesUntilStarved limits places start.streams (both after.streams.input output)
+  starved fault after output breaks unfailed told late =
+      let owes : owed limits places breaks.taken.requests ++ text (Refused E11) ≡ (breaks.taken.sent ++ told.1.front) ++ told.0 =
+      ap (λ bytes. bytes ++ text (Refused E11)) (sym (owed_is fault after breaks))
+      ∙ (append_assoc breaks.taken.sent (queue_of after.conn) (text (Refused E11))
+      ∙ (ap (λ bytes. breaks.taken.sent ++ bytes) told.1.split ∙ sym (append_assoc breaks.taken.sent told.1.front told.0)))
       in
-      let went = told.1.went ∙ (ap (λ known. known ++ told.1.front) breaks.pushed ∙ append_assoc (moved start.streams.output.events) breaks.sent told.1.front) in
-      let part = in_part Memory after breaks output (text (Refused E11)) (breaks.sent ++ told.1.front) told.0 owes went late in
-      inl
-      (part.0, subst (λ unsent. IsAllOrStopped unsent start.streams.output output) (sym part.1) (same_stop told.0 start.streams.output after.streams.output output breaks.failures.1 told.2))
+      let went = told.1.went ∙ (ap (λ known. known ++ told.1.front) breaks.taken.pushed ∙ append_assoc (moved start.streams.output.events) breaks.taken.sent told.1.front) in
+      let part = in_part fault after breaks output (text (Refused E11)) (breaks.taken.sent ++ told.1.front) told.0 owes went late in
+      inl (part.0, subst (λ unsent. IsAllOrStopped unsent start.streams.output output) (sym part.1) (same_stop told.0 start.streams.output after.streams.output output unfailed.1 told.2))
 
   -- the input failed, and the output never waited
   failed_last : (event : Event) (earlier : List Event) (n : ℕ) → failures (event ∷ earlier) ≡ n + 1 → failures earlier ≡ n → last_moved (event ∷ earlier) ≡ []
@@ -281,87 +292,87 @@ module _ (limits : Limits) (places : ℕ) (start : Scene) (begins : Begins limit
   failed_last Ends earlier n more same = refl
   failed_last Fails earlier n more same = refl
 
-  promptly : (after : Scene) → Breaks Input start after → PullsLate start after → NeverWaits start.streams after.streams → ServesOn limits places start.streams after.streams
-  promptly after breaks late never =
+  promptly : (fault : Fault) (after : Scene) (breaks : Breaks start after fault) → failures after.streams.input.events ≡ failures start.streams.input.events + 1 → PullsLate start after → NeverWaits start.streams after.streams → ServesOn limits places start.streams after.streams
+  promptly fault after breaks counts late never =
       ⊎_elim
-      (λ (same : after.streams.input ≡ start.streams.input). let still = ap (λ (input : Inflow). failures input.events) same in absurd (omega (arith, still, breaks.failures.0)))
+      (λ (same : after.streams.input ≡ start.streams.input). let still = ap (λ (input : Inflow). failures input.events) same in absurd (omega (arith, still, counts)))
       (λ (pull : (between : Scene) × PullsAfter start between after).
       let last = pull.1 in
       let piece : last_moved after.streams.input.events ≡ [] =
       subst (λ events. last_moved events ≡ []) (sym last.pull)
       (failed_last last.event pull.0.streams.input.events (failures start.streams.input.events)
-      (subst (λ events. failures events ≡ failures start.streams.input.events + 1) last.pull breaks.failures.0) last.first.unfailed.0)
+      (subst (λ events. failures events ≡ failures start.streams.input.events + 1) last.pull counts) last.first.unfailed.0)
       in
-      let came : breaks.came ≡ last.first.came =
-      came_is after breaks.came breaks.sent breaks.pulled breaks.pushed never pull.0 last ∙ (ap (λ more. last.first.came ++ more) piece ∙ append-nil last.first.came)
+      let came : breaks.taken.came ≡ last.first.taken.came =
+      came_is after breaks.taken.came breaks.taken.sent breaks.taken.pulled breaks.taken.pushed never pull.0 last ∙ (ap (λ more. last.first.taken.came ++ more) piece ∙ append-nil last.first.taken.came)
       in
-      let reads : ReadsAs breaks.came last.first.requests =
-      subst (λ bytes. ReadsAs bytes last.first.requests) (sym came) (first_reads after breaks.came breaks.sent breaks.pulled breaks.pushed never pull.0 last)
+      let reads : ReadsAs breaks.taken.came last.first.taken.requests =
+      subst (λ bytes. ReadsAs bytes last.first.taken.requests) (sym came) (first_reads after breaks.taken.came breaks.taken.sent breaks.taken.pulled breaks.taken.pushed never pull.0 last)
       in
-      let holds : HoldsOn (holding_of start.conn) (breaks.came ++ []) last.first.requests =
-      subst (λ holding. HoldsOn holding (breaks.came ++ []) last.first.requests) (sym begins.holding) (subst (λ bytes. ReadsAs bytes last.first.requests) (sym (append-nil breaks.came)) reads)
+      let holds : HoldsOn (holding_of start.conn) (breaks.taken.came ++ []) last.first.taken.requests =
+      subst (λ holding. HoldsOn holding (breaks.taken.came ++ []) last.first.taken.requests) (sym begins.holding) (subst (λ bytes. ReadsAs bytes last.first.taken.requests) (sym (append-nil breaks.taken.came)) reads)
       in
-      let follows = breaks.reads [] last.first.requests holds in
-      let more = owed-more limits [] places [] breaks.requests (breaks.met ++ follows.0) in
-      let owes : owed limits places last.first.requests ≡ breaks.sent ++ (queue_of after.conn ++ more.0) =
+      let follows = breaks.reads [] last.first.taken.requests holds in
+      let more = owed-more limits [] places [] breaks.taken.requests (breaks.met ++ follows.0) in
+      let owes : owed limits places last.first.taken.requests ≡ breaks.taken.sent ++ (queue_of after.conn ++ more.0) =
       ap (λ requests. owed limits places requests) follows.1
-      ∙ (more.1 ∙ (ap (λ bytes. bytes ++ more.0) (sym (owed_is Input after breaks)) ∙ append_assoc breaks.sent (queue_of after.conn) more.0))
+      ∙ (more.1 ∙ (ap (λ bytes. bytes ++ more.0) (sym (owed_is fault after breaks)) ∙ append_assoc breaks.taken.sent (queue_of after.conn) more.0))
       in
       let sent =
-      both_ways (owed limits places last.first.requests) breaks.sent (queue_of after.conn ++ more.0) last.later owes
-      (sent_on after breaks.came breaks.sent breaks.pulled breaks.pushed never pull.0 last)
+      both_ways (owed limits places last.first.taken.requests) breaks.taken.sent (queue_of after.conn ++ more.0) last.later owes
+      (sent_on after breaks.taken.came breaks.taken.sent breaks.taken.pulled breaks.taken.pushed never pull.0 last)
       in
-      let going = (first_sent after breaks.came breaks.sent breaks.pulled breaks.pushed never pull.0 last).1 in
+      let going = (first_sent after breaks.taken.came breaks.taken.sent breaks.taken.pulled breaks.taken.pushed never pull.0 last).1 in
       record {
-        comes = record { bytes = breaks.came; requests = last.first.requests; rest = reads.0; came = breaks.pulled; consumed = breaks.consumed; reads = reads.1 };
-        went = subst (Pushes start.streams.output after.streams.output) sent breaks.pushed;
-        goes_on = sym (over_is pull.0.conn.is_over last.first.requests last.first.over) ∙ going;
+        comes = record { bytes = breaks.taken.came; requests = last.first.taken.requests; rest = reads.0; came = breaks.taken.pulled; consumed = breaks.taken.consumed; reads = reads.1 };
+        went = subst (Pushes start.streams.output after.streams.output) sent breaks.taken.pushed;
+        goes_on = sym (over_is pull.0.conn.is_over last.first.taken.requests last.first.over) ∙ going;
       })
       late
 
-  stops : (fault : Fault) (after : Scene) → StopsSo fault start after → PullsLate start after → Stops limits places fault start.streams after.streams
-  stops Memory after stopped late = starved (scene after.conn after.worker (both after.streams.input stopped.0)) after.streams.output stopped.1 stopped.2 late
-  stops LogFull after stopped late = stopped
-  stops Taken after stopped late = untold Taken after stopped late
-  stops Input after stopped late = (untold Input after stopped late, promptly after stopped late)
-  stops Output after stopped late = untold Output after stopped late
-  stops BadEvent after stopped late = absurd stopped
-  stops BadSettings after stopped late = absurd stopped
+  -- what a fault leaves where nothing was told of it
+  module _ (fault : Fault) (after : Scene) (told_from : Outflow) (breaks : Breaks start (scene after.conn after.worker (both after.streams.input told_from)) fault)
+      (late : PullsLate start after) where
+    abbrev before_told : Scene
+    before_told = scene after.conn after.worker (both after.streams.input told_from)
 
-  -- how often the output failed while the client was told
-  told_counts : (unsent : List ℕ) (before now : Outflow) → IsAllOrStopped unsent before now → (failures before.events ≤ failures now.events) × (failures now.events ≤ failures before.events + 1)
-  told_counts unsent before now stopped =
-      ⊎_elim
-      (λ all. (omega (arith, all.1), omega (arith, all.1)))
-      (λ short. ⊎_elim (λ full. (omega (arith, full.1), omega (arith, full.1))) (λ failed. (omega (arith, failed), omega (arith, failed))) short)
-      stopped
+    at_once : after.streams.output ≡ told_from → PullsLate start before_told
+    at_once same = subst (λ output. PullsLate start (scene after.conn after.worker (both after.streams.input output))) same late
 
-  counts : (fault : Fault) (after : Scene) → StopsSo fault start after → CountsFailures (Err fault) start.streams after.streams
-  counts Memory after stopped =
-      let told = told_counts stopped.2.0 stopped.0 after.streams.output stopped.2.2 in
-      let before = stopped.1.failures in
-      (before.0, omega (arith, told.0, before.1), omega (arith, told.1, before.1))
-  counts LogFull after stopped = stopped
-  counts Taken after stopped = stopped.failures
-  counts Input after stopped = stopped.failures
-  counts Output after stopped = stopped.failures
-  counts BadEvent after stopped = absurd stopped
-  counts BadSettings after stopped = absurd stopped
+    silent : after.streams.output ≡ told_from → ServesInPart limits places start.streams after.streams []
+    silent same =
+        subst (λ output. ServesInPart limits places start.streams (both after.streams.input output) []) (sym same) (untold fault before_told breaks (at_once same))
+
+    counts_silent : (cause : ConnFault) → after.streams.output ≡ told_from → CountsFailures cause start.streams before_told.streams → CountsFailures cause start.streams after.streams
+    counts_silent cause same counts = subst (λ output. CountsFailures cause start.streams (both after.streams.input output)) (sym same) counts
+
+    ends_by : (cause : ConnFault) → CountsFailures cause start.streams before_told.streams → IsTold cause (queue_of after.conn) told_from after.streams.output →
+        EndsBy limits places cause start.streams after.streams
+    ends_by OutOfMemory counts told =
+        let failed = told_counts told.0.0 told_from after.streams.output told.0.2 in
+        (starved fault before_told after.streams.output breaks counts told.0 late, counts.0, omega (arith, failed.0, counts.1), omega (arith, failed.1, counts.1))
+    ends_by CellTaken counts told = (silent told, counts_silent CellTaken told counts)
+    ends_by InputFailed counts told = (
+      (
+        silent told,
+        λ never.
+            let still = subst (λ output. NeverWaits start.streams (both after.streams.input output)) told never in
+            subst (λ output. ServesOn limits places start.streams (both after.streams.input output)) (sym told)
+            (promptly fault before_told breaks counts.0 (at_once told) still),
+      ),
+      counts_silent InputFailed told counts,
+    )
+    ends_by OutputFailed counts told = (silent told, counts_silent OutputFailed told counts)
+
+  stops : (fault : Fault) (after : Scene) → StopsSo start after fault → PullsLate start after → Stops limits places start.streams after.streams fault
+  stops fault after stopped late =
+      inl (stopped.breaks.cause, stopped.breaks.is, ends_by fault after stopped.told_from stopped.breaks late stopped.breaks.cause stopped.breaks.failures stopped.told)
 
   -- the same of a call's result
-  pub result_serves : (result : Result (Unit {0}) Fault) (after : Scene) → OnOk result (ServesAll start after) → OnOk result (Serves limits places start.streams after.streams)
-  result_serves (Ok done) after is = serves after is
-  result_serves (Err fault) after is = tt
-
-  pub result_stops : (result : Result (Unit {0}) Fault) (after : Scene) → IfErr result (λ fault. StopsSo fault start after) → PullsLate start after →
-      IfErr result (λ fault. Stops limits places fault start.streams after.streams)
-  result_stops (Ok done) after is late = tt
-  result_stops (Err fault) after is late = stops fault after is late
-
-  pub result_counts : (result : Result (Unit {0}) Fault) (after : Scene) → OnOk result (ServesAll start after) → IfErr result (λ fault. StopsSo fault start after) →
-      CountsFailures result start.streams after.streams
-  result_counts (Ok done) after all is = all.takes.unfailed
-  result_counts (Err fault) after all is = counts fault after is
+  pub result_is : (result : Result (Unit {0}) Fault) (after : Scene) → MatchResult result (λ _. ServesAll start after) (StopsSo start after) → PullsLate start after →
+      MatchResult result (λ _. Serves limits places start.streams after.streams) (Stops limits places start.streams after.streams)
+  result_is (Ok done) after is late = serves after is
+  result_is (Err fault) after is late = stops fault after is late
 
 -- a connection and a worker as they are opened
 pub begins_new : (limits : Limits) (places : ℕ) (log : Log) (pass : Pass) (conn : Conn) (worker : Worker) (streams : Streams) → IsOpened limits places log pass →
@@ -394,3 +405,18 @@ opened_alone limits places log passes rest pass settings tenants none popped cou
     let first : slice_get passes 0 ≡ Some pass = ap (λ list. slice_get list 0) (popped ∙ ap (λ list. list ++ pass ∷ []) nothing) in
     let one : tenants ≡ limits ∷ [] = filled ∙ ap (λ list. list ++ limits ∷ []) empty in
     (same ∙ (is ∙ ap (λ list. record { workers = 1; places = places; tenants = list }) one), new 0 pass first)
+
+-- no log could be opened: that memory ran out is told, or the settings aren't lawful
+pub refused : (limits : Limits) (places : ℕ) (fault answered : Fault) (input : Inflow) (before after : Outflow) → answered ≡ fault →
+    (fault ≡ Memory) ⊎ (fault ≡ BadSettings) × ¬ (IsLawful (settings_alone limits places)) → RefusesToOpen fault before after →
+    Stops limits places (both input before) (both input after) answered
+refused limits places fault answered input before after same which refuses =
+    ⊎_elim
+    (λ (memory : fault ≡ Memory).
+    let told = refuses.0 memory in
+    let failed = told_counts told.0 before after told.2 in
+    inl (OutOfMemory, same ∙ memory, (inr (refl, told), refl, failed.0, failed.1)))
+    (λ (bad : (fault ≡ BadSettings) × ¬ (IsLawful (settings_alone limits places))).
+    let still = refuses.1 (λ memory. let no : BadSettings ≡ Memory = sym bad.0 ∙ memory in cc) in
+    inr (same ∙ bad.0, ap (λ (output : Outflow). both input output) still, bad.1))
+    which

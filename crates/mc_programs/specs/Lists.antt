@@ -6,13 +6,14 @@ use Rattle.clap.specs.Simple.{App, with_rule}
 use Rattle.clap.specs.Walk.{Text}
 use Rattle.mc_model.specs.Settings.{Configuration, IsLawful}
 use Rattle.mc_model.specs.declared.fault.Fault.{Fault}
-use Rattle.mc_model.specs.declared.fault.Fault.TheVariants.{Memory, LogFull, Taken, Input, Output, BadEvent, BadSettings}
+use Rattle.mc_model.specs.declared.fault.Fault.TheVariants.{Memory, Input, Output, BadSettings}
 use Rattle.mc_schedules.specs.declared.schedule.TheConstants.{INPUT_BYTES}
 use Rattle.mc_schedules.specs.Doing.{DoesAll, Ending}
 use Rattle.mc_schedules.specs.Report.{report}
 use Rattle.mc_schedules.specs.Schedule.{BadLine, Listed, Whole, reading}
 use Rattle.mc_programs.specs.Faults.{fault_line, program_line}
-use Rattle.mc_programs.specs.Serving.{IsUnfailedInput, NeitherFails}
+use Rattle.mc_conn.specs.Turn.{NeitherFails}
+use Rattle.mc_programs.specs.Serving.{IsUnfailedInput}
 use Rattle.mc_programs.specs.Words.{FailsToShow, Shows, TellsMistake, bare_app, flag_asked, flag_rule}
 use Rattle.mc_stream.specs.Event.{failures, has_ended, moved}
 use Rattle.mc_stream.specs.Pushing.{FailsOnce, Pushes, PushesFront, PushesOrFails}
@@ -76,10 +77,7 @@ StopsReporting Input words before after = (failures after.input.events ≡ failu
 StopsReporting Output words before after =
     (end : Ending) × (text : List ℕ) × Ran words before.input after.input end text
     × PushesFront text before.output after.output × FailsOnce before.output after.output
-StopsReporting LogFull words before after = ⊥
-StopsReporting Taken words before after = ⊥
-StopsReporting BadEvent words before after = ⊥
-StopsReporting BadSettings words before after = ⊥
+StopsReporting fault words before after = ⊥
 
 -- A fault of the program kept it from reporting, and was told.
 pub record FailsToReport (words : List Text) (before after : Streams) (errors_before errors : Outflow) : Type 0 where

@@ -1,7 +1,7 @@
 -- How a log of its own is opened for a client, and what the client is told where that can't be done; this project's profile.
-use Rattle.std.specs.Prelude.{◌≡◌, ℕ}
+use Rattle.std.specs.Prelude.{◌≡◌, ◌≢◌, ℕ}
 use Rattle.mc_model.specs.declared.fault.Fault.{Fault}
-use Rattle.mc_model.specs.declared.fault.Fault.TheVariants.{Memory, LogFull, Taken, Input, Output, BadEvent, BadSettings}
+use Rattle.mc_model.specs.declared.fault.Fault.TheVariants.{Memory}
 use Rattle.mc_model.specs.declared.reply.Reply.TheVariants.{Refused}
 use Rattle.mc_model.specs.declared.reply.WireNo.TheVariants.{E11}
 use Rattle.mc_model.specs.declared.settings.Limits.{Limits}
@@ -19,10 +19,5 @@ IsOpened limits places log pass = (log.settings ≡ settings_alone limits places
 
 -- that memory ran out is told, as far as the output takes it at once, and no other fault is
 abbrev pub RefusesToOpen : Fault → Outflow → Outflow → Type 0
-RefusesToOpen Memory before after = PushesAtOnce (text (Refused E11)) before after
-RefusesToOpen LogFull before after = after ≡ before
-RefusesToOpen Taken before after = after ≡ before
-RefusesToOpen Input before after = after ≡ before
-RefusesToOpen Output before after = after ≡ before
-RefusesToOpen BadEvent before after = after ≡ before
-RefusesToOpen BadSettings before after = after ≡ before
+RefusesToOpen fault before after =
+    (fault ≡ Memory → PushesAtOnce (text (Refused E11)) before after) × (fault ≢ Memory → after ≡ before)

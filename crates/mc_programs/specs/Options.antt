@@ -1,6 +1,6 @@
 -- What the words after the program's name ask for on mc_stdin's command line, by clap's own definitions of a command, and how
 -- its run ends; this project's profile.
-use Rattle.std.specs.Prelude.{◌≡◌, ◌⊎◌, ℕ, List, [], Err, codes}
+use Rattle.std.specs.Prelude.{◌≡◌, ◌⊎◌, ℕ, List, [], codes}
 use Rattle.clap.specs.Faults.{fault_of}
 use Rattle.clap.specs.Simple.{App, with_rule}
 use Rattle.clap.specs.Walk.{Text}
@@ -10,7 +10,7 @@ use Rattle.mc_model.specs.declared.fault.Fault.TheVariants.{BadSettings}
 use Rattle.mc_model.specs.declared.settings.Limits.{Limits}
 use Rattle.mc_model.specs.declared.settings.TheConstants.{MAX_PLACES}
 use Rattle.mc_programs.specs.Faults.{fault_line}
-use Rattle.mc_programs.specs.Serving.{CountsFailures, Serves, Stops}
+use Rattle.mc_programs.specs.Serving.{Serves, Stops}
 use Rattle.mc_programs.specs.Words.{FailsToShow, Shows, TellsMistake, bare_app, number_asked, number_rule}
 use Rattle.mc_stream.specs.Pushing.{PushesOrFails}
 use Rattle.mc_stream.specs.Stream.{Outflow, Streams}
@@ -38,12 +38,11 @@ AsksInRange words = (fault_of stdin_app words ≡ []) × IsInRange words
 abbrev pub AsksOutOfRange : List Text → Type 0
 AsksOutOfRange words = (fault_of stdin_app words ≡ []) × ¬ (IsInRange words)
 
--- A run that failed met one fault, which the failures of the input and the output bear out, gave the client what it gives at
--- that fault, and said so.
+-- A run that failed met one fault, gave the client what it gives at that fault, which the failures of the
+-- input and the output bear out, and said so.
 pub record Fails (limits : Limits) (places : ℕ) (before after : Streams) (errors_before errors : Outflow) : Type 0 where
   pub fault : Fault
-  pub counts : CountsFailures (Err fault) before after
-  pub stops : Stops limits places fault before after
+  pub stops : Stops limits places before after fault
   pub told : PushesOrFails (fault_line (codes "mc_stdin") fault) errors_before errors
 
 -- status 0: a client was served by the numbers that the words ask for, or help or the version was shown

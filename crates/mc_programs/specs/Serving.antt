@@ -3,9 +3,9 @@
 -- own it is a function of the requests (`owed`).
 use Rattle.std.specs.Io.KnownBytes.{Consumes, IsAtEnd}
 use Rattle.std.specs.List.{list_any}
-use Rattle.std.specs.Prelude.{◌≡◌, ℕ, true, false, ◌+◌, ◌≤◌, ◌⊎◌, Result, Ok, Err, List, [], ◌∷◌, ◌++◌, length}
+use Rattle.std.specs.Prelude.{◌≡◌, ℕ, true, false, ◌+◌, ◌≤◌, ◌⊎◌, List, [], ◌∷◌, ◌++◌, length}
 use Rattle.mc_model.specs.declared.fault.Fault.{Fault}
-use Rattle.mc_model.specs.declared.fault.Fault.TheVariants.{Memory, LogFull, Taken, Input, Output, BadEvent, BadSettings}
+use Rattle.mc_model.specs.declared.fault.Fault.TheVariants.{BadSettings}
 use Rattle.mc_model.specs.declared.reply.Reply.TheVariants.{Refused}
 use Rattle.mc_model.specs.declared.reply.WireNo.TheVariants.{E11}
 use Rattle.mc_model.specs.declared.request.Request.{Request}
@@ -14,9 +14,11 @@ use Rattle.mc_model.specs.Settings.{Configuration, IsLawful}
 use Rattle.mc_read.specs.Reading.{Reads, ReadsAs, ends_stream}
 use Rattle.mc_conn.specs.declared.conn.TheConstants.{PULL_BYTES}
 use Rattle.mc_conn.specs.Alone.{IsAlone, first_mark, owed}
+use Rattle.mc_conn.specs.ConnFault.{CellTaken, ConnFault, CountsFailures, InputFailed, OutOfMemory, OutputFailed, fault_of}
 use Rattle.mc_conn.specs.Owed.{Mark, Owes}
+use Rattle.mc_conn.specs.Turn.{NeitherFails}
 use Rattle.mc_stream.specs.Event.{failures, has_ended, last_moved, moved, waits}
-use Rattle.mc_stream.specs.Pushing.{FailsOnce, IsAllOrStopped, IsUnfailed, Pushes, PushesAtOnce}
+use Rattle.mc_stream.specs.Pushing.{IsAllOrStopped, Pushes, PushesAtOnce}
 use Rattle.mc_stream.specs.Stream.{Inflow, Streams}
 use Rattle.mc_write.specs.Text.{text}
 use Rattle.uc_worker.specs.declared.worker.Worker.{Worker}
@@ -47,6 +49,7 @@ pub record Serves (limits : Limits) (places : ℕ) (before after : Streams) : Ty
   pub answers : Answers limits places comes.requests (owed limits places comes.requests)
   pub went : Pushes before.output after.output (owed limits places comes.requests)
   pub end : (has_ended after.input.events ≡ true) × IsAtEnd after.input.left ⊎ (list_any ends_stream comes.requests ≡ true)
+  pub unfailed : NeitherFails before after
 
 -- All that came was answered, and more could have come.
 pub record ServesOn (limits : Limits) (places : ℕ) (before after : Streams) : Type 0 where
@@ -91,34 +94,29 @@ ServesUntilStarved limits places before after =
     ((part : ServesInPart limits places before after (text (Refused E11))) × IsAllOrStopped part.unsent before.output after.output)
     ⊎ (after.input ≡ before.input) × PushesAtOnce (text (Refused E11)) before.output after.output
 
--- what a client was given where a fault ended it; where the quotas or the number of places aren't lawful, nothing was done
-abbrev pub Stops : Limits → ℕ → Fault → Streams → Streams → Type 0
-Stops limits places Memory before after = ServesUntilStarved limits places before after
-Stops limits places Input before after = ServesInPart limits places before after [] × (NeverWaits before after → ServesOn limits places before after)
-Stops limits places Output before after = ServesInPart limits places before after []
-Stops limits places Taken before after = ServesInPart limits places before after []
-Stops limits places LogFull before after = ⊥
-Stops limits places BadEvent before after = ⊥
-Stops limits places BadSettings before after = (after ≡ before) × ¬ (IsLawful (settings_alone limits places))
-
 -- the input hasn't failed from the one to the other
 abbrev pub IsUnfailedInput : Inflow → Inflow → Type 0
 IsUnfailedInput before after = failures after.events ≡ failures before.events
 
--- neither failed
-abbrev pub NeitherFails : Streams → Streams → Type 0
-NeitherFails before after = IsUnfailedInput before.input after.input × IsUnfailed before.output after.output
+-- What a client was given where a fault of its connection ended the service, and how often the input
+-- and the output failed then: as the fault says, but for what may fail while the client is told.
+abbrev pub EndsBy : Limits → ℕ → ConnFault → Streams → Streams → Type 0
+EndsBy limits places OutOfMemory before after =
+    ServesUntilStarved limits places before after
+    × IsUnfailedInput before.input after.input
+    × (failures before.output.events ≤ failures after.output.events)
+    × (failures after.output.events ≤ failures before.output.events + 1)
+EndsBy limits places CellTaken before after =
+    ServesInPart limits places before after [] × CountsFailures CellTaken before after
+EndsBy limits places InputFailed before after =
+    (ServesInPart limits places before after [] × (NeverWaits before after → ServesOn limits places before after))
+    × CountsFailures InputFailed before after
+EndsBy limits places OutputFailed before after =
+    ServesInPart limits places before after [] × CountsFailures OutputFailed before after
 
--- The failures of an input and of an output before and after a call: without a fault there was none, nor where a command's cell was
--- taken or nothing was done; a failure of the input, or of the output, is the one fault that names it; and where memory ran out, the
--- output may fail once more while the client is told.
-abbrev pub CountsFailures : Result (Unit {0}) Fault → Streams → Streams → Type 0
-CountsFailures (Ok done) before after = NeitherFails before after
-CountsFailures (Err Input) before after = (failures after.input.events ≡ failures before.input.events + 1) × IsUnfailed before.output after.output
-CountsFailures (Err Output) before after = IsUnfailedInput before.input after.input × FailsOnce before.output after.output
-CountsFailures (Err Memory) before after =
-    IsUnfailedInput before.input after.input × (failures before.output.events ≤ failures after.output.events) × (failures after.output.events ≤ failures before.output.events + 1)
-CountsFailures (Err LogFull) before after = ⊥
-CountsFailures (Err Taken) before after = NeitherFails before after
-CountsFailures (Err BadEvent) before after = ⊥
-CountsFailures (Err BadSettings) before after = NeitherFails before after
+-- The faults that end a service: those of its connection; and where the quotas or the number of places
+-- aren't lawful, nothing was done.
+abbrev pub Stops : Limits → ℕ → Streams → Streams → Fault → Type 0
+Stops limits places before after fault =
+    ((cause : ConnFault) × (fault ≡ fault_of cause) × EndsBy limits places cause before after)
+    ⊎ (fault ≡ BadSettings) × (after ≡ before) × ¬ (IsLawful (settings_alone limits places))

@@ -1,8 +1,8 @@
 //! One client, served by one worker on a log of its own.
-ghost use Rattle.std.specs.Prelude.{◌≡◌, ◌⊎◌, OnOk, IfErr, IfOk};
+ghost use Rattle.std.specs.Prelude.{◌≡◌, ◌⊎◌, IfErr, IfOk, MatchResult};
 ghost use Rattle.mc_model.specs.Settings.{IsLawful};
 ghost use Rattle.mc_model.specs.declared.fault.Fault.TheVariants as faults;
-ghost use Rattle.mc_programs.specs.Serving.{CountsFailures, Serves, Stops, settings_alone};
+ghost use Rattle.mc_programs.specs.Serving.{Serves, Stops, settings_alone};
 ghost use Rattle.mc_programs.specs.Opening.{IsOpened, RefusesToOpen};
 ghost use Rattle.mc_stream.specs.Stream.{both};
 
@@ -69,9 +69,9 @@ pub(crate) fn serve_and_leave<R: Wait, I: Input, O: Output>(
     input: &mut I,
     output: &mut O,
 ) -> Result<(), Fault>
-    ensures serves { OnOk result (Serves limits places (both (I.tells input.old) (O.tells output.old)) (both (I.tells input.new) (O.tells output.new))) }
-    ensures stops { IfErr result (λ fault. Stops limits places fault (both (I.tells input.old) (O.tells output.old)) (both (I.tells input.new) (O.tells output.new))) }
-    ensures failures { CountsFailures result (both (I.tells input.old) (O.tells output.old)) (both (I.tells input.new) (O.tells output.new)) }
+    ensures outcome { MatchResult result
+        (λ _. Serves limits places (both (I.tells input.old) (O.tells output.old)) (both (I.tells input.new) (O.tells output.new)))
+        (Stops limits places (both (I.tells input.old) (O.tells output.old)) (both (I.tells input.new) (O.tells output.new))) }
 {
     let (log, pass) = match open_alone(alloc, limits, places) {
         Ok(opened) => opened,
@@ -107,12 +107,10 @@ pub fn serve_client<R: Wait, I: Input, O: Output>(
     output: &mut O,
 ) -> Result<(), Fault>
 
-    // From the bytes that came in to the bytes that went out.
-    ensures serves { OnOk result (Serves limits places (both (I.tells input.old) (O.tells output.old)) (both (I.tells input.new) (O.tells output.new))) }
-    ensures stops { IfErr result (λ fault. Stops limits places fault (both (I.tells input.old) (O.tells output.old)) (both (I.tells input.new) (O.tells output.new))) }
-
-    // Which fault comes when.
-    ensures failures { CountsFailures result (both (I.tells input.old) (O.tells output.old)) (both (I.tells input.new) (O.tells output.new)) }
+    // From the bytes that came in to the bytes that went out, and which fault comes when.
+    ensures outcome { MatchResult result
+        (λ _. Serves limits places (both (I.tells input.old) (O.tells output.old)) (both (I.tells input.new) (O.tells output.new)))
+        (Stops limits places (both (I.tells input.old) (O.tells output.old)) (both (I.tells input.new) (O.tells output.new))) }
 {
     serve_and_leave(rt, alloc, limits, places, Memory::Freed, input, output)
 }

@@ -1,7 +1,7 @@
 //! What the program over standard input does.
 ghost use Rattle.std.specs.Prelude.{◌≡◌, ◌⊎◌, map, string_bytes};
 ghost use Rattle.mc_programs.specs.Options.{EndsInFault, EndsWell, RefusesWords};
-ghost use Rattle.mc_programs.specs.Serving.{NeitherFails};
+ghost use Rattle.mc_conn.specs.Turn.{NeitherFails};
 ghost use Rattle.mc_stream.specs.Stream.{both};
 
 use crate::faults::{fail, tell_fault};

@@ -55,10 +55,10 @@ pub has_met : (one other later : Worker) → other.log.now ≡ one.log.now → C
 has_met one other later of is equal whole =
     let own = own_commands later whole in
     let counted : count (number_of later) (tickets_of later) ≡ count (number_of other) (tickets_of one) =
-    λ i. count (is.goes.same.1 i) (map (λ (seen : Sighting). seen.ticket) (sym equal i)) in
+    λ i. count (is.continues.same.1 i) (map (λ (seen : Sighting). seen.ticket) (sym equal i)) in
     record {
       log = of;
-      front = subst (λ history. BeginsWith history (history_of other)) (sym equal) is.goes.history;
+      front = subst (λ history. BeginsWith history (history_of other)) (sym equal) is.continues.history;
       commands = omega (arith, own, counted, same_count other later is);
     }
 
@@ -68,7 +68,7 @@ meets_still old one new other after step met = record {
   later = met.later;
   whole = met.whole;
   most = met.most;
-  front = begins_through (history_of new) (history_of one) (history_of after) step.goes.history met.front;
+  front = begins_through (history_of new) (history_of one) (history_of after) step.continues.history met.front;
 }
 
 pub one_more_met : (old one new : Worker) (others met : List Worker) (other after : Worker) → AllZip (Meets old one) others met → CatchesUp one new → Meets old new other after
@@ -84,7 +84,7 @@ pub meets : (old one new other after : Worker) → CatchesUp old one → Catches
 meets old one new other after before step later equal whole = record {
   later = later;
   whole = whole;
-  most = subst (λ history. BeginsWith history (history_of old)) equal (catches_through old one new before step).goes.history;
+  most = subst (λ history. BeginsWith history (history_of old)) equal (catches_through old one new before step).continues.history;
   front = subst (λ history. BeginsWith (history_of new) history) equal (begins_self (history_of new));
 }
 
@@ -107,7 +107,7 @@ all_of log old new [] (y ∷ ys) met of = absurd met
 all_of log old new (x ∷ xs) [] met of = absurd met
 all_of log old new (x ∷ xs) (y ∷ ys) met of =
     let P = λ (worker : Worker). worker.log.now ≡ log in
-    All-cons P y ys (ap (λ lent. lent.now) met.0.later.goes.log ∙ All-head P x xs of) (all_of log old new xs ys met.1 (All-tail P x xs of))
+    All-cons P y ys (ap (λ lent. lent.now) met.0.later.continues.log ∙ All-head P x xs of) (all_of log old new xs ys met.1 (All-tail P x xs of))
 
 -- A worker later on, which has replayed all that it has learned, has the same history as the one.
 pub record HasCome (one worker after : Worker) : Type 0 where
@@ -150,7 +150,7 @@ own_announced : (one worker after : Worker) (place : ℕ) (ticket : Ticket) → 
 own_announced one worker after place ticket come at whose =
     let same : tickets_of one ≡ (seat_of after).state.learned = ap (map (λ (seen : Sighting). seen.ticket)) come.equal ∙ tickets_learned after come.whole in
     let there = subst (λ (tickets : List Ticket). slice_get tickets place ≡ Some ticket) same at in
-    let below : ticket.number < (seat_of after).state.announced = after.pass.desk.law.own place ticket there (whose ∙ sym come.later.goes.same.1) in
+    let below : ticket.number < (seat_of after).state.announced = after.pass.desk.law.own place ticket there (whose ∙ sym come.later.continues.same.1) in
     let count : length (announced_of worker) ≡ (seat_of worker).state.announced = worker.pass.count in
     omega (arith, below, count, same_count worker after come.later)
 
@@ -175,7 +175,7 @@ was_announced one place ticket at first (x ∷ xs) (y ∷ ys) come numbers least
 pub have_met : (settings : Configuration) (log : Log) (workers after : List Worker) (first one : Worker) (number : ℕ) → AreWorkersOf settings log workers → Contains workers first
     → CatchesUp first one → IsUpToDate one → AllZip (HasCome one) workers after → length (history_of one) ≡ number → HaveMet workers number
 have_met settings log workers after first one number all among later whole come long =
-    let of_one : one.log.now ≡ log = ap (λ lent. lent.now) later.goes.log ∙ All-contains (λ (worker : Worker). worker.log.now ≡ log) workers first all.of among in
+    let of_one : one.log.now ≡ log = ap (λ lent. lent.now) later.continues.log ∙ All-contains (λ (worker : Worker). worker.log.now ≡ log) workers first all.of among in
     let size : (seat_of one).size.workers ≡ settings.workers =
     ap (λ (size : LogSize). size.workers) one.of.1 ∙ ap (λ (log : Log). log.settings.workers) of_one ∙ ap (λ (settings : Configuration). settings.workers) all.opened in
     record {

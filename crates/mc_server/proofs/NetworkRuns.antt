@@ -6,7 +6,7 @@ use Rattle.std.proofs.lemmas.Slice.Zip.{AllZip-long}
 use Rattle.std.specs.List.{AllZip}
 use Rattle.clap.specs.Faults.{fault_of}
 use Rattle.clap.specs.Walk.{Text}
-use Rattle.uc_worker.specs.Going.{GoesOn}
+use Rattle.uc_worker.specs.Going.{Continues}
 use Rattle.mc_model.specs.declared.fault.Fault.{Fault}
 use Rattle.mc_model.specs.declared.fault.Fault.TheVariants.{Memory, LogFull, Taken, Input, Output, BadEvent, BadSettings}
 use Rattle.mc_model.specs.Settings.{Configuration}
@@ -77,7 +77,7 @@ module _ (settings : Configuration) (log : Log) (workers : List Worker) (back : 
   stopped (Err fault) listening before now after ready stops = finishing_stops fault listening before now after ready stops
 
 -- the workers that come back are of the log, and as many
-back_of : (log : Log) (workers back : List Worker) → AllZip GoesOn workers back → AreOf log workers → AreOf log back
+back_of : (log : Log) (workers back : List Worker) → AllZip Continues workers back → AreOf log workers → AreOf log back
 back_of log [] [] onward of = of
 back_of log [] (y ∷ ys) onward of = absurd onward
 back_of log (x ∷ xs) [] onward of = absurd onward
@@ -85,23 +85,23 @@ back_of log (x ∷ xs) (y ∷ ys) onward of =
     let P = λ (worker : Worker). worker.log.now ≡ log in
     All-cons P y ys (ap (λ lent. lent.now) onward.0.log ∙ All-head P x xs of) (back_of log xs ys onward.1 (All-tail P x xs of))
 
-pub back_numbers : (workers back : List Worker) → AllZip GoesOn workers back → map number_of back ≡ map number_of workers
+pub back_numbers : (workers back : List Worker) → AllZip Continues workers back → map number_of back ≡ map number_of workers
 back_numbers [] [] onward = refl
 back_numbers [] (y ∷ ys) onward = absurd onward
 back_numbers (x ∷ xs) [] onward = absurd onward
 back_numbers (x ∷ xs) (y ∷ ys) onward = let rest = back_numbers xs ys onward.1 in λ i. onward.0.same.1 i ∷ rest i
 
 -- so they are all workers of the log, and have served
-pub are_workers : (settings : Configuration) (log : Log) (workers back : List Worker) → AllZip GoesOn workers back → log.settings ≡ settings → AreOf log workers
+pub are_workers : (settings : Configuration) (log : Log) (workers back : List Worker) → AllZip Continues workers back → log.settings ≡ settings → AreOf log workers
     → length workers ≡ settings.workers → CountsFrom 0 (map number_of workers) → AreWorkersOf settings log back
 are_workers settings log workers back onward opened of many numbers = record {
   opened = opened;
   of = back_of log workers back onward of;
-  many = omega (arith, AllZip-long GoesOn workers back onward, many);
+  many = omega (arith, AllZip-long Continues workers back onward, many);
   numbers = subst (CountsFrom 0) (sym (back_numbers workers back onward)) numbers;
 }
 
-pub have_served : (settings : Configuration) (log : Log) (workers : List Worker) (back : List Returned) → AllZip GoesOn workers (map worker_of back) → log.settings ≡ settings
+pub have_served : (settings : Configuration) (log : Log) (workers : List Worker) (back : List Returned) → AllZip Continues workers (map worker_of back) → log.settings ≡ settings
     → AreOf log workers → length workers ≡ settings.workers → CountsFrom 0 (map number_of workers) → All HasDoneNothing workers → All HasAnswered back
     → AllZip HasBeenAsked workers back → HaveServed settings log back
 have_served settings log workers back onward opened of many numbers new answered asked = record {

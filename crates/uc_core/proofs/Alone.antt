@@ -47,10 +47,10 @@ looked_goes_on : (phase : Phase) → phase ≡ Looked → phase ≢ Stopped
 looked_goes_on phase is same = cc
 
 -- the worker of an event hasn't stopped
-abbrev GoesOn : CoreState → Event → Type 0
-GoesOn core event = (worker : WorkerState) × IsWorker core.shown (actor event) worker × (worker.phase ≢ Stopped)
+abbrev Continues : CoreState → Event → Type 0
+Continues core event = (worker : WorkerState) × IsWorker core.shown (actor event) worker × (worker.phase ≢ Stopped)
 
-goes_on : (core : CoreState) (event : Event) (new : CoreState) (reply : Option Reply) → CoreStep core event new reply → GoesOn core event
+goes_on : (core : CoreState) (event : Event) (new : CoreState) (reply : Option Reply) → CoreStep core event new reply → Continues core event
 goes_on core (Announce number tenant command) new reply step = (step.1.0, step.1.1, idle_goes_on step.1.0.phase step.1.2)
 goes_on core (Read number) new reply step =
     (step.0.0, step.0.1, ⊎_elim (idle_goes_on step.0.0.phase) (pending_goes_on step.0.0.phase) step.0.2)

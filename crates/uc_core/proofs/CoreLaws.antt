@@ -115,12 +115,12 @@ module _ (old : CoreState) (law : CoreLaw old) (shown : ShownState) (lists : Lis
       }
 
 -- what holds of the next state
-abbrev GoesOn : CoreState → CoreState → Type 0
-GoesOn old new = CoreLaw new × Grows old new
+abbrev Continues : CoreState → CoreState → Type 0
+Continues old new = CoreLaw new × Grows old new
 
 -- reading, looking, proposing and stopping announce nothing
 quiet-goes_on : (old : CoreState) (shown : ShownState) (event : ShownEvent) → CoreLaw old →
-    Step (size_of old) old.shown event shown → IsQuiet old.shown shown → GoesOn old (record old { shown = shown })
+    Step (size_of old) old.shown event shown → IsQuiet old.shown shown → Continues old (record old { shown = shown })
 quiet-goes_on old shown event law step quiet =
     let keeps : KeepsEntries old (record old { shown = shown }) = λ ticket entry at. at in (
       shown-keeps old law shown old.entries event step quiet.0 keeps refl (entries_stay old (record old { shown = shown }) law.entries refl refl quiet.1),
@@ -139,7 +139,7 @@ module _ (old : CoreState) (number tenant : ℕ) (command : Command) (worker : W
   abbrev shown : ShownState
   shown = with_worker old.shown number (announce worker)
 
-  announce-goes_on : Step (size_of old) old.shown (announces number) shown → GoesOn old announced
+  announce-goes_on : Step (size_of old) old.shown (announces number) shown → Continues old announced
   announce-goes_on step =
       let list = there old.entries number (omega (arith, law.listed, slice_get_within old.shown.workers number worker at)) in
       let moves = one_moves old.shown old.shown.decided number worker (announce worker) at (begins_self old.shown.decided) (le_refl (length worker.learned)) in
@@ -166,7 +166,7 @@ module _ (old : CoreState) (number : ℕ) (worker : WorkerState) (replay : Repla
       replay_stays old replayed found found known (law.replays other found known is) refl (begins_self (log_of old))
       (learned_in_log old law other found is.0) (le_refl (length found.learned))
 
-  replay-goes_on : replay.replayed < length worker.learned → TakeEffect (entry_at old replay.replayed) replay.tables tables → GoesOn old replayed
+  replay-goes_on : replay.replayed < length worker.learned → TakeEffect (entry_at old replay.replayed) replay.tables tables → Continues old replayed
   replay-goes_on more takes =
       let inside : replay.replayed < length old.shown.decided = omega (arith, more, learned_few (size_of old) old.shown number worker law.sound has.0) in
       let mine : ReplayLaw replayed worker further = replay_more replayed worker replay tables (stays_replayed number worker replay has) more inside takes in (
@@ -187,21 +187,21 @@ module _ (old : CoreState) (number : ℕ) (worker : WorkerState) (replay : Repla
       )
 
 -- one event
-goes_on : (old new : CoreState) (event : Event) (reply : Option Reply) → CoreLaw old → CoreStep old event new reply → GoesOn old new
+goes_on : (old new : CoreState) (event : Event) (reply : Option Reply) → CoreLaw old → CoreStep old event new reply → Continues old new
 goes_on old new (Announce number tenant command) reply law step =
     let entry = announced_entry old number tenant command in
-    subst (GoesOn old) (sym step.2) (subst (λ s. GoesOn old (record old { shown = s; entries = with_entry old.entries entry })) (sym step.1.4)
+    subst (Continues old) (sym step.2) (subst (λ s. Continues old (record old { shown = s; entries = with_entry old.entries entry })) (sym step.1.4)
     (announce-goes_on old number tenant command step.1.0 law step.0 step.1.1 (step.1.0, step.1.1, step.1.2, step.1.3, refl)))
 goes_on old new (Read number) reply law step =
-    subst (GoesOn old) (sym step.1) (quiet-goes_on old new.shown (reads number) law step.0 (reads_quietly (size_of old) old.shown new.shown number step.0))
+    subst (Continues old) (sym step.1) (quiet-goes_on old new.shown (reads number) law step.0 (reads_quietly (size_of old) old.shown new.shown number step.0))
 goes_on old new (Look number) reply law step =
-    subst (GoesOn old) (sym step.1) (quiet-goes_on old new.shown (looks number) law step.0 (looks_quietly (size_of old) old.shown new.shown number step.0))
+    subst (Continues old) (sym step.1) (quiet-goes_on old new.shown (looks number) law step.0 (looks_quietly (size_of old) old.shown new.shown number step.0))
 goes_on old new (Propose number) reply law step =
-    subst (GoesOn old) (sym step.1) (quiet-goes_on old new.shown (proposes number) law step.0 (proposes_quietly (size_of old) old.shown new.shown number step.0))
+    subst (Continues old) (sym step.1) (quiet-goes_on old new.shown (proposes number) law step.0 (proposes_quietly (size_of old) old.shown new.shown number step.0))
 goes_on old new (Stop number) reply law step =
-    subst (GoesOn old) (sym step.1) (quiet-goes_on old new.shown (stops number) law step.0 (stops_quietly (size_of old) old.shown new.shown number step.0))
+    subst (Continues old) (sym step.1) (quiet-goes_on old new.shown (stops number) law step.0 (stops_quietly (size_of old) old.shown new.shown number step.0))
 goes_on old new (Replay number) reply law step =
-    subst (GoesOn old) (sym step.8) (replay-goes_on old number step.0 step.3 step.6 law (step.1, step.4) step.5 step.7)
+    subst (Continues old) (sym step.8) (replay-goes_on old number step.0 step.3 step.6 law (step.1, step.4) step.5 step.7)
 
 pub keeps : (old new : CoreState) (event : Event) (reply : Option Reply) → CoreLaw old → CoreStep old event new reply → CoreLaw new
 keeps old new event reply law step = (goes_on old new event reply law step).0

@@ -13,7 +13,7 @@ use Rattle.uc_worker.specs.Steps.{IsSame}
 use Rattle.uc_worker.specs.Worker.{announced_of, history_of, next_of, openings_of, seat_of}
 
 -- the same worker of the same log over the same tables, later on: what it has replayed, announced and learned stays
-pub record GoesOn (old new : Worker) : Type 0 where
+pub record Continues (old new : Worker) : Type 0 where
   pub log : new.log ≡ old.log
   pub openings : openings_of new ≡ openings_of old
   pub same : IsSame (seat_of old) (seat_of new)
@@ -23,7 +23,7 @@ pub record GoesOn (old new : Worker) : Type 0 where
 
 -- later on, and it has announced nothing meanwhile
 pub record CatchesUp (old new : Worker) : Type 0 where
-  pub goes : GoesOn old new
+  pub continues : Continues old new
   pub announced : announced_of new ≡ announced_of old
 
 -- it has replayed more, and taken no step

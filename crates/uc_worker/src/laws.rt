@@ -1,11 +1,11 @@
 //! What follows from the definitions. A law is the contract of a function with an empty body.
-ghost use Rattle.uc_worker.specs.Going.{CatchesUp, GoesOn};
+ghost use Rattle.uc_worker.specs.Going.{CatchesUp, Continues};
 ghost use Rattle.uc_worker.specs.declared.worker.Worker.{Worker};
 
 /// A worker goes on from itself, and from call to call; so does one that announces nothing meanwhile.
 pub fn workers_go_on()
-    ensures same { (worker : Worker) → GoesOn worker worker }
-    ensures through { (first second third : Worker) → GoesOn first second → GoesOn second third → GoesOn first third }
+    ensures same { (worker : Worker) → Continues worker worker }
+    ensures through { (first second third : Worker) → Continues first second → Continues second third → Continues first third }
     ensures quietly { (worker : Worker) → CatchesUp worker worker }
     ensures quietly_through { (first second third : Worker) → CatchesUp first second → CatchesUp second third → CatchesUp first third }
 {}

@@ -2,7 +2,7 @@
 ghost use Rattle.std.specs.Prelude.{◌≡◌, ◌⊎◌, ◌<◌, length, Err, IfOk, IfErr, IsOk, OnErr, OnOk};
 ghost use Rattle.mc_model.specs.declared.fault.Fault.TheVariants as faults;
 ghost use Rattle.mc_model.specs.declared.shown.Phase.TheVariants as phase;
-ghost use Rattle.uc_worker.specs.Going.{AnnouncesAtMost, CatchesUp, GoesOn, Submits};
+ghost use Rattle.uc_worker.specs.Going.{AnnouncesAtMost, CatchesUp, Continues, Submits};
 ghost use Rattle.uc_worker.specs.Steps.{Leaves};
 ghost use Rattle.uc_worker.specs.Worker.{IsFull, IsSpent, IsUpToDate, openings_of, seat_of, tenants_of};
 
@@ -39,7 +39,7 @@ impl<'a> Worker<'a> {
     ) -> Result<Answer, Fault>
         requires idle { (seat_of self.old).state.phase ≡ phase.Idle }
         requires tenant { tenant < length (openings_of self.old) }
-        ensures goes { GoesOn self.old self.new }
+        ensures continues { Continues self.old self.new }
         ensures submits { IfOk result (λ answer. Submits self.old self.new tenant command answer) }
         ensures kept { OnErr result (AnnouncesAtMost self.old self.new tenant command) }
         ensures faults { IfErr result (λ fault. Leaves fault (seat_of self.old) (seat_of self.new)) }
@@ -66,7 +66,7 @@ impl<'a> Worker<'a> {
         gate: &mut G,
     ) -> Result<Answer, Fault>
         requires { tenant < length (tenants_of self.old) }
-        ensures goes { GoesOn self.old self.new }
+        ensures continues { Continues self.old self.new }
         ensures submits { IfOk result (λ answer. Submits self.old self.new tenant command answer) }
         ensures kept { OnErr result (AnnouncesAtMost self.old self.new tenant command) }
         // What a fault leaves.

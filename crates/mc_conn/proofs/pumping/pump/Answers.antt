@@ -7,38 +7,40 @@ use Rattle.mc_conn.proofs.pumping.pump.Goals as goal
 pub loop-init : goal.loop-init
 loop-init g c = record { begun = c.if-conn.false; going = c.if-conn.false; takes = takes_self _; late = inl refl }
 
-pub returns-in_err-turn-clause-stops : goal.returns-in_err-turn-clause-stops
-returns-in_err-turn-clause-stops g c =
+pub returns-in_err-turn-clause-outcome : goal.returns-in_err-turn-clause-outcome
+returns-in_err-turn-clause-outcome g c =
     let out = err_from_is_err_and c.from_residual.result c.from_residual.ensures.1 in
-    rw (out.1, out.2) (stops_later c.in_err-turn.field-0.0 _ _ _ c.loop.invariant.takes c.in_err-turn.ensures.stops)
+    rw (out.1, out.2) (λ begun. stops_later c.in_err-turn.field-0.0 _ _ _ c.loop.invariant.takes (c.in_err-turn.ensures.outcome c.loop.invariant.going))
 
-pub returns-in-Closed-clause-serves : goal.returns-in-Closed-clause-serves
-returns-in-Closed-clause-serves g c begun = serves _ _ _ _ c.loop.invariant.takes (c.in_ok-turn.ensures.turns c.loop.invariant.going) c.in-Closed.is
+pub returns-in-Closed-clause-outcome : goal.returns-in-Closed-clause-outcome
+returns-in-Closed-clause-outcome g c begun = serves _ _ _ _ c.loop.invariant.takes (c.in_ok-turn.ensures.outcome c.loop.invariant.going) c.in-Closed.is
 
 pub loop-preserved-in-Idle : goal.loop-preserved-in-Idle
-loop-preserved-in-Idle g c = record {
-  begun = c.loop.invariant.begun;
-  going = c.in_ok-turn.ensures.shut ∙ c.loop.invariant.going;
-  takes = takes_trans _ _ _ c.loop.invariant.takes (c.in_ok-turn.ensures.turns c.loop.invariant.going).takes;
-  late = late_later _ _ _ c.loop.invariant.takes c.loop.invariant.late c.turn.ensures.late _ (c.in_ok-turn.ensures.turns c.loop.invariant.going).takes.pushed
-      (c.in_ok-turn.ensures.turns c.loop.invariant.going).takes.waited;
-}
+loop-preserved-in-Idle g c =
+    let takes = (c.in_ok-turn.ensures.outcome c.loop.invariant.going).takes in
+    record {
+      begun = c.loop.invariant.begun;
+      going = takes.shut ∙ c.loop.invariant.going;
+      takes = takes_trans _ _ _ c.loop.invariant.takes takes;
+      late = late_later _ _ _ c.loop.invariant.takes c.loop.invariant.late c.turn.ensures.pulls.late _ takes.taken.pushed takes.taken.waited;
+    }
 
 pub loop-preserved : goal.loop-preserved
-loop-preserved g c = record {
-  begun = c.loop.invariant.begun;
-  going = c.in_ok-turn.ensures.shut ∙ c.loop.invariant.going;
-  takes = takes_trans _ _ _ c.loop.invariant.takes (c.in_ok-turn.ensures.turns c.loop.invariant.going).takes;
-  late = late_later _ _ _ c.loop.invariant.takes c.loop.invariant.late c.turn.ensures.late _ (c.in_ok-turn.ensures.turns c.loop.invariant.going).takes.pushed
-      (c.in_ok-turn.ensures.turns c.loop.invariant.going).takes.waited;
-}
+loop-preserved g c =
+    let takes = (c.in_ok-turn.ensures.outcome c.loop.invariant.going).takes in
+    record {
+      begun = c.loop.invariant.begun;
+      going = takes.shut ∙ c.loop.invariant.going;
+      takes = takes_trans _ _ _ c.loop.invariant.takes takes;
+      late = late_later _ _ _ c.loop.invariant.takes c.loop.invariant.late c.turn.ensures.pulls.late _ takes.taken.pushed takes.taken.waited;
+    }
 
 pub returns-in_err-turn-clause-late : goal.returns-in_err-turn-clause-late
 returns-in_err-turn-clause-late g c =
-    let more = stops_push c.in_err-turn.field-0.0 _ _ c.in_err-turn.ensures.stops in
-    late_later _ _ _ c.loop.invariant.takes c.loop.invariant.late c.turn.ensures.late more.0 more.1 more.2
+    let more = stops_push c.in_err-turn.field-0.0 _ _ (c.in_err-turn.ensures.outcome c.loop.invariant.going) in
+    late_later _ _ _ c.loop.invariant.takes c.loop.invariant.late c.turn.ensures.pulls.late more.0 more.1 more.2
 
 pub returns-in-Closed-clause-late : goal.returns-in-Closed-clause-late
 returns-in-Closed-clause-late g c =
-    late_later _ _ _ c.loop.invariant.takes c.loop.invariant.late c.turn.ensures.late _ (c.in_ok-turn.ensures.turns c.loop.invariant.going).takes.pushed
-    (c.in_ok-turn.ensures.turns c.loop.invariant.going).takes.waited
+    let taken = (c.in_ok-turn.ensures.outcome c.loop.invariant.going).takes.taken in
+    late_later _ _ _ c.loop.invariant.takes c.loop.invariant.late c.turn.ensures.pulls.late _ taken.pushed taken.waited

@@ -61,10 +61,10 @@ pub returns-clause-fails : goal.returns-clause-fails
 returns-clause-fails g c =
     λ one.
     let in_range = rw (c.in-Ok.ensures.places, c.in-Ok.ensures.limits) at c.is_in_range.ensures.0 c.if-not-is_in_range.false in
-    let stops = rw (c.in-Ok.ensures.places, c.in-Ok.ensures.limits) at c.in-Err-serve_and_leave.ensures.stops in
+    let stops = rw (c.in-Ok.ensures.places, c.in-Ok.ensures.limits) at c.in-Err-serve_and_leave.ensures.outcome in
     inl (subst
     (λ (words : List (String Global)). AsksInRange (map string_bytes words)
     × Fails (limits_asked (map string_bytes words)) (places_asked (map string_bytes words)) (both (g.I.Input.tells c.args.input.now) (g.O.Output.tells c.args.output.now)) (both (g.I.Input.tells c.serve_and_leave.new.input) (g.O.Output.tells c.serve_and_leave.new.output))
     (g.E.Output.tells c.args.errors.now) (g.E.Output.tells c.fail.new.errors))
     c.deref.ensures.value
-    ((c.in-Ok.ensures.kinds, in_range), record { fault = c.in-Err-serve_and_leave.fault; counts = c.in-Err-serve_and_leave.ensures.failures; stops = stops; told = c.fail.ensures.told }))
+    ((c.in-Ok.ensures.kinds, in_range), record { fault = c.in-Err-serve_and_leave.fault; stops = stops; told = c.fail.ensures.told }))

@@ -18,7 +18,7 @@ loop-last-init c =
       later = catches_self c.catch_up.new.self;
       whole = c.in_ok-catch_up.ensures.all;
       of = All-weaker (λ (worker : Worker). worker.log.now ≡ log) (λ (worker : Worker). worker.log.now ≡ c.catch_up.new.self.log.now)
-          (λ worker of. of ∙ (sym both.1 ∙ ap (λ lent. lent.now) (sym c.catch_up.ensures.catches.goes.log))) c.pop.new.self.items both.0;
+          (λ worker of. of ∙ (sym both.1 ∙ ap (λ lent. lent.now) (sym c.catch_up.ensures.catches.continues.log))) c.pop.new.self.items both.0;
       others = all_later_self c.pop.new.self.items;
     }
 
@@ -33,7 +33,7 @@ loop-last-preserved c =
       whole = c.in_ok-others.ensures.whole;
       of = all_of log c.loop-last.last c.meet_others.new.one c.loop-last.others.items c.in_ok-others.others.items met
           (All-weaker (λ (worker : Worker). worker.log.now ≡ c.loop-last.last.log.now) (λ (worker : Worker). worker.log.now ≡ log)
-          (λ worker of. of ∙ ap (λ lent. lent.now) (sym later.goes.log)) c.loop-last.others.items before.of);
+          (λ worker of. of ∙ ap (λ lent. lent.now) (sym later.continues.log)) c.loop-last.others.items before.of);
       others = all_later_on c.loop-last.last c.meet_others.new.one _ c.loop-last.others.items c.in_ok-others.others.items before.others met;
     }
 

@@ -32,7 +32,7 @@ loop-other-preserved c =
     let equal = c.in_ok-meet.ensures.equal in
     let all = c.in_ok-meet.ensures.all in
     let whole : IsUpToDate c.meet.new.other = sym (ap (length {A = Sighting}) equal) ∙ (all.0 ∙ ap (length {A = Ticket}) all.1) in
-    let same = ap (λ log. log.now) (sym step.goes.log) in
+    let same = ap (λ log. log.now) (sym step.continues.log) in
     let left = All-rest (λ (other : Worker). other.log.now ≡ c.loop-other.one.log.now) c.in-Some.other _ _ c.in-Some.ensures.steps.0 before.left in
     let now : Meets c.args.one.now c.meet.new.self c.in-Some.other c.meet.new.other = meets _ _ _ _ _ before.later step others equal whole in
     let done = before.met.0 in

@@ -3,7 +3,7 @@ use Rattle.std.specs.List.{AllZip}
 use Rattle.std.proofs.lemmas.List.{length-map}
 use Rattle.std.proofs.lemmas.Result.{err_from_is_err_and}
 use Rattle.std.proofs.lemmas.Slice.Zip.{AllZip-long}
-use Rattle.uc_worker.specs.Going.{GoesOn}
+use Rattle.uc_worker.specs.Going.{Continues}
 use Rattle.mc_model.specs.Settings.{Configuration}
 use Rattle.mc_server.proofs.NetworkRuns.{announcing_stops, are_tenants, are_workers, have_served, served, stopped}
 use Rattle.mc_server.specs.Network.{AreWorkersOf, IsReady, StopsAnnouncing}
@@ -38,9 +38,9 @@ finish-requires-clause-all g c =
 
 pub finish-requires-clause-some : goal.finish-requires-clause-some
 finish-requires-clause-some g c =
-    let onward = subst (AllZip GoesOn c.in_ok-workers.workers.items) (sym c.in_ok-workers-2.ensures) c.in_ok-back.ensures.back in
+    let onward = subst (AllZip Continues c.in_ok-workers.workers.items) (sym c.in_ok-workers-2.ensures) c.in_ok-back.ensures.back in
     let workers = ap (λ (settings : Configuration). settings.workers) c.requires.settings in
-    omega (arith, AllZip-long GoesOn _ _ onward, c.in_ok-workers.ensures.count, c.in_ok-log.ensures.count, workers, c.requires.servable.lawful.workers.0)
+    omega (arith, AllZip-long Continues _ _ onward, c.in_ok-workers.ensures.count, c.in_ok-log.ensures.count, workers, c.requires.servable.lawful.workers.0)
 
 pub returns-clause-serves : goal.returns-clause-serves
 returns-clause-serves g c =

@@ -13,4 +13,4 @@ pub loop-other-preserved : goal.loop-other-preserved
 loop-other-preserved c =
     let AreOf : Log → Type 0 = λ log. All (λ (worker : Worker). worker.log.now ≡ log) c.next.new.self.rest.items in
     let left = All-rest (λ (worker : Worker). worker.log.now ≡ c.loop-other.one.log.now) c.in-Some.other _ _ c.in-Some.ensures.steps.0 c.loop-other.invariant in
-    subst AreOf (ap (λ log. log.now) (sym c.meet.ensures.one.goes.log)) left
+    subst AreOf (ap (λ log. log.now) (sym c.meet.ensures.one.continues.log)) left

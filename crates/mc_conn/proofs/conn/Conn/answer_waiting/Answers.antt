@@ -5,13 +5,13 @@ use Rattle.mc_conn.proofs.Readings.{read_answered, read_same}
 use Rattle.mc_conn.proofs.Takings.{does_looked, does_responded}
 use Rattle.mc_conn.proofs.conn.Conn.answer_waiting.Goals as goal
 
-pub returns-in_ok-respond-in-Some-clause-does : goal.returns-in_ok-respond-in-Some-clause-does
-returns-in_ok-respond-in-Some-clause-does g c streams =
+pub returns-in_ok-respond-in-Some-clause-outcome : goal.returns-in_ok-respond-in-Some-clause-outcome
+returns-in_ok-respond-in-Some-clause-outcome g c streams =
     let value = c.take.ensures.value in
     let is = c.in-Some.is in
     let old : c.args.self.now.waiting ≡ Some c.in-Some.request = cc in
-    does_responded c.args.self.now _ _ _ streams c.in-Some.request (read_answered c.args.self.now.waiting c.take.new.self c.args.self.now.reader.held c.in-Some.request old c.take.ensures.after) refl refl
-    (ap (λ ends. c.args.self.now.is_over || ends) c.ends_stream-ends.ensures) c.respond.ensures.onward c.in_ok-respond-in-Some.ensures.responds
+    does_responded c.args.self.now _ _ _ streams c.in-Some.request (read_answered c.args.self.now.waiting c.take.new.self c.args.self.now.reader.held c.in-Some.request old c.take.ensures.after) refl refl refl
+    (ap (λ ends. c.args.self.now.is_over || ends) c.ends_stream-ends.ensures) c.respond.ensures.onward c.in_ok-respond-in-Some.ensures.outcome
 
 pub returns-in_ok-respond-in-Some-clause-read : goal.returns-in_ok-respond-in-Some-clause-read
 returns-in_ok-respond-in-Some-clause-read g c =
@@ -20,21 +20,22 @@ returns-in_ok-respond-in-Some-clause-read g c =
     let old : c.args.self.now.waiting ≡ Some c.in-Some.request = cc in
     (c.in-Some.request, read_answered c.args.self.now.waiting c.take.new.self c.args.self.now.reader.held c.in-Some.request old c.take.ensures.after)
 
-pub returns-in_err-respond-in-Some-clause-breaks : goal.returns-in_err-respond-in-Some-clause-breaks
-returns-in_err-respond-in-Some-clause-breaks g c =
+pub returns-in_err-respond-in-Some-clause-outcome : goal.returns-in_err-respond-in-Some-clause-outcome
+returns-in_err-respond-in-Some-clause-outcome g c =
     let value = c.take.ensures.value in
     let is = c.in-Some.is in
     let old : c.args.self.now.waiting ≡ Some c.in-Some.request = cc in
     let out = err_from_is_err_and c.from_residual.result c.from_residual.ensures.1 in
-    let said = c.in_err-respond-in-Some.ensures in
     rw (out.1, out.2) (λ streams.
-    breaks_taking c.in_err-respond-in-Some.field-0.0 c.args.self.now _ _ _ streams c.in-Some.request said.faults
-    (read_answered c.args.self.now.waiting c.take.new.self c.args.self.now.reader.held c.in-Some.request old c.take.ensures.after) refl said.unchanged c.respond.ensures.onward said.announced)
+    breaks_taking c.in_err-respond-in-Some.field-0.0 c.args.self.now _ _ _ streams c.in-Some.request
+    (read_answered c.args.self.now.waiting c.take.new.self c.args.self.now.reader.held c.in-Some.request old c.take.ensures.after) refl c.respond.ensures.onward
+    c.in_err-respond-in-Some.ensures.outcome)
 
-pub returns-in-None-clause-does : goal.returns-in-None-clause-does
-returns-in-None-clause-does g c streams =
+pub returns-in-None-clause-outcome : goal.returns-in-None-clause-outcome
+returns-in-None-clause-outcome g c streams =
     let value = c.take.ensures.value in
     let is = c.in-None.is in
     let after = c.take.ensures.after in
     let same : c.take.new.self ≡ c.args.self.now.waiting = cc in
-    does_looked c.args.self.now _ _ streams (read_same c.args.self.now.waiting c.take.new.self c.args.self.now.reader.held same) refl refl refl refl
+    does_looked c.args.self.now _ _ streams (read_same c.args.self.now.waiting c.take.new.self c.args.self.now.reader.held same)
+    (record { tenant = refl; has_ended = refl; is_closed = refl; queue = refl; over = refl })

@@ -1,6 +1,5 @@
 use Rattle.mc_stream.specs.Stream.{Streams}
-use Rattle.uc_worker.specs.Going.{GoesOn}
-use Rattle.mc_conn.specs.Parts.{Does, IsSameBeside}
+use Rattle.mc_conn.specs.Parts.{Does, Keeps}
 use Rattle.mc_conn.specs.Turn.{holding_of, scene}
 use Rattle.mc_conn.proofs.Readings.{requests_held}
 use Rattle.mc_conn.proofs.conn.Conn.take.Given as goal
@@ -9,8 +8,7 @@ use Rattle.mc_conn.proofs.conn.Conn.take.Given as goal
 abbrev pub invariant-loop-did : goal.invariant-loop-did
 invariant-loop-did g l = record {
   does : (streams : Streams) → Does (scene l.fn.self l.fn.worker streams) (scene l.self l.worker streams) l.did;
-  same : IsSameBeside l.fn.self l.self;
-  onward : GoesOn l.fn.worker l.worker;
+  keeps : Keeps l.fn.self l.self l.fn.worker l.worker;
 }
 
 abbrev pub decreases-loop-did : goal.decreases-loop-did

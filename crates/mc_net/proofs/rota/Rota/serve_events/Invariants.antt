@@ -1,6 +1,6 @@
 -- The worker has gone onward and worked, and the table is for its log's tenants still.
 use Rattle.std.proofs.Common.{◌≡◌, length}
-use Rattle.uc_worker.specs.Going.{GoesOn}
+use Rattle.uc_worker.specs.Going.{Continues}
 use Rattle.mc_net.specs.Working.{Works, standing}
 use Rattle.uc_worker.specs.Worker.{tenants_of}
 use Rattle.mc_net.proofs.rota.Rota.serve_events.Given as goal
@@ -11,6 +11,6 @@ invariant-loop-event g l = record {
   finite : (goal.iterator-loop-event g).is_finite l.event-iterator;
   tenants : l.self.table.tenants ≡ l.fn.self.table.tenants;
   known : l.self.table.tenants ≡ length (tenants_of l.worker);
-  onward : GoesOn l.fn.worker l.worker;
+  onward : Continues l.fn.worker l.worker;
   works : Works (standing l.fn.worker l.fn.self.table) (standing l.worker l.self.table);
 }

@@ -10,8 +10,8 @@ use Rattle.uc_worker.proofs.Lists.{begins_same, begins_self}
 use Rattle.uc_worker.proofs.Replies.{last_is}
 use Rattle.uc_worker.proofs.worker.Worker.answer_new.Goals as goal
 
-pub returns-in_err-decide_new-clause-goes : goal.returns-in_err-decide_new-clause-goes
-returns-in_err-decide_new-clause-goes g c = record {
+pub returns-in_err-decide_new-clause-continues : goal.returns-in_err-decide_new-clause-continues
+returns-in_err-decide_new-clause-continues g c = record {
   log = refl;
   openings = refl;
   same = c.decide_new.ensures.same;

@@ -1,6 +1,5 @@
 -- The places before this one are replayed.
 use Rattle.std.proofs.Common.{◌≡◌, length}
-use Rattle.mc_model.specs.Helping.{BeginsWith}
 use Rattle.uc_worker.specs.Going.{ReplaysMore}
 use Rattle.uc_worker.proofs.worker.Worker.replay_to.Given as goal
 

@@ -1,5 +1,5 @@
 -- There is a table for each tenant's quotas.
-use Rattle.std.proofs.Common.{List, length, sym, ap, ◌∙◌, subst, ◌<◌, ℕ}
+use Rattle.std.proofs.Common.{sym, ◌∙◌, subst, ◌<◌, ℕ}
 use Rattle.mc_model.specs.Replay.{EachStands-length}
 use Rattle.uc_cells.specs.Sighting.{entries}
 use Rattle.uc_worker.proofs.worker.Worker.table.Goals as goal
