@@ -1,4 +1,4 @@
--- For whom a worker has announced its commands, while its connections stand in a table and once they have ended.
+-- For whom a worker has announced its commands, while its connections stand among those of a worker and once they have ended.
 use Rattle.std.proofs.Common.{◌≡◌, ◌≢◌, ◌⊎◌, ℕ, zero, suc, ◌+◌, ◌<◌, ◌≤◌, false, true, List, [], ◌∷◌, ◌++◌, length, slice_get, Option, Some, None, arith, refl, sym, ap, subst, ◌∙◌, inl, inr, ⊎_elim, append_assoc, append-nil, length-append}
 use Rattle.std.specs.List.{AllZip}
 use Rattle.std.proofs.lemmas.Option.{none-some, same_Some, slice_get_within}
@@ -16,12 +16,12 @@ use Rattle.mc_model.specs.declared.fault.Fault.{Fault}
 use Rattle.mc_model.specs.declared.request.Request.{Request}
 use Rattle.mc_net.specs.Asking.{HasBeenAsked, WasAsked}
 use Rattle.mc_net.specs.Life.{came_of}
-use Rattle.mc_net.specs.Serving.{Becomes, IsFresh, IsLater, connection_at, scene_of}
-use Rattle.mc_net.specs.Working.{HasServed, IsNew, ServesOne, Standing, TakesIn, Works, begins, goes_on, standing}
-use Rattle.mc_net.specs.declared.door.Arrival.{Arrival}
-use Rattle.mc_net.specs.declared.past.Past.{Past}
-use Rattle.mc_net.specs.declared.seat.Returned.{Returned}
-use Rattle.mc_net.specs.declared.table.Connection.{Connection}
+use Rattle.mc_net.specs.Serving.{Becomes, IsNewConnection, IsServedLater, connection_at, scene_of}
+use Rattle.mc_net.specs.Working.{HasServed, IsUnused, ServesOne, Standing, TakesIn, Works, begins, goes_on, standing}
+use Rattle.mc_net.specs.declared.listener.Arrival.{Arrival}
+use Rattle.mc_net.specs.declared.ended.Ended.{Ended}
+use Rattle.mc_net.specs.declared.worker_thread.Returned.{Returned}
+use Rattle.mc_net.specs.declared.connections.Connection.{Connection}
 use Rattle.mc_net.proofs.Lives.{IsSound, nothing_at, reads_from_earlier, same_key, sound_first, sound_working}
 use Rattle.mc_net.proofs.Numbers.{IsAt, Numbers, met_numbers, owed_numbers, taken_numbers}
 use Rattle.mc_read.specs.Reading.{ReadsAs}
@@ -69,7 +69,7 @@ abbrev view : Worker → (ℕ → Option Connection) → List Connection → Vie
 view worker live ended = record { worker = worker; live = live; ended = ended }
 
 abbrev view_of : Standing → View
-view_of standing = view standing.worker (connection_at standing.table) standing.table.past.ended
+view_of standing = view standing.worker (connection_at standing.connections) standing.connections.ended.connections
 
 -- all that came of a connection reads as these requests at first, and then, where no fault has closed it, as what it holds
 abbrev HasTaken : Connection → List Request → Type 0
@@ -157,7 +157,7 @@ module _ (before after : Worker) (old new : Connection) (taken : List Request) (
   step_stopping : (fault : Fault) → Stops (scene_of old before) (scene_of new after) fault → Step before after old new taken
   step_stopping fault stops = step_breaking fault stops.told_from stops.shut stops.breaks
 
-step_later : (before after : Worker) (old new : Connection) (state : State) (taken : List Request) → IsLater before after old new state →
+step_later : (before after : Worker) (old new : Connection) (state : State) (taken : List Request) → IsServedLater before after old new state →
     old.conn.is_closed ≡ false → HasTaken old taken → Step before after old new taken
 step_later before after old new state taken later opened had =
     ⊎_elim
@@ -426,7 +426,7 @@ module _ (from : ℕ) (v : View) (asking : Asking from v) (key : ℕ) (fresh : C
     in_order = asking.in_order;
   }
 
-fresh_taken : (connection : Connection) (arrival : Arrival _) → IsFresh connection arrival → HasTaken connection []
+fresh_taken : (connection : Connection) (arrival : Arrival _) → IsNewConnection connection arrival → HasTaken connection []
 fresh_taken connection arrival fresh more all reads = (
   all,
   refl,
@@ -451,24 +451,24 @@ changed_live live now key slot changed others other =
 asking_taking : (from : ℕ) (before after : Standing) → Asking from (view_of before) → TakesIn before after → Asking from (view_of after)
 asking_taking from before after asking taken =
     let fresh = taken.admits.connection in
-    let now = connection_at after.table in
+    let now = connection_at after.connections in
     subst (Asking from)
-    (same_view before.worker after.worker (with_at (connection_at before.table) taken.key (Some fresh)) now before.table.past.ended after.table.past.ended taken.worker
-    (changed_live (connection_at before.table) now taken.key (Some fresh) taken.admits.updates.changed taken.admits.updates.others)
-    (ap (λ (past : Past). past.ended) taken.admits.past))
+    (same_view before.worker after.worker (with_at (connection_at before.connections) taken.key (Some fresh)) now before.connections.ended.connections after.connections.ended.connections taken.worker
+    (changed_live (connection_at before.connections) now taken.key (Some fresh) taken.admits.updates.changed taken.admits.updates.others)
+    (ap (λ (ended : Ended). ended.connections) taken.admits.ended))
     (asking_joined from (view_of before) asking taken.key fresh taken.admits.vacant (fresh_taken fresh taken.arrival taken.admits.fresh))
 
 -- what becomes of the slot under the key
 asking_at : (from : ℕ) (before after : Standing) (state : State) (key : ℕ) (old new : Option Connection) → Asking from (view_of before) →
-    ((connection : Connection) → old ≡ Some connection → connection.conn.is_closed ≡ false) → connection_at before.table key ≡ old → connection_at after.table key ≡ new →
-    ((other : ℕ) → other ≢ key → connection_at after.table other ≡ connection_at before.table other) →
-    Becomes (IsLater before.worker after.worker) (after.worker ≡ before.worker) state before.table.past.ended after.table.past.ended old new → Asking from (view_of after)
+    ((connection : Connection) → old ≡ Some connection → connection.conn.is_closed ≡ false) → connection_at before.connections key ≡ old → connection_at after.connections key ≡ new →
+    ((other : ℕ) → other ≢ key → connection_at after.connections other ≡ connection_at before.connections other) →
+    Becomes (IsServedLater before.worker after.worker) (after.worker ≡ before.worker) state before.connections.ended.connections after.connections.ended.connections old new → Asking from (view_of after)
 asking_at from before after state key None new asking opened was is others (gone, still, idle, past) =
     subst (Asking from)
-    (same_view before.worker after.worker (connection_at before.table) (connection_at after.table) before.table.past.ended after.table.past.ended still
+    (same_view before.worker after.worker (connection_at before.connections) (connection_at after.connections) before.connections.ended.connections after.connections.ended.connections still
     (λ other.
     ⊎_elim
-    (λ (same : other ≡ key). ap (connection_at after.table) same ∙ is ∙ gone ∙ sym was ∙ ap (connection_at before.table) (sym same))
+    (λ (same : other ≡ key). ap (connection_at after.connections) same ∙ is ∙ gone ∙ sym was ∙ ap (connection_at before.connections) (sym same))
     (λ (not : other ≢ key). others other not)
     (same_key other key))
     past)
@@ -476,22 +476,22 @@ asking_at from before after state key None new asking opened was is others (gone
 asking_at from before after state key (Some old) (Some new) asking opened was is others (later, isnt, past) =
     let step = step_later before.worker after.worker old new state (asking.taken key) later (opened old refl) (asking.has_taken key old was) in
     subst (Asking from)
-    (same_view after.worker after.worker (with_at (connection_at before.table) key (Some new)) (connection_at after.table) before.table.past.ended after.table.past.ended refl
-    (changed_live (connection_at before.table) (connection_at after.table) key (Some new) is others) past)
+    (same_view after.worker after.worker (with_at (connection_at before.connections) key (Some new)) (connection_at after.connections) before.connections.ended.connections after.connections.ended.connections refl
+    (changed_live (connection_at before.connections) (connection_at after.connections) key (Some new) is others) past)
     (asking_served from (view_of before) asking key old new was after.worker step)
 asking_at from before after state key (Some old) None asking opened was is others (last, past, later, closed) =
-    let live = connection_at before.table in
+    let live = connection_at before.connections in
     let step = step_later before.worker after.worker old last Closed (asking.taken key) later (opened old refl) (asking.has_taken key old was) in
     let then = asking_served from (view_of before) asking key old last was after.worker step in
     subst (Asking from)
-    (same_view after.worker after.worker (with_at (with_at live key (Some last)) key None) (connection_at after.table) (last ∷ before.table.past.ended) after.table.past.ended refl
-    (changed_live (with_at live key (Some last)) (connection_at after.table) key None is (λ other not. others other not ∙ sym (at_others live key (Some last) other not)))
+    (same_view after.worker after.worker (with_at (with_at live key (Some last)) key None) (connection_at after.connections) (last ∷ before.connections.ended.connections) after.connections.ended.connections refl
+    (changed_live (with_at live key (Some last)) (connection_at after.connections) key None is (λ other not. others other not ∙ sym (at_others live key (Some last) other not)))
     past)
-    (asking_gone from (view after.worker (with_at live key (Some last)) before.table.past.ended) then key last (at_key live key (Some last) key refl))
+    (asking_gone from (view after.worker (with_at live key (Some last)) before.connections.ended.connections) then key last (at_key live key (Some last) key refl))
 
 asking_serving : (from : ℕ) (before after : Standing) → IsSound before → Asking from (view_of before) → ServesOne before after → Asking from (view_of after)
 asking_serving from before after sound asking one =
-    asking_at from before after one.state one.key (connection_at before.table one.key) (connection_at after.table one.key) asking
+    asking_at from before after one.state one.key (connection_at before.connections one.key) (connection_at after.connections one.key) asking
     (λ connection at. (sound.lives one.key connection at).going) refl refl one.serves.others one.serves.becomes
 
 asking_working : (from : ℕ) (first last : Standing) → IsSound first → Asking from (view_of first) → Works first last → Asking from (view_of last)
@@ -501,10 +501,10 @@ asking_working from first _ sound asking (goes_on between last works step) =
     ⊎_elim (asking_taking from between last so_far) (asking_serving from between last (sound_working first between sound works) so_far) step
 
 -- with no connection yet nothing was asked for, and nothing announced
-asking_first : (standing : Standing) → IsNew standing.table → Asking (length (announced_of standing.worker)) (view_of standing)
+asking_first : (standing : Standing) → IsUnused standing.connections → Asking (length (announced_of standing.worker)) (view_of standing)
 asking_first standing new = record {
   taken = λ key. [];
-  has_taken = λ key connection at. absurd (none-some connection (sym (nothing_at standing.table.connections.slots (eqb-true _ 0 new.0) key) ∙ at));
+  has_taken = λ key connection at. absurd (none-some connection (sym (nothing_at standing.connections.by_key.slots (eqb-true _ 0 new.0) key) ∙ at));
   asker = λ number. ended_after 0;
   request = λ number. 0;
   found = λ number low high. let no : ⊥ = omega (arith, low, high) in absurd no;
@@ -539,15 +539,15 @@ has_been_asked worker back served =
     let from = length (announced_of worker) in
     let live = connection_at served.last in
     let asking =
-    subst (Asking from) (same_view back.worker back.worker live live served.last.past.ended back.past.ended refl (λ key. refl) (ap (λ (past : Past). past.ended) (sym served.past)))
+    subst (Asking from) (same_view back.worker back.worker live live served.last.ended.connections back.ended.connections refl (λ key. refl) (ap (λ (ended : Ended). ended.connections) (sym served.ended)))
     (asking_working from first last (sound_first first served.new) (asking_first first served.new) served.works)
     in
-    let nobody = nothing_at served.last.connections.slots (eqb-true _ 0 served.over) in
+    let nobody = nothing_at served.last.by_key.slots (eqb-true _ 0 served.over) in
     record {
       asker = λ number. number_of (asking.asker number);
       request = asking.request;
-      asked = found_ended from (view back.worker live back.past.ended) asking nobody;
-      in_order = in_order_ended from (view back.worker live back.past.ended) asking nobody;
+      asked = found_ended from (view back.worker live back.ended.connections) asking nobody;
+      in_order = in_order_ended from (view back.worker live back.ended.connections) asking nobody;
     }
 
 pub all_have_been_asked : (workers : List Worker) (back : List Returned) → AllZip HasServed workers back → AllZip HasBeenAsked workers back

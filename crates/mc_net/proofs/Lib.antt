@@ -1,6 +1,6 @@
 pub mod Askings
 pub mod Lives
 pub mod Numbers
-pub mod Seatings
+pub mod Runnings
 pub mod Servings
 pub mod Workings

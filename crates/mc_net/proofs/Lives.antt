@@ -1,4 +1,4 @@
--- What every connection has come to, while it stands in a table and once it has ended: turn by turn, whatever the worker takes for others in between.
+-- What every connection has come to, while it stands among those of a worker and once it has ended: turn by turn, whatever the worker takes for others in between.
 use Rattle.std.proofs.Common.{◌≡◌, ◌≢◌, ◌⊎◌, ℕ, ◌+◌, zero, suc, cond, Bool, true, false, List, [], ◌∷◌, ◌++◌, Option, Some, None, All, count_by, is_some, slice_index_or, inl, inr, ⊎_elim, refl, sym, ap, subst, ◌∙◌, arith, append-nil, append_assoc}
 use Rattle.std.specs.Bool.{MatchBool}
 use Rattle.std.specs.List.{AllZip, list_any}
@@ -32,12 +32,12 @@ use Rattle.mc_write.specs.Text.{text}
 use Rattle.uc_worker.specs.declared.worker.Worker.{Worker}
 use Rattle.uc_worker.proofs.Lists.{begins_length}
 use Rattle.mc_net.specs.Life.{FailedSoOften, HasAnswered, HasFault, WasAnswered, IsBehind, OwesInParts, and_then, came_of, none_yet, sent_of, words_of}
-use Rattle.mc_net.specs.Serving.{Becomes, HasEnded, IsFresh, IsLater, connection_at, scene_of}
-use Rattle.mc_net.specs.Working.{HasServed, IsNew, ServesOne, Standing, TakesIn, Works, begins, goes_on, standing}
-use Rattle.mc_net.specs.declared.door.Arrival.{Arrival}
-use Rattle.mc_net.specs.declared.past.Past.{Past}
-use Rattle.mc_net.specs.declared.seat.Returned.{Returned}
-use Rattle.mc_net.specs.declared.table.Connection.{Connection}
+use Rattle.mc_net.specs.Serving.{Becomes, HasEnded, IsNewConnection, IsServedLater, connection_at, scene_of}
+use Rattle.mc_net.specs.Working.{HasServed, IsUnused, ServesOne, Standing, TakesIn, Works, begins, goes_on, standing}
+use Rattle.mc_net.specs.declared.listener.Arrival.{Arrival}
+use Rattle.mc_net.specs.declared.ended.Ended.{Ended}
+use Rattle.mc_net.specs.declared.worker_thread.Returned.{Returned}
+use Rattle.mc_net.specs.declared.connections.Connection.{Connection}
 
 -- the end that a turn remembers was found
 end_seen : (X Y : Type 0) (is was : Bool) (before after : Inflow) → MatchBool is ((was ≡ true) × (after ≡ before) ⊎ (has_ended after.events ≡ true) × X) Y →
@@ -111,7 +111,7 @@ answered_on old new connection on answered = record {
 }
 
 -- an arrival's connection
-lives_fresh : (worker : Worker) (connection : Connection) (arrival : Arrival _) → IsFresh connection arrival → Lives worker connection
+lives_fresh : (worker : Worker) (connection : Connection) (arrival : Arrival _) → IsNewConnection connection arrival → Lives worker connection
 lives_fresh worker connection arrival fresh = record {
   going = fresh.going.2;
   unfailed = (ap failures fresh.tapes.0, ap failures fresh.tapes.1);
@@ -254,32 +254,32 @@ answered_done worker connection lives done = record {
   });
 }
 
--- one step of a table under a key: the worker goes on, what stays lives, and what has ended was answered
+-- one step under a key: the worker goes on, what stays lives, and what has ended was answered
 record Steps (before after : Standing) (new : Option Connection) : Type 0 where
   onward : Continues before.worker after.worker
   stays : (connection : Connection) → new ≡ Some connection → Lives after.worker connection
-  ended : All (WasAnswered before.worker) before.table.past.ended → All (WasAnswered after.worker) after.table.past.ended
+  ended : All (WasAnswered before.worker) before.connections.ended.connections → All (WasAnswered after.worker) after.connections.ended.connections
 
 all_on : (old new : Worker) → Continues old new → (list : List Connection) → All (WasAnswered old) list → All (WasAnswered new) list
 all_on old new on list all = λ i d inside. answered_on old new (slice_index_or list i d) on (all i d inside)
 
-later_onward : (before after : Worker) (old new : Connection) (state : State) → IsLater before after old new state → Continues before after
+later_onward : (before after : Worker) (old new : Connection) (state : State) → IsServedLater before after old new state → Continues before after
 later_onward before after old new state later =
     ⊎_elim (λ served. served.taken.onward) (λ stopped. stopped.1.breaks.taken.onward) later.served
 
-going_on : (before after : Worker) (old new : Connection) (state : State) → state ≢ Closed → IsLater before after old new state → ¬ (HasEnded new.conn)
+going_on : (before after : Worker) (old new : Connection) (state : State) → state ≢ Closed → IsServedLater before after old new state → ¬ (HasEnded new.conn)
 going_on before after old new Closed isnt later = absurd (isnt refl)
 going_on before after old new Idle isnt later = later.stands.going
 going_on before after old new Busy isnt later = later.stands.going
 
-later_lives : (before after : Worker) (old new : Connection) (state : State) → state ≢ Closed → IsLater before after old new state → Lives before old → Lives after new
+later_lives : (before after : Worker) (old new : Connection) (state : State) → state ≢ Closed → IsServedLater before after old new state → Lives before old → Lives after new
 later_lives before after old new state isnt later lives =
     ⊎_elim
     (λ served. lives_taking before after old new later.tenant lives served)
     (λ stopped. absurd (going_on before after old new state isnt later (inl stopped.1.shut)))
     later.served
 
-later_answered : (before after : Worker) (old new : Connection) → IsLater before after old new Closed → Lives before old → WasAnswered after new
+later_answered : (before after : Worker) (old new : Connection) → IsServedLater before after old new Closed → Lives before old → WasAnswered after new
 later_answered before after old new later lives =
     ⊎_elim
     (λ served.
@@ -290,11 +290,11 @@ later_answered before after old new later lives =
 
 steps_at : (before after : Standing) (state : State) (old new : Option Connection) →
     ((connection : Connection) → old ≡ Some connection → Lives before.worker connection) →
-    Becomes (IsLater before.worker after.worker) (after.worker ≡ before.worker) state before.table.past.ended after.table.past.ended old new → Steps before after new
+    Becomes (IsServedLater before.worker after.worker) (after.worker ≡ before.worker) state before.connections.ended.connections after.connections.ended.connections old new → Steps before after new
 steps_at before after state None new lives (gone, still, idle, past) = record {
   onward = subst (Continues before.worker) (sym still) (continues_self before.worker);
   stays = λ connection is. let no : None ≡ Some connection = sym gone ∙ is in cc;
-  ended = λ all. subst (λ (worker : Worker). All (WasAnswered worker) after.table.past.ended) (sym still) (subst (All (WasAnswered before.worker)) (sym past) all);
+  ended = λ all. subst (λ (worker : Worker). All (WasAnswered worker) after.connections.ended.connections) (sym still) (subst (All (WasAnswered before.worker)) (sym past) all);
 }
 steps_at before after state (Some old) (Some new) lives (later, isnt, past) =
     let on = later_onward before.worker after.worker old new state later in
@@ -302,7 +302,7 @@ steps_at before after state (Some old) (Some new) lives (later, isnt, past) =
       onward = on;
       stays = λ connection is.
           subst (Lives after.worker) (same_Some new connection is) (later_lives before.worker after.worker old new state isnt later (lives old refl));
-      ended = λ all. subst (All (WasAnswered after.worker)) (sym past) (all_on before.worker after.worker on before.table.past.ended all);
+      ended = λ all. subst (All (WasAnswered after.worker)) (sym past) (all_on before.worker after.worker on before.connections.ended.connections all);
     }
 steps_at before after state (Some old) None lives (last, past, later, closed) =
     let on = later_onward before.worker after.worker old last Closed later in
@@ -311,14 +311,14 @@ steps_at before after state (Some old) None lives (last, past, later, closed) =
       stays = λ connection is. let no : None ≡ Some connection = is in cc;
       ended = λ all.
           subst (All (WasAnswered after.worker)) (sym past)
-          (All-cons (WasAnswered after.worker) last before.table.past.ended (later_answered before.worker after.worker old last later (lives old refl))
-          (all_on before.worker after.worker on before.table.past.ended all));
+          (All-cons (WasAnswered after.worker) last before.connections.ended.connections (later_answered before.worker after.worker old last later (lives old refl))
+          (all_on before.worker after.worker on before.connections.ended.connections all));
     }
 
--- what stands in a table lives, and what has ended was answered
+-- what stands among those of a worker lives, and what has ended was answered
 pub record IsSound (standing : Standing) : Type 0 where
-  pub lives : (key : ℕ) (connection : Connection) → connection_at standing.table key ≡ Some connection → Lives standing.worker connection
-  ended : All (WasAnswered standing.worker) standing.table.past.ended
+  pub lives : (key : ℕ) (connection : Connection) → connection_at standing.connections key ≡ Some connection → Lives standing.worker connection
+  ended : All (WasAnswered standing.worker) standing.connections.ended.connections
 
 pub same_key : (one two : ℕ) → (one ≡ two) ⊎ (one ≢ two)
 same_key zero zero = inl refl
@@ -333,22 +333,22 @@ sound_taking before after sound taken = record {
       (⊎_elim
       (λ (is : key ≡ taken.key).
       let fresh = taken.admits.connection in
-      let there : Some fresh ≡ Some connection = sym taken.admits.updates.changed ∙ subst (λ (key : ℕ). connection_at after.table key ≡ Some connection) is at in
+      let there : Some fresh ≡ Some connection = sym taken.admits.updates.changed ∙ subst (λ (key : ℕ). connection_at after.connections key ≡ Some connection) is at in
       subst (Lives before.worker) (same_Some fresh connection there) (lives_fresh before.worker fresh taken.arrival taken.admits.fresh))
       (λ (not : key ≢ taken.key). sound.lives key connection (sym (taken.admits.updates.others key not) ∙ at))
       (same_key key taken.key));
   ended =
-      subst (λ (worker : Worker). All (WasAnswered worker) after.table.past.ended) (sym taken.worker)
-      (subst (λ (past : Past). All (WasAnswered before.worker) past.ended) (sym taken.admits.past) sound.ended);
+      subst (λ (worker : Worker). All (WasAnswered worker) after.connections.ended.connections) (sym taken.worker)
+      (subst (λ (ended : Ended). All (WasAnswered before.worker) ended.connections) (sym taken.admits.ended) sound.ended);
 }
 
 sound_serving : (before after : Standing) → IsSound before → ServesOne before after → IsSound after
 sound_serving before after sound one =
-    let steps = steps_at before after one.state (connection_at before.table one.key) (connection_at after.table one.key) (sound.lives one.key) one.serves.becomes in
+    let steps = steps_at before after one.state (connection_at before.connections one.key) (connection_at after.connections one.key) (sound.lives one.key) one.serves.becomes in
     record {
       lives = λ key connection at.
           ⊎_elim
-          (λ (is : key ≡ one.key). steps.stays connection (subst (λ (key : ℕ). connection_at after.table key ≡ Some connection) is at))
+          (λ (is : key ≡ one.key). steps.stays connection (subst (λ (key : ℕ). connection_at after.connections key ≡ Some connection) is at))
           (λ (not : key ≢ one.key).
           lives_on before.worker after.worker connection steps.onward (sound.lives key connection (sym (one.serves.others key not) ∙ at)))
           (same_key key one.key);
@@ -361,16 +361,16 @@ sound_working first _ sound (goes_on between last works step) =
     let so_far = sound_working first between sound works in
     ⊎_elim (sound_taking between last so_far) (sound_serving between last so_far) step
 
--- in a table without a connection nothing stands under any key
+-- without a connection nothing stands under any key
 pub nothing_at : {X : Type 0} (slots : List (Option X)) → count_by is_some slots ≡ 0 → (key : ℕ) → slice_index_or slots key None ≡ None
 nothing_at [] none key = refl
 nothing_at (None ∷ slots) none zero = refl
 nothing_at (None ∷ slots) none (suc key) = nothing_at slots none key
 nothing_at (Some x ∷ slots) none key = let no : ⊥ = omega (arith, none, sum_by-cons (λ (slot : Option _). cond (is_some slot) 1 0) (Some x) slots) in absurd no
 
-pub sound_first : (standing : Standing) → IsNew standing.table → IsSound standing
+pub sound_first : (standing : Standing) → IsUnused standing.connections → IsSound standing
 sound_first standing new = record {
-  lives = λ key connection at. let no : None ≡ Some connection = sym (nothing_at standing.table.connections.slots (eqb-true _ 0 new.0) key) ∙ at in cc;
+  lives = λ key connection at. let no : None ≡ Some connection = sym (nothing_at standing.connections.by_key.slots (eqb-true _ 0 new.0) key) ∙ at in cc;
   ended = subst (All (WasAnswered standing.worker)) (sym new.1) (All-nil (WasAnswered standing.worker));
 }
 
@@ -379,7 +379,7 @@ has_answered : (worker : Worker) (back : Returned) → HasServed worker back →
 has_answered worker back served =
     let first = standing worker served.first in
     let last = standing back.worker served.last in
-    subst (λ (past : Past). All (WasAnswered back.worker) past.ended) served.past (sound_working first last (sound_first first served.new) served.works).ended
+    subst (λ (ended : Ended). All (WasAnswered back.worker) ended.connections) served.ended (sound_working first last (sound_first first served.new) served.works).ended
 
 pub all_have_answered : (workers : List Worker) (back : List Returned) → AllZip HasServed workers back → All HasAnswered back
 all_have_answered [] [] served = All-nil HasAnswered

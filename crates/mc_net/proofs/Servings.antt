@@ -12,9 +12,9 @@ use Rattle.mc_conn.proofs.Takings.{takes_self, takes_trans}
 use Rattle.mc_model.specs.declared.fault.Fault.{Fault}
 use Rattle.mc_stream.specs.Stream.{Inflow, Streams}
 use Rattle.uc_worker.specs.declared.worker.Worker.{Worker}
-use Rattle.mc_net.specs.declared.table.Connection.{Connection}
-use Rattle.mc_net.specs.declared.table.Table.{Table}
-use Rattle.mc_net.specs.Serving.{HasEnded, HasTurns, IsServed, Serves, Stands, Stays, connection_at}
+use Rattle.mc_net.specs.declared.connections.Connection.{Connection}
+use Rattle.mc_net.specs.declared.connections.Connections.{Connections}
+use Rattle.mc_net.specs.Serving.{HasEnded, HasTurns, TakesOrStops, ChangesAt, Stands, Stays, connection_at}
 
 true_or_false : (is : Bool) → (is ≡ true) ⊎ (is ≡ false)
 true_or_false true = inl refl
@@ -50,7 +50,7 @@ module _ (a : Scene) (conn : Conn) (worker : Worker) (streams : Streams) (state 
     (once : PullsOnce a.streams.input streams.input)
     (opened : a.conn.is_closed ≡ false → Turns a (scene conn worker streams) state)
     (closed : a.conn.is_closed ≡ true → (state ≡ Closed) × (conn ≡ a.conn) × (worker ≡ a.worker) × (streams ≡ a.streams)) where
-  pub served_turn : IsServed a (scene conn worker streams)
+  pub served_turn : TakesOrStops a (scene conn worker streams)
   served_turn =
       ⊎_elim
       (λ (is : a.conn.is_closed ≡ true). let same = closed is in inl (takes_same a conn worker streams same.1 same.2 same.3))
@@ -66,7 +66,7 @@ module _ (a : Scene) (conn : Conn) (worker : Worker) (streams : Streams) (state 
       (true_or_false a.conn.is_closed)
 
 -- a connection that may have more to do met no fault
-pub still_going : (a b : Scene) (state : State) → state ≡ Busy → Stands a b state → IsServed a b → Takes a b
+pub still_going : (a b : Scene) (state : State) → state ≡ Busy → Stands a b state → TakesOrStops a b → Takes a b
 still_going a b state busy stands served =
     let going : ¬ (HasEnded b.conn) = (subst (Stands a b) busy stands).going in
     ⊎_elim
@@ -75,7 +75,7 @@ still_going a b state busy stands served =
     served
 
 -- turns behind turns without a fault
-pub served_later : (a b c : Scene) → Takes a b → IsServed b c → IsServed a c
+pub served_later : (a b c : Scene) → Takes a b → TakesOrStops b c → TakesOrStops a c
 served_later a b c one two =
     ⊎_elim
     (λ (takes : Takes b c). inl (takes_trans a b c one takes))
@@ -91,7 +91,7 @@ stays_later a b c state takes stays = record {
   last = stays.last;
 }
 
-pub stands_later : (a b c : Scene) (state : State) → Takes a b → IsServed b c → Stands b c state → Stands a c state
+pub stands_later : (a b c : Scene) (state : State) → Takes a b → TakesOrStops b c → Stands b c state → Stands a c state
 stands_later a b c Closed one two stands = stands
 stands_later a b c Idle one two stands = stays_later a b c Idle one stands
 stands_later a b c Busy one two stands = stays_later a b c Busy one stands
@@ -106,11 +106,11 @@ once_few before after once =
 
 -- a connection had its turns in its place
 module _ (Later : Connection → Connection → State → Type 0) (Still : Type 0) (state : State) where
-  pub serves_in_place : (before after : Table) (key : ℕ) (old new : Connection) → connection_at before key ≡ Some old →
-      after.connections ≡ with_value before.connections key new → after.tenants ≡ before.tenants → Later old new state → Serves (HasTurns Later Still state) before after key
+  pub serves_in_place : (before after : Connections) (key : ℕ) (old new : Connection) → connection_at before key ≡ Some old →
+      after.by_key ≡ with_value before.by_key key new → after.tenants ≡ before.tenants → Later old new state → ChangesAt (HasTurns Later Still state) before after key
   serves_in_place before after key old new there is tenants later =
-      let updates : Updates before.connections after.connections key (Some new) =
-      subst (λ slab. Updates before.connections slab key (Some new)) (sym is) (Updates-with_value before.connections key new (subst IsSome (sym there) refl)) in
+      let updates : Updates before.by_key after.by_key key (Some new) =
+      subst (λ slab. Updates before.by_key slab key (Some new)) (sym is) (Updates-with_value before.by_key key new (subst IsSome (sym there) refl)) in
       record {
         becomes = subst (λ (slot : Option Connection). HasTurns Later Still state slot (connection_at after key)) (sym there)
             (subst (λ (slot : Option Connection). HasTurns Later Still state (Some old) slot) (sym updates.changed) later);

@@ -5,8 +5,8 @@ use Rattle.mc_model.specs.declared.command.Command.{Command}
 use Rattle.mc_model.specs.declared.request.Request.{Request}
 use Rattle.mc_model.specs.declared.request.Request.TheVariants.{Logged}
 use Rattle.mc_net.specs.Life.{came_of}
-use Rattle.mc_net.specs.declared.seat.Returned.{Returned}
-use Rattle.mc_net.specs.declared.table.Connection.{Connection}
+use Rattle.mc_net.specs.declared.worker_thread.Returned.{Returned}
+use Rattle.mc_net.specs.declared.connections.Connection.{Connection}
 use Rattle.mc_read.specs.Reading.{ReadsAs}
 use Rattle.uc_worker.specs.declared.worker.Worker.{Worker}
 use Rattle.uc_worker.specs.Worker.{announced_of}
@@ -33,6 +33,6 @@ pub record HasBeenAsked (worker : Worker) (back : Returned) : Type 0 where
   pub asker : ℕ → ℕ
   pub request : ℕ → ℕ
   pub asked : (number : ℕ) → length (announced_of worker) ≤ number → number < length (announced_of back.worker) →
-      WasAsked back.worker back.past.ended number (asker number) (request number)
+      WasAsked back.worker back.ended.connections number (asker number) (request number)
   pub in_order : (one two : ℕ) → length (announced_of worker) ≤ one → one < two → two < length (announced_of back.worker) →
       asker one ≡ asker two → request one < request two

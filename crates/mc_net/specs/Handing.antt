@@ -1,16 +1,16 @@
 -- Which stream goes where; this project's profile.
 use Rattle.std.specs.Prelude.{◌≡◌, ℕ, ◌%◌, List, Some, slice_get, length}
-use Rattle.mc_net.specs.declared.door.Arrival.{Arrival}
-use Rattle.mc_net.specs.declared.door.Door.{Door}
+use Rattle.mc_net.specs.declared.listener.Arrival.{Arrival}
+use Rattle.mc_net.specs.declared.listener.TenantListener.{TenantListener}
 
 -- the number of the place whose turn it is after so many streams
 abbrev pub turn_of : ℕ → ℕ → ℕ
 turn_of done places = done % places
 
--- a stream that the listener accepted has come for the door's tenant
-pub record IsOf {L S : Type 0} (accepted_by : L → S → Type 0) (door : Door L) (arrival : Arrival S) : Type 0 where
-  pub tenant : arrival.tenant ≡ door.tenant
-  pub accepted : accepted_by door.listener arrival.stream
+-- a stream that the listener accepted has come for the listener's tenant
+pub record IsOf {L S : Type 0} (accepted_by : L → S → Type 0) (listener : TenantListener L) (arrival : Arrival S) : Type 0 where
+  pub tenant : arrival.tenant ≡ listener.tenant
+  pub accepted : accepted_by listener.socket arrival.stream
 
 -- the place whose turn it is has received the arrival
 pub record IsHanded {P S : Type 0} (received : P → Arrival S → Type 0) (places : List P) (done : ℕ) (arrival : Arrival S) : Type 0 where
@@ -18,8 +18,8 @@ pub record IsHanded {P S : Type 0} (received : P → Arrival S → Type 0) (plac
   pub turn : slice_get places (turn_of done (length places)) ≡ Some place
   pub has : received place arrival
 
--- a stream that the door's listener accepted was handed, as the door's tenant's, to the place whose turn it is
-pub record IsPassed {L P S : Type 0} (accepted_by : L → S → Type 0) (received : P → Arrival S → Type 0) (door : Door L) (places : List P) (done : ℕ) : Type 0 where
+-- a stream that the listener accepted was handed, as the listener's tenant's, to the place whose turn it is
+pub record IsPassed {L P S : Type 0} (accepted_by : L → S → Type 0) (received : P → Arrival S → Type 0) (listener : TenantListener L) (places : List P) (done : ℕ) : Type 0 where
   pub arrival : Arrival S
-  pub of : IsOf accepted_by door arrival
+  pub of : IsOf accepted_by listener arrival
   pub handed : IsHanded received places done arrival

@@ -1,6 +1,6 @@
 pub mod Asking
 pub mod Handing
 pub mod Life
-pub mod Seating
+pub mod Running
 pub mod Serving
 pub mod Working

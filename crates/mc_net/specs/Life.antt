@@ -10,8 +10,8 @@ use Rattle.mc_model.specs.Helping.{BeginsWith}
 use Rattle.mc_model.specs.declared.reply.Reply.TheVariants.{Refused}
 use Rattle.mc_model.specs.declared.reply.WireNo.TheVariants.{E11}
 use Rattle.mc_model.specs.declared.request.Request.{Request}
-use Rattle.mc_net.specs.declared.seat.Returned.{Returned}
-use Rattle.mc_net.specs.declared.table.Connection.{Connection}
+use Rattle.mc_net.specs.declared.worker_thread.Returned.{Returned}
+use Rattle.mc_net.specs.declared.connections.Connection.{Connection}
 use Rattle.mc_read.specs.Reading.{ReadsAs, ends_stream}
 use Rattle.mc_stream.specs.Event.{failures, has_ended, moved}
 use Rattle.mc_write.specs.Text.{text}
@@ -39,7 +39,7 @@ abbrev pub FailedSoOften : Connection → ℕ → ℕ → Type 0
 FailedSoOften connection reads writes = (failures connection.received.events ≡ reads) × (failures connection.sent.events ≡ writes)
 
 -- no fault: all that came, up to its end or to a request that ends the stream, reads as these requests, and all that is owed was sent
-pub record EndsWell (connection : Connection) (requests : List Request) (owed : List ℕ) : Type 0 where
+pub record EndsWithoutFault (connection : Connection) (requests : List Request) (owed : List ℕ) : Type 0 where
   pub unfailed : FailedSoOften connection 0 0
   pub end : (has_ended connection.received.events ≡ true) ⊎ (list_any ends_stream requests ≡ true)
   pub whole : ReadsAs (came_of connection) requests
@@ -74,8 +74,8 @@ pub record WasAnswered (worker : Worker) (connection : Connection) : Type 0 wher
   pub to : Mark
   pub first : (more : List ℕ) (all : List Request) → ReadsAs (came_of connection ++ more) all → BeginsWith all requests
   pub owes : OwesInParts worker connection.conn.tenant requests owed to
-  pub ending : EndsWell connection requests owed ⊎ IsCut connection owed
+  pub ending : EndsWithoutFault connection requests owed ⊎ IsCut connection owed
 
 -- so of each connection that a worker has served
 abbrev pub HasAnswered : Returned → Type 0
-HasAnswered back = All (WasAnswered back.worker) back.past.ended
+HasAnswered back = All (WasAnswered back.worker) back.ended.connections

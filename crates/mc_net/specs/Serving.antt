@@ -9,19 +9,19 @@ use Rattle.mc_conn.specs.Turn.{Scene, Takes, holding_of, queue_of, scene}
 use Rattle.mc_model.specs.declared.fault.Fault.{Fault}
 use Rattle.mc_model.specs.declared.fault.Fault.TheVariants.{Memory, Input}
 use Rattle.mc_net.specs.declared.connecting.TheConstants.{TURNS}
-use Rattle.mc_net.specs.declared.door.Arrival.{Arrival}
+use Rattle.mc_net.specs.declared.listener.Arrival.{Arrival}
 use Rattle.mc_net.specs.declared.halt.Halt.{Halt}
 use Rattle.mc_net.specs.declared.halt.Halt.TheVariants.{Memory as GrowthRefused, Poll, Elsewhere}
-use Rattle.mc_net.specs.declared.table.Connection.{Connection}
-use Rattle.mc_net.specs.declared.table.Table.{Table}
+use Rattle.mc_net.specs.declared.connections.Connection.{Connection}
+use Rattle.mc_net.specs.declared.connections.Connections.{Connections}
 use Rattle.mc_read.specs.Reading.{Kept}
 use Rattle.mc_stream.specs.Event.{Event}
 use Rattle.mc_stream.specs.Stream.{both}
 use Rattle.uc_worker.specs.declared.worker.Worker.{Worker}
 
 -- the connection under a key
-abbrev pub connection_at : Table → ℕ → Option Connection
-connection_at table key = get table.connections key
+abbrev pub connection_at : Connections → ℕ → Option Connection
+connection_at connections key = get connections.by_key key
 
 -- all that a turn sees of a connection: what the reads and the writes of its stream did so far is on its tapes
 abbrev pub scene_of : Connection → Worker → Scene
@@ -29,7 +29,7 @@ scene_of connection worker =
     scene connection.conn worker (both (record { events = connection.received.events; left = None }) (record { events = connection.sent.events }))
 
 -- the arrival's connection, on which nothing has come and nothing was sent
-pub record IsFresh (connection : Connection) (arrival : Arrival _) : Type 0 where
+pub record IsNewConnection (connection : Connection) (arrival : Arrival _) : Type 0 where
   pub stream : connection.stream ≡ arrival.stream
   pub tenant : connection.conn.tenant ≡ arrival.tenant
   pub holding : holding_of connection.conn ≡ record { waiting = None; held = Kept [] }
@@ -38,17 +38,17 @@ pub record IsFresh (connection : Connection) (arrival : Arrival _) : Type 0 wher
   pub tapes : (connection.received.events ≡ []) × (connection.sent.events ≡ [])
 
 -- the arrival's connection stands under a key that was free, and every other key is as it was
-pub record Admits (before after : Table) (arrival : Arrival _) (key : ℕ) : Type 0 where
+pub record Admits (before after : Connections) (arrival : Arrival _) (key : ℕ) : Type 0 where
   pub vacant : connection_at before key ≡ None
   pub connection : Connection
-  pub fresh : IsFresh connection arrival
-  pub updates : Updates before.connections after.connections key (Some connection)
-  pub past : after.past ≡ before.past
+  pub fresh : IsNewConnection connection arrival
+  pub updates : Updates before.by_key after.by_key key (Some connection)
+  pub ended : after.ended ≡ before.ended
 
 -- A connection was served over its streams: bytes came, the requests that they read as were taken, and what was sent and what is queued
 -- then is what was queued and what is owed for them; or a fault stopped this, and has closed the connection for good.
-abbrev pub IsServed : Scene → Scene → Type 0
-IsServed before after =
+abbrev pub TakesOrStops : Scene → Scene → Type 0
+TakesOrStops before after =
     Takes before after ⊎ (fault : Fault) × Stops before after fault
 
 -- a fault has closed the connection, or nothing is left to be done
@@ -74,10 +74,10 @@ abbrev pub HasAtMost : ℕ → List Event → List Event → Type 0
 HasAtMost most before after = length after ≤ most + length before
 
 -- The same connection later on: the worker served it, from what its tapes had to what they have, by few pulls, and it stands as the state says.
-pub record IsLater (before after : Worker) (old new : Connection) (state : State) : Type 0 where
+pub record IsServedLater (before after : Worker) (old new : Connection) (state : State) : Type 0 where
   pub stream : new.stream ≡ old.stream
   pub tenant : new.conn.tenant ≡ old.conn.tenant
-  pub served : IsServed (scene_of old before) (scene_of new after)
+  pub served : TakesOrStops (scene_of old before) (scene_of new after)
   pub stands : Stands (scene_of old before) (scene_of new after) state
   pub few : HasAtMost TURNS old.received.events new.received.events
 
@@ -95,7 +95,7 @@ Becomes Later Still state before after (Some old) (Some new) = Later old new sta
 Becomes Later Still state before after (Some old) None = (last : _) × (after ≡ last ∷ before) × Later old last Closed × (state ≡ Closed)
 
 -- this became of the connection under this key, and every other key is as it was
-pub record Serves (Step : Option Connection → Option Connection → Type 0) (before after : Table) (key : ℕ) : Type 0 where
+pub record ChangesAt (Step : Option Connection → Option Connection → Type 0) (before after : Connections) (key : ℕ) : Type 0 where
   pub becomes : Step (connection_at before key) (connection_at after key)
   pub others : (other : ℕ) → other ≢ key → connection_at after other ≡ connection_at before other
   pub tenants : after.tenants ≡ before.tenants

@@ -1,10 +1,10 @@
 //! The acceptor's loop.
 ghost use Rattle.std.specs.Prelude.{◌<◌, vec_len};
 
-use crate::door::Door;
 use crate::halt::Halt;
 use crate::handing::{Accepted, accept_one};
-use crate::station::Hall;
+use crate::listener::TenantListener;
+use crate::mailbox::{Shared, Signal};
 use mio::net::TcpListener;
 use mio::{Events, Interest, Poll, Token};
 use std::alloc::Global;
@@ -26,7 +26,7 @@ const POLLS_TO_BEGIN: u64 = 10_000;
 /// The listeners, and what waits at them.
 #[derive(Drop)]
 pub(crate) struct Acceptor {
-    doors: Vec<Door<TcpListener>>,
+    listeners: Vec<TenantListener<TcpListener>>,
     poll: Poll,
     events: Events,
     // How many streams have been accepted, and how many are to be: with 0 there is no end.
@@ -42,25 +42,25 @@ pub(crate) struct Acceptor {
 }
 
 impl Acceptor {
-    /// The acceptor of these doors, which has accepted nothing.
+    /// The acceptor of these listeners, which has accepted nothing.
     pub(crate) fn new(
         alloc: Global,
         poll: Poll,
-        mut doors: Vec<Door<TcpListener>>,
+        mut listeners: Vec<TenantListener<TcpListener>>,
         most: u64,
     ) -> Result<Acceptor, Halt> {
         let events = Events::with_capacity(alloc, EVENTS)?;
-        for (number, door) in doors.iter_mut().enumerate() {
+        for (number, listener) in listeners.iter_mut().enumerate() {
             let token = Token(number);
             let watched = poll
                 .registry()
-                .register(&mut door.listener, token, Interest::READABLE);
+                .register(&mut listener.socket, token, Interest::READABLE);
             if watched.is_err() {
                 return Err(Halt::Poll);
             }
         }
         Ok(Acceptor {
-            doors,
+            listeners,
             poll,
             events,
             done: 0,
@@ -77,17 +77,22 @@ impl Acceptor {
     }
 
     /// Accepts what waits at one listener, but no more than so many. One that fails, or at which more may wait, is to be asked again.
-    fn accept_waiting<R: Wait>(&mut self, rt: &R, door: usize, hall: &Hall) -> Result<(), Halt>
-        requires { 0 < vec_len hall.now.stations }
+    fn accept_waiting<R: Wait>(
+        &mut self,
+        rt: &R,
+        number: usize,
+        shared: &Shared,
+    ) -> Result<(), Halt>
+        requires { 0 < vec_len shared.now.mailboxes }
     {
         for _ in 0..ACCEPTS {
             if self.is_done() {
                 return Ok(());
             }
-            let Some(open) = self.doors.get(door) else {
+            let Some(open) = self.listeners.get(number) else {
                 return Ok(());
             };
-            match accept_one(rt, open, &hall.stations, self.done)? {
+            match accept_one(rt, open, &shared.mailboxes, self.done)? {
                 Accepted::One => self.done = self.done.wrapping_add(1),
                 Accepted::None => return Ok(()),
                 Accepted::Failed => {
@@ -110,8 +115,8 @@ impl Acceptor {
     }
 
     /// Polls once, and accepts at each listener of which an event tells, or at all where one is to be asked again.
-    fn go_round<R: Wait>(&mut self, rt: &R, hall: &Hall) -> Result<(), Halt>
-        requires { 0 < vec_len hall.now.stations }
+    fn poll_and_accept<R: Wait>(&mut self, rt: &R, shared: &Shared) -> Result<(), Halt>
+        requires { 0 < vec_len shared.now.mailboxes }
     {
         let timeout = self.timeout();
         if self.poll.poll(&mut self.events, timeout).is_err() {
@@ -121,11 +126,16 @@ impl Acceptor {
         self.is_troubled = false;
         self.has_more = false;
         self.rounds = self.rounds.wrapping_add(1);
-        let doors = self.doors.len();
-        for turn in 0..doors {
-            let door = self.rounds.wrapping_add(turn) % doors;
-            if asks_all || self.events.iter().any(|event| event.token() == Token(door)) {
-                self.accept_waiting(rt, door, hall)?;
+        let count = self.listeners.len();
+        for turn in 0..count {
+            let number = self.rounds.wrapping_add(turn) % count;
+            if asks_all
+                || self
+                    .events
+                    .iter()
+                    .any(|event| event.token() == Token(number))
+            {
+                self.accept_waiting(rt, number, shared)?;
             }
         }
         Ok(())
@@ -133,12 +143,12 @@ impl Acceptor {
 
     /// Waits until every worker's loop has begun, so that no stream is handed to a thread that never runs. Where one doesn't in good
     /// time, as where the system refuses its thread: `Memory`. An event that comes meanwhile is not lost: all listeners are asked first.
-    fn await_workers<R: Wait>(&mut self, rt: &R, hall: &Hall) -> Result<(), Halt> {
+    fn await_workers<R: Wait>(&mut self, rt: &R, shared: &Shared) -> Result<(), Halt> {
         let pause = Duration::from_millis(1);
         self.has_more = true;
         let mut left = POLLS_TO_BEGIN;
         for _ in rt.forever() {
-            if hall.has_begun(rt) || hall.bell.is_halted(rt) {
+            if shared.has_begun(rt) {
                 return Ok(());
             }
             if left == 0 {
@@ -155,15 +165,15 @@ impl Acceptor {
     }
 
     /// Accepts until so many streams were handed over, or another loop has failed. Nothing is accepted before all workers are there.
-    pub(crate) fn run<R: Wait>(&mut self, rt: &R, hall: &Hall) -> Result<(), Halt>
-        requires { 0 < vec_len hall.now.stations }
+    pub(crate) fn run<R: Wait>(&mut self, rt: &R, shared: &Shared) -> Result<(), Halt>
+        requires { 0 < vec_len shared.now.mailboxes }
     {
-        self.await_workers(rt, hall)?;
+        self.await_workers(rt, shared)?;
         for _ in rt.forever() {
-            if self.is_done() || hall.bell.is_halted(rt) {
+            if self.is_done() || shared.of_acceptor.signal(rt) == Signal::Halted {
                 return Ok(());
             }
-            self.go_round(rt, hall)?;
+            self.poll_and_accept(rt, shared)?;
         }
         unreachable!()
     }

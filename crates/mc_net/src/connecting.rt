@@ -3,14 +3,14 @@ ghost use Rattle.std.specs.Prelude.{◌≡◌, ◌<◌, length, None, IfNone, If
 ghost use Rattle.mc_conn.specs.Ending.{PullsOnce};
 ghost use Rattle.uc_worker.specs.Going.{Continues};
 ghost use Rattle.mc_conn.specs.Turn.{scene};
-ghost use Rattle.mc_net.specs.Serving.{Admits, Becomes, HasAtMost, HasTurns, IsLater, IsServed, Serves, Stands, connection_at};
+ghost use Rattle.mc_net.specs.Serving.{Admits, Becomes, HasAtMost, HasTurns, IsServedLater, TakesOrStops, ChangesAt, Stands, connection_at};
 ghost use Rattle.mc_stream.specs.Stream.{both};
 ghost use Rattle.slab.specs.Slab.{Updates};
 ghost use Rattle.uc_worker.specs.Worker.{tenants_of};
 
-use crate::door::Arrival;
+use crate::connections::{Connection, Connections, MOST_CONNECTIONS};
+use crate::listener::Arrival;
 use crate::socket::{SocketReader, SocketWriter};
-use crate::table::{Connection, MOST_CONNECTIONS, Table};
 use mc_conn::{Conn, PULL_BYTES, State};
 use mc_stream::{Input, Output, ReadInput, Tape, WriteOutput};
 use mio::net::TcpStream;
@@ -32,7 +32,7 @@ fn turn<I: Input, O: Output, G: Gate>(
     buffer: &mut [u8; PULL_BYTES],
 ) -> State
     requires { conn.old.tenant < length (tenants_of worker.old) }
-    ensures served { IsServed (scene conn.old worker.old (both (I.tells input.old) (O.tells output.old)))
+    ensures served { TakesOrStops (scene conn.old worker.old (both (I.tells input.old) (O.tells output.old)))
         (scene conn.new worker.new (both (I.tells input.new) (O.tells output.new))) }
     ensures stands { Stands (scene conn.old worker.old (both (I.tells input.old) (O.tells output.old)))
         (scene conn.new worker.new (both (I.tells input.new) (O.tells output.new))) result }
@@ -56,7 +56,7 @@ fn turns<I: Input, O: Output, G: Gate>(
     buffer: &mut [u8; PULL_BYTES],
 ) -> State
     requires { conn.old.tenant < length (tenants_of worker.old) }
-    ensures served { IsServed (scene conn.old worker.old (both (I.tells input.old) (O.tells output.old)))
+    ensures served { TakesOrStops (scene conn.old worker.old (both (I.tells input.old) (O.tells output.old)))
         (scene conn.new worker.new (both (I.tells input.new) (O.tells output.new))) }
     ensures stands { Stands (scene conn.old worker.old (both (I.tells input.old) (O.tells output.old)))
         (scene conn.new worker.new (both (I.tells input.new) (O.tells output.new))) result }
@@ -83,7 +83,7 @@ impl Connection {
         stops_short: bool,
     ) -> State
         requires { self.old.conn.tenant < length (tenants_of worker.old) }
-        ensures later { IsLater worker.old worker.new self.old self.new result }
+        ensures later { IsServedLater worker.old worker.new self.old self.new result }
         ensures onward { Continues worker.old worker.new }
     {
         let Connection {
@@ -103,8 +103,8 @@ impl Connection {
     }
 }
 
-impl Table {
-    /// Takes an arrival in, under the key that it answers, which tells of its events. Where the table is full, the stream can't be watched,
+impl Connections {
+    /// Takes an arrival in, under the key that it answers, which tells of its events. Where there are as many as may be, the stream can't be watched,
     /// or the log has no such tenant, it is closed without a byte. Needs no memory.
     pub(crate) fn admit(
         &mut self,
@@ -119,10 +119,10 @@ impl Table {
         let Arrival { tenant, mut stream } = arrival;
         // What comes out of a queue under a lock isn't known to be of this log.
         let is_known = usize::from(tenant.number()) < self.tenants;
-        if self.connections.len() >= MOST_CONNECTIONS || !is_known {
+        if self.by_key.len() >= MOST_CONNECTIONS || !is_known {
             return None;
         }
-        let token = Token(self.connections.vacant_key());
+        let token = Token(self.by_key.vacant_key());
         let both = Interest::READABLE | Interest::WRITABLE;
         if registry.register(&mut stream, token, both).is_err() {
             return None;
@@ -133,7 +133,7 @@ impl Table {
             received: Tape::new(),
             sent: Tape::new(),
         };
-        Some(self.connections.insert_reserved(connection))
+        Some(self.by_key.insert_reserved(connection))
     }
 
     /// Turns of the connection under a key, if there is one. Says how it stands then.
@@ -146,11 +146,11 @@ impl Table {
         stops_short: bool,
     ) -> State
         requires { self.old.tenants ≡ length (tenants_of worker.old) }
-        ensures serves { Serves (HasTurns (IsLater worker.old worker.new) (worker.new ≡ worker.old) result) self.old self.new key }
-        ensures past { self.new.past ≡ self.old.past }
+        ensures serves { ChangesAt (HasTurns (IsServedLater worker.old worker.new) (worker.new ≡ worker.old) result) self.old self.new key }
+        ensures ended { self.new.ended ≡ self.old.ended }
         ensures onward { Continues worker.old worker.new }
     {
-        match self.connections.get_mut(key) {
+        match self.by_key.get_mut(key) {
             Some(connection) => connection.serve(worker, gate, buffer, stops_short),
             None => State::Idle,
         }
@@ -159,11 +159,11 @@ impl Table {
     /// Takes the connection under a key out, if there is one.
     fn remove(&mut self, key: usize) -> Option<Connection>
         ensures value { result ≡ connection_at self.old key }
-        ensures updates { Updates self.old.connections self.new.connections key None }
+        ensures updates { Updates self.old.by_key self.new.by_key key None }
         ensures tenants { self.new.tenants ≡ self.old.tenants }
-        ensures past { self.new.past ≡ self.old.past }
+        ensures ended { self.new.ended ≡ self.old.ended }
     {
-        self.connections.try_remove(key)
+        self.by_key.try_remove(key)
     }
 
     /// Serves the connection under a key, if there is one, and says how it stands then. Where it has ended it is taken out and closed.
@@ -176,7 +176,7 @@ impl Table {
         stops_short: bool,
     ) -> State
         requires { self.old.tenants ≡ length (tenants_of worker.old) }
-        ensures serves { Serves (Becomes (IsLater worker.old worker.new) (worker.new ≡ worker.old) result self.old.past.ended self.new.past.ended) self.old self.new key }
+        ensures serves { ChangesAt (Becomes (IsServedLater worker.old worker.new) (worker.new ≡ worker.old) result self.old.ended.connections self.new.ended.connections) self.old self.new key }
         ensures onward { Continues worker.old worker.new }
     {
         let state = self.turns_at(worker, gate, buffer, key, stops_short);
@@ -184,7 +184,7 @@ impl Table {
             let Some(connection) = self.remove(key) else {
                 unreachable!();
             };
-            self.past = self.past.and(&connection);
+            self.ended = self.ended.and(&connection);
         }
         state
     }

@@ -1,10 +1,10 @@
 //! Streams go to the workers in turn.
 ghost use Rattle.std.specs.Prelude.{◌≡◌, ◌<◌, length, IfOk, OnOk};
-ghost use Rattle.mc_net.specs.declared.door.Arrival.{Arrival};
+ghost use Rattle.mc_net.specs.declared.listener.Arrival.{Arrival};
 ghost use Rattle.mc_net.specs.Handing.{IsHanded, IsPassed};
 
-use crate::door::{Arrival, Door, Listen};
 use crate::halt::Halt;
+use crate::listener::{Arrival, Listen, TenantListener};
 use std::io::ErrorKind;
 use std::sync::Wait;
 
@@ -46,14 +46,14 @@ pub enum Accepted {
 /// Accepts a stream, and hands it over. Fails as the place does that is to receive it.
 pub fn accept_one<R: Wait, L: Listen, P: Receive<L::Stream>>(
     rt: &R,
-    door: &Door<L>,
+    listener: &TenantListener<L>,
     places: &[P],
     done: u64,
 ) -> Result<Accepted, Halt>
     requires { 0 < length places.now }
-    ensures { IfOk result (λ accepted. accepted ≡ Accepted.One → IsPassed L.accepted_by P.received door.now places.now done) }
+    ensures { IfOk result (λ accepted. accepted ≡ Accepted.One → IsPassed L.accepted_by P.received listener.now places.now done) }
 {
-    match door.accept() {
+    match listener.accept() {
         Ok(arrival) => {
             hand_over(rt, places, done, arrival)?;
             Ok(Accepted::One)

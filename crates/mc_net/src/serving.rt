@@ -4,17 +4,17 @@ ghost use Rattle.std.specs.Prelude.{◌≡◌, ◌<◌, ℕ, All, IfErr, IfOk, l
 ghost use Rattle.uc_worker.specs.Going.{Continues};
 ghost use Rattle.mc_net.specs.Asking.{HasBeenAsked};
 ghost use Rattle.mc_net.specs.Life.{HasAnswered};
-ghost use Rattle.mc_net.specs.Seating.{HasRun, HaveRun, IsReturned, listeners_of, worker_of, workers_of};
+ghost use Rattle.mc_net.specs.Running.{HasRun, HaveRun, IsReturned, listeners_of, worker_of, workers_of};
 ghost use Rattle.mc_net.specs.Serving.{IsNetworkFault};
-ghost use Rattle.mc_net.specs.Working.{HasServed, IsNew};
+ghost use Rattle.mc_net.specs.Working.{HasServed, IsUnused};
 ghost use Rattle.uc_worker.specs.Worker.{tenants_of};
 
 use crate::accepting::Acceptor;
-use crate::door::Door;
+use crate::event_loop::EventLoop;
 use crate::halt::Halt;
-use crate::seat::{Returned, Seat};
-use crate::station::{Bell, Hall, Station};
-use crate::working::Desk;
+use crate::listener::TenantListener;
+use crate::mailbox::{Mailbox, Shared, Signal};
+use crate::worker_thread::{Returned, WorkerThread};
 use mc_model::{Fault, TenantId};
 use mio::Poll;
 use mio::net::TcpListener;
@@ -26,153 +26,158 @@ use std::thread::{Threads, join_mut};
 use uc_log::Log;
 use uc_worker::{Gate, Worker};
 
-/// A worker's loop, at the station of its number. Where it fails, all others are told to end.
-fn run_seat<R: Wait, G: Gate>(rt: &R, hall: &Hall, number: usize, seat: &mut Seat<'_, G>)
-    ensures { HasRun seat.old seat.new }
+/// A worker's loop, at the mailbox of its number. Where it fails, all others are told to end.
+fn run_worker<R: Wait, G: Gate>(
+    rt: &R,
+    shared: &Shared,
+    number: usize,
+    worker_thread: &mut WorkerThread<'_, G>,
+)
+    ensures { HasRun worker_thread.old worker_thread.new }
 {
-    let Some(station) = hall.stations.get(number) else {
-        seat.outcome = Err(Halt::Elsewhere);
+    let Some(mailbox) = shared.mailboxes.get(number) else {
+        worker_thread.outcome = Err(Halt::Elsewhere);
         return;
     };
-    let Seat {
+    let WorkerThread {
         worker,
         gate,
-        desk,
+        event_loop,
         outcome,
-    } = seat;
-    *outcome = desk.work(rt, worker, gate, station);
+    } = worker_thread;
+    *outcome = event_loop.run(rt, worker, gate, mailbox);
     if outcome.is_err() {
-        hall.halt(rt);
+        shared.halt(rt);
     }
 }
 
 /// The acceptor's loop. Where it fails, all others are told to end.
-fn run_acceptor<R: Wait>(rt: &R, acceptor: &mut Acceptor, hall: &Hall)
-    requires { 0 < vec_len hall.now.stations }
+fn run_acceptor<R: Wait>(rt: &R, acceptor: &mut Acceptor, shared: &Shared)
+    requires { 0 < vec_len shared.now.mailboxes }
 {
-    let outcome = match acceptor.run(rt, hall) {
-        Ok(()) => hall.close(rt),
+    let outcome = match acceptor.run(rt, shared) {
+        Ok(()) => shared.tell_workers(rt, Signal::Closed),
         Err(halt) => Err(halt),
     };
     if outcome.is_err() {
-        hall.halt(rt);
+        shared.halt(rt);
     }
     acceptor.outcome = outcome;
 }
 
 /// Each worker in a thread of its own. Where no thread can be made, one after another.
-fn run_seats<'a, R: Threads + Wait + Sync, G: Gate + Send>(
+fn run_workers<'a, R: Threads + Wait + Sync, G: Gate + Send>(
     rt: &R,
-    hall: &Hall,
-    seats: &mut [Seat<'a, G>],
+    shared: &Shared,
+    worker_threads: &mut [WorkerThread<'a, G>],
 )
-    ensures { HaveRun seats.old seats.new }
+    ensures { HaveRun worker_threads.old worker_threads.new }
 {
-    let threads = seats.len().max(1);
+    let threads = worker_threads.len().max(1);
     thread::for_each_mut(
         rt,
-        seats,
+        worker_threads,
         threads,
-        &|number: usize, seat: &mut Seat<'_, G>|
-            ensures { HasRun seat.entry.now seat.exit.now }
-        { run_seat(rt, hall, number, seat) },
+        &|number: usize, worker_thread: &mut WorkerThread<'_, G>|
+            ensures { HasRun worker_thread.entry.now worker_thread.exit.now }
+        { run_worker(rt, shared, number, worker_thread) },
     );
 }
 
 /// The workers beside the acceptor. Where no thread can be made the acceptor is first, and ends as no worker's loop begins.
 fn run_all<'a, R: Threads + Wait + Sync, G: Gate + Send>(
     rt: &R,
-    hall: &Hall,
+    shared: &Shared,
     acceptor: &mut Acceptor,
-    seats: &mut [Seat<'a, G>],
+    worker_threads: &mut [WorkerThread<'a, G>],
 )
-    requires { 0 < vec_len hall.now.stations }
-    ensures { HaveRun seats.old seats.new }
+    requires { 0 < vec_len shared.now.mailboxes }
+    ensures { HaveRun worker_threads.old worker_threads.new }
 {
     join_mut(
         rt,
-        &mut || run_seats(rt, hall, seats),
-        &mut || run_acceptor(rt, acceptor, hall),
+        &mut || run_workers(rt, shared, worker_threads),
+        &mut || run_acceptor(rt, acceptor, shared),
     );
 }
 
 /// All loops, until each has ended.
 fn run<'a, R: Threads + Wait + Sync, G: Gate + Send>(
     rt: &R,
-    hall: &Hall,
+    shared: &Shared,
     acceptor: &mut Acceptor,
-    seats: &mut Vec<Seat<'a, G>>,
+    worker_threads: &mut Vec<WorkerThread<'a, G>>,
 )
-    requires { 0 < vec_len hall.now.stations }
-    ensures { HaveRun seats.old.items seats.new.items }
+    requires { 0 < vec_len shared.now.mailboxes }
+    ensures { HaveRun worker_threads.old.items worker_threads.new.items }
 {
-    run_all(rt, hall, acceptor, seats);
+    run_all(rt, shared, acceptor, worker_threads);
 }
 
-/// The doors of these listeners, in their order. Where memory runs out: `Memory`.
-fn doors_of(
+/// These listeners with their tenants, in their order. Where memory runs out: `Memory`.
+fn tenant_listeners(
     alloc: Global,
     listeners: Vec<(TenantId, TcpListener)>,
-) -> Result<Vec<Door<TcpListener>>, Halt>
-    ensures { IfOk result (λ doors. listeners_of doors.items ≡ listeners.items) }
+) -> Result<Vec<TenantListener<TcpListener>>, Halt>
+    ensures { IfOk result (λ all. listeners_of all.items ≡ listeners.items) }
 {
-    let mut doors = Vec::new(alloc);
-    for (tenant, listener) in listeners {
-        doors.push(Door { tenant, listener })?;
+    let mut all = Vec::new(alloc);
+    for (tenant, socket) in listeners {
+        all.push(TenantListener { tenant, socket })?;
     }
-    Ok(doors)
+    Ok(all)
 }
 
 /// A poll. Where none can be made: `Poll`.
-fn poll_of<R: Net>(rt: &R) -> Result<Poll, Halt> {
+fn new_poll<R: Net>(rt: &R) -> Result<Poll, Halt> {
     match Poll::new(rt) {
         Ok(poll) => Ok(poll),
         Err(_) => Err(Halt::Poll),
     }
 }
 
-/// The workers at their desks, in their order, and a station for each.
-fn seats_of<'a, R: Net, G: Gate + Drop>(
+/// The workers with their event loops, in their order, and a mailbox for each.
+fn threads_of<'a, R: Net, G: Gate + Drop>(
     rt: &R,
     alloc: Global,
     log: &'a Log,
     workers: Vec<Worker<'a>>,
     gates: Vec<G>,
-) -> Result<(Vec<Station>, Vec<Seat<'a, G>>), Halt>
+) -> Result<(Vec<Mailbox>, Vec<WorkerThread<'a, G>>), Halt>
     requires workers { All (λ worker. worker.log.now ≡ log.now) workers.items }
     requires gates { vec_len gates ≡ vec_len workers }
-    ensures stations { IfOk result (λ pair. vec_len pair.0 ≡ vec_len workers.entry) }
-    ensures seats { IfOk result (λ pair. workers_of pair.1.items ≡ workers.entry.items) }
-    ensures new { IfOk result (λ pair. All (λ seat. IsNew seat.desk.rota.table) pair.1.items) }
+    ensures mailboxes { IfOk result (λ pair. vec_len pair.0 ≡ vec_len workers.entry) }
+    ensures worker_threads { IfOk result (λ pair. workers_of pair.1.items ≡ workers.entry.items) }
+    ensures new { IfOk result (λ pair. All (λ worker_thread. IsUnused worker_thread.event_loop.ready.connections) pair.1.items) }
 {
     let tenants = log.settings().tenants().len();
-    let mut stations = Vec::new(alloc);
-    let mut seats = Vec::new(alloc);
+    let mut mailboxes = Vec::new(alloc);
+    let mut worker_threads = Vec::new(alloc);
     let mut gates = gates.into_iter();
     for worker in workers {
         let Some(gate) = gates.next() else {
             unreachable!();
         };
-        let poll = poll_of(rt)?;
-        let Ok(station) = Station::new(alloc, poll.registry()) else {
+        let poll = new_poll(rt)?;
+        let Ok(mailbox) = Mailbox::new(alloc, poll.registry()) else {
             return Err(Halt::Poll);
         };
-        stations.push(station)?;
-        let desk = Desk::new(alloc, poll, tenants)?;
-        seats.push(Seat {
+        mailboxes.push(mailbox)?;
+        let event_loop = EventLoop::new(alloc, poll, tenants)?;
+        worker_threads.push(WorkerThread {
             worker,
             gate,
-            desk,
+            event_loop,
             outcome: Ok(()),
         })?;
     }
-    Ok((stations, seats))
+    Ok((mailboxes, worker_threads))
 }
 
 /// Fails as the first loop that failed by itself, if one did.
-fn first_failure<G>(seats: &[Seat<'_, G>]) -> Result<(), Halt> {
-    for seat in seats {
-        match seat.outcome {
+fn first_failure<G>(worker_threads: &[WorkerThread<'_, G>]) -> Result<(), Halt> {
+    for worker_thread in worker_threads {
+        match worker_thread.outcome {
             Err(Halt::Elsewhere) | Ok(()) => {}
             Err(halt) => return Err(halt),
         }
@@ -180,24 +185,24 @@ fn first_failure<G>(seats: &[Seat<'_, G>]) -> Result<(), Halt> {
     Ok(())
 }
 
-/// The workers of the seats, in their order, and what each has served. Where a loop ended before its time: as the first that did.
+/// The workers of these threads, in their order, and what each has served. Where a loop ended before its time: as the first that did.
 fn returned_of<'a, G: Drop>(
     alloc: Global,
-    seats: Vec<Seat<'a, G>>,
+    worker_threads: Vec<WorkerThread<'a, G>>,
 ) -> Result<Vec<Returned<'a>>, Halt>
-    ensures { IfOk result (λ back. AllZip IsReturned seats.entry.items back.items) }
+    ensures { IfOk result (λ back. AllZip IsReturned worker_threads.entry.items back.items) }
 {
     let mut back = Vec::new(alloc);
-    for seat in seats {
-        let past = seat.desk.rota.table.past.again();
-        let Seat {
+    for worker_thread in worker_threads {
+        let ended = worker_thread.event_loop.ready.connections.ended.again();
+        let WorkerThread {
             worker,
             gate: _,
-            desk: _,
+            event_loop: _,
             outcome,
-        } = seat;
+        } = worker_thread;
         outcome?;
-        back.push(Returned { worker, past })?;
+        back.push(Returned { worker, ended })?;
     }
     Ok(back)
 }
@@ -210,7 +215,7 @@ pub fn into_workers<'a>(
     ensures { IfOk result (λ workers. workers.items ≡ map worker_of back.entry.items) }
 {
     let mut workers = Vec::with_capacity(alloc, back.len())?;
-    for Returned { worker, past: _ } in back {
+    for Returned { worker, ended: _ } in back {
         workers.push(worker)?;
     }
     Ok(workers)
@@ -243,16 +248,19 @@ pub fn serve<'a, R: Threads + Wait + Net + Sync, G: Gate + Send + Drop>(
     ensures logs { IfOk result (λ back. All (λ worker. worker.log.now ≡ log.entry.now) (map worker_of back.items)) }
     ensures faults { IfErr result IsNetworkFault }
 {
-    let (stations, mut seats) = seats_of(rt, alloc, log, workers, gates)?;
-    let poll = poll_of(rt)?;
-    let Ok(bell) = Bell::new(poll.registry()) else {
+    let (mailboxes, mut worker_threads) = threads_of(rt, alloc, log, workers, gates)?;
+    let poll = new_poll(rt)?;
+    let Ok(of_acceptor) = Mailbox::new(alloc, poll.registry()) else {
         return Err(Fault::Input);
     };
-    let doors = doors_of(alloc, listeners)?;
-    let mut acceptor = Acceptor::new(alloc, poll, doors, connections)?;
-    let hall = Hall { stations, bell };
-    run(rt, &hall, &mut acceptor, &mut seats);
+    let listeners = tenant_listeners(alloc, listeners)?;
+    let mut acceptor = Acceptor::new(alloc, poll, listeners, connections)?;
+    let shared = Shared {
+        mailboxes,
+        of_acceptor,
+    };
+    run(rt, &shared, &mut acceptor, &mut worker_threads);
     acceptor.outcome?;
-    first_failure(&seats)?;
-    Ok(returned_of(alloc, seats)?)
+    first_failure(&worker_threads)?;
+    Ok(returned_of(alloc, worker_threads)?)
 }

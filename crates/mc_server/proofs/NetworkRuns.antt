@@ -12,8 +12,8 @@ use Rattle.mc_model.specs.declared.fault.Fault.TheVariants.{Memory, LogFull, Tak
 use Rattle.mc_model.specs.Settings.{Configuration}
 use Rattle.mc_net.specs.Asking.{HasBeenAsked}
 use Rattle.mc_net.specs.Life.{HasAnswered}
-use Rattle.mc_net.specs.Seating.{worker_of}
-use Rattle.mc_net.specs.declared.seat.Returned.{Returned}
+use Rattle.mc_net.specs.Running.{worker_of}
+use Rattle.mc_net.specs.declared.worker_thread.Returned.{Returned}
 use Rattle.mc_server.proofs.Numbered.{all_below}
 use Rattle.mc_server.specs.Listeners.{CountsFrom, StopsListening}
 use Rattle.mc_server.specs.Network.{AreOf, AreWorkersOf, HasDoneNothing, HaveMet, HaveServed, IsDone, IsReady, IsServed, WereServed, number_of, StopsAnnouncing, StopsFinishing, StopsRun, StopsServing, names_of}

@@ -11,8 +11,8 @@ use Rattle.mc_model.specs.Legal.{IsLegal, count}
 use Rattle.mc_model.specs.Settings.{Configuration}
 use Rattle.mc_net.specs.Asking.{HasBeenAsked}
 use Rattle.mc_net.specs.Life.{HasAnswered}
-use Rattle.mc_net.specs.Seating.{worker_of}
-use Rattle.mc_net.specs.declared.seat.Returned.{Returned}
+use Rattle.mc_net.specs.Running.{worker_of}
+use Rattle.mc_net.specs.declared.worker_thread.Returned.{Returned}
 use Rattle.mc_programs.specs.Faults.{fault_line}
 use Rattle.mc_server.specs.Listeners.{CountsFrom, IsTold}
 use Rattle.mc_server.specs.NetworkTexts.{cannot_listen_line, done_line, ready_text}

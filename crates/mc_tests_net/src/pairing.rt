@@ -2,7 +2,7 @@
 ghost use Rattle.std.specs.Prelude.{◌≡◌, ⊤, IfOk, OnOk};
 
 use mc_model::TenantId;
-use mc_net::{Accepted, Arrival, Door, Halt, Listen, Receive, accept_one};
+use mc_net::{Accepted, Arrival, Halt, Listen, Receive, TenantListener, accept_one};
 use std::alloc::Global;
 use std::io;
 use std::sync::{Mutex, Wait};
@@ -59,18 +59,18 @@ fn streams_go_round_with_their_tenants(rt: HostRuntime) -> Result<(), Fail> {
     let alloc = rt.alloc();
     let one = TenantId::new(3).ok_or("no tenant")?;
     let two = TenantId::new(5).ok_or("no tenant")?;
-    let first = Door {
+    let first = TenantListener {
         tenant: one,
-        listener: Numbered { number: 30 },
+        socket: Numbered { number: 30 },
     };
-    let second = Door {
+    let second = TenantListener {
         tenant: two,
-        listener: Numbered { number: 50 },
+        socket: Numbered { number: 50 },
     };
     let places = [hole(alloc), hole(alloc), hole(alloc)];
     for done in 0..4u64 {
-        let door = if done == 1 { &second } else { &first };
-        assert_eq!(rt; accept_one(&rt, door, &places, done)?, Accepted::One);
+        let listener = if done == 1 { &second } else { &first };
+        assert_eq!(rt; accept_one(&rt, listener, &places, done)?, Accepted::One);
     }
     assert!(rt; holds(&rt, &places[0], &[(3, 30), (3, 30)]));
     assert!(rt; holds(&rt, &places[1], &[(5, 50)]));

@@ -1,7 +1,0 @@
--- The doors so far and the listeners that are left are all the listeners.
-use Rattle.std.proofs.Common.{◌≡◌, ◌++◌}
-use Rattle.mc_net.specs.Seating.{listeners_of}
-use Rattle.mc_net.proofs.serving.doors_of.Given as goal
-
-abbrev pub invariant-loop-tenant : goal.invariant-loop-tenant
-invariant-loop-tenant l = listeners_of l.doors.items ++ l.tenant-iterator.rest.items ≡ l.fn.listeners.items

@@ -1,0 +1,68 @@
+//! The connections of a worker.
+ghost use Rattle.std.specs.Prelude.{◌≡◌, ◌==◌, ◌<◌, ◌≤◌, ℕ, [], IfOk, Some, true};
+ghost use Rattle.mc_net.specs.declared.connections.TheConstants.{MOST_CONNECTIONS};
+ghost use Rattle.slab.specs.Slab.{get, slab_len};
+
+use crate::ended::Ended;
+use crate::halt::Halt;
+use mc_conn::Conn;
+use mc_stream::Tape;
+use mio::net::TcpStream;
+use slab::Slab;
+use std::alloc::Global;
+
+/// How many connections a worker has at most.
+pub(crate) const MOST_CONNECTIONS: usize = 1_024;
+
+/// A stream, and what is kept of its requests and replies.
+#[derive(Drop)]
+pub(crate) struct Connection {
+    pub(crate) stream: TcpStream,
+    pub(crate) conn: Conn,
+    /// What the reads of the stream did, for clauses alone.
+    pub(crate) received: Tape,
+    /// What its writes did, for clauses alone.
+    pub(crate) sent: Tape,
+}
+
+/// The connections of a worker under their keys, each of a tenant of the log.
+#[derive(Drop)]
+pub(crate) struct Connections {
+    pub(crate) by_key: Slab<Connection>,
+    /// How many tenants the log has.
+    pub(crate) tenants: usize,
+    /// The connections that have ended, and stand here no more.
+    pub(crate) ended: Ended,
+    ghost room: { MOST_CONNECTIONS ≤ by_key.capacity },
+    ghost known: { (key : ℕ) (connection : _) → get by_key key ≡ Some connection → connection.conn.tenant < tenants },
+}
+
+impl Connections {
+    /// No connection, with room for all that there may be. Where memory runs out: `Memory`.
+    pub(crate) fn new(alloc: Global, tenants: usize) -> Result<Connections, Halt>
+        ensures tenants { IfOk result (λ connections. connections.tenants ≡ tenants) }
+        ensures new { IfOk result (λ connections. ((slab_len connections.by_key == 0) ≡ true) × (connections.ended.connections ≡ [])) }
+    {
+        let mut by_key = Slab::new(alloc);
+        by_key.reserve(MOST_CONNECTIONS)?;
+        Ok(Connections {
+            by_key,
+            tenants,
+            ended: Ended::new(),
+        })
+    }
+
+    pub(crate) fn is_empty(&self) -> bool
+        ensures { result ≡ (slab_len self.now.by_key == 0) }
+    {
+        self.by_key.is_empty()
+    }
+
+    /// Closes every connection.
+    pub(crate) fn clear(&mut self)
+        ensures empty { (slab_len self.new.by_key == 0) ≡ true }
+        ensures tenants { self.new.tenants ≡ self.old.tenants }
+    {
+        self.by_key.clear();
+    }
+}

@@ -1,0 +1,25 @@
+//! Workers with their event loops.
+ghost use Rattle.std.specs.Prelude.{◌≡◌, length};
+ghost use Rattle.uc_worker.specs.Worker.{tenants_of};
+
+use crate::ended::Ended;
+use crate::event_loop::EventLoop;
+use crate::halt::Halt;
+use uc_worker::Worker;
+
+/// A worker with its gate and its event loop, and how its loop ended.
+#[derive(Drop)]
+pub(crate) struct WorkerThread<'a, G> {
+    pub(crate) worker: Worker<'a>,
+    pub(crate) gate: G,
+    pub(crate) event_loop: EventLoop,
+    pub(crate) outcome: Result<(), Halt>,
+    ghost tenants: { event_loop.ready.connections.tenants ≡ length (tenants_of worker) },
+}
+
+/// A worker that has come back from its loop, and the connections that it has served.
+#[derive(Drop)]
+pub struct Returned<'a> {
+    pub worker: Worker<'a>,
+    pub ended: Ended,
+}
