@@ -19,6 +19,7 @@ use Rattle.uc_cells.specs.Sighting.{Sighting, entries}
 use Rattle.uc_core.proofs.Lists.{take_more}
 use Rattle.uc_worker.specs.declared.worker.Worker.{Worker}
 use Rattle.uc_worker.specs.Worker.{history_of}
+use Rattle.mc_conn.specs.declared.conn.Role.TheVariants.{Tenant}
 use Rattle.mc_conn.specs.Alone.{IsAloneOver, applied_with, first_mark, logged_reply, owed_after}
 use Rattle.mc_conn.specs.Onward.{own_entry, own_sighting}
 use Rattle.mc_conn.specs.Owed.{IsPlaced, IsTurnedAway, Mark, Owes, answered}
@@ -102,7 +103,7 @@ module _ (limits : Limits) (base : List Command) (places : ℕ) (worker : Worker
       in
       (is.reply_is ∙ sym room.0, subst (IsUpTo to.number) (sym room.1) (inr (omega (arith, last, later, alone.long), long)))
 
-  in_order : (requests : List Request) (from to : Mark) (applied : List Command) (bytes : List ℕ) → IsUpTo from.number applied → Owes worker 0 from requests bytes to →
+  in_order : (requests : List Request) (from to : Mark) (applied : List Command) (bytes : List ℕ) → IsUpTo from.number applied → Owes worker (Tenant 0) from requests bytes to →
       bytes ≡ owed_after limits base places applied requests
   in_order [] from to applied bytes up owes = owes.0
   in_order (Logged command quiet ∷ requests) from to applied bytes up (reply, next, rest, is, all, owes) =
@@ -113,7 +114,7 @@ module _ (limits : Limits) (base : List Command) (places : ℕ) (worker : Worker
   in_order (Quit ∷ requests) from to applied bytes up (rest, all, owes) = all ∙ in_order requests from to applied rest up owes
   in_order (TooLong ∷ requests) from to applied bytes up (rest, all, owes) = all ∙ ap (λ it. text (Refused E5) ++ it) (in_order requests from to applied rest up owes)
 
-  pub owes_in_order : (requests : List Request) (bytes : List ℕ) (to : Mark) → Owes worker 0 first_mark requests bytes to → bytes ≡ owed_after limits base places [] requests
+  pub owes_in_order : (requests : List Request) (bytes : List ℕ) (to : Mark) → Owes worker (Tenant 0) first_mark requests bytes to → bytes ≡ owed_after limits base places [] requests
   owes_in_order requests bytes to owes = in_order requests first_mark to [] bytes (inl (none_yet (history_of worker), refl, omega arith)) owes
     where
       none_yet : (history : List Sighting) → own 0 (entries (take 0 history)) ≡ []

@@ -19,6 +19,7 @@ use Rattle.uc_worker.proofs.Lists.{begins_length, last_at}
 use Rattle.mc_conn.specs.Onward.{own_entry, own_sighting}
 use Rattle.uc_worker.specs.declared.worker.Answer.{Answer}
 use Rattle.uc_worker.specs.Going.{AnnouncesAtMost, Continues, Submits}
+use Rattle.mc_conn.specs.declared.conn.Role.TheVariants.{Tenant}
 use Rattle.mc_conn.specs.Owed.{answered, demand_of, mark_of}
 use Rattle.mc_conn.specs.Parts.{Answers, MayAnnounce, MayAnnounceFor, Responds}
 use Rattle.mc_conn.proofs.Counts.{number_below}
@@ -108,12 +109,12 @@ module _ (old new : Worker) (tenant : ℕ) (command : Command) (on : Continues o
 
 -- the command of a request that met a fault may be announced
 pub for_logged : (old new : Worker) (tenant : ℕ) (request : Request) (command : Command) (quiet : Bool) → request ≡ Logged command quiet → MayAnnounce old new tenant command →
-    MayAnnounceFor old new (demand_of tenant request)
-for_logged old new tenant request command quiet is may = subst (λ request. MayAnnounceFor old new (demand_of tenant request)) (sym is) may
+    MayAnnounceFor old new (demand_of (Tenant tenant) request)
+for_logged old new tenant request command quiet is may = subst (λ request. MayAnnounceFor old new (demand_of (Tenant tenant) request)) (sym is) may
 
 -- what a reply owes
 pub responds_reply : (old new : Worker) (tenant : ℕ) (command : Command) (quiet : Bool) (reply : Reply) (before after : List ℕ) → Answers old new tenant command reply →
-    after ≡ before ++ answered quiet reply → Responds old new tenant (Logged command quiet) before after
+    after ≡ before ++ answered quiet reply → Responds old new (Tenant tenant) (Logged command quiet) before after
 responds_reply old new tenant command quiet reply before after answers queued = record {
   bytes = answered quiet reply;
   queued = queued;

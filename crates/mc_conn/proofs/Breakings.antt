@@ -6,7 +6,6 @@ use Rattle.std.proofs.KnownBytes.{Consumes-nil}
 use Rattle.mc_model.specs.declared.fault.Fault.{Fault}
 use Rattle.mc_model.specs.declared.fault.Fault.TheVariants.{Memory, Output}
 use Rattle.mc_model.specs.declared.request.Request.{Request}
-use Rattle.mc_model.specs.declared.request.Request.TheVariants.{Local, Logged, Quit, TooLong}
 use Rattle.mc_stream.specs.Event.{moved, waits}
 use Rattle.mc_stream.specs.Pushing.{FailsOnce, Pushes}
 use Rattle.mc_stream.specs.Stream.{Inflow, Outflow, Streams, both}
@@ -16,11 +15,11 @@ use Rattle.uc_worker.specs.Worker.{announced_of}
 use Rattle.uc_worker.proofs.Lists.{last_at}
 use Rattle.mc_conn.specs.declared.conn.Conn.{Conn}
 use Rattle.mc_conn.specs.ConnFault.{CellTaken, ConnFault, CountsFailures, InputFailed, OutOfMemory, OutputFailed, fault_of}
-use Rattle.mc_conn.specs.Ending.{Breaks, Meets}
+use Rattle.mc_conn.specs.Ending.{Breaks, MayStandBehind, Meets}
 use Rattle.mc_conn.specs.Held.{HoldsOn, IsRead}
 use Rattle.mc_conn.specs.Onward.{own_sighting}
 use Rattle.uc_worker.specs.Going.{Continues}
-use Rattle.mc_conn.specs.Owed.{demand_of, mark_of}
+use Rattle.mc_conn.specs.Owed.{Demand, Logs, Says, demand_of, mark_of}
 use Rattle.mc_conn.specs.Parts.{IsTakeFault, Looks, MayAnnounceFor, Refuses}
 use Rattle.mc_conn.specs.Turn.{NeitherFails, Scene, Taken, Takes, holding_of, queue_of, scene}
 use Rattle.mc_conn.proofs.Owings.{same_sighting}
@@ -47,7 +46,7 @@ breaks_later fault a b c one two = record {
         ended.0,
         begun.1 ∙ (ap (λ (list : List Request). one.taken.requests ++ list) ended.1 ∙ sym (append_assoc one.taken.requests two.taken.requests (two.met ++ ended.0))),
       );
-  meets = subst (λ tenant. Meets c.worker tenant two.to two.met) one.taken.tenant two.meets;
+  meets = subst (λ role. Meets c.worker role two.to two.met) one.taken.role two.meets;
   failures = counts_later two.cause a.streams b.streams c.streams one.unfailed two.failures;
 }
 
@@ -67,47 +66,43 @@ breaks_here cause old new worker before after taken none counts = record {
 }
 
 -- while a front of the queue was pushed
-pub breaks_pushing : (old new : Conn) (worker : Worker) (input : Inflow) (before after : Outflow) (count : ℕ) → queue_of new ≡ drop count (queue_of old) → new.tenant ≡ old.tenant →
+pub breaks_pushing : (old new : Conn) (worker : Worker) (input : Inflow) (before after : Outflow) (count : ℕ) → queue_of new ≡ drop count (queue_of old) → new.role ≡ old.role →
     Pushes before after (take count (queue_of old)) → FailsOnce before after → waits after.events ≡ waits before.events →
     Breaks (scene old worker (both input before)) (scene new worker (both input after)) Output
 unfolding taken_none
-breaks_pushing old new worker input before after count left tenant went failed waited =
+breaks_pushing old new worker input before after count left role went failed waited =
     breaks_here OutputFailed old new worker (both input before) (both input after)
-    (taken_none old new worker (both input before) (both input after) [] (take count (queue_of old)) (sym (append-nil (moved input.events))) (Consumes-nil input.left) went tenant
+    (taken_none old new worker (both input before) (both input after) [] (take count (queue_of old)) (sym (append-nil (moved input.events))) (Consumes-nil input.left) went role
     (ap (λ rest. take count (queue_of old) ++ rest) left ∙ take-append-drop count (queue_of old)) (omega (arith, waited)))
     refl (refl, failed)
 
 -- while bytes were pulled, or kept
-pub breaks_pulling : (cause : ConnFault) (old new : Conn) (worker : Worker) (before after : Inflow) (output : Outflow) (piece : List ℕ) → queue_of new ≡ queue_of old → new.tenant ≡ old.tenant →
+pub breaks_pulling : (cause : ConnFault) (old new : Conn) (worker : Worker) (before after : Inflow) (output : Outflow) (piece : List ℕ) → queue_of new ≡ queue_of old → new.role ≡ old.role →
     moved after.events ≡ moved before.events ++ piece → Consumes before.left after.left piece → CountsFailures cause (both before output) (both after output) →
     Breaks (scene old worker (both before output)) (scene new worker (both after output)) (fault_of cause)
 unfolding taken_none
-breaks_pulling cause old new worker before after output piece queue tenant pulled consumed counts =
+breaks_pulling cause old new worker before after output piece queue role pulled consumed counts =
     breaks_here cause old new worker (both before output) (both after output)
-    (taken_none old new worker (both before output) (both after output) piece [] pulled consumed (sym (append-nil (moved output.events))) tenant queue (omega arith)) refl counts
+    (taken_none old new worker (both before output) (both after output) piece [] pulled consumed (sym (append-nil (moved output.events))) role queue (omega arith)) refl counts
 
 -- while a request was looked for
 pub breaks_looking : (old new : Conn) (worker : Worker) (streams : Streams) → Looks old new → Breaks (scene old worker streams) (scene new worker streams) Memory
 unfolding taken_still taken_none
 breaks_looking old new worker streams looks =
-    breaks_here OutOfMemory old new worker streams streams (taken_still old new worker streams looks.tenant looks.queue) refl (refl, refl)
+    breaks_here OutOfMemory old new worker streams streams (taken_still old new worker streams looks.role looks.queue) refl (refl, refl)
 
 -- what the request that met a fault announced
-meets_one : (worker later : Worker) (tenant : ℕ) (request : Request) → Continues worker later → MayAnnounceFor worker later (demand_of tenant request) → Meets later tenant (mark_of worker) (request ∷ [])
-meets_one worker later tenant (Logged command quiet) on may = (
-  refl,
-  ⊎_elim
-      (λ (same : announced_of later ≡ announced_of worker). inl (ap (λ (list : List Sighting). length list) same))
-      (λ (more : announced_of later ≡ announced_of worker ++ own_sighting worker (length (announced_of worker)) tenant command ∷ []). inr (
-        ap (λ (list : List Sighting). length list) more ∙ length-append (announced_of worker) (own_sighting worker (length (announced_of worker)) tenant command ∷ []),
-        ap (λ (list : List Sighting). slice_get list (length (announced_of worker))) more
-            ∙ (last_at (announced_of worker) _ ∙ ap (λ (seen : Sighting). Some seen) (same_sighting worker later on (length (announced_of worker)) tenant command)),
-      ))
-      may,
-)
-meets_one worker later tenant (Local reply quiet) on may = (refl, ap (λ (list : List Sighting). length list) may)
-meets_one worker later tenant Quit on may = (refl, ap (λ (list : List Sighting). length list) may)
-meets_one worker later tenant TooLong on may = (refl, ap (λ (list : List Sighting). length list) may)
+meets_one : (worker later : Worker) (demand : Demand) → Continues worker later → MayAnnounceFor worker later demand → MayStandBehind later (mark_of worker) demand
+meets_one worker later (Logs tenant command quiet) on may =
+    ⊎_elim
+    (λ (same : announced_of later ≡ announced_of worker). inl (ap (λ (list : List Sighting). length list) same))
+    (λ (more : announced_of later ≡ announced_of worker ++ own_sighting worker (length (announced_of worker)) tenant command ∷ []). inr (
+      ap (λ (list : List Sighting). length list) more ∙ length-append (announced_of worker) (own_sighting worker (length (announced_of worker)) tenant command ∷ []),
+      ap (λ (list : List Sighting). slice_get list (length (announced_of worker))) more
+          ∙ (last_at (announced_of worker) _ ∙ ap (λ (seen : Sighting). Some seen) (same_sighting worker later on (length (announced_of worker)) tenant command)),
+    ))
+    may
+meets_one worker later (Says said) on may = ap (λ (list : List Sighting). length list) may
 
 -- the cause of a fault at which a request was taken
 take_cause : (fault : Fault) (streams : Streams) → IsTakeFault fault → (cause : ConnFault) × (fault ≡ fault_of cause) × CountsFailures cause streams streams
@@ -115,9 +110,9 @@ take_cause fault streams which = ⊎_elim (λ is. (OutOfMemory, is, (refl, refl)
 
 -- while a request was taken
 pub breaks_taking : (fault : Fault) (old new : Conn) (worker later : Worker) (streams : Streams) (request : Request) → IsRead (holding_of old) [] (request ∷ []) (holding_of new) →
-    new.tenant ≡ old.tenant → Continues worker later → Refuses worker later old.tenant request (queue_of old) (queue_of new) fault →
+    new.role ≡ old.role → Continues worker later → Refuses worker later old.role request (queue_of old) (queue_of new) fault →
     Breaks (scene old worker streams) (scene new later streams) fault
-breaks_taking fault old new worker later streams request read tenant on refuses =
+breaks_taking fault old new worker later streams request read role on refuses =
     let why = take_cause fault streams refuses.is in
     record {
       cause = why.0;
@@ -131,7 +126,7 @@ breaks_taking fault old new worker later streams request read tenant on refuses 
         pulled = sym (append-nil (moved streams.input.events));
         consumed = Consumes-nil streams.input.left;
         pushed = sym (append-nil (moved streams.output.events));
-        tenant = tenant;
+        role = role;
         onward = on;
         owes = (refl, refl, omega arith);
         bytes = refuses.unchanged ∙ sym (append-nil (queue_of old));
@@ -139,6 +134,6 @@ breaks_taking fault old new worker later streams request read tenant on refuses 
       };
       met = request ∷ [];
       reads = λ more all reads. let follows = (read more all).0 reads in (follows.0, follows.1);
-      meets = meets_one worker later old.tenant request on refuses.announced;
+      meets = (refl, meets_one worker later (demand_of old.role request) on refuses.announced);
       failures = why.2;
     }

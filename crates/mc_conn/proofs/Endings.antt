@@ -10,6 +10,7 @@ use Rattle.mc_stream.specs.Stream.{Inflow, Outflow, both}
 use Rattle.uc_worker.specs.declared.worker.Worker.{Worker}
 use Rattle.mc_conn.specs.declared.conn.Conn.{Conn}
 use Rattle.mc_conn.specs.declared.conn.TheConstants.{PULL_BYTES, QUEUE_BYTES}
+use Rattle.mc_conn.specs.declared.conn.Role.{Role}
 use Rattle.mc_conn.specs.declared.conn.State.{State}
 use Rattle.mc_conn.specs.declared.conn.State.TheVariants.{Closed, Idle, Busy}
 use Rattle.mc_conn.specs.ConnFault.{CellTaken, ConnFault, InputFailed, IsTold, OutOfMemory, OutputFailed, fault_of}
@@ -187,9 +188,9 @@ stops_push fault a b stops =
     (taken.sent ++ more.0, appended_twice _ _ _ taken.sent more.0 taken.pushed more.1, omega (arith, taken.waited, more.2))
 
 -- nothing is owed for no request
-owed_none : (worker : Worker) (tenant : ℕ) (from to : Mark) (requests : List Request) (bytes : List ℕ) → length requests ≡ 0 → Owes worker tenant from requests bytes to → length bytes ≡ 0
-owed_none worker tenant from to [] bytes none owes = ap length owes.0
-owed_none worker tenant from to (request ∷ requests) bytes none owes = absurd (omega (arith, none))
+owed_none : (worker : Worker) (role : Role) (from to : Mark) (requests : List Request) (bytes : List ℕ) → length requests ≡ 0 → Owes worker role from requests bytes to → length bytes ≡ 0
+owed_none worker role from to [] bytes none owes = ap length owes.0
+owed_none worker role from to (request ∷ requests) bytes none owes = absurd (omega (arith, none))
 
 nothing_in : (bytes : List ℕ) → length bytes ≡ 0 → bytes ≡ []
 nothing_in [] none = refl
@@ -238,7 +239,7 @@ module _ (a m n z : Scene) (before pulled last : Bool) (one : Does a m before) (
   -- a request has ended the stream, and all is sent
   over_rests : amount three.takes ≡ 0 → n.conn.is_over ≡ true → queue_of n.conn ≡ [] → IsAtRest z.conn
   over_rests still is empty =
-      let owed = owed_none z.worker n.conn.tenant (mark_of n.worker) (mark_of z.worker) three.takes.taken.requests three.takes.taken.owed (omega (arith, still)) three.takes.taken.owes in
+      let owed = owed_none z.worker n.conn.role (mark_of n.worker) (mark_of z.worker) three.takes.taken.requests three.takes.taken.owed (omega (arith, still)) three.takes.taken.owes in
       let queue =
       nothing_in (queue_of z.conn)
       (omega (arith, ap length three.takes.taken.bytes, length-append three.takes.taken.sent (queue_of z.conn), length-append (queue_of n.conn) three.takes.taken.owed, owed, ap length empty))
@@ -293,7 +294,7 @@ told_of InputFailed fault queue before after is tells = tells.1 (λ memory. let 
 told_of OutputFailed fault queue before after is tells = tells.1 (λ memory. let no : Output ≡ Memory = sym is ∙ memory in cc)
 
 -- a fault that was told, behind which the connection is closed
-module _ (before : Scene) (old new : Conn) (worker : Worker) (input : Inflow) (between after : Outflow) (fault : Fault) (same : (new.tenant ≡ old.tenant) × (queue_of new ≡ queue_of old))
+module _ (before : Scene) (old new : Conn) (worker : Worker) (input : Inflow) (between after : Outflow) (fault : Fault) (same : (new.role ≡ old.role) × (queue_of new ≡ queue_of old))
     (breaks : Breaks before (scene old worker (both input between)) fault) (tells : TellsOf fault (queue_of old) between after) where
   closed : Breaks before (scene new worker (both input between)) fault
   closed = record {
@@ -308,7 +309,7 @@ module _ (before : Scene) (old new : Conn) (worker : Worker) (input : Inflow) (b
       pulled = breaks.taken.pulled;
       consumed = breaks.taken.consumed;
       pushed = breaks.taken.pushed;
-      tenant = same.0 ∙ breaks.taken.tenant;
+      role = same.0 ∙ breaks.taken.role;
       onward = breaks.taken.onward;
       owes = breaks.taken.owes;
       bytes = ap (λ rest. breaks.taken.sent ++ rest) same.1 ∙ breaks.taken.bytes;

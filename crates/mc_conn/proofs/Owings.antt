@@ -3,14 +3,10 @@ use Rattle.std.proofs.Common.{◌≡◌, ℕ, ◌+◌, ◌<◌, ◌≤◌, List,
 use Rattle.mc_model.specs.declared.command.Command.{Command}
 use Rattle.mc_model.specs.declared.id.Ticket.{Ticket}
 use Rattle.mc_model.specs.declared.reply.Reply.{Reply}
-use Rattle.mc_model.specs.declared.reply.Reply.TheVariants.{Refused}
-use Rattle.mc_model.specs.declared.reply.WireNo.TheVariants.{E5}
 use Rattle.mc_model.specs.declared.request.Request.{Request}
-use Rattle.mc_model.specs.declared.request.Request.TheVariants.{Local, Logged, Quit, TooLong}
 use Rattle.mc_model.specs.Helping.{BeginsWith}
 use Rattle.mc_model.specs.Legal.{ticket_of}
 use Rattle.mc_model.specs.Replay.{reply_to}
-use Rattle.mc_write.specs.Text.{text}
 use Rattle.uc_cells.specs.Sighting.{Sighting, entries}
 use Rattle.uc_worker.specs.declared.worker.Worker.{Worker}
 use Rattle.uc_worker.specs.Worker.{announced_of, history_of, seat_of, openings_of, sighting_of}
@@ -18,7 +14,8 @@ use Rattle.uc_worker.proofs.Lists.{at_longer, begins_length, begins_whole}
 use Rattle.mc_conn.specs.Onward.{own_entry, own_sighting}
 use Rattle.uc_worker.specs.Going.{Continues}
 use Rattle.uc_worker.specs.Worker.{IsFull}
-use Rattle.mc_conn.specs.Owed.{IsAnswered, IsPlaced, IsTurnedAway, Mark, Owes, answered, mark_of}
+use Rattle.mc_conn.specs.declared.conn.Role.{Role}
+use Rattle.mc_conn.specs.Owed.{Demand, IsAnswered, IsPlaced, IsTurnedAway, Logs, Mark, Owes, OwesFor, Says, answered, demand_of, mark_of}
 use Rattle.mc_conn.proofs.Lists.{take_longer}
 
 stays_at : (old new : List Sighting) (place : ℕ) (seen : Sighting) → BeginsWith new old → slice_get old place ≡ Some seen → slice_get new place ≡ Some seen
@@ -73,20 +70,23 @@ module _ (old new : Worker) (on : Continues old new) where
   answered_grows tenant from command reply to is =
       ⊎_elim (λ placed. inl (placed_grows tenant from command reply to placed)) (λ away. inr (away_grows tenant from command reply to away)) is
 
-  -- the worker goes on
-  pub owes_grow : (tenant : ℕ) (from : Mark) (requests : List Request) (bytes : List ℕ) (to : Mark) → Owes old tenant from requests bytes to → Owes new tenant from requests bytes to
-  owes_grow tenant from [] bytes to owes = owes
-  owes_grow tenant from (Logged command quiet ∷ requests) bytes to (reply, next, rest, is, are, more) =
-      (reply, next, rest, answered_grows tenant from command reply next is, are, owes_grow tenant next requests rest to more)
-  owes_grow tenant from (Local reply quiet ∷ requests) bytes to (rest, are, more) = (rest, are, owes_grow tenant from requests rest to more)
-  owes_grow tenant from (Quit ∷ requests) bytes to (rest, are, more) = (rest, are, owes_grow tenant from requests rest to more)
-  owes_grow tenant from (TooLong ∷ requests) bytes to (rest, are, more) = (rest, are, owes_grow tenant from requests rest to more)
+  for_grow : (from : Mark) (demand : Demand) (bytes : List ℕ) (P Q : Mark → List ℕ → Type 0) → ((next : Mark) (rest : List ℕ) → P next rest → Q next rest) →
+      OwesFor old from demand bytes P → OwesFor new from demand bytes Q
+  for_grow from (Logs tenant command quiet) bytes P Q then (reply, next, rest, is, are, more) =
+      (reply, next, rest, answered_grows tenant from command reply next is, are, then next rest more)
+  for_grow from (Says said) bytes P Q then (rest, are, more) = (rest, are, then from rest more)
 
-module _ (worker : Worker) (tenant : ℕ) where
+  -- the worker goes on
+  pub owes_grow : (role : Role) (from : Mark) (requests : List Request) (bytes : List ℕ) (to : Mark) → Owes old role from requests bytes to → Owes new role from requests bytes to
+  owes_grow role from [] bytes to owes = owes
+  owes_grow role from (request ∷ requests) bytes to owes =
+      for_grow from (demand_of role request) bytes _ _ (λ next rest. owes_grow role next requests rest to) owes
+
+module _ (worker : Worker) where
   -- one answer after an earlier mark
-  answered_lower : (low from : Mark) (command : Command) (reply : Reply) (to : Mark) → from.number ≡ low.number → low.place ≤ from.place → IsAnswered worker tenant from command reply to →
+  answered_lower : (tenant : ℕ) (low from : Mark) (command : Command) (reply : Reply) (to : Mark) → from.number ≡ low.number → low.place ≤ from.place → IsAnswered worker tenant from command reply to →
       (next : Mark) × IsAnswered worker tenant low command reply next × (to.number ≡ next.number) × (next.place ≤ to.place)
-  answered_lower low from command reply to same before is =
+  answered_lower tenant low from command reply to same before is =
       ⊎_elim
       (λ (placed : IsPlaced worker tenant from command reply to). (
         record { number = low.number + 1; place = placed.place + 1 },
@@ -124,29 +124,37 @@ module _ (worker : Worker) (tenant : ℕ) where
       away.next)
       is
 
-  owes_lower : (low from : Mark) (requests : List Request) (bytes : List ℕ) (to : Mark) → from.number ≡ low.number → low.place ≤ from.place → Owes worker tenant from requests bytes to →
-      Owes worker tenant low requests bytes to
+  -- what is owed for a demand, after an earlier mark, and before more
+  for_lower : (low from : Mark) (demand : Demand) (bytes : List ℕ) (P : Mark → List ℕ → Type 0) → from.number ≡ low.number → low.place ≤ from.place →
+      ((next lower : Mark) (rest : List ℕ) → next.number ≡ lower.number → lower.place ≤ next.place → P next rest → P lower rest) →
+      OwesFor worker from demand bytes P → OwesFor worker low demand bytes P
+  for_lower low from (Logs tenant command quiet) bytes P same before then (reply, next, rest, is, are, more) =
+      let lower = answered_lower tenant low from command reply next same before is in
+      (reply, lower.0, rest, lower.1, are, then next lower.0 rest lower.2 lower.3 more)
+  for_lower low from (Says said) bytes P same before then (rest, are, more) = (rest, are, then from low rest same before more)
+
+  for_append : (from : Mark) (demand : Demand) (bytes more : List ℕ) (P Q : Mark → List ℕ → Type 0) → ((next : Mark) (rest : List ℕ) → P next rest → Q next (rest ++ more)) →
+      OwesFor worker from demand bytes P → OwesFor worker from demand (bytes ++ more) Q
+  for_append from (Logs tenant command quiet) bytes more P Q then (reply, next, rest, is, are, owes) =
+      (reply, next, rest ++ more, is, ap (λ some. some ++ more) are ∙ append_assoc (answered quiet reply) rest more, then next rest owes)
+  for_append from (Says said) bytes more P Q then (rest, are, owes) = (rest ++ more, ap (λ some. some ++ more) are ∙ append_assoc said rest more, then from rest owes)
+
+module _ (worker : Worker) (role : Role) where
+  owes_lower : (low from : Mark) (requests : List Request) (bytes : List ℕ) (to : Mark) → from.number ≡ low.number → low.place ≤ from.place → Owes worker role from requests bytes to →
+      Owes worker role low requests bytes to
   owes_lower low from [] bytes to same before owes = (owes.0, owes.1 ∙ same, omega (arith, before, owes.2))
-  owes_lower low from (Logged command quiet ∷ requests) bytes to same before (reply, next, rest, is, are, more) =
-      let lower = answered_lower low from command reply next same before is in
-      (reply, lower.0, rest, lower.1, are, owes_lower lower.0 next requests rest to lower.2 lower.3 more)
-  owes_lower low from (Local reply quiet ∷ requests) bytes to same before (rest, are, more) = (rest, are, owes_lower low from requests rest to same before more)
-  owes_lower low from (Quit ∷ requests) bytes to same before (rest, are, more) = (rest, are, owes_lower low from requests rest to same before more)
-  owes_lower low from (TooLong ∷ requests) bytes to same before (rest, are, more) = (rest, are, owes_lower low from requests rest to same before more)
+  owes_lower low from (request ∷ requests) bytes to same before owes =
+      for_lower worker low from (demand_of role request) bytes (λ next rest. Owes worker role next requests rest to) same before
+      (λ next lower rest. owes_lower lower next requests rest to) owes
 
   -- one part after another
-  pub owes_append : (from : Mark) (first second : List Request) (bytes more : List ℕ) (between to : Mark) → Owes worker tenant from first bytes between →
-      Owes worker tenant between second more to → Owes worker tenant from (first ++ second) (bytes ++ more) to
+  pub owes_append : (from : Mark) (first second : List Request) (bytes more : List ℕ) (between to : Mark) → Owes worker role from first bytes between →
+      Owes worker role between second more to → Owes worker role from (first ++ second) (bytes ++ more) to
   owes_append from [] second bytes more between to owes later =
-      subst (λ both. Owes worker tenant from second both to) (ap (λ none. none ++ more) (sym owes.0)) (owes_lower from between second more to owes.1 owes.2 later)
-  owes_append from (Logged command quiet ∷ first) second bytes more between to (reply, next, rest, is, are, then) later =
-      (reply, next, rest ++ more, is, ap (λ some. some ++ more) are ∙ append_assoc (answered quiet reply) rest more, owes_append next first second rest more between to then later)
-  owes_append from (Local reply quiet ∷ first) second bytes more between to (rest, are, then) later =
-      (rest ++ more, ap (λ some. some ++ more) are ∙ append_assoc (answered quiet reply) rest more, owes_append from first second rest more between to then later)
-  owes_append from (Quit ∷ first) second bytes more between to (rest, are, then) later =
-      (rest ++ more, ap (λ some. some ++ more) are, owes_append from first second rest more between to then later)
-  owes_append from (TooLong ∷ first) second bytes more between to (rest, are, then) later =
-      (rest ++ more, ap (λ some. some ++ more) are ∙ append_assoc (text (Refused E5)) rest more, owes_append from first second rest more between to then later)
+      subst (λ both. Owes worker role from second both to) (ap (λ none. none ++ more) (sym owes.0)) (owes_lower from between second more to owes.1 owes.2 later)
+  owes_append from (request ∷ first) second bytes more between to owes later =
+      for_append worker from (demand_of role request) bytes more (λ next rest. Owes worker role next first rest between) (λ next rest. Owes worker role next (first ++ second) rest to)
+      (λ next rest owes. owes_append next first second rest more between to owes later) owes
 
-  pub owes_nothing : Owes worker tenant (mark_of worker) [] [] (mark_of worker)
+  pub owes_nothing : Owes worker role (mark_of worker) [] [] (mark_of worker)
   owes_nothing = (refl, refl, omega arith)

@@ -6,7 +6,11 @@ use Rattle.mc_model.specs.declared.request.Request.{Request}
 use Rattle.mc_read.specs.Reading.{Ended, GoesOn, HasNone, Held, IsFed, IsNext, Kept, ReadAlike, ReadsAs, ReadsOn, Swallowing}
 use Rattle.mc_read.specs.Readings.{has_reading, one_reading}
 use Rattle.mc_read.specs.State.{IsAnswer}
-use Rattle.mc_conn.specs.Held.{Follow, Holding, HoldsNone, HoldsOn, IsRead, Waits}
+use Rattle.mc_read.specs.Text.{Lines}
+use Rattle.mc_read.specs.Line.{asked}
+use Rattle.mc_conn.specs.declared.conn.Role.{Role}
+use Rattle.mc_conn.specs.declared.conn.Role.TheVariants.{Tenant}
+use Rattle.mc_conn.specs.Held.{Follow, Holding, HoldsNone, HoldsOn, IsRead, Waits, lines_of}
 
 pub read_refl : (a : Holding) → IsRead a [] [] a
 read_refl a more all = (λ reads. (all, refl, reads), λ (others, same, reads). subst (HoldsOn a more) (sym same) reads)
@@ -22,119 +26,121 @@ read_trans a b c came later first second one two more all = (
       subst (λ bytes. HoldsOn a bytes all) (sym (append_assoc came later more)) ((one (later ++ more) all).1 (second ++ others, same ∙ append_assoc first second others, tail)),
 )
 
--- nothing waits, and a piece is fed
-pub read_fed : (before after : Held) (piece : List ℕ) → IsFed before piece after → IsRead (record { waiting = None; held = before }) piece [] (record { waiting = None; held = after })
-read_fed before after piece fed more all = (
-  λ reads. (all, refl, (fed more all).1 reads),
-  λ (others, same, reads). subst (ReadsOn before (piece ++ more)) (sym same) ((fed more others).0 reads),
-)
+module _ (lines : Lines) where
+  -- nothing waits, and a piece is fed
+  pub read_fed : (before after : Held) (piece : List ℕ) → IsFed lines before piece after → IsRead (record { lines = lines; waiting = None; held = before }) piece [] (record { lines = lines; waiting = None; held = after })
+  read_fed before after piece fed more all = (
+    λ reads. (all, refl, (fed more all).1 reads),
+    λ (others, same, reads). subst (ReadsOn lines before (piece ++ more)) (sym same) ((fed more others).0 reads),
+  )
 
--- the reader gives a request, which waits
-pub read_next : (before after : Held) (request : Request) → IsNext before request after → IsRead (record { waiting = None; held = before }) [] [] (record { waiting = Some request; held = after })
-read_next before after request next more all = (
-  λ reads. (all, refl, (next more all).0 reads),
-  λ (others, same, reads). (next more all).1 (subst (GoesOn request (ReadsOn after more)) (sym same) reads),
-)
+  -- the reader gives a request, which waits
+  pub read_next : (before after : Held) (request : Request) → IsNext lines before request after → IsRead (record { lines = lines; waiting = None; held = before }) [] [] (record { lines = lines; waiting = Some request; held = after })
+  read_next before after request next more all = (
+    λ reads. (all, refl, (next more all).0 reads),
+    λ (others, same, reads). (next more all).1 (subst (GoesOn request (ReadsOn lines after more)) (sym same) reads),
+  )
 
--- the reader gives none
-pub read_alike : (before after : Held) → ReadAlike before after → IsRead (record { waiting = None; held = before }) [] [] (record { waiting = None; held = after })
-read_alike before after alike more all = (
-  λ reads. (all, refl, (alike more all).0 reads),
-  λ (others, same, reads). (alike more all).1 (subst (ReadsOn after more) (sym same) reads),
-)
+  -- the reader gives none
+  pub read_alike : (before after : Held) → ReadAlike lines before after → IsRead (record { lines = lines; waiting = None; held = before }) [] [] (record { lines = lines; waiting = None; held = after })
+  read_alike before after alike more all = (
+    λ reads. (all, refl, (alike more all).0 reads),
+    λ (others, same, reads). (alike more all).1 (subst (ReadsOn lines after more) (sym same) reads),
+  )
 
-pub none_after : (before after : Held) → HasNone before → ReadAlike before after → HasNone after
-none_after before after none alike requests = (λ reads. (none requests).0 ((alike [] requests).1 reads), λ empty. (alike [] requests).0 ((none requests).1 empty))
+  pub none_after : (before after : Held) → HasNone lines before → ReadAlike lines before after → HasNone lines after
+  none_after before after none alike requests = (λ reads. (none requests).0 ((alike [] requests).1 reads), λ empty. (alike [] requests).0 ((none requests).1 empty))
 
-taken_first : (request : Request) (P : List Request → Type 0) (all : List Request) → GoesOn request P all → Follow (request ∷ []) P all
-taken_first request P [] never = absurd never
-taken_first request P (first ∷ others) (same, holds) = (others, ap (λ r. r ∷ others) same, holds)
+  taken_first : (request : Request) (P : List Request → Type 0) (all : List Request) → GoesOn request P all → Follow (request ∷ []) P all
+  taken_first request P [] never = absurd never
+  taken_first request P (first ∷ others) (same, holds) = (others, ap (λ r. r ∷ others) same, holds)
 
--- the request that waited is taken
-pub read_taken : (held : Held) (request : Request) → IsRead (record { waiting = Some request; held = held }) [] (request ∷ []) (record { waiting = None; held = held })
-read_taken held request more all = (
-  λ reads. taken_first request (ReadsOn held more) all reads,
-  λ (others, same, reads). subst (GoesOn request (ReadsOn held more)) (sym same) (refl, reads),
-)
+  -- the request that waited is taken
+  pub read_taken : (held : Held) (request : Request) → IsRead (record { lines = lines; waiting = Some request; held = held }) [] (request ∷ []) (record { lines = lines; waiting = None; held = held })
+  read_taken held request more all = (
+    λ reads. taken_first request (ReadsOn lines held more) all reads,
+    λ (others, same, reads). subst (GoesOn request (ReadsOn lines held more)) (sym same) (refl, reads),
+  )
 
--- how many requests are held
-swallowed_reads : (short : Bool) (request : Request) (bytes : List ℕ) → (requests : List Request) × MatchBool short (requests ≡ []) (GoesOn request (ReadsAs bytes) requests)
-swallowed_reads true request bytes = ([], refl)
-swallowed_reads false request bytes = let rest = has_reading bytes in (request ∷ rest.0, (refl, (rest.1, rest.2)))
+  -- how many requests are held
+  swallowed_reads : (short : Bool) (request : Request) (bytes : List ℕ) → (requests : List Request) × MatchBool short (requests ≡ []) (GoesOn request (ReadsAs lines bytes) requests)
+  swallowed_reads true request bytes = ([], refl)
+  swallowed_reads false request bytes = let rest = has_reading lines bytes in (request ∷ rest.0, (refl, (rest.1, rest.2)))
 
-reads_on : (held : Held) (more : List ℕ) → (requests : List Request) × ReadsOn held more requests
-reads_on (Kept bytes) more = let reading = has_reading (bytes ++ more) in (reading.0, (reading.1, reading.2))
-reads_on (Swallowing request left bytes) more = swallowed_reads (nat_lt (length more) left) request (bytes ++ drop left more)
-reads_on Ended more = ([], refl)
+  reads_on : (held : Held) (more : List ℕ) → (requests : List Request) × ReadsOn lines held more requests
+  reads_on (Kept bytes) more = let reading = has_reading lines (bytes ++ more) in (reading.0, (reading.1, reading.2))
+  reads_on (Swallowing request left bytes) more = swallowed_reads (nat_lt (length more) left) request (bytes ++ drop left more)
+  reads_on Ended more = ([], refl)
 
-one_as : (bytes : List ℕ) (requests others : List Request) → ReadsAs bytes requests → ReadsAs bytes others → requests ≡ others
-one_as bytes requests others a b = (one_reading bytes requests others a.0 b.0 a.1 b.1).0
+  one_as : (bytes : List ℕ) (requests others : List Request) → ReadsAs lines bytes requests → ReadsAs lines bytes others → requests ≡ others
+  one_as bytes requests others a b = (one_reading lines bytes requests others a.0 b.0 a.1 b.1).0
 
-one_behind : (request : Request) (bytes : List ℕ) (requests others : List Request) → GoesOn request (ReadsAs bytes) requests → GoesOn request (ReadsAs bytes) others → requests ≡ others
-one_behind request bytes [] others never b = absurd never
-one_behind request bytes (first ∷ requests) [] a never = absurd never
-one_behind request bytes (first ∷ requests) (second ∷ others) a b = let tails = one_as bytes requests others a.1 b.1 in λ i. (a.0 ∙ sym b.0) i ∷ tails i
+  one_behind : (request : Request) (bytes : List ℕ) (requests others : List Request) → GoesOn request (ReadsAs lines bytes) requests → GoesOn request (ReadsAs lines bytes) others → requests ≡ others
+  one_behind request bytes [] others never b = absurd never
+  one_behind request bytes (first ∷ requests) [] a never = absurd never
+  one_behind request bytes (first ∷ requests) (second ∷ others) a b = let tails = one_as bytes requests others a.1 b.1 in λ i. (a.0 ∙ sym b.0) i ∷ tails i
 
-one_swallowed : (short : Bool) (request : Request) (bytes : List ℕ) (requests others : List Request) → MatchBool short (requests ≡ []) (GoesOn request (ReadsAs bytes) requests) → MatchBool short (others ≡ []) (GoesOn request (ReadsAs bytes) others) → requests ≡ others
-one_swallowed true request bytes requests others a b = a ∙ sym b
-one_swallowed false request bytes requests others a b = one_behind request bytes requests others a b
+  one_swallowed : (short : Bool) (request : Request) (bytes : List ℕ) (requests others : List Request) → MatchBool short (requests ≡ []) (GoesOn request (ReadsAs lines bytes) requests) → MatchBool short (others ≡ []) (GoesOn request (ReadsAs lines bytes) others) → requests ≡ others
+  one_swallowed true request bytes requests others a b = a ∙ sym b
+  one_swallowed false request bytes requests others a b = one_behind request bytes requests others a b
 
-one_on : (held : Held) (more : List ℕ) (requests others : List Request) → ReadsOn held more requests → ReadsOn held more others → requests ≡ others
-one_on (Kept bytes) more requests others a b = one_as (bytes ++ more) requests others a b
-one_on (Swallowing request left bytes) more requests others a b = one_swallowed (nat_lt (length more) left) request (bytes ++ drop left more) requests others a b
-one_on Ended more requests others a b = a ∙ sym b
+  one_on : (held : Held) (more : List ℕ) (requests others : List Request) → ReadsOn lines held more requests → ReadsOn lines held more others → requests ≡ others
+  one_on (Kept bytes) more requests others a b = one_as (bytes ++ more) requests others a b
+  one_on (Swallowing request left bytes) more requests others a b = one_swallowed (nat_lt (length more) left) request (bytes ++ drop left more) requests others a b
+  one_on Ended more requests others a b = a ∙ sym b
 
-waits_on : (waiting : Option Request) (held : Held) (more : List ℕ) → (requests : List Request) × Waits waiting (ReadsOn held more) requests
-waits_on None held more = reads_on held more
-waits_on (Some request) held more = let rest = reads_on held more in (request ∷ rest.0, (refl, rest.1))
+  waits_on : (waiting : Option Request) (held : Held) (more : List ℕ) → (requests : List Request) × Waits waiting (ReadsOn lines held more) requests
+  waits_on None held more = reads_on held more
+  waits_on (Some request) held more = let rest = reads_on held more in (request ∷ rest.0, (refl, rest.1))
 
-one_goes : (request : Request) (held : Held) (more : List ℕ) (requests others : List Request) → GoesOn request (ReadsOn held more) requests → GoesOn request (ReadsOn held more) others → requests ≡ others
-one_goes request held more [] others never b = absurd never
-one_goes request held more (first ∷ requests) [] a never = absurd never
-one_goes request held more (first ∷ requests) (second ∷ others) a b = let tails = one_on held more requests others a.1 b.1 in λ i. (a.0 ∙ sym b.0) i ∷ tails i
+  one_goes : (request : Request) (held : Held) (more : List ℕ) (requests others : List Request) → GoesOn request (ReadsOn lines held more) requests → GoesOn request (ReadsOn lines held more) others → requests ≡ others
+  one_goes request held more [] others never b = absurd never
+  one_goes request held more (first ∷ requests) [] a never = absurd never
+  one_goes request held more (first ∷ requests) (second ∷ others) a b = let tails = one_on held more requests others a.1 b.1 in λ i. (a.0 ∙ sym b.0) i ∷ tails i
 
-one_waits : (waiting : Option Request) (held : Held) (more : List ℕ) (requests others : List Request) → Waits waiting (ReadsOn held more) requests → Waits waiting (ReadsOn held more) others → requests ≡ others
-one_waits None held more requests others a b = one_on held more requests others a b
-one_waits (Some request) held more requests others a b = one_goes request held more requests others a b
+  one_waits : (waiting : Option Request) (held : Held) (more : List ℕ) (requests others : List Request) → Waits waiting (ReadsOn lines held more) requests → Waits waiting (ReadsOn lines held more) others → requests ≡ others
+  one_waits None held more requests others a b = one_on held more requests others a b
+  one_waits (Some request) held more requests others a b = one_goes request held more requests others a b
 
 pub requests_held : Holding → ℕ
-requests_held a = length (waits_on a.waiting a.held []).0
+requests_held a = length (waits_on a.lines a.waiting a.held []).0
 
 pub taken_counts : (a b : Holding) (requests : List Request) → IsRead a [] requests b → requests_held a ≡ length requests + requests_held b
 unfolding requests_held
 taken_counts a b requests is =
-    let mine = waits_on a.waiting a.held [] in
-    let theirs = waits_on b.waiting b.held [] in
+    let mine = waits_on a.lines a.waiting a.held [] in
+    let theirs = waits_on b.lines b.waiting b.held [] in
     let follows = (is [] mine.0).0 mine.1 in
-    let same = one_waits b.waiting b.held [] follows.0 theirs.0 follows.2 theirs.1 in
+    let same = one_waits b.lines b.waiting b.held [] follows.0 theirs.0 follows.2 theirs.1 in
     ap length follows.1 ∙ (length-append requests follows.0 ∙ ap (λ (l : List Request). length requests + length l) same)
 
-looked_from : (before after : Held) (waiting : Option Request) → IsAnswer before waiting after → IsRead (record { waiting = None; held = before }) [] [] (record { waiting = waiting; held = after })
-looked_from before after (Some request) answer = read_next before after request answer
-looked_from before after None answer = read_alike before after answer.1
+module _ (lines : Lines) where
+  looked_from : (before after : Held) (waiting : Option Request) → IsAnswer lines before waiting after → IsRead (record { lines = lines; waiting = None; held = before }) [] [] (record { lines = lines; waiting = waiting; held = after })
+  looked_from before after (Some request) answer = read_next lines before after request answer
+  looked_from before after None answer = read_alike lines before after answer.1
 
--- the reader is asked where no request waits
-pub read_looked : (waiting found : Option Request) (before after : Held) → is_some waiting ≡ false → IsAnswer before found after → IsRead (record { waiting = waiting; held = before }) [] [] (record { waiting = found; held = after })
-read_looked None found before after none answer = looked_from before after found answer
-read_looked (Some request) found before after none answer = let e : true ≡ false = none in cc
+  -- the reader is asked where no request waits
+  pub read_looked : (waiting found : Option Request) (before after : Held) → is_some waiting ≡ false → IsAnswer lines before found after → IsRead (record { lines = lines; waiting = waiting; held = before }) [] [] (record { lines = lines; waiting = found; held = after })
+  read_looked None found before after none answer = looked_from before after found answer
+  read_looked (Some request) found before after none answer = let e : true ≡ false = none in cc
 
-pub held_after_look : (before after : Held) (found : Option Request) → IsAnswer before found after → HoldsNone (record { waiting = found; held = after }) ⊎ (found ≢ None)
-held_after_look before after (Some request) answer = inr (λ none. let e : Some request ≡ None = none in cc)
-held_after_look before after None answer = inl (refl, none_after before after answer.0 answer.1)
+  pub held_after_look : (before after : Held) (found : Option Request) → IsAnswer lines before found after → HoldsNone (record { lines = lines; waiting = found; held = after }) ⊎ (found ≢ None)
+  held_after_look before after (Some request) answer = inr (λ none. let e : Some request ≡ None = none in cc)
+  held_after_look before after None answer = inl (refl, none_after lines before after answer.0 answer.1)
 
-pub read_fed_at : (waiting other : Option Request) (before after : Held) (piece : List ℕ) → waiting ≡ None → other ≡ waiting → IsFed before piece after → IsRead (record { waiting = waiting; held = before }) piece [] (record { waiting = other; held = after })
-read_fed_at waiting other before after piece none same fed =
-    subst (λ w. IsRead (record { waiting = waiting; held = before }) piece [] (record { waiting = w; held = after })) (sym same)
-    (subst (λ w. IsRead (record { waiting = w; held = before }) piece [] (record { waiting = w; held = after })) (sym none) (read_fed before after piece fed))
+  pub read_fed_at : (waiting other : Option Request) (before after : Held) (piece : List ℕ) → waiting ≡ None → other ≡ waiting → IsFed lines before piece after → IsRead (record { lines = lines; waiting = waiting; held = before }) piece [] (record { lines = lines; waiting = other; held = after })
+  read_fed_at waiting other before after piece none same fed =
+      subst (λ w. IsRead (record { lines = lines; waiting = waiting; held = before }) piece [] (record { lines = lines; waiting = w; held = after })) (sym same)
+      (subst (λ w. IsRead (record { lines = lines; waiting = w; held = before }) piece [] (record { lines = lines; waiting = w; held = after })) (sym none) (read_fed lines before after piece fed))
 
--- the request that waited is taken out
-pub read_answered : (old new : Option Request) (held : Held) (request : Request) → old ≡ Some request → new ≡ None → IsRead (record { waiting = old; held = held }) [] (request ∷ []) (record { waiting = new; held = held })
-read_answered old new held request is none =
-    subst (λ w. IsRead (record { waiting = w; held = held }) [] (request ∷ []) (record { waiting = new; held = held })) (sym is)
-    (subst (λ w. IsRead (record { waiting = Some request; held = held }) [] (request ∷ []) (record { waiting = w; held = held })) (sym none) (read_taken held request))
+  -- the request that waited is taken out
+  pub read_answered : (old new : Option Request) (held : Held) (request : Request) → old ≡ Some request → new ≡ None → IsRead (record { lines = lines; waiting = old; held = held }) [] (request ∷ []) (record { lines = lines; waiting = new; held = held })
+  read_answered old new held request is none =
+      subst (λ w. IsRead (record { lines = lines; waiting = w; held = held }) [] (request ∷ []) (record { lines = lines; waiting = new; held = held })) (sym is)
+      (subst (λ w. IsRead (record { lines = lines; waiting = Some request; held = held }) [] (request ∷ []) (record { lines = lines; waiting = w; held = held })) (sym none) (read_taken lines held request))
 
-pub read_same : (old new : Option Request) (held : Held) → new ≡ old → IsRead (record { waiting = old; held = held }) [] [] (record { waiting = new; held = held })
-read_same old new held same = subst (λ w. IsRead (record { waiting = old; held = held }) [] [] (record { waiting = w; held = held })) (sym same) (read_refl (record { waiting = old; held = held }))
+  pub read_same : (old new : Option Request) (held : Held) → new ≡ old → IsRead (record { lines = lines; waiting = old; held = held }) [] [] (record { lines = lines; waiting = new; held = held })
+  read_same old new held same = subst (λ w. IsRead (record { lines = lines; waiting = old; held = held }) [] [] (record { lines = lines; waiting = w; held = held })) (sym same) (read_refl (record { lines = lines; waiting = old; held = held }))
 
 pub fewer_after : (did : Bool) (a b c : Holding) (Q : Type 0) → IsRead a [] [] b → MatchBool did ((request : Request) × IsRead b [] (request ∷ []) c) Q → did ≡ true → (request : Request) × IsRead a [] (request ∷ []) c
 fewer_after true a b c Q looked taken is = (taken.0, read_trans a b c [] [] [] (taken.0 ∷ []) looked taken.1)
@@ -143,3 +149,13 @@ fewer_after false a b c Q looked taken is = let e : false ≡ true = is in cc
 -- fewer are held
 pub one_fewer : (a c : Holding) → (request : Request) × IsRead a [] (request ∷ []) c → requests_held c < requests_held a
 one_fewer a c taken = omega (arith, taken_counts a c (taken.0 ∷ []) taken.1)
+
+-- a tenant's connection reads a tenant's lines
+are_lines : (role : Role) → lines_of role ≡ asked
+are_lines (Tenant tenant) = refl
+
+pub answer_by_role : (role : Role) (before after : Held) (found : Option Request) → IsAnswer asked before found after → IsAnswer (lines_of role) before found after
+answer_by_role role before after found answer = subst (λ lines. IsAnswer lines before found after) (sym (are_lines role)) answer
+
+pub fed_by_role : (role : Role) (before after : Held) (piece : List ℕ) → IsFed asked before piece after → IsFed (lines_of role) before piece after
+fed_by_role role before after piece fed = subst (λ lines. IsFed lines before piece after) (sym (are_lines role)) fed

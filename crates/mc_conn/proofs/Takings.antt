@@ -80,9 +80,9 @@ unfailed_trans first second third one two = (two.0 ∙ one.0, two.1 ∙ one.1)
 
 -- what was taken where no request was
 unfoldable pub taken_none : (old new : Conn) (worker : Worker) (before after : Streams) (came sent : List ℕ) → moved after.input.events ≡ moved before.input.events ++ came →
-    Consumes before.input.left after.input.left came → Pushes before.output after.output sent → new.tenant ≡ old.tenant → sent ++ queue_of new ≡ queue_of old →
+    Consumes before.input.left after.input.left came → Pushes before.output after.output sent → new.role ≡ old.role → sent ++ queue_of new ≡ queue_of old →
     waits before.output.events ≤ waits after.output.events → Taken (scene old worker before) (scene new worker after) (mark_of worker)
-taken_none old new worker before after came sent pulled consumed pushed tenant bytes waited = record {
+taken_none old new worker before after came sent pulled consumed pushed role bytes waited = record {
   came = came;
   requests = [];
   owed = [];
@@ -90,18 +90,18 @@ taken_none old new worker before after came sent pulled consumed pushed tenant b
   pulled = pulled;
   consumed = consumed;
   pushed = pushed;
-  tenant = tenant;
+  role = role;
   onward = continues_self worker;
-  owes = owes_nothing worker old.tenant;
+  owes = owes_nothing worker old.role;
   bytes = bytes ∙ sym (append-nil (queue_of old));
   waited = waited;
 }
 
 -- and where nothing came or was sent
-unfoldable pub taken_still : (old new : Conn) (worker : Worker) (streams : Streams) → new.tenant ≡ old.tenant → queue_of new ≡ queue_of old →
+unfoldable pub taken_still : (old new : Conn) (worker : Worker) (streams : Streams) → new.role ≡ old.role → queue_of new ≡ queue_of old →
     Taken (scene old worker streams) (scene new worker streams) (mark_of worker)
-taken_still old new worker streams tenant queue =
-    taken_none old new worker streams streams [] [] (sym (append-nil (moved streams.input.events))) (Consumes-nil streams.input.left) (sym (append-nil (moved streams.output.events))) tenant queue (omega arith)
+taken_still old new worker streams role queue =
+    taken_none old new worker streams streams [] [] (sym (append-nil (moved streams.input.events))) (Consumes-nil streams.input.left) (sym (append-nil (moved streams.output.events))) role queue (omega arith)
 
 unfoldable pub taken_trans : (a b c : Scene) (to : Mark) → Taken a b (mark_of b.worker) → Taken b c to → Taken a c to
 taken_trans a b c to one two = record {
@@ -112,12 +112,12 @@ taken_trans a b c to one two = record {
   pulled = appended_twice _ _ _ one.came two.came one.pulled two.pulled;
   consumed = Consumes-trans _ _ _ _ _ one.consumed two.consumed;
   pushed = appended_twice _ _ _ one.sent two.sent one.pushed two.pushed;
-  tenant = two.tenant ∙ one.tenant;
+  role = two.role ∙ one.role;
   onward = continues_through _ _ _ one.onward two.onward;
   owes =
-      owes_append c.worker a.conn.tenant (mark_of a.worker) one.requests two.requests one.owed two.owed (mark_of b.worker) to
-      (owes_grow b.worker c.worker two.onward a.conn.tenant (mark_of a.worker) one.requests one.owed (mark_of b.worker) one.owes)
-      (subst (λ tenant. Owes c.worker tenant (mark_of b.worker) two.requests two.owed to) one.tenant two.owes);
+      owes_append c.worker a.conn.role (mark_of a.worker) one.requests two.requests one.owed two.owed (mark_of b.worker) to
+      (owes_grow b.worker c.worker two.onward a.conn.role (mark_of a.worker) one.requests one.owed (mark_of b.worker) one.owes)
+      (subst (λ role. Owes c.worker role (mark_of b.worker) two.requests two.owed to) one.role two.owes);
   bytes = joined one.sent two.sent (queue_of a.conn) (queue_of b.conn) (queue_of c.conn) one.owed two.owed one.bytes two.bytes;
   waited = omega (arith, one.waited, two.waited);
 }
@@ -187,7 +187,7 @@ did_some zero n same = same
 did_some (suc count) n same = let some : 0 < n = omega (arith, same) in subst (λ did. MatchBool did (0 < n) (n ≡ 0)) (sym (lt-ltb 0 (suc count) (omega arith))) some
 
 -- a front of the queue is pushed
-module _ (old new : Conn) (worker : Worker) (input : Inflow) (before after : Outflow) (count : ℕ) (same : holding_of new ≡ holding_of old) (tenant : new.tenant ≡ old.tenant)
+module _ (old new : Conn) (worker : Worker) (input : Inflow) (before after : Outflow) (count : ℕ) (same : holding_of new ≡ holding_of old) (role : new.role ≡ old.role)
     (ended : new.has_ended ≡ old.has_ended) (over : new.is_over ≡ old.is_over) (shut : new.is_closed ≡ old.is_closed) (few : count ≤ length (queue_of old))
     (left : queue_of new ≡ drop count (queue_of old)) (went : Pushes before after (take count (queue_of old))) (waited : waits before.events ≤ waits after.events)
     (unfailed : IsUnfailed before after) where
@@ -195,7 +195,7 @@ module _ (old new : Conn) (worker : Worker) (input : Inflow) (before after : Out
   unfolding taken_none
   takes_pushed = record {
     taken =
-        taken_none old new worker (both input before) (both input after) [] (take count (queue_of old)) (sym (append-nil (moved input.events))) (Consumes-nil input.left) went tenant
+        taken_none old new worker (both input before) (both input after) [] (take count (queue_of old)) (sym (append-nil (moved input.events))) (Consumes-nil input.left) went role
         (ap (λ rest. take count (queue_of old) ++ rest) left ∙ take-append-drop count (queue_of old)) waited;
     reads = subst (λ holding. IsRead (holding_of old) [] [] holding) (sym same) (read_refl (holding_of old));
     unfailed = (refl, unfailed);
@@ -214,7 +214,7 @@ pub does_looked : (old new : Conn) (worker : Worker) (streams : Streams) → IsR
 unfolding taken_still taken_none
 does_looked old new worker streams read looks = record {
   takes = record {
-    taken = taken_still old new worker streams looks.tenant looks.queue;
+    taken = taken_still old new worker streams looks.role looks.queue;
     reads = read;
     unfailed = (refl, refl);
     end = end_same old new worker worker streams.input streams.output streams.output looks.has_ended;
@@ -225,10 +225,10 @@ does_looked old new worker streams read looks = record {
 }
 
 -- a request is taken
-pub does_responded : (old new : Conn) (worker later : Worker) (streams : Streams) (request : Request) → IsRead (holding_of old) [] (request ∷ []) (holding_of new) → new.tenant ≡ old.tenant →
+pub does_responded : (old new : Conn) (worker later : Worker) (streams : Streams) (request : Request) → IsRead (holding_of old) [] (request ∷ []) (holding_of new) → new.role ≡ old.role →
     new.has_ended ≡ old.has_ended → new.is_closed ≡ old.is_closed → new.is_over ≡ (old.is_over || ends_stream request) → Continues worker later →
-    Responds worker later old.tenant request (queue_of old) (queue_of new) → Does (scene old worker streams) (scene new later streams) true
-does_responded old new worker later streams request read tenant ended shut over on responds = record {
+    Responds worker later old.role request (queue_of old) (queue_of new) → Does (scene old worker streams) (scene new later streams) true
+does_responded old new worker later streams request read role ended shut over on responds = record {
   takes = record {
     taken = record {
       came = [];
@@ -238,7 +238,7 @@ does_responded old new worker later streams request read tenant ended shut over 
       pulled = sym (append-nil (moved streams.input.events));
       consumed = Consumes-nil streams.input.left;
       pushed = sym (append-nil (moved streams.output.events));
-      tenant = tenant;
+      role = role;
       onward = on;
       owes = responds.owes;
       bytes = responds.queued;
@@ -254,14 +254,14 @@ does_responded old new worker later streams request read tenant ended shut over 
 }
 
 -- a piece came, or none
-module _ (old new : Conn) (worker : Worker) (before after : Inflow) (output : Outflow) (piece : List ℕ) (read : IsRead (holding_of old) piece [] (holding_of new)) (tenant : new.tenant ≡ old.tenant)
+module _ (old new : Conn) (worker : Worker) (before after : Inflow) (output : Outflow) (piece : List ℕ) (read : IsRead (holding_of old) piece [] (holding_of new)) (role : new.role ≡ old.role)
     (queue : queue_of new ≡ queue_of old) (shut : new.is_closed ≡ old.is_closed) (pulled : moved after.events ≡ moved before.events ++ piece) (consumed : Consumes before.left after.left piece)
     (unfailed : failures after.events ≡ failures before.events) (end : Remembers old.has_ended before new.has_ended after) (over : new.is_over ≡ old.is_over) where
   takes_fed : Takes (scene old worker (both before output)) (scene new worker (both after output))
   unfolding taken_none
   takes_fed = record {
     taken =
-        taken_none old new worker (both before output) (both after output) piece [] pulled consumed (sym (append-nil (moved output.events))) tenant queue (omega arith);
+        taken_none old new worker (both before output) (both after output) piece [] pulled consumed (sym (append-nil (moved output.events))) role queue (omega arith);
     reads = read;
     unfailed = (unfailed, refl);
     end = end;

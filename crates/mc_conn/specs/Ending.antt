@@ -8,6 +8,7 @@ use Rattle.mc_stream.specs.Stream.{Inflow, Outflow, both}
 use Rattle.uc_worker.specs.declared.worker.Worker.{Worker}
 use Rattle.uc_worker.specs.Worker.{announced_of}
 use Rattle.mc_conn.specs.declared.conn.Conn.{Conn}
+use Rattle.mc_conn.specs.declared.conn.Role.{Role}
 use Rattle.mc_conn.specs.declared.conn.State.{State}
 use Rattle.mc_conn.specs.declared.conn.State.TheVariants.{Closed, Idle, Busy}
 use Rattle.mc_conn.specs.declared.conn.TheConstants.{PULL_BYTES, QUEUE_BYTES}
@@ -79,9 +80,9 @@ MayStandBehind worker mark (Logs tenant command quiet) =
 MayStandBehind worker mark (Says said) = length (announced_of worker) ≡ mark.number
 
 -- one request met the fault, whose command may be announced behind the mark; or none did
-abbrev pub Meets : Worker → ℕ → Mark → List Request → Type 0
-Meets worker tenant mark [] = length (announced_of worker) ≡ mark.number
-Meets worker tenant mark (request ∷ others) = (others ≡ []) × MayStandBehind worker mark (demand_of tenant request)
+abbrev pub Meets : Worker → Role → Mark → List Request → Type 0
+Meets worker role mark [] = length (announced_of worker) ≡ mark.number
+Meets worker role mark (request ∷ others) = (others ≡ []) × MayStandBehind worker mark (demand_of role request)
 
 -- A fault: what was taken goes up to a mark, and was read first; one more request may have met it.
 pub record Breaks (before after : Scene) (fault : Fault) : Type 0 where
@@ -92,7 +93,7 @@ pub record Breaks (before after : Scene) (fault : Fault) : Type 0 where
   pub met : List Request
   pub reads : (more : List ℕ) (all : List Request) → HoldsOn (holding_of before.conn) (taken.came ++ more) all →
       (others : List Request) × (all ≡ taken.requests ++ (met ++ others))
-  pub meets : Meets after.worker before.conn.tenant to met
+  pub meets : Meets after.worker before.conn.role to met
   pub failures : CountsFailures cause before.streams after.streams
 
 -- what a fault leaves: up to it the connection was served, then it is told, and closed for good

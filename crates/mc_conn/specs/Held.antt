@@ -1,13 +1,26 @@
 -- What a connection reads as: the request that waits in it, if one does, and then what its reader holds. After memcached's
 -- doc/protocol.txt, "Protocol": a connection is a stream of request texts, one after another.
-use Rattle.std.specs.Prelude.{◌≡◌, ◌↔◌, ℕ, List, ◌++◌, Option, Some, None}
+use Rattle.std.specs.Prelude.{◌≡◌, ◌↔◌, ℕ, List, [], ◌++◌, Option, Some, None}
 use Rattle.mc_model.specs.declared.request.Request.{Request}
-use Rattle.mc_read.specs.Reading.{GoesOn, HasNone, Held, ReadsOn}
+use Rattle.mc_read.specs.Line.{asked}
+use Rattle.mc_read.specs.Reading.{GoesOn, HasNone, Held, Kept, ReadsOn}
+use Rattle.mc_read.specs.Text.{Lines}
+use Rattle.mc_conn.specs.declared.conn.Role.{Role}
+use Rattle.mc_conn.specs.declared.conn.Role.TheVariants.{Tenant}
 
--- a request that was read and not taken yet, and what the reader holds behind it
+-- what each line asks for on a connection of this role
+abbrev pub lines_of : Role → Lines
+lines_of (Tenant tenant) = asked
+
+-- what each line asks for, a request that was read and not taken yet, and what the reader holds behind it
 pub record Holding : Type 0 where
+  pub lines : Lines
   pub waiting : Option Request
   pub held : Held
+
+-- what is held before the first byte
+abbrev pub nothing_held : Role → Holding
+nothing_held role = record { lines = lines_of role; waiting = None; held = Kept [] }
 
 -- the requests are the one that waits, and others of which P holds
 abbrev pub Waits : Option Request → (List Request → Type 0) → List Request → Type 0
@@ -16,7 +29,7 @@ Waits (Some request) P = GoesOn request P
 
 -- the requests that what is held, followed by more bytes, reads as
 abbrev pub HoldsOn : Holding → List ℕ → List Request → Type 0
-HoldsOn holding more = Waits holding.waiting (ReadsOn holding.held more)
+HoldsOn holding more = Waits holding.waiting (ReadsOn holding.lines holding.held more)
 
 -- all the requests are these, and then others of which P holds
 abbrev pub Follow : List Request → (List Request → Type 0) → List Request → Type 0
@@ -28,4 +41,4 @@ IsRead before came requests after = (more : List ℕ) (all : List Request) → H
 
 -- no whole request is held
 abbrev pub HoldsNone : Holding → Type 0
-HoldsNone holding = (holding.waiting ≡ None) × HasNone holding.held
+HoldsNone holding = (holding.waiting ≡ None) × HasNone holding.lines holding.held

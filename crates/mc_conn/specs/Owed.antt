@@ -1,6 +1,7 @@
 -- The bytes that a connection is owed for its requests, one after another, over the history of the worker that took them. After
 -- memcached's doc/protocol.txt, "Commands" and "Storage commands": each request is answered, in order, but for those that say noreply.
 -- That a command is answered at its place in a log which many share is Herlihy's construction (Wait-Free Synchronization, TOPLAS 1991).
+use denote.Struct.Props.{props}
 use Rattle.std.specs.Prelude.{◌≡◌, ◌⊎◌, ℕ, ◌+◌, ◌<◌, ◌≤◌, Bool, if◌then◌else◌, List, [], ◌∷◌, ◌++◌, length, take, Some, slice_get}
 use Rattle.mc_model.specs.declared.command.Command.{Command}
 use Rattle.mc_model.specs.declared.id.Ticket.{Ticket}
@@ -13,7 +14,9 @@ use Rattle.mc_model.specs.Replay.{reply_to}
 use Rattle.mc_write.specs.Text.{text}
 use Rattle.uc_cells.specs.Sighting.{entries}
 use Rattle.uc_worker.specs.declared.worker.Worker.{Worker}
-use Rattle.uc_worker.specs.Worker.{announced_of, history_of, openings_of, seat_of}
+use Rattle.uc_worker.specs.Worker.{announced_of, history_of, openings_of, seat_of, tenants_of}
+use Rattle.mc_conn.specs.declared.conn.Role.{Role}
+use Rattle.mc_conn.specs.declared.conn.Role.TheVariants.{Tenant}
 use Rattle.mc_conn.specs.Onward.{own_entry, own_sighting}
 use Rattle.uc_worker.specs.Worker.{IsFull}
 
@@ -59,12 +62,24 @@ pub data Demand : Type 0 where
   Logs : ℕ → Command → Bool → Demand
   Says : List ℕ → Demand
 
--- what a request on this tenant's connection comes to
-abbrev pub demand_of : ℕ → Request → Demand
-demand_of tenant (Logged command quiet) = Logs tenant command quiet
-demand_of tenant (Local reply quiet) = Says (answered quiet reply)
-demand_of tenant Quit = Says []
-demand_of tenant TooLong = Says (text (Refused E5))
+-- a role is one for a log with so many tenants: a tenant's, where it is among them
+abbrev pub IsAmong : Role → ℕ → Type 0
+IsAmong (Tenant tenant) count = tenant < count
+
+-- in one way at most
+pub IsAmong-prop : (role : Role) (count : ℕ) → IsProp (IsAmong role count)
+IsAmong-prop (Tenant tenant) count = hlevel props
+
+-- and one for the worker's log
+abbrev pub IsKnown : Role → Worker → Type 0
+IsKnown role worker = IsAmong role (length (tenants_of worker))
+
+-- what a request on a connection of this role comes to
+abbrev pub demand_of : Role → Request → Demand
+demand_of (Tenant tenant) (Logged command quiet) = Logs tenant command quiet
+demand_of role (Local reply quiet) = Says (answered quiet reply)
+demand_of role Quit = Says []
+demand_of role TooLong = Says (text (Refused E5))
 
 -- what is owed for a demand from a mark on, and then for what comes later
 abbrev pub OwesFor : Worker → Mark → Demand → List ℕ → (Mark → List ℕ → Type 0) → Type 0
@@ -73,8 +88,8 @@ OwesFor worker from (Logs tenant command quiet) bytes Later =
     × IsAnswered worker tenant from command reply next × (bytes ≡ answered quiet reply ++ rest) × Later next rest
 OwesFor worker from (Says said) bytes Later = (rest : List ℕ) × (bytes ≡ said ++ rest) × Later from rest
 
--- what the tenant is owed for requests that this worker took from the one mark on, and how far the worker is then
-abbrev pub Owes : Worker → ℕ → Mark → List Request → List ℕ → Mark → Type 0
-Owes worker tenant from [] bytes to = (bytes ≡ []) × (to.number ≡ from.number) × (from.place ≤ to.place)
-Owes worker tenant from (request ∷ requests) bytes to =
-    OwesFor worker from (demand_of tenant request) bytes (λ next rest. Owes worker tenant next requests rest to)
+-- what is owed for requests of this role that this worker took from the one mark on, and how far the worker is then
+abbrev pub Owes : Worker → Role → Mark → List Request → List ℕ → Mark → Type 0
+Owes worker role from [] bytes to = (bytes ≡ []) × (to.number ≡ from.number) × (from.place ≤ to.place)
+Owes worker role from (request ∷ requests) bytes to =
+    OwesFor worker from (demand_of role request) bytes (λ next rest. Owes worker role next requests rest to)

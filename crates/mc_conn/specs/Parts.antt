@@ -10,6 +10,7 @@ use Rattle.mc_stream.specs.Stream.{Outflow}
 use Rattle.uc_worker.specs.declared.worker.Worker.{Worker}
 use Rattle.uc_worker.specs.Worker.{announced_of, history_of}
 use Rattle.mc_conn.specs.declared.conn.Conn.{Conn}
+use Rattle.mc_conn.specs.declared.conn.Role.{Role}
 use Rattle.mc_conn.specs.declared.conn.State.{State}
 use Rattle.mc_conn.specs.declared.conn.State.TheVariants.{Closed, Idle, Busy}
 use Rattle.mc_conn.specs.declared.conn.TheConstants.{QUEUE_BYTES}
@@ -33,10 +34,10 @@ pub record Answers (old new : Worker) (tenant : ℕ) (command : Command) (reply 
   pub place : next.place ≤ length (history_of new)
 
 -- a request was taken, and what is owed for it queued
-pub record Responds (old new : Worker) (tenant : ℕ) (request : Request) (before after : List ℕ) : Type 0 where
+pub record Responds (old new : Worker) (role : Role) (request : Request) (before after : List ℕ) : Type 0 where
   pub bytes : List ℕ
   pub queued : after ≡ before ++ bytes
-  pub owes : Owes new tenant (mark_of old) (request ∷ []) bytes (mark_of new)
+  pub owes : Owes new role (mark_of old) (request ∷ []) bytes (mark_of new)
 
 -- nothing was announced, or the tenant's command under the next number
 abbrev pub MayAnnounce : Worker → Worker → ℕ → Command → Type 0
@@ -59,13 +60,13 @@ IsTakeFault fault = (fault ≡ Memory) ⊎ (fault ≡ Taken)
 -- a part that looks at neither the input nor the output: the worker goes on, and the connection is the
 -- same but for what is held and queued
 pub record Keeps (old new : Conn) (before after : Worker) : Type 0 where
-  pub tenant : new.tenant ≡ old.tenant
+  pub role : new.role ≡ old.role
   pub has_ended : new.has_ended ≡ old.has_ended
   pub onward : Continues before after
 
 -- the reader has looked for the next request, which is all that was done
 pub record Looks (old new : Conn) : Type 0 where
-  pub tenant : new.tenant ≡ old.tenant
+  pub role : new.role ≡ old.role
   pub has_ended : new.has_ended ≡ old.has_ended
   pub is_closed : new.is_closed ≡ old.is_closed
   pub queue : queue_of new ≡ queue_of old
@@ -73,15 +74,15 @@ pub record Looks (old new : Conn) : Type 0 where
 
 -- all but the queue is the same
 pub record IsSameBesideQueue (old new : Conn) : Type 0 where
-  pub tenant : new.tenant ≡ old.tenant
+  pub role : new.role ≡ old.role
   pub holding : holding_of new ≡ holding_of old
   pub has_ended : new.has_ended ≡ old.has_ended
   pub over : new.is_over ≡ old.is_over
 
 -- a fault met a request: no reply is queued, and the request's command may be announced
-pub record Refuses (old new : Worker) (tenant : ℕ) (request : Request) (before after : List ℕ) (fault : Fault) : Type 0 where
+pub record Refuses (old new : Worker) (role : Role) (request : Request) (before after : List ℕ) (fault : Fault) : Type 0 where
   pub is : IsTakeFault fault
-  pub announced : MayAnnounceFor old new (demand_of tenant request)
+  pub announced : MayAnnounceFor old new (demand_of role request)
   pub unchanged : after ≡ before
 
 -- nothing more comes, no request waits, and nothing is queued

@@ -10,7 +10,7 @@ use Rattle.mc_stream.specs.Pushing.{IsUnfailed, Pushes}
 use Rattle.mc_stream.specs.Stream.{Streams}
 use Rattle.uc_worker.specs.declared.worker.Worker.{Worker}
 use Rattle.mc_conn.specs.declared.conn.Conn.{Conn}
-use Rattle.mc_conn.specs.Held.{Holding, IsRead}
+use Rattle.mc_conn.specs.Held.{Holding, IsRead, lines_of}
 use Rattle.uc_worker.specs.Going.{Continues}
 use Rattle.mc_conn.specs.Owed.{Mark, Owes, mark_of}
 
@@ -25,7 +25,7 @@ scene conn worker streams = record { conn = conn; worker = worker; streams = str
 
 -- what the connection holds of what came
 abbrev pub holding_of : Conn → Holding
-holding_of conn = record { waiting = conn.waiting; held = conn.reader.held }
+holding_of conn = record { lines = lines_of conn.role; waiting = conn.waiting; held = conn.reader.held }
 
 -- the bytes that are to be pushed
 abbrev pub queue_of : Conn → List ℕ
@@ -44,7 +44,7 @@ RemembersTheEnd before after =
 
 -- What was taken from one scene to another: bytes came, requests were taken, and what was sent and
 -- what is queued then is what was queued and what is owed for these requests; each was taken for the
--- connection's tenant, from the worker's mark before up to this one.
+-- connection's role, from the worker's mark before up to this one.
 pub record Taken (before after : Scene) (to : Mark) : Type 0 where
   pub came : List ℕ
   pub requests : List Request
@@ -53,9 +53,9 @@ pub record Taken (before after : Scene) (to : Mark) : Type 0 where
   pub pulled : moved after.streams.input.events ≡ moved before.streams.input.events ++ came
   pub consumed : Consumes before.streams.input.left after.streams.input.left came
   pub pushed : Pushes before.streams.output after.streams.output sent
-  pub tenant : after.conn.tenant ≡ before.conn.tenant
+  pub role : after.conn.role ≡ before.conn.role
   pub onward : Continues before.worker after.worker
-  pub owes : Owes after.worker before.conn.tenant (mark_of before.worker) requests owed to
+  pub owes : Owes after.worker before.conn.role (mark_of before.worker) requests owed to
   pub bytes : sent ++ queue_of after.conn ≡ queue_of before.conn ++ owed
   pub waited : waits before.streams.output.events ≤ waits after.streams.output.events
 

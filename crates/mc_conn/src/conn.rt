@@ -1,6 +1,7 @@
 //! A connection.
-ghost use Rattle.std.specs.Prelude.{◌≡◌, [], false, None};
-ghost use Rattle.mc_read.specs.Reading.{Kept};
+ghost use Rattle.std.specs.Prelude.{◌≡◌, [], false};
+ghost use Rattle.mc_conn.specs.declared.conn.Role.TheVariants as Role;
+ghost use Rattle.mc_conn.specs.Held.{nothing_held};
 ghost use Rattle.mc_conn.specs.Turn.{holding_of, queue_of};
 
 use crate::queue::Queue;
@@ -14,10 +15,17 @@ pub const QUEUE_BYTES: usize = 1_048_576;
 /// How many bytes a pull asks for.
 pub const PULL_BYTES: usize = 16_384;
 
-/// One connection of a tenant: what came and isn't taken yet, and the replies that aren't sent yet.
+/// Whose requests come on a connection.
+#[derive(Clone, Copy, Debug, PartialEq, Eq)]
+pub enum Role {
+    /// A tenant's: each is for that tenant.
+    Tenant(TenantId),
+}
+
+/// One connection: what came and isn't taken yet, and the replies that aren't sent yet.
 #[derive(Drop)]
 pub struct Conn {
-    pub(crate) tenant: TenantId,
+    pub(crate) role: Role,
     pub(crate) reader: Reader,
     /// The next request, once it is read and until it is taken.
     pub(crate) waiting: Option<Request>,
@@ -45,13 +53,13 @@ pub enum State {
 impl Conn {
     /// A connection of this tenant on which nothing has come. Needs no memory.
     pub fn new(alloc: Global, tenant: TenantId) -> Conn
-        ensures tenant { result.tenant ≡ tenant }
-        ensures holding { holding_of result ≡ record { waiting = None; held = Kept [] } }
+        ensures role { result.role ≡ Role.Tenant tenant }
+        ensures holding { holding_of result ≡ nothing_held result.role }
         ensures queue { queue_of result ≡ [] }
         ensures open { (result.has_ended ≡ false) × (result.is_over ≡ false) × (result.is_closed ≡ false) }
     {
         Conn {
-            tenant,
+            role: Role::Tenant(tenant),
             reader: Reader::new(alloc),
             waiting: None,
             queue: Queue::new(alloc),

@@ -6,6 +6,7 @@ ghost use Rattle.mc_model.specs.declared.request.Request.{Request};
 ghost use Rattle.mc_model.specs.declared.settings.Limits.{Limits};
 ghost use Rattle.uc_worker.specs.declared.worker.Worker.{Worker};
 ghost use Rattle.uc_worker.specs.Worker.{seat_of};
+ghost use Rattle.mc_conn.specs.declared.conn.Role.TheVariants.{Tenant};
 ghost use Rattle.mc_conn.specs.Alone.{IsAlone, IsAloneOver, first_mark, owed, owed_after};
 ghost use Rattle.mc_conn.specs.Owed.{IsPlaced, IsTurnedAway, Mark, Owes};
 
@@ -17,8 +18,8 @@ pub fn a_worker_alone_answers_in_order()
     ensures away { (worker : Worker) (tenant : ℕ) (from to : Mark) (command : Command) (reply : Reply) →
         (seat_of worker).size.workers ≡ 1 → IsTurnedAway worker tenant from command reply to → (seat_of worker).size.places ≤ from.number }
     ensures owes { (limits : Limits) (places : ℕ) (worker : Worker) (requests : List Request) (bytes : List ℕ) (to : Mark) →
-        IsAlone limits places worker → Owes worker 0 first_mark requests bytes to → bytes ≡ owed limits places requests }
+        IsAlone limits places worker → Owes worker (Tenant 0) first_mark requests bytes to → bytes ≡ owed limits places requests }
     // A log that is opened over a table goes on where that one stood.
     ensures goes_on { (limits : Limits) (base : List Command) (places : ℕ) (worker : Worker) (requests : List Request) (bytes : List ℕ) (to : Mark) →
-        IsAloneOver limits base places worker → Owes worker 0 first_mark requests bytes to → bytes ≡ owed_after limits base places [] requests }
+        IsAloneOver limits base places worker → Owes worker (Tenant 0) first_mark requests bytes to → bytes ≡ owed_after limits base places [] requests }
 {}

@@ -3,7 +3,7 @@
 //! a turn does, and `specs/Ending.antt` how it ends.
 #![tactic(auto)]
 
-pub use conn::{Conn, PULL_BYTES, QUEUE_BYTES, State};
+pub use conn::{Conn, PULL_BYTES, QUEUE_BYTES, Role, State};
 pub use mc_stream::{Input, Output, Pull, Push};
 pub use pumping::pump;
 

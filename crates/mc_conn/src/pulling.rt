@@ -3,10 +3,10 @@ ghost use Rattle.std.specs.Prelude.{◌≡◌, ◌≢◌, ◌⊎◌, ◌+◌, �
 ghost use Rattle.mc_stream.specs.Event.{Event, last_moved, waits};
 ghost use Rattle.mc_stream.specs.Stream.{Outflow, both};
 ghost use Rattle.uc_worker.specs.declared.worker.Worker.{Worker};
-ghost use Rattle.uc_worker.specs.Worker.{tenants_of};
 ghost use Rattle.mc_conn.specs.declared.conn.TheConstants.{PULL_BYTES, QUEUE_BYTES};
 ghost use Rattle.mc_conn.specs.Ending.{Breaks, Pulls};
 ghost use Rattle.mc_conn.specs.Parts.{Does, IsHeldBehind};
+ghost use Rattle.mc_conn.specs.Owed.{IsKnown};
 ghost use Rattle.mc_conn.specs.Turn.{queue_of, scene};
 
 use crate::conn::{Conn, PULL_BYTES, QUEUE_BYTES};
@@ -32,7 +32,7 @@ impl Conn {
             (waits (I.tells input.new).events ≡ waits (I.tells input.old).events + 1) ⊎ (self.new.has_ended ≡ true)) }
         ensures once { (event : Event) × ((I.tells input.new).events ≡ event ∷ (I.tells input.old).events) }
         ensures short { length (last_moved (I.tells input.new).events) ≤ PULL_BYTES }
-        ensures tenant { self.new.tenant ≡ self.old.tenant }
+        ensures role { self.new.role ≡ self.old.role }
     {
         match input.pull(buffer) {
             Pull::Bytes(count) => {
@@ -58,7 +58,7 @@ impl Conn {
         gate: &mut G,
         buffer: &mut [u8; PULL_BYTES],
     ) -> Result<bool, Fault>
-        requires tenant { self.old.tenant < length (tenants_of worker.old) }
+        requires role { IsKnown self.old.role worker.old }
         requires held { IsHeldBehind self.old }
         ensures outcome { MatchResult result
             (Does (scene self.old worker.old (both (I.tells input.old) (O.tells output.old)))

@@ -3,9 +3,10 @@ ghost use Rattle.std.specs.Prelude.{◌≡◌, ◌<◌, ◌++◌, length, MatchR
 ghost use Rattle.mc_model.specs.declared.fault.Fault.TheVariants as faults;
 ghost use Rattle.uc_worker.specs.Worker.{tenants_of};
 ghost use Rattle.uc_worker.specs.Going.{Continues};
-ghost use Rattle.mc_conn.specs.Owed.{answered};
+ghost use Rattle.mc_conn.specs.Owed.{IsKnown, answered};
 ghost use Rattle.mc_conn.specs.Parts.{Answers, IsTakeFault, MayAnnounce, Refuses, Responds};
 
+use crate::conn::Role;
 use crate::queue::Queue;
 use mc_model::{Command, Fault, Reply, Request, TenantId, WireNo};
 use uc_worker::{Gate, Worker};
@@ -45,19 +46,20 @@ fn queue_reply(reply: &Reply, quiet: bool, queue: &mut Queue) -> Result<(), Faul
 
 /// Does what a request asks for, and queues the reply. At a fault no reply is queued, and the request's command may be announced.
 pub(crate) fn respond<G: Gate>(
-    tenant: TenantId,
+    role: Role,
     request: Request,
     queue: &mut Queue,
     worker: &mut Worker<'_>,
     gate: &mut G,
 ) -> Result<(), Fault>
-    requires tenant { tenant < length (tenants_of worker.old) }
+    requires role { IsKnown role worker.old }
     ensures onward { Continues worker.old worker.new }
-    ensures outcome { MatchResult result (λ _. Responds worker.old worker.new tenant request queue.old queue.new)
-        (Refuses worker.old worker.new tenant request queue.old queue.new) }
+    ensures outcome { MatchResult result (λ _. Responds worker.old worker.new role request queue.old queue.new)
+        (Refuses worker.old worker.new role request queue.old queue.new) }
 {
     match request {
         Request::Logged { command, quiet } => {
+            let Role::Tenant(tenant) = role;
             let reply = answer(tenant, command, worker, gate)?;
             queue_reply(&reply, quiet, queue)
         }

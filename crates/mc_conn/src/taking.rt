@@ -4,10 +4,10 @@ ghost use Rattle.std.specs.Prelude.{◌≡◌, ◌≢◌, ◌⊎◌, ◌<◌, �
 ghost use Rattle.mc_model.specs.declared.fault.Fault.TheVariants as faults;
 ghost use Rattle.mc_model.specs.declared.request.Request.{Request};
 ghost use Rattle.mc_stream.specs.Stream.{Streams};
-ghost use Rattle.uc_worker.specs.Worker.{tenants_of};
 ghost use Rattle.mc_conn.specs.Ending.{Breaks};
 ghost use Rattle.mc_conn.specs.Held.{HoldsNone, IsRead};
 ghost use Rattle.mc_conn.specs.Parts.{Does, IsHeldBehind, Keeps, Looks};
+ghost use Rattle.mc_conn.specs.Owed.{IsKnown};
 ghost use Rattle.mc_conn.specs.Turn.{holding_of, queue_of, scene};
 
 use crate::conn::{Conn, QUEUE_BYTES};
@@ -36,7 +36,7 @@ impl Conn {
         worker: &mut Worker<'_>,
         gate: &mut G,
     ) -> Result<bool, Fault>
-        requires tenant { self.old.tenant < length (tenants_of worker.old) }
+        requires role { IsKnown self.old.role worker.old }
         ensures outcome { MatchResult result
             (λ did. (streams : Streams) → Does (scene self.old worker.old streams) (scene self.new worker.new streams) did)
             (λ fault. (streams : Streams) → Breaks (scene self.old worker.old streams) (scene self.new worker.new streams) fault) }
@@ -48,7 +48,7 @@ impl Conn {
         match self.waiting.take() {
             Some(request) => {
                 let ends = ends_stream(&request);
-                respond(self.tenant, request, &mut self.queue, worker, gate)?;
+                respond(self.role, request, &mut self.queue, worker, gate)?;
                 self.is_over |= ends;
                 Ok(true)
             }
@@ -58,7 +58,7 @@ impl Conn {
 
     /// Takes a request, where one is held and the queue isn't too long. Says whether it did.
     fn take_one<G: Gate>(&mut self, worker: &mut Worker<'_>, gate: &mut G) -> Result<bool, Fault>
-        requires tenant { self.old.tenant < length (tenants_of worker.old) }
+        requires role { IsKnown self.old.role worker.old }
         ensures outcome { MatchResult result
             (λ did. (streams : Streams) → Does (scene self.old worker.old streams) (scene self.new worker.new streams) did)
             (λ fault. (streams : Streams) → Breaks (scene self.old worker.old streams) (scene self.new worker.new streams) fault) }
@@ -79,7 +79,7 @@ impl Conn {
         worker: &mut Worker<'_>,
         gate: &mut G,
     ) -> Result<bool, Fault>
-        requires tenant { self.old.tenant < length (tenants_of worker.old) }
+        requires role { IsKnown self.old.role worker.old }
         ensures outcome { MatchResult result
             (λ did. (streams : Streams) → Does (scene self.old worker.old streams) (scene self.new worker.new streams) did)
             (λ fault. (streams : Streams) → Breaks (scene self.old worker.old streams) (scene self.new worker.new streams) fault) }

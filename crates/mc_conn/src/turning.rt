@@ -1,10 +1,10 @@
 //! A turn of a connection.
-ghost use Rattle.std.specs.Prelude.{◌≡◌, ◌<◌, true, false, length, Ok, MatchResult};
+ghost use Rattle.std.specs.Prelude.{◌≡◌, true, false, Ok, MatchResult};
 ghost use Rattle.mc_stream.specs.Stream.{both};
-ghost use Rattle.uc_worker.specs.Worker.{tenants_of};
 ghost use Rattle.mc_conn.specs.ConnFault.{TellsStarved};
 ghost use Rattle.mc_conn.specs.Ending.{Breaks, Pulls, Stops, Turns};
 ghost use Rattle.mc_conn.specs.Parts.{StateIs, TellsOf};
+ghost use Rattle.mc_conn.specs.Owed.{IsKnown};
 ghost use Rattle.mc_conn.specs.Turn.{queue_of, scene};
 
 use crate::conn::{Conn, PULL_BYTES, State};
@@ -45,7 +45,7 @@ impl Conn {
         gate: &mut G,
         buffer: &mut [u8; PULL_BYTES],
     ) -> Result<State, Fault>
-        requires tenant { self.old.tenant < length (tenants_of worker.old) }
+        requires role { IsKnown self.old.role worker.old }
         ensures outcome { MatchResult result
             (Turns (scene self.old worker.old (both (I.tells input.old) (O.tells output.old)))
             (scene self.new worker.new (both (I.tells input.new) (O.tells output.new))))
@@ -64,7 +64,7 @@ impl Conn {
     /// Closes the connection for good. Where memory ran out, the client is told.
     fn close<O: Output>(&mut self, fault: Fault, output: &mut O)
         ensures closed { self.new.is_closed ≡ true }
-        ensures same { (self.new.tenant ≡ self.old.tenant) × (queue_of self.new ≡ queue_of self.old) }
+        ensures same { (self.new.role ≡ self.old.role) × (queue_of self.new ≡ queue_of self.old) }
         ensures told { TellsOf fault (queue_of self.old) (O.tells output.old) (O.tells output.new) }
     {
         self.is_closed = true;
@@ -86,7 +86,7 @@ impl Conn {
         gate: &mut G,
         buffer: &mut [u8; PULL_BYTES],
     ) -> Result<State, Fault>
-        requires tenant { self.old.tenant < length (tenants_of worker.old) }
+        requires role { IsKnown self.old.role worker.old }
         ensures outcome { self.old.is_closed ≡ false → MatchResult result
             (Turns (scene self.old worker.old (both (I.tells input.old) (O.tells output.old)))
             (scene self.new worker.new (both (I.tells input.new) (O.tells output.new))))
@@ -94,7 +94,7 @@ impl Conn {
             (scene self.new worker.new (both (I.tells input.new) (O.tells output.new)))) }
         ensures pulls { Pulls (scene self.old worker.old (both (I.tells input.old) (O.tells output.old)))
             (scene self.new worker.new (both (I.tells input.new) (O.tells output.new))) }
-        ensures same { (self.new.tenant ≡ self.old.tenant) × (worker.new.log ≡ worker.old.log) }
+        ensures same { (self.new.role ≡ self.old.role) × (worker.new.log ≡ worker.old.log) }
         ensures closed { self.old.is_closed ≡ true → (result ≡ Ok State.Closed) × (self.new ≡ self.old) × (worker.new ≡ worker.old)
             × (input.new ≡ input.old) × (output.new ≡ output.old) }
     {

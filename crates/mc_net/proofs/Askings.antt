@@ -4,9 +4,10 @@ use Rattle.std.specs.List.{AllZip}
 use Rattle.std.proofs.lemmas.Option.{none-some, same_Some, slice_get_within}
 use Rattle.std.proofs.lemmas.Bool.{eqb-true}
 use Rattle.mc_conn.specs.Ending.{Breaks, Stops}
-use Rattle.mc_conn.specs.Held.{HoldsOn}
+use Rattle.mc_conn.specs.Held.{HoldsOn, lines_of}
 use Rattle.mc_conn.specs.Onward.{own_sighting}
 use Rattle.uc_worker.specs.Going.{Continues}
+use Rattle.mc_conn.specs.declared.conn.Role.{Role}
 use Rattle.mc_conn.specs.Owed.{mark_of}
 use Rattle.mc_conn.specs.Turn.{Takes, holding_of, scene}
 use Rattle.mc_conn.specs.declared.conn.State.{State}
@@ -14,7 +15,7 @@ use Rattle.mc_conn.specs.declared.conn.State.TheVariants.{Closed}
 use Rattle.mc_conn.proofs.Owings.{same_sighting}
 use Rattle.mc_model.specs.declared.fault.Fault.{Fault}
 use Rattle.mc_model.specs.declared.request.Request.{Request}
-use Rattle.mc_net.specs.Asking.{HasBeenAsked, WasAsked}
+use Rattle.mc_net.specs.Asking.{HasBeenAsked, IsLogged, WasAsked}
 use Rattle.mc_net.specs.Life.{came_of}
 use Rattle.mc_net.specs.Serving.{Becomes, IsNewConnection, IsServedLater, connection_at, scene_of}
 use Rattle.mc_net.specs.Working.{HasServed, IsUnused, ServesOne, Standing, TakesIn, Works, begins, goes_on, standing}
@@ -74,7 +75,7 @@ view_of standing = view standing.worker (connection_at standing.connections) sta
 -- all that came of a connection reads as these requests at first, and then, where no fault has closed it, as what it holds
 abbrev HasTaken : Connection → List Request → Type 0
 HasTaken connection requests =
-    (more : List ℕ) (all : List Request) → ReadsAs (came_of connection ++ more) all →
+    (more : List ℕ) (all : List Request) → ReadsAs (lines_of connection.conn.role) (came_of connection ++ more) all →
     (others : List Request) × (all ≡ requests ++ others) × (connection.conn.is_closed ≡ false → HoldsOn (holding_of connection.conn) more others)
 
 -- who asked: the connection under a key, or the one before which so many had ended
@@ -89,7 +90,7 @@ number_of (ended_after asker) = asker
 record StandsAndAsked (v : View) (taken : ℕ → List Request) (number key request : ℕ) : Type 0 where
   connection : Connection
   there : v.live key ≡ Some connection
-  asked : IsAt v.worker connection.conn.tenant number (taken key) request
+  asked : IsAt v.worker connection.conn.role number (taken key) request
 
 abbrev Found : View → (ℕ → List Request) → ℕ → Who → ℕ → Type 0
 Found v taken number (stands_under key) request = StandsAndAsked v taken number key request
@@ -107,37 +108,37 @@ record Asking (from : ℕ) (v : View) : Type 0 where
 -- what a connection's turns have taken more, and announced
 record Step (before after : Worker) (old new : Connection) (taken : List Request) : Type 0 where
   onward : Continues before after
-  tenant : new.conn.tenant ≡ old.conn.tenant
+  role : new.conn.role ≡ old.conn.role
   more : List Request
   has_taken : HasTaken new (taken ++ more)
-  numbers : Numbers after new.conn.tenant (length (announced_of before)) (length (announced_of after)) more
+  numbers : Numbers after new.conn.role (length (announced_of before)) (length (announced_of after)) more
 
-module _ (before after : Worker) (old new : Connection) (taken : List Request) (tenant : new.conn.tenant ≡ old.conn.tenant)
+module _ (before after : Worker) (old new : Connection) (taken : List Request) (role : new.conn.role ≡ old.conn.role)
     (opened : old.conn.is_closed ≡ false) (had : HasTaken old taken) where
-  came_on : (came more : List ℕ) (all : List Request) → came_of new ≡ came_of old ++ came → ReadsAs (came_of new ++ more) all →
+  came_on : (came more : List ℕ) (all : List Request) → came_of new ≡ came_of old ++ came → ReadsAs (lines_of new.conn.role) (came_of new ++ more) all →
       (others : List Request) × (all ≡ taken ++ others) × HoldsOn (holding_of old.conn) (came ++ more) others
   came_on came more all pulled reads =
-      let had_then = had (came ++ more) all (reads_from_earlier old new came more all pulled reads) in
+      let had_then = had (came ++ more) all (reads_from_earlier old new came more all role pulled reads) in
       (had_then.0, had_then.1, had_then.2 opened)
 
   step_taking : Takes (scene_of old before) (scene_of new after) → Step before after old new taken
   step_taking takes = record {
     onward = takes.taken.onward;
-    tenant = tenant;
+    role = role;
     more = takes.taken.requests;
     has_taken = λ more all reads.
         let one = came_on takes.taken.came more all takes.taken.pulled reads in
         let two = (takes.reads more one.0).0 one.2 in
         (two.0, one.1 ∙ ap (λ (others : List Request). taken ++ others) two.1 ∙ sym (append_assoc taken takes.taken.requests two.0), λ still. two.2);
-    numbers = subst (λ (tenant : ℕ). Numbers after tenant (length (announced_of before)) (length (announced_of after)) takes.taken.requests) (sym tenant)
-        (taken_numbers after old.conn.tenant (mark_of before) (mark_of after) takes.taken.requests takes.taken.owed takes.taken.owes);
+    numbers = subst (λ (role : Role). Numbers after role (length (announced_of before)) (length (announced_of after)) takes.taken.requests) (sym role)
+        (taken_numbers after old.conn.role (mark_of before) (mark_of after) takes.taken.requests takes.taken.owed takes.taken.owes);
   }
 
   step_breaking : (fault : Fault) (between : Outflow) → new.conn.is_closed ≡ true →
       Breaks (scene_of old before) (scene new.conn after (both (record { events = new.received.events; left = None }) between)) fault → Step before after old new taken
   step_breaking fault between closed breaks = record {
     onward = breaks.taken.onward;
-    tenant = tenant;
+    role = role;
     more = breaks.taken.requests ++ breaks.met;
     has_taken = λ more all reads.
         let one = came_on breaks.taken.came more all breaks.taken.pulled reads in
@@ -149,9 +150,9 @@ module _ (before after : Worker) (old new : Connection) (taken : List Request) (
           λ still. let no : true ≡ false = sym closed ∙ still in cc,
         );
     numbers =
-        subst (λ (tenant : ℕ). Numbers after tenant (length (announced_of before)) (length (announced_of after)) (breaks.taken.requests ++ breaks.met)) (sym tenant)
-        (owed_numbers after old.conn.tenant (mark_of before) breaks.to _ breaks.taken.requests breaks.met breaks.taken.owed breaks.taken.owes
-        (met_numbers after old.conn.tenant breaks.to breaks.met breaks.meets));
+        subst (λ (role : Role). Numbers after role (length (announced_of before)) (length (announced_of after)) (breaks.taken.requests ++ breaks.met)) (sym role)
+        (owed_numbers after old.conn.role (mark_of before) breaks.to _ breaks.taken.requests breaks.met breaks.taken.owed breaks.taken.owes
+        (met_numbers after old.conn.role breaks.to breaks.met breaks.meets));
   }
 
   step_stopping : (fault : Fault) → Stops (scene_of old before) (scene_of new after) fault → Step before after old new taken
@@ -161,8 +162,8 @@ step_later : (before after : Worker) (old new : Connection) (state : State) (tak
     old.conn.is_closed ≡ false → HasTaken old taken → Step before after old new taken
 step_later before after old new state taken later opened had =
     ⊎_elim
-    (λ served. step_taking before after old new taken later.tenant opened had served)
-    (λ stopped. step_stopping before after old new taken later.tenant opened had stopped.0 stopped.1)
+    (λ served. step_taking before after old new taken later.role opened had served)
+    (λ stopped. step_stopping before after old new taken later.role opened had stopped.0 stopped.1)
     later.served
 
 -- what was announced stays so
@@ -173,13 +174,21 @@ announced_on before after on number tenant command at =
     ∙ at_longer (announced_of before) on.announced.0 number _ at
     ∙ ap (λ seen. Some seen) (same_sighting before after on number tenant command)
 
-is_at_on : (before after : Worker) → Continues before after → (tenant number : ℕ) (requests more : List Request) (place : ℕ) → IsAt before tenant number requests place →
-    IsAt after tenant number (requests ++ more) place
-is_at_on before after on tenant number requests more place at = record {
-  command = at.command;
-  quiet = at.quiet;
-  request = at_longer requests more place _ at.request;
-  announced = announced_on before after on number tenant at.command at.announced;
+logged_on : (before after : Worker) → Continues before after → (role : Role) (request : Request) (number : ℕ) → IsLogged before role request number → IsLogged after role request number
+logged_on before after on role request number logged = record {
+  tenant = logged.tenant;
+  command = logged.command;
+  quiet = logged.quiet;
+  logs = logged.logs;
+  announced = announced_on before after on number logged.tenant logged.command logged.announced;
+}
+
+is_at_on : (before after : Worker) → Continues before after → (role : Role) (number : ℕ) (requests more : List Request) (place : ℕ) → IsAt before role number requests place →
+    IsAt after role number (requests ++ more) place
+is_at_on before after on role number requests more place found = record {
+  request = found.request;
+  at = at_longer requests more place _ found.at;
+  logged = logged_on before after on role found.request number found.logged;
 }
 
 was_asked_on : (before after : Worker) → Continues before after → (ended : List Connection) (number asker request : ℕ) → WasAsked before ended number asker request →
@@ -190,9 +199,8 @@ was_asked_on before after on ended number asker request asked = record {
   earlier = asked.earlier;
   stands = asked.stands;
   so_many = asked.so_many;
-  command = asked.command;
-  quiet = asked.quiet;
-  announced = announced_on before after on number asked.connection.conn.tenant asked.command asked.announced;
+  asked = asked.asked;
+  logged = logged_on before after on asked.connection.conn.role asked.asked number asked.logged;
   asks = asked.asks;
 }
 
@@ -220,23 +228,23 @@ module _ (from : ℕ) (v : View) (asking : Asking from v) (key : ℕ) (old new :
       ⊎_elim
       (λ (is : other ≡ key).
       let it_is : found.connection ≡ old = same_Some found.connection old (sym found.there ∙ ap v.live is ∙ there) in
-      let tenant : found.connection.conn.tenant ≡ new.conn.tenant = ap (λ (connection : Connection). connection.conn.tenant) it_is ∙ sym step.tenant in
+      let role : found.connection.conn.role ≡ new.conn.role = ap (λ (connection : Connection). connection.conn.role) it_is ∙ sym step.role in
       record {
         connection = new;
         there = at_key v.live key (Some new) other is;
         asked =
-            subst (λ (requests : List Request). IsAt after new.conn.tenant number requests request) (sym (at_key asking.taken key _ other is))
-            (is_at_on v.worker after step.onward new.conn.tenant number (asking.taken key) step.more request
-            (subst (λ (tenant : ℕ). IsAt v.worker tenant number (asking.taken key) request) tenant
-            (subst (λ (key : ℕ). IsAt v.worker found.connection.conn.tenant number (asking.taken key) request) is found.asked)));
+            subst (λ (requests : List Request). IsAt after new.conn.role number requests request) (sym (at_key asking.taken key _ other is))
+            (is_at_on v.worker after step.onward new.conn.role number (asking.taken key) step.more request
+            (subst (λ (role : Role). IsAt v.worker role number (asking.taken key) request) role
+            (subst (λ (key : ℕ). IsAt v.worker found.connection.conn.role number (asking.taken key) request) is found.asked)));
       })
       (λ (not : other ≢ key). record {
         connection = found.connection;
         there = at_others v.live key (Some new) other not ∙ found.there;
         asked =
-            subst (λ (requests : List Request). IsAt after found.connection.conn.tenant number requests request)
+            subst (λ (requests : List Request). IsAt after found.connection.conn.role number requests request)
             (append-nil (asking.taken other) ∙ sym (at_others asking.taken key _ other not))
-            (is_at_on v.worker after step.onward found.connection.conn.tenant number (asking.taken other) [] request found.asked);
+            (is_at_on v.worker after step.onward found.connection.conn.role number (asking.taken other) [] request found.asked);
       })
       (same_key other key)
 
@@ -252,24 +260,23 @@ module _ (from : ℕ) (v : View) (asking : Asking from v) (key : ℕ) (old new :
       number < length (announced_of after) → Found served taken_then number (asker_of number either) (request_of number either)
   found_then number (inl before) low high = found_still number (asking.asker number) (asking.request number) (asking.found number low before)
   found_then number (inr above) low high =
-      let at = step.numbers.is_at above.0 number above.1 high in
+      let found = step.numbers.is_at above.0 number above.1 high in
       record {
         connection = new;
         there = at_key v.live key (Some new) key refl;
         asked = record {
-          command = at.command;
-          quiet = at.quiet;
-          request =
+          request = found.request;
+          at =
               ap (λ (requests : List Request). slice_get requests (length (asking.taken key) + step.numbers.place above.0)) (at_key asking.taken key _ key refl)
-              ∙ at_behind (asking.taken key) step.more (step.numbers.place above.0) _ _ refl at.request;
-          announced = at.announced;
+              ∙ at_behind (asking.taken key) step.more (step.numbers.place above.0) _ _ refl found.at;
+          logged = found.logged;
         };
       }
 
   -- what one has asked for before is one of the requests taken by then
   is_taken : (number : ℕ) (who : Who) (request : ℕ) → who ≡ stands_under key → Found v asking.taken number who request → request < length (asking.taken key)
   is_taken number who request is found =
-      let it = subst (λ (who : Who). Found v asking.taken number who request) is found in slice_get_within (asking.taken key) request _ it.asked.request
+      let it = subst (λ (who : Who). Found v asking.taken number who request) is found in slice_get_within (asking.taken key) request _ it.asked.at
 
   in_order_then : (one two : ℕ) (first : (one < length (announced_of v.worker)) ⊎ ((i : ℕ) × (one ≡ length (announced_of v.worker) + i)))
       (second : (two < length (announced_of v.worker)) ⊎ ((i : ℕ) × (two ≡ length (announced_of v.worker) + i))) → from ≤ one → one < two →
@@ -319,12 +326,11 @@ module _ (from : ℕ) (v : View) (asking : Asking from v) (key : ℕ) (last : Co
         earlier = v.ended;
         stands = ap (λ (connection : Connection). connection ∷ v.ended) (sym it_is);
         so_many = refl;
-        command = found.asked.command;
-        quiet = found.asked.quiet;
-        announced = found.asked.announced;
+        asked = found.asked.request;
+        logged = found.asked.logged;
         asks = λ more all reads.
             let then = asking.has_taken other found.connection found.there more all reads in
-            ap (λ (requests : List Request). slice_get requests request) then.1 ∙ at_longer (asking.taken other) then.0 request _ found.asked.request;
+            ap (λ (requests : List Request). slice_get requests request) then.1 ∙ at_longer (asking.taken other) then.0 request _ found.asked.at;
       }
   found_picked number other request (inr not) found = record {
     connection = found.connection;
@@ -340,9 +346,8 @@ module _ (from : ℕ) (v : View) (asking : Asking from v) (key : ℕ) (last : Co
     earlier = found.earlier;
     stands = ap (λ (list : List Connection). last ∷ list) found.stands;
     so_many = found.so_many;
-    command = found.command;
-    quiet = found.quiet;
-    announced = found.announced;
+    asked = found.asked;
+    logged = found.logged;
     asks = found.asks;
   }
 
@@ -404,7 +409,7 @@ module _ (from : ℕ) (v : View) (asking : Asking from v) (key : ℕ) (fresh : C
       record {
         connection = found.connection;
         there = at_others v.live key (Some fresh) other not ∙ found.there;
-        asked = subst (λ (requests : List Request). IsAt v.worker found.connection.conn.tenant number requests request) (sym (at_others asking.taken key [] other not)) found.asked;
+        asked = subst (λ (requests : List Request). IsAt v.worker found.connection.conn.role number requests request) (sym (at_others asking.taken key [] other not)) found.asked;
       }
 
   asking_joined : Asking from joined
@@ -431,7 +436,7 @@ fresh_taken connection arrival fresh more all reads = (
   all,
   refl,
   λ still.
-      subst (λ holding. HoldsOn holding more all) (sym fresh.holding) (subst (λ events. ReadsAs (moved events ++ more) all) fresh.tapes.0 reads),
+      subst (λ holding. HoldsOn holding more all) (sym fresh.holding) (subst (λ events. ReadsAs (lines_of connection.conn.role) (moved events ++ more) all) fresh.tapes.0 reads),
 )
 
 -- views that show the same

@@ -11,8 +11,9 @@ use Rattle.std.proofs.lemmas.Option.{same_Some}
 use Rattle.mc_conn.specs.Alone.{first_mark}
 use Rattle.mc_conn.specs.ConnFault.{CellTaken, ConnFault, CountsFailures, InputFailed, IsTold, OutOfMemory, OutputFailed}
 use Rattle.mc_conn.specs.Ending.{Breaks, IsDone, Stops}
-use Rattle.mc_conn.specs.Held.{Holding, HoldsNone, HoldsOn, IsRead, Waits}
+use Rattle.mc_conn.specs.Held.{Holding, HoldsNone, HoldsOn, IsRead, Waits, lines_of, nothing_held}
 use Rattle.uc_worker.specs.Going.{Continues}
+use Rattle.mc_conn.specs.declared.conn.Role.{Role}
 use Rattle.mc_conn.specs.Owed.{Mark, Owes, mark_of}
 use Rattle.mc_conn.specs.Turn.{Takes, holding_of, queue_of, scene}
 use Rattle.mc_conn.specs.declared.conn.State.{State}
@@ -25,7 +26,7 @@ use Rattle.mc_model.specs.declared.fault.Fault.{Fault}
 use Rattle.mc_model.specs.declared.reply.Reply.TheVariants.{Refused}
 use Rattle.mc_model.specs.declared.reply.WireNo.TheVariants.{E11}
 use Rattle.mc_model.specs.declared.request.Request.{Request}
-use Rattle.mc_read.specs.Reading.{Kept, ReadsAs, ReadsOn, ends_stream}
+use Rattle.mc_read.specs.Reading.{ReadsAs, ReadsOn, ends_stream}
 use Rattle.mc_stream.specs.Event.{Event, failures, has_ended, moved}
 use Rattle.mc_stream.specs.Stream.{Inflow, Outflow, both}
 use Rattle.mc_write.specs.Text.{text}
@@ -46,19 +47,15 @@ end_seen X Y true was before after found earlier it_is =
     ⊎_elim (λ same. ap (λ (input : Inflow). has_ended input.events) same.1 ∙ earlier same.0) (λ seen. seen.0) found
 end_seen X Y false was before after found earlier it_is = cc
 
--- what a connection holds before its first byte
-abbrev nothing_held : Holding
-nothing_held = record { waiting = None; held = Kept [] }
-
 holds_nothing : (holding : Holding) → HoldsNone holding → HoldsOn holding [] []
-holds_nothing holding none = subst (λ (waiting : Option Request). Waits waiting (ReadsOn holding.held []) []) (sym none.0) ((none.1 []).1 refl)
+holds_nothing holding none = subst (λ (waiting : Option Request). Waits waiting (ReadsOn holding.lines holding.held []) []) (sym none.0) ((none.1 []).1 refl)
 
 -- where no whole request is left, all that came reads as what was taken
-whole_of : (came : List ℕ) (requests : List Request) (holding : Holding) → IsRead nothing_held came requests holding → HoldsNone holding → ReadsAs came requests
-whole_of came requests holding reads none =
+whole_of : (role : Role) (came : List ℕ) (requests : List Request) (holding : Holding) → IsRead (nothing_held role) came requests holding → HoldsNone holding → ReadsAs (lines_of role) came requests
+whole_of role came requests holding reads none =
     let nothing : HoldsOn holding [] [] = holds_nothing holding none in
-    let all : ReadsAs (came ++ []) (requests ++ []) = (reads [] (requests ++ [])).1 ([], refl, nothing) in
-    subst (λ (bytes : List ℕ). ReadsAs bytes requests) (append-nil came) (subst (ReadsAs (came ++ [])) (append-nil requests) all)
+    let all : ReadsAs (lines_of role) (came ++ []) (requests ++ []) = (reads [] (requests ++ [])).1 ([], refl, nothing) in
+    subst (λ (bytes : List ℕ). ReadsAs (lines_of role) bytes requests) (append-nil came) (subst (ReadsAs (lines_of role) (came ++ [])) (append-nil requests) all)
 
 -- a connection that no fault has closed: what it has taken and was sent, and what it holds of the rest
 pub record Lives (worker : Worker) (connection : Connection) : Type 0 where
@@ -67,19 +64,19 @@ pub record Lives (worker : Worker) (connection : Connection) : Type 0 where
   requests : List Request
   owed : List ℕ
   to : Mark
-  reads : IsRead nothing_held (came_of connection) requests (holding_of connection.conn)
-  owes : OwesInParts worker connection.conn.tenant requests owed to
+  reads : IsRead (nothing_held connection.conn.role) (came_of connection) requests (holding_of connection.conn)
+  owes : OwesInParts worker connection.conn.role requests owed to
   behind : IsBehind to (mark_of worker)
   bytes : sent_of connection ++ queue_of connection.conn ≡ owed
   over : connection.conn.is_over ≡ list_any ends_stream requests
   end : connection.conn.has_ended ≡ true → has_ended connection.received.events ≡ true
 
 -- what is owed in parts stays owed
-parts_grow : (old new : Worker) → Continues old new → (tenant : ℕ) (requests : List Request) (bytes : List ℕ) (to : Mark) → OwesInParts old tenant requests bytes to →
-    OwesInParts new tenant requests bytes to
-parts_grow old new on tenant _ _ _ none_yet = none_yet
-parts_grow old new on tenant _ _ _ (and_then requests more bytes others to from last parts behind owes) =
-    and_then requests more bytes others to from last (parts_grow old new on tenant requests bytes to parts) behind (owes_grow old new on tenant from more others last owes)
+parts_grow : (old new : Worker) → Continues old new → (role : Role) (requests : List Request) (bytes : List ℕ) (to : Mark) → OwesInParts old role requests bytes to →
+    OwesInParts new role requests bytes to
+parts_grow old new on role _ _ _ none_yet = none_yet
+parts_grow old new on role _ _ _ (and_then requests more bytes others to from last parts behind owes) =
+    and_then requests more bytes others to from last (parts_grow old new on role requests bytes to parts) behind (owes_grow old new on role from more others last owes)
 
 behind_grows : (old new : Worker) (to : Mark) → Continues old new → IsBehind to (mark_of old) → IsBehind to (mark_of new)
 behind_grows old new to on behind =
@@ -93,7 +90,7 @@ lives_on old new connection on lives = record {
   owed = lives.owed;
   to = lives.to;
   reads = lives.reads;
-  owes = parts_grow old new on connection.conn.tenant lives.requests lives.owed lives.to lives.owes;
+  owes = parts_grow old new on connection.conn.role lives.requests lives.owed lives.to lives.owes;
   behind = behind_grows old new lives.to on lives.behind;
   bytes = lives.bytes;
   over = lives.over;
@@ -106,7 +103,7 @@ answered_on old new connection on answered = record {
   owed = answered.owed;
   to = answered.to;
   first = answered.first;
-  owes = parts_grow old new on connection.conn.tenant answered.requests answered.owed answered.to answered.owes;
+  owes = parts_grow old new on connection.conn.role answered.requests answered.owed answered.to answered.owes;
   ending = answered.ending;
 }
 
@@ -119,8 +116,9 @@ lives_fresh worker connection arrival fresh = record {
   owed = [];
   to = first_mark;
   reads =
-      subst (λ (events : List Event). IsRead nothing_held (moved events) [] (holding_of connection.conn)) (sym fresh.tapes.0)
-      (subst (λ (holding : Holding). IsRead nothing_held [] [] holding) (sym fresh.holding) (read_refl nothing_held));
+      let nothing = nothing_held connection.conn.role in
+      subst (λ (events : List Event). IsRead nothing (moved events) [] (holding_of connection.conn)) (sym fresh.tapes.0)
+      (subst (λ (holding : Holding). IsRead nothing [] [] holding) (sym fresh.holding) (read_refl nothing));
   owes = none_yet;
   behind = (omega arith, omega arith);
   bytes = ap (λ (events : List Event). moved events ++ queue_of connection.conn) fresh.tapes.1 ∙ fresh.queue;
@@ -129,17 +127,18 @@ lives_fresh worker connection arrival fresh = record {
 }
 
 -- what all that came reads as, said of what had come earlier and then of all behind it
-pub reads_from_earlier : (old new : Connection) (came more : List ℕ) (all : List Request) → came_of new ≡ came_of old ++ came → ReadsAs (came_of new ++ more) all →
-    ReadsAs (came_of old ++ (came ++ more)) all
-reads_from_earlier old new came more all pulled reads =
-    subst (λ (bytes : List ℕ). ReadsAs bytes all) (ap (λ (bytes : List ℕ). bytes ++ more) pulled ∙ append_assoc (came_of old) came more) reads
+pub reads_from_earlier : (old new : Connection) (came more : List ℕ) (all : List Request) → new.conn.role ≡ old.conn.role → came_of new ≡ came_of old ++ came →
+    ReadsAs (lines_of new.conn.role) (came_of new ++ more) all → ReadsAs (lines_of old.conn.role) (came_of old ++ (came ++ more)) all
+reads_from_earlier old new came more all role pulled reads =
+    subst (λ (role : Role). ReadsAs (lines_of role) (came_of old ++ (came ++ more)) all) role
+    (subst (λ (bytes : List ℕ). ReadsAs (lines_of new.conn.role) bytes all) (ap (λ (bytes : List ℕ). bytes ++ more) pulled ∙ append_assoc (came_of old) came more) reads)
 
-module _ (before after : Worker) (old new : Connection) (tenant : new.conn.tenant ≡ old.conn.tenant) (lives : Lives before old) where
+module _ (before after : Worker) (old new : Connection) (role : new.conn.role ≡ old.conn.role) (lives : Lives before old) where
   -- the parts so far, over the worker as it is later on
-  parts_so_far : Continues before after → OwesInParts after new.conn.tenant lives.requests lives.owed lives.to
+  parts_so_far : Continues before after → OwesInParts after new.conn.role lives.requests lives.owed lives.to
   parts_so_far on =
-      subst (λ (tenant : ℕ). OwesInParts after tenant lives.requests lives.owed lives.to) (sym tenant)
-      (parts_grow before after on old.conn.tenant lives.requests lives.owed lives.to lives.owes)
+      subst (λ (role : Role). OwesInParts after role lives.requests lives.owed lives.to) (sym role)
+      (parts_grow before after on old.conn.role lives.requests lives.owed lives.to lives.owes)
 
   -- turns without a fault
   lives_taking : Takes (scene_of old before) (scene_of new after) → Lives after new
@@ -150,11 +149,12 @@ module _ (before after : Worker) (old new : Connection) (tenant : new.conn.tenan
     owed = lives.owed ++ takes.taken.owed;
     to = mark_of after;
     reads =
-        subst (λ (came : List ℕ). IsRead nothing_held came (lives.requests ++ takes.taken.requests) (holding_of new.conn)) (sym takes.taken.pulled)
-        (read_trans nothing_held (holding_of old.conn) (holding_of new.conn) (came_of old) takes.taken.came lives.requests takes.taken.requests lives.reads takes.reads);
+        subst (λ (came : List ℕ). IsRead (nothing_held new.conn.role) came (lives.requests ++ takes.taken.requests) (holding_of new.conn)) (sym takes.taken.pulled)
+        (subst (λ (role : Role). IsRead (nothing_held role) (came_of old ++ takes.taken.came) (lives.requests ++ takes.taken.requests) (holding_of new.conn)) (sym role)
+        (read_trans (nothing_held old.conn.role) (holding_of old.conn) (holding_of new.conn) (came_of old) takes.taken.came lives.requests takes.taken.requests lives.reads takes.reads));
     owes =
         and_then lives.requests takes.taken.requests lives.owed takes.taken.owed lives.to (mark_of before) (mark_of after) (parts_so_far takes.taken.onward) lives.behind
-        (subst (λ (tenant : ℕ). Owes after tenant (mark_of before) takes.taken.requests takes.taken.owed (mark_of after)) (sym tenant) takes.taken.owes);
+        (subst (λ (role : Role). Owes after role (mark_of before) takes.taken.requests takes.taken.owed (mark_of after)) (sym role) takes.taken.owes);
     behind = (omega arith, omega arith);
     bytes =
         ap (λ (sent : List ℕ). sent ++ queue_of new.conn) takes.taken.pushed
@@ -183,9 +183,9 @@ module _ (before after : Worker) (old new : Connection) (tenant : new.conn.tenan
         ∙ sym (append_assoc (sent_of old) (queue_of old.conn) breaks.taken.owed)
         ∙ ap (λ (bytes : List ℕ). bytes ++ breaks.taken.owed) lives.bytes
 
-    first_requests : (more : List ℕ) (all : List Request) → ReadsAs (came_of new ++ more) all → BeginsWith all (lives.requests ++ breaks.taken.requests)
+    first_requests : (more : List ℕ) (all : List Request) → ReadsAs (lines_of new.conn.role) (came_of new ++ more) all → BeginsWith all (lives.requests ++ breaks.taken.requests)
     first_requests more all reads =
-        let one = (lives.reads (breaks.taken.came ++ more) all).0 (reads_from_earlier old new breaks.taken.came more all breaks.taken.pulled reads) in
+        let one = (lives.reads (breaks.taken.came ++ more) all).0 (reads_from_earlier old new breaks.taken.came more all role breaks.taken.pulled reads) in
         let two = breaks.reads more one.0 one.2 in (
           breaks.met ++ two.0,
           one.1 ∙ ap (λ (others : List Request). lives.requests ++ others) two.1 ∙ sym (append_assoc lives.requests breaks.taken.requests (breaks.met ++ two.0)),
@@ -199,7 +199,7 @@ module _ (before after : Worker) (old new : Connection) (tenant : new.conn.tenan
       first = first_requests;
       owes =
           and_then lives.requests breaks.taken.requests lives.owed breaks.taken.owed lives.to (mark_of before) breaks.to (parts_so_far breaks.taken.onward) lives.behind
-          (subst (λ (tenant : ℕ). Owes after tenant (mark_of before) breaks.taken.requests breaks.taken.owed breaks.to) (sym tenant) breaks.taken.owes);
+          (subst (λ (role : Role). Owes after role (mark_of before) breaks.taken.requests breaks.taken.owed breaks.to) (sym role) breaks.taken.owes);
       ending = inr (record { fault = cause; why = why; sent = subst (λ (owed : List ℕ). BeginsWith (owed ++ words_of cause) (sent_of new)) all_queued sent });
     }
 
@@ -249,7 +249,7 @@ answered_done worker connection lives done = record {
   ending = inl (record {
     unfailed = lives.unfailed;
     end = ⊎_elim (λ ended. inl (lives.end ended)) (λ is_over. inr (sym lives.over ∙ is_over)) done.0;
-    whole = whole_of (came_of connection) lives.requests (holding_of connection.conn) lives.reads done.1;
+    whole = whole_of connection.conn.role (came_of connection) lives.requests (holding_of connection.conn) lives.reads done.1;
     sent = sym (append-nil (sent_of connection)) ∙ ap (λ (queue : List ℕ). sent_of connection ++ queue) (sym done.2) ∙ lives.bytes;
   });
 }
@@ -275,7 +275,7 @@ going_on before after old new Busy isnt later = later.stands.going
 later_lives : (before after : Worker) (old new : Connection) (state : State) → state ≢ Closed → IsServedLater before after old new state → Lives before old → Lives after new
 later_lives before after old new state isnt later lives =
     ⊎_elim
-    (λ served. lives_taking before after old new later.tenant lives served)
+    (λ served. lives_taking before after old new later.role lives served)
     (λ stopped. absurd (going_on before after old new state isnt later (inl stopped.1.shut)))
     later.served
 
@@ -283,9 +283,9 @@ later_answered : (before after : Worker) (old new : Connection) → IsServedLate
 later_answered before after old new later lives =
     ⊎_elim
     (λ served.
-    let still = lives_taking before after old new later.tenant lives served in
+    let still = lives_taking before after old new later.role lives served in
     ⊎_elim (λ closed. let no : false ≡ true = sym still.going ∙ closed in cc) (answered_done after new still) later.stands)
-    (λ stopped. answered_stopping before after old new later.tenant lives stopped.0 stopped.1)
+    (λ stopped. answered_stopping before after old new later.role lives stopped.0 stopped.1)
     later.served
 
 steps_at : (before after : Standing) (state : State) (old new : Option Connection) →

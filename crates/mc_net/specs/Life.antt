@@ -4,7 +4,9 @@
 use Rattle.std.specs.List.{list_any}
 use Rattle.std.specs.Prelude.{◌≡◌, ◌⊎◌, ℕ, ◌≤◌, true, List, [], ◌++◌, All}
 use Rattle.mc_conn.specs.Alone.{first_mark}
+use Rattle.mc_conn.specs.Held.{lines_of}
 use Rattle.mc_conn.specs.ConnFault.{CellTaken, ConnFault, InputFailed, OutOfMemory, OutputFailed}
+use Rattle.mc_conn.specs.declared.conn.Role.{Role}
 use Rattle.mc_conn.specs.Owed.{Mark, Owes}
 use Rattle.mc_model.specs.Helping.{BeginsWith}
 use Rattle.mc_model.specs.declared.reply.Reply.TheVariants.{Refused}
@@ -28,11 +30,11 @@ sent_of connection = moved connection.sent.events
 abbrev pub IsBehind : Mark → Mark → Type 0
 IsBehind one two = (one.number ≤ two.number) × (one.place ≤ two.place)
 
--- What a tenant is owed for requests that a worker took in parts, each behind the one before: between two parts it may have taken others' requests.
-pub data OwesInParts (worker : Worker) (tenant : ℕ) : List Request → List ℕ → Mark → Type 0 where
-  none_yet : OwesInParts worker tenant [] [] first_mark
-  and_then : (requests more : List Request) (bytes others : List ℕ) (to from last : Mark) → OwesInParts worker tenant requests bytes to →
-      IsBehind to from → Owes worker tenant from more others last → OwesInParts worker tenant (requests ++ more) (bytes ++ others) last
+-- What is owed for requests of this role that a worker took in parts, each behind the one before: between two parts it may have taken others' requests.
+pub data OwesInParts (worker : Worker) (role : Role) : List Request → List ℕ → Mark → Type 0 where
+  none_yet : OwesInParts worker role [] [] first_mark
+  and_then : (requests more : List Request) (bytes others : List ℕ) (to from last : Mark) → OwesInParts worker role requests bytes to →
+      IsBehind to from → Owes worker role from more others last → OwesInParts worker role (requests ++ more) (bytes ++ others) last
 
 -- how often reads of the connection's stream have failed, and writes
 abbrev pub FailedSoOften : Connection → ℕ → ℕ → Type 0
@@ -42,7 +44,7 @@ FailedSoOften connection reads writes = (failures connection.received.events ≡
 pub record EndsWithoutFault (connection : Connection) (requests : List Request) (owed : List ℕ) : Type 0 where
   pub unfailed : FailedSoOften connection 0 0
   pub end : (has_ended connection.received.events ≡ true) ⊎ (list_any ends_stream requests ≡ true)
-  pub whole : ReadsAs (came_of connection) requests
+  pub whole : ReadsAs (lines_of connection.conn.role) (came_of connection) requests
   pub sent : sent_of connection ≡ owed
 
 -- What a connection's stream has of a fault that ended it: one read has failed, or one write. Where memory ran out no read has; of writes nothing is
@@ -72,8 +74,8 @@ pub record WasAnswered (worker : Worker) (connection : Connection) : Type 0 wher
   pub requests : List Request
   pub owed : List ℕ
   pub to : Mark
-  pub first : (more : List ℕ) (all : List Request) → ReadsAs (came_of connection ++ more) all → BeginsWith all requests
-  pub owes : OwesInParts worker connection.conn.tenant requests owed to
+  pub first : (more : List ℕ) (all : List Request) → ReadsAs (lines_of connection.conn.role) (came_of connection ++ more) all → BeginsWith all requests
+  pub owes : OwesInParts worker connection.conn.role requests owed to
   pub ending : EndsWithoutFault connection requests owed ⊎ IsCut connection owed
 
 -- so of each connection that a worker has served

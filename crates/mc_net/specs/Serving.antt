@@ -2,9 +2,11 @@
 use Rattle.std.specs.Prelude.{◌≡◌, ◌≢◌, ◌⊎◌, ℕ, ◌+◌, ◌≤◌, true, false, List, [], ◌∷◌, length, Option, Some, None}
 use Rattle.slab.specs.Slab.{Updates, get}
 use Rattle.mc_conn.specs.declared.conn.Conn.{Conn}
+use Rattle.mc_conn.specs.declared.conn.Role.TheVariants.{Tenant}
 use Rattle.mc_conn.specs.declared.conn.State.{State}
 use Rattle.mc_conn.specs.declared.conn.State.TheVariants.{Closed, Idle, Busy}
 use Rattle.mc_conn.specs.Ending.{IsDone, PullsOnce, Stops, Turns}
+use Rattle.mc_conn.specs.Held.{nothing_held}
 use Rattle.mc_conn.specs.Turn.{Scene, Takes, holding_of, queue_of, scene}
 use Rattle.mc_model.specs.declared.fault.Fault.{Fault}
 use Rattle.mc_model.specs.declared.fault.Fault.TheVariants.{Memory, Input}
@@ -14,7 +16,6 @@ use Rattle.mc_net.specs.declared.halt.Halt.{Halt}
 use Rattle.mc_net.specs.declared.halt.Halt.TheVariants.{Memory as GrowthRefused, Poll, Elsewhere}
 use Rattle.mc_net.specs.declared.connections.Connection.{Connection}
 use Rattle.mc_net.specs.declared.connections.Connections.{Connections}
-use Rattle.mc_read.specs.Reading.{Kept}
 use Rattle.mc_stream.specs.Event.{Event}
 use Rattle.mc_stream.specs.Stream.{both}
 use Rattle.uc_worker.specs.declared.worker.Worker.{Worker}
@@ -31,8 +32,8 @@ scene_of connection worker =
 -- the arrival's connection, on which nothing has come and nothing was sent
 pub record IsNewConnection (connection : Connection) (arrival : Arrival _) : Type 0 where
   pub stream : connection.stream ≡ arrival.stream
-  pub tenant : connection.conn.tenant ≡ arrival.tenant
-  pub holding : holding_of connection.conn ≡ record { waiting = None; held = Kept [] }
+  pub role : connection.conn.role ≡ Tenant arrival.tenant
+  pub holding : holding_of connection.conn ≡ nothing_held connection.conn.role
   pub queue : queue_of connection.conn ≡ []
   pub going : (connection.conn.has_ended ≡ false) × (connection.conn.is_over ≡ false) × (connection.conn.is_closed ≡ false)
   pub tapes : (connection.received.events ≡ []) × (connection.sent.events ≡ [])
@@ -76,7 +77,7 @@ HasAtMost most before after = length after ≤ most + length before
 -- The same connection later on: the worker served it, from what its tapes had to what they have, by few pulls, and it stands as the state says.
 pub record IsServedLater (before after : Worker) (old new : Connection) (state : State) : Type 0 where
   pub stream : new.stream ≡ old.stream
-  pub tenant : new.conn.tenant ≡ old.conn.tenant
+  pub role : new.conn.role ≡ old.conn.role
   pub served : TakesOrStops (scene_of old before) (scene_of new after)
   pub stands : Stands (scene_of old before) (scene_of new after) state
   pub few : HasAtMost TURNS old.received.events new.received.events

@@ -1,7 +1,8 @@
 //! A worker takes connections in and serves them.
-ghost use Rattle.std.specs.Prelude.{◌≡◌, ◌<◌, length, None, IfNone, IfSome};
+ghost use Rattle.std.specs.Prelude.{◌≡◌, length, None, IfNone, IfSome};
 ghost use Rattle.mc_conn.specs.Ending.{PullsOnce};
 ghost use Rattle.uc_worker.specs.Going.{Continues};
+ghost use Rattle.mc_conn.specs.Owed.{IsKnown};
 ghost use Rattle.mc_conn.specs.Turn.{scene};
 ghost use Rattle.mc_net.specs.Serving.{Admits, Becomes, HasAtMost, HasTurns, IsServedLater, TakesOrStops, ChangesAt, Stands, connection_at};
 ghost use Rattle.mc_stream.specs.Stream.{both};
@@ -31,13 +32,13 @@ fn turn<I: Input, O: Output, G: Gate>(
     gate: &mut G,
     buffer: &mut [u8; PULL_BYTES],
 ) -> State
-    requires { conn.old.tenant < length (tenants_of worker.old) }
+    requires { IsKnown conn.old.role worker.old }
     ensures served { TakesOrStops (scene conn.old worker.old (both (I.tells input.old) (O.tells output.old)))
         (scene conn.new worker.new (both (I.tells input.new) (O.tells output.new))) }
     ensures stands { Stands (scene conn.old worker.old (both (I.tells input.old) (O.tells output.old)))
         (scene conn.new worker.new (both (I.tells input.new) (O.tells output.new))) result }
     ensures once { PullsOnce (I.tells input.old) (I.tells input.new) }
-    ensures tenant { conn.new.tenant ≡ conn.old.tenant }
+    ensures role { conn.new.role ≡ conn.old.role }
     ensures onward { Continues worker.old worker.new }
 {
     match conn.turn(worker, input, output, gate, buffer) {
@@ -55,13 +56,13 @@ fn turns<I: Input, O: Output, G: Gate>(
     gate: &mut G,
     buffer: &mut [u8; PULL_BYTES],
 ) -> State
-    requires { conn.old.tenant < length (tenants_of worker.old) }
+    requires { IsKnown conn.old.role worker.old }
     ensures served { TakesOrStops (scene conn.old worker.old (both (I.tells input.old) (O.tells output.old)))
         (scene conn.new worker.new (both (I.tells input.new) (O.tells output.new))) }
     ensures stands { Stands (scene conn.old worker.old (both (I.tells input.old) (O.tells output.old)))
         (scene conn.new worker.new (both (I.tells input.new) (O.tells output.new))) result }
     ensures few { HasAtMost TURNS (I.tells input.old).events (I.tells input.new).events }
-    ensures tenant { conn.new.tenant ≡ conn.old.tenant }
+    ensures role { conn.new.role ≡ conn.old.role }
     ensures onward { Continues worker.old worker.new }
 {
     for _ in 1..TURNS {
@@ -82,7 +83,7 @@ impl Connection {
         buffer: &mut [u8; PULL_BYTES],
         stops_short: bool,
     ) -> State
-        requires { self.old.conn.tenant < length (tenants_of worker.old) }
+        requires { IsKnown self.old.conn.role worker.old }
         ensures later { IsServedLater worker.old worker.new self.old self.new result }
         ensures onward { Continues worker.old worker.new }
     {

@@ -1,6 +1,8 @@
 //! The connections of a worker.
-ghost use Rattle.std.specs.Prelude.{◌≡◌, ◌==◌, ◌<◌, ◌≤◌, ℕ, [], IfOk, Some, true};
+ghost use Rattle.std.specs.Prelude.{◌≡◌, ◌==◌, ◌≤◌, ℕ, [], IfOk, Some, true};
 ghost use Rattle.mc_net.specs.declared.connections.TheConstants.{MOST_CONNECTIONS};
+ghost use Rattle.std.proofs.Props.{props};
+ghost use Rattle.mc_conn.specs.Owed.{IsAmong, IsAmong-prop};
 ghost use Rattle.slab.specs.Slab.{get, slab_len};
 
 use crate::ended::Ended;
@@ -25,7 +27,7 @@ pub(crate) struct Connection {
     pub(crate) sent: Tape,
 }
 
-/// The connections of a worker under their keys, each of a tenant of the log.
+/// The connections of a worker under their keys, each of a role that the log has.
 #[derive(Drop)]
 pub(crate) struct Connections {
     pub(crate) by_key: Slab<Connection>,
@@ -34,7 +36,7 @@ pub(crate) struct Connections {
     /// The connections that have ended, and stand here no more.
     pub(crate) ended: Ended,
     ghost room: { MOST_CONNECTIONS ≤ by_key.capacity },
-    ghost known: { (key : ℕ) (connection : _) → get by_key key ≡ Some connection → connection.conn.tenant < tenants },
+    ghost known: { (key : ℕ) (connection : _) → get by_key key ≡ Some connection → IsAmong connection.conn.role tenants } by { Prim.hlevel (props, IsAmong-prop) },
 }
 
 impl Connections {

@@ -13,15 +13,17 @@ use Rattle.mc_model.specs.declared.settings.Limits.{Limits}
 use Rattle.mc_model.specs.History.{state_after-none}
 use Rattle.mc_model.specs.Replay.{empty_tables}
 use Rattle.mc_model.specs.Settings.{Configuration, IsLawful}
-use Rattle.mc_read.specs.Reading.{Kept, ReadsAs, ends_stream}
+use Rattle.mc_read.specs.Line.{asked}
+use Rattle.mc_read.specs.Reading.{ReadsAs, ends_stream}
 use Rattle.mc_read.specs.Readings.{has_reading}
 use Rattle.mc_read.specs.Text.{IsRequestText}
 use Rattle.mc_conn.proofs.AloneOwed.{owes_in_order}
 use Rattle.mc_conn.specs.Alone.{IsAlone, first_mark, owed}
 use Rattle.mc_conn.specs.ConnFault.{CellTaken, ConnFault, CountsFailures, InputFailed, IsTold, OutOfMemory, OutputFailed}
 use Rattle.mc_conn.specs.Ending.{Breaks, PullsAfter, PullsLate, Serves as ServesAll, Stops as StopsSo}
-use Rattle.mc_conn.specs.Held.{Holding, HoldsNone, HoldsOn, IsRead}
+use Rattle.mc_conn.specs.Held.{Holding, HoldsNone, HoldsOn, IsRead, nothing_held}
 use Rattle.uc_worker.specs.Going.{Continues}
+use Rattle.mc_conn.specs.declared.conn.Role.TheVariants.{Tenant}
 use Rattle.mc_conn.specs.Owed.{Mark, Owes, mark_of}
 use Rattle.mc_conn.specs.Turn.{NeitherFails, Scene, holding_of, queue_of, scene}
 use Rattle.mc_programs.proofs.Owings.{owed-more}
@@ -61,20 +63,20 @@ both_ways one two more rest first second =
     second ∙ (ap (λ list. one ++ list) (nothing_in rest (omega (arith, ap length first, ap length second, length-append two more, length-append one rest))) ∙ append-nil one)
 
 -- no text is empty, so nothing reads as nothing
-no_text_empty : (text more : List ℕ) (request : Request) → IsRequestText text request → [] ≡ text ++ more → ⊥
+no_text_empty : (text more : List ℕ) (request : Request) → IsRequestText asked text request → [] ≡ text ++ more → ⊥
 no_text_empty text more request is empty =
     ⊎_elim
     (λ line. omega (arith, ap length empty, length-append text more, ap length line.in_text, length-append line.line (10 ∷ line.body)))
     (λ long. omega (arith, ap length empty, length-append text more, long.long))
     is
 
-reads_nothing : ReadsAs [] []
+reads_nothing : ReadsAs asked [] []
 reads_nothing = ([], (refl, no_text_empty))
 
 -- a connection on which nothing has come, and the one worker of a log that nothing was put into
 pub record Begins (limits : Limits) (places : ℕ) (start : Scene) : Type 0 where
-  pub tenant : start.conn.tenant ≡ 0
-  pub holding : holding_of start.conn ≡ record { waiting = None; held = Kept [] }
+  pub role : start.conn.role ≡ Tenant 0
+  pub holding : holding_of start.conn ≡ nothing_held (Tenant 0)
   pub queue : queue_of start.conn ≡ []
   pub going : start.conn.has_ended ≡ false
   pub on : start.conn.is_over ≡ false
@@ -82,18 +84,18 @@ pub record Begins (limits : Limits) (places : ℕ) (start : Scene) : Type 0 wher
   pub mark : mark_of start.worker ≡ first_mark
 
 -- all that came was read
-reads_all : (start : Scene) (came : List ℕ) (requests : List Request) (after : Holding) → holding_of start.conn ≡ record { waiting = None; held = Kept [] } →
-    IsRead (holding_of start.conn) came requests after → HoldsNone after → ReadsAs came requests
+reads_all : (start : Scene) (came : List ℕ) (requests : List Request) (after : Holding) → holding_of start.conn ≡ nothing_held (Tenant 0) →
+    IsRead (holding_of start.conn) came requests after → HoldsNone after → ReadsAs asked came requests
 reads_all start came requests after begun read none =
-    let reading = has_reading (came ++ []) in
+    let reading = has_reading asked (came ++ []) in
     let holds : HoldsOn (holding_of start.conn) (came ++ []) reading.0 = subst (λ holding. HoldsOn holding (came ++ []) reading.0) (sym begun) (reading.1, reading.2) in
     let follows = (read [] reading.0).0 holds in
     let others = none_follow after follows.0 none follows.2 in
-    subst (λ bytes. ReadsAs bytes requests) (append-nil came)
-    (subst (ReadsAs (came ++ [])) (follows.1 ∙ (ap (λ list. requests ++ list) others ∙ append-nil requests)) (reading.1, reading.2))
+    subst (λ bytes. ReadsAs asked bytes requests) (append-nil came)
+    (subst (ReadsAs asked (came ++ [])) (follows.1 ∙ (ap (λ list. requests ++ list) others ∙ append-nil requests)) (reading.1, reading.2))
   where
     none_follow : (held : Holding) (others : List Request) → HoldsNone held → HoldsOn held [] others → others ≡ []
-    none_follow held others nothing holds = (nothing.1 others).0 (subst (λ waiting. HoldsOn (record { waiting = waiting; held = held.held }) [] others) nothing.0 holds)
+    none_follow held others nothing holds = (nothing.1 others).0 (subst (λ waiting. HoldsOn (record { lines = held.lines; waiting = waiting; held = held.held }) [] others) nothing.0 holds)
 
 -- how often the output failed while the client was told
 told_counts : (unsent : List ℕ) (before now : Outflow) → IsAllOrStopped unsent before now → (failures before.events ≤ failures now.events) × (failures now.events ≤ failures before.events + 1)
@@ -113,12 +115,12 @@ module _ (limits : Limits) (places : ℕ) (start : Scene) (begins : Begins limit
 
   -- what is owed is the function of the requests
   answers : (worker : Worker) (requests : List Request) (bytes : List ℕ) (mark : Mark) → Continues start.worker worker →
-      Owes worker start.conn.tenant (mark_of start.worker) requests bytes mark → (bytes ≡ owed limits places requests) × Answers limits places requests (owed limits places requests)
+      Owes worker start.conn.role (mark_of start.worker) requests bytes mark → (bytes ≡ owed limits places requests) × Answers limits places requests (owed limits places requests)
   answers worker requests bytes mark on owes =
       let alone = alone_later worker on in
-      let first = subst (λ from. Owes worker 0 from requests bytes mark) begins.mark (subst (λ tenant. Owes worker tenant (mark_of start.worker) requests bytes mark) begins.tenant owes) in
+      let first = subst (λ from. Owes worker (Tenant 0) from requests bytes mark) begins.mark (subst (λ role. Owes worker role (mark_of start.worker) requests bytes mark) begins.role owes) in
       let is = owes_in_order limits [] places worker alone requests bytes mark first in
-      (is, record { worker = worker; alone = alone; mark = mark; owes = subst (λ it. Owes worker 0 first_mark requests it mark) is first })
+      (is, record { worker = worker; alone = alone; mark = mark; owes = subst (λ it. Owes worker (Tenant 0) first_mark requests it mark) is first })
 
   -- what was sent, where nothing is queued at the end
   sent_is : (conn : _) (sent owes : List ℕ) → sent ++ queue_of conn ≡ queue_of start.conn ++ owes → queue_of conn ≡ [] → sent ≡ owes
@@ -173,7 +175,7 @@ module _ (limits : Limits) (places : ℕ) (start : Scene) (begins : Begins limit
           ⊎_elim (λ (all : (queue_of between.conn ≡ []) × (between.conn.is_over ≡ false)). all)
           (λ (full : waits start.streams.output.events < waits between.streams.output.events). absurd (omega (arith, full, last.waited, never))) last.sent
 
-      first_reads : ReadsAs last.first.taken.came last.first.taken.requests
+      first_reads : ReadsAs asked last.first.taken.came last.first.taken.requests
       first_reads = reads_all start last.first.taken.came last.first.taken.requests (holding_of between.conn) begins.holding last.first.reads last.taken
 
       first_owed : last.first.taken.sent ≡ owed limits places last.first.taken.requests
@@ -228,13 +230,13 @@ module _ (limits : Limits) (places : ℕ) (start : Scene) (begins : Begins limit
   -- the first requests that came were answered
   module _ (fault : Fault) (after : Scene) (breaks : Breaks start after fault) where
     -- what all that came reads as
-    all_read : (requests : List Request) × ReadsAs breaks.taken.came requests
-    all_read = let reading = has_reading breaks.taken.came in (reading.0, (reading.1, reading.2))
+    all_read : (requests : List Request) × ReadsAs asked breaks.taken.came requests
+    all_read = let reading = has_reading asked breaks.taken.came in (reading.0, (reading.1, reading.2))
 
     all_split : (others : List Request) × (all_read.0 ≡ breaks.taken.requests ++ others)
     all_split =
         let holds : HoldsOn (holding_of start.conn) (breaks.taken.came ++ []) all_read.0 =
-        subst (λ holding. HoldsOn holding (breaks.taken.came ++ []) all_read.0) (sym begins.holding) (subst (λ bytes. ReadsAs bytes all_read.0) (sym (append-nil breaks.taken.came)) all_read.1)
+        subst (λ holding. HoldsOn holding (breaks.taken.came ++ []) all_read.0) (sym begins.holding) (subst (λ bytes. ReadsAs asked bytes all_read.0) (sym (append-nil breaks.taken.came)) all_read.1)
         in
         let follows = breaks.reads [] all_read.0 holds in
         (breaks.met ++ follows.0, follows.1)
@@ -306,11 +308,11 @@ module _ (limits : Limits) (places : ℕ) (start : Scene) (begins : Begins limit
       let came : breaks.taken.came ≡ last.first.taken.came =
       came_is after breaks.taken.came breaks.taken.sent breaks.taken.pulled breaks.taken.pushed never pull.0 last ∙ (ap (λ more. last.first.taken.came ++ more) piece ∙ append-nil last.first.taken.came)
       in
-      let reads : ReadsAs breaks.taken.came last.first.taken.requests =
-      subst (λ bytes. ReadsAs bytes last.first.taken.requests) (sym came) (first_reads after breaks.taken.came breaks.taken.sent breaks.taken.pulled breaks.taken.pushed never pull.0 last)
+      let reads : ReadsAs asked breaks.taken.came last.first.taken.requests =
+      subst (λ bytes. ReadsAs asked bytes last.first.taken.requests) (sym came) (first_reads after breaks.taken.came breaks.taken.sent breaks.taken.pulled breaks.taken.pushed never pull.0 last)
       in
       let holds : HoldsOn (holding_of start.conn) (breaks.taken.came ++ []) last.first.taken.requests =
-      subst (λ holding. HoldsOn holding (breaks.taken.came ++ []) last.first.taken.requests) (sym begins.holding) (subst (λ bytes. ReadsAs bytes last.first.taken.requests) (sym (append-nil breaks.taken.came)) reads)
+      subst (λ holding. HoldsOn holding (breaks.taken.came ++ []) last.first.taken.requests) (sym begins.holding) (subst (λ bytes. ReadsAs asked bytes last.first.taken.requests) (sym (append-nil breaks.taken.came)) reads)
       in
       let follows = breaks.reads [] last.first.taken.requests holds in
       let more = owed-more limits [] places [] breaks.taken.requests (breaks.met ++ follows.0) in
@@ -376,15 +378,15 @@ module _ (limits : Limits) (places : ℕ) (start : Scene) (begins : Begins limit
 
 -- a connection and a worker as they are opened
 pub begins_new : (limits : Limits) (places : ℕ) (log : Log) (pass : Pass) (conn : Conn) (worker : Worker) (streams : Streams) → IsOpened limits places log pass →
-    (conn.tenant ≡ 0) × (holding_of conn ≡ record { waiting = None; held = Kept [] }) × (queue_of conn ≡ []) × (conn.has_ended ≡ false) × (conn.is_over ≡ false) →
+    (conn.role ≡ Tenant 0) × (holding_of conn ≡ nothing_held conn.role) × (queue_of conn ≡ []) × (conn.has_ended ≡ false) × (conn.is_over ≡ false) →
     worker.log.now ≡ log → seat_of worker ≡ seat pass → history_of worker ≡ [] → openings_of worker ≡ empty_tables log.settings.tenants → Begins limits places (scene conn worker streams)
-begins_new limits places log pass conn worker streams opened (tenant, holding, queue, going, on) of seated empty over =
+begins_new limits places log pass conn worker streams opened (role, holding, queue, going, on) of seated empty over =
     let new : seat_of worker ≡ new_seat (size_of log) 0 = seated ∙ opened.1.1 in
     let announced : (seat_of worker).state.announced ≡ 0 = ap (λ (view : View). view.state.announced) new in
     let none : length (announced_of worker) ≡ 0 = worker.pass.count ∙ announced in
     record {
-      tenant = tenant;
-      holding = holding;
+      role = role;
+      holding = holding ∙ ap nothing_held role;
       queue = queue;
       going = going;
       on = on;

@@ -11,10 +11,12 @@ use Rattle.mc_model.specs.declared.reply.WireNo.TheVariants.{E11}
 use Rattle.mc_model.specs.declared.request.Request.{Request}
 use Rattle.mc_model.specs.declared.settings.Limits.{Limits}
 use Rattle.mc_model.specs.Settings.{Configuration, IsLawful}
+use Rattle.mc_read.specs.Line.{asked}
 use Rattle.mc_read.specs.Reading.{Reads, ReadsAs, ends_stream}
 use Rattle.mc_conn.specs.declared.conn.TheConstants.{PULL_BYTES}
 use Rattle.mc_conn.specs.Alone.{IsAlone, first_mark, owed}
 use Rattle.mc_conn.specs.ConnFault.{CellTaken, ConnFault, CountsFailures, InputFailed, OutOfMemory, OutputFailed, fault_of}
+use Rattle.mc_conn.specs.declared.conn.Role.TheVariants.{Tenant}
 use Rattle.mc_conn.specs.Owed.{Mark, Owes}
 use Rattle.mc_conn.specs.Turn.{NeitherFails}
 use Rattle.mc_stream.specs.Event.{failures, has_ended, last_moved, moved, waits}
@@ -34,14 +36,14 @@ pub record Comes (before after : Streams) : Type 0 where
   pub rest : List ℕ
   pub came : moved after.input.events ≡ moved before.input.events ++ bytes
   pub consumed : Consumes before.input.left after.input.left bytes
-  pub reads : Reads bytes requests rest
+  pub reads : Reads asked bytes requests rest
 
 -- The one worker of a log with so many places, whose tenant has these quotas, took the requests, and over its history this is owed for them.
 pub record Answers (limits : Limits) (places : ℕ) (requests : List Request) (bytes : List ℕ) : Type 0 where
   pub worker : Worker
   pub alone : IsAlone limits places worker
   pub mark : Mark
-  pub owes : Owes worker 0 first_mark requests bytes mark
+  pub owes : Owes worker (Tenant 0) first_mark requests bytes mark
 
 -- All that came was answered, under these quotas and by a log with so many places, up to the end of the input or a request that ends the stream.
 pub record Serves (limits : Limits) (places : ℕ) (before after : Streams) : Type 0 where
@@ -66,7 +68,7 @@ pub record IsCaughtUp (limits : Limits) (places : ℕ) (bytes last_pull sent : L
   pub is_bytes : bytes ≡ earlier ++ piece
   pub is_last : (bytes ≡ []) ⊎ (piece ≡ last_pull)
   pub is_short : length piece ≤ PULL_BYTES
-  pub reads : ReadsAs earlier requests
+  pub reads : ReadsAs asked earlier requests
   pub is_sent : sent ≡ owed limits places requests ++ later
 
 -- the output took something whenever it was asked

@@ -28,7 +28,7 @@ same_line line body own rest unbroken own_unbroken same =
     sym (before_first_at own rest own_unbroken) ∙ (ap (before_first is_line_feed) (sym same) ∙ before_first_at line body unbroken)
 
 -- a command is what its line asks for
-asked_on : (line body : List ℕ) (command : Command) (quiet : Bool) → IsUnbroken line → IsRequestText (line ++ 10 ∷ body) (Logged command quiet)
+asked_on : (line body : List ℕ) (command : Command) (quiet : Bool) → IsUnbroken line → IsRequestText asked (line ++ 10 ∷ body) (Logged command quiet)
     → (rest : List ℕ) × (request_of (asked line) rest ≡ Logged command quiet)
 asked_on line body command quiet unbroken (inl is) =
     (is.body, ap (λ l. request_of (asked l) is.body) (sym (same_line line body is.line is.body unbroken is.unbroken is.in_text)) ∙ sym is.is_asked)
@@ -118,7 +118,7 @@ counts_for Replace no_append no_prepend = refl
 counts_for Append no_append no_prepend = absurd (no_append refl)
 counts_for Prepend no_append no_prepend = absurd (no_prepend refl)
 
-module _ (line body : List ℕ) (command : Command) (quiet : Bool) (unbroken : IsUnbroken line) (is : IsRequestText (line ++ 10 ∷ body) (Logged command quiet)) where
+module _ (line body : List ℕ) (command : Command) (quiet : Bool) (unbroken : IsUnbroken line) (is : IsRequestText asked (line ++ 10 ∷ body) (Logged command quiet)) where
   asked_by_words : (parts : List (List ℕ)) → words line ≡ parts → (rest : List ℕ) × (request_of (asked_by parts) rest ≡ Logged command quiet)
   asked_by_words parts are = let asks = asked_on line body command quiet unbroken is in (asks.0, ap (λ w. request_of (asked_by w) asks.0) (sym are) ∙ asks.1)
 

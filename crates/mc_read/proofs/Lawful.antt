@@ -199,7 +199,7 @@ module _ (command : Command) (quiet : Bool) where
   lawful_request (StoredBlock header) body lawful is =
       lawful_stored header (take header.length body) (ends_well (drop header.length body)) is (omega (arith, length-take header.length body)) lawful
 
-  pub lawful_text : (text : List ℕ) → IsRequestText text (Logged command quiet) → IsLawfulCommand command
+  pub lawful_text : (text : List ℕ) → IsRequestText asked text (Logged command quiet) → IsLawfulCommand command
   lawful_text text (inl is) = lawful_request (asked is.line) is.body (asks_by (words is.line)) (sym is.is_asked)
   lawful_text text (inr is) = absurd (no_command_is_long is.is_too_long)
     where

@@ -124,7 +124,7 @@ length_joined (word ∷ next ∷ others) fit =
 
 -- A line of such words is the text of the request that they ask for.
 pub text_of_words : (parts : List (List ℕ)) (body : List ℕ) (a : Asked) → are_fit parts ≡ true → length (join_with_byte 32 parts) + 1 ≤ LINE_BYTES
-    → asked_by parts ≡ a → length body ≡ body_length a → IsRequestText (line_sent parts ++ body) (request_of a body)
+    → asked_by parts ≡ a → length body ≡ body_length a → IsRequestText asked (line_sent parts ++ body) (request_of a body)
 text_of_words parts body a fit short is whole =
     let line = join_with_byte 32 parts ++ 13 ∷ [] in
     let is_asked : asked line ≡ a = ap asked_by (words_joined parts fit) ∙ is in
@@ -140,15 +140,15 @@ text_of_words parts body a fit short is whole =
 
 -- without a block
 pub text_of_line : (parts : List (List ℕ)) (request : Request) → are_fit parts ≡ true → length (join_with_byte 32 parts) + 1 ≤ LINE_BYTES
-    → asked_by parts ≡ LineOnly request → IsRequestText (line_sent parts) request
+    → asked_by parts ≡ LineOnly request → IsRequestText asked (line_sent parts) request
 text_of_line parts request fit short is =
-    subst (λ text. IsRequestText text request) (append-nil (line_sent parts)) (text_of_words parts [] (LineOnly request) fit short is refl)
+    subst (λ text. IsRequestText asked text request) (append-nil (line_sent parts)) (text_of_words parts [] (LineOnly request) fit short is refl)
 
 -- a line of so few words is short
 few_words : (parts : List (List ℕ)) → are_fit parts ≡ true → length parts ≤ 7 → length (join_with_byte 32 parts) + 1 ≤ LINE_BYTES
 few_words parts fit few = omega (arith, length_joined parts fit, few)
 
-text_of_few : (parts : List (List ℕ)) (request : Request) → are_fit parts ≡ true → length parts ≤ 7 → asked_by parts ≡ LineOnly request → IsRequestText (line_sent parts) request
+text_of_few : (parts : List (List ℕ)) (request : Request) → are_fit parts ≡ true → length parts ≤ 7 → asked_by parts ≡ LineOnly request → IsRequestText asked (line_sent parts) request
 text_of_few parts request fit few = text_of_line parts request fit (few_words parts fit few)
 
 -- What the words of a command are.
@@ -198,7 +198,7 @@ delete_asked : (key : List ℕ) (quiet : Bool) → is_lawful_key key ≡ true �
 delete_asked key false lawful = ap (λ failure. asked_unless failure (Delete key) false) (key_checked key lawful)
 delete_asked key true lawful = ap (λ failure. asked_unless failure (Delete key) true) (key_checked key lawful)
 
-pub sent_delete : (key : List ℕ) (quiet : Bool) → IsTrue (is_lawful_key key) → IsRequestText (sent (Delete key) quiet) (Logged (Delete key) quiet)
+pub sent_delete : (key : List ℕ) (quiet : Bool) → IsTrue (is_lawful_key key) → IsRequestText asked (sent (Delete key) quiet) (Logged (Delete key) quiet)
 sent_delete key quiet lawful =
     let parts = codes "delete" ∷ key ∷ noreply_if quiet in
     let fit : are_fit parts ≡ true = and_from (is_fit key) (are_fit (noreply_if quiet)) (fit_key key lawful) (fit_noreply quiet) in
@@ -218,17 +218,17 @@ module _ (key : List ℕ) (by : ℕ) (quiet : Bool) (lawful : IsTrue (is_lawful_
       and_from (is_fit key) (are_fit (decimal by ∷ noreply_if quiet)) (fit_key key lawful)
       (and_from (is_fit (decimal by)) (are_fit (noreply_if quiet)) (fit_decimal by small) (fit_noreply quiet))
 
-  pub sent_incr : IsRequestText (sent (Incr key by) quiet) (Logged (Incr key by) quiet)
+  pub sent_incr : IsRequestText asked (sent (Incr key by) quiet) (Logged (Incr key by) quiet)
   sent_incr = text_of_few (codes "incr" ∷ key ∷ decimal by ∷ noreply_if quiet) (Logged (Incr key by) quiet) fit_change (omega (arith, one_more quiet)) (change_checked change.Incr key by quiet lawful small)
 
-  pub sent_decr : IsRequestText (sent (Decr key by) quiet) (Logged (Decr key by) quiet)
+  pub sent_decr : IsRequestText asked (sent (Decr key by) quiet) (Logged (Decr key by) quiet)
   sent_decr = text_of_few (codes "decr" ∷ key ∷ decimal by ∷ noreply_if quiet) (Logged (Decr key by) quiet) fit_change (omega (arith, one_more quiet)) (change_checked change.Decr key by quiet lawful small)
 
 flush_asked : (quiet : Bool) → asked_by (codes "flush_all" ∷ noreply_if quiet) ≡ LineOnly (Logged Flush quiet)
 flush_asked false = refl
 flush_asked true = refl
 
-pub sent_flush : (quiet : Bool) → IsRequestText (sent Flush quiet) (Logged Flush quiet)
+pub sent_flush : (quiet : Bool) → IsRequestText asked (sent Flush quiet) (Logged Flush quiet)
 sent_flush quiet = text_of_few (codes "flush_all" ∷ noreply_if quiet) (Logged Flush quiet) (fit_noreply quiet) (omega (arith, one_more quiet)) (flush_asked quiet)
 
 -- Retrievals.
@@ -250,7 +250,7 @@ retrieval_asked (key ∷ keys) uniques some lawful =
     (no_failure ((list_all is_lawful_key (key ∷ keys), E2) ∷ []) (and_from (list_all is_lawful_key (key ∷ keys)) true lawful refl))
 
 pub sent_get : (keys : List (List ℕ)) (uniques : Bool) → 0 < length keys → All (λ key. IsTrue (is_lawful_key key)) keys → length (sent (Get keys uniques) false) ≤ 65537
-    → IsRequestText (sent (Get keys uniques) false) (Logged (Get keys uniques) false)
+    → IsRequestText asked (sent (Get keys uniques) false) (Logged (Get keys uniques) false)
 sent_get keys true some lawful short =
     let joined = join_with_byte 32 (codes "gets" ∷ keys) in
     text_of_line (codes "gets" ∷ keys) (Logged (Get keys true) false) (fit_keys keys (all_lawful keys lawful)) (omega (arith, short, length-append joined (13 ∷ 10 ∷ []))) (retrieval_asked keys true some (all_lawful keys lawful))
@@ -304,9 +304,9 @@ block_stored storage key flags block quiet = λ i.
 
 text_of_block : (parts : List (List ℕ)) (storage : Storage) (key : List ℕ) (flags : ℕ) (block : List ℕ) (quiet : Bool) → are_fit parts ≡ true → length parts ≤ 7
     → asked_by parts ≡ StoredBlock (record { length = length block; storage = storage; key = key; flags = flags; quiet = quiet })
-    → IsRequestText (line_sent parts ++ block_sent block) (Logged (storing storage key flags block) quiet)
+    → IsRequestText asked (line_sent parts ++ block_sent block) (Logged (storing storage key flags block) quiet)
 text_of_block parts storage key flags block quiet fit few is =
-    subst (IsRequestText (line_sent parts ++ block_sent block)) (block_stored storage key flags block quiet)
+    subst (IsRequestText asked (line_sent parts ++ block_sent block)) (block_stored storage key flags block quiet)
     (text_of_words parts (block_sent block) _ fit (few_words parts fit few) is (length-append block (13 ∷ 10 ∷ [])))
 
 pub name_asked : (verb : Verb) (arguments : List (List ℕ)) → asked_by (verb_name verb ∷ arguments) ≡ asked_of_storage verb arguments
@@ -348,7 +348,7 @@ module _ (key : List ℕ) (flags : ℕ) (block : List ℕ) (quiet : Bool) (lawfu
   store_asked verb false = line_asked (Some (Plain verb)) (Plain verb) None refl refl
   store_asked verb true = line_asked (Some (Plain verb)) (Plain verb) (Some (codes "noreply")) refl refl
 
-  pub sent_store : (verb : Verb) → IsRequestText (sent (Store verb key flags block) quiet) (Logged (Store verb key flags block) quiet)
+  pub sent_store : (verb : Verb) → IsRequestText asked (sent (Store verb key flags block) quiet) (Logged (Store verb key flags block) quiet)
   sent_store verb =
       text_of_block (verb_name verb ∷ key ∷ decimal flags ∷ codes "0" ∷ decimal (length block) ∷ noreply_if quiet) (Plain verb) key flags block quiet
       (and_from (is_fit (verb_name verb)) _ (fit_name verb) (fit_storage (noreply_if quiet) (fit_noreply quiet))) (omega (arith, one_more quiet))
@@ -359,7 +359,7 @@ module _ (key : List ℕ) (flags : ℕ) (block : List ℕ) (quiet : Bool) (lawfu
   cas_asked unique false fits = line_asked (check_and_set (decimal unique)) (CheckAndSet unique) None (ap (option_map CheckAndSet) (number_of_decimal UNIQUE unique (omega (arith, fits)) fits)) refl
   cas_asked unique true fits = line_asked (check_and_set (decimal unique)) (CheckAndSet unique) (Some (codes "noreply")) (ap (option_map CheckAndSet) (number_of_decimal UNIQUE unique (omega (arith, fits)) fits)) refl
 
-  pub sent_cas : (unique : ℕ) → unique < 2 ^ 64 → IsRequestText (sent (Cas key flags block unique) quiet) (Logged (Cas key flags block unique) quiet)
+  pub sent_cas : (unique : ℕ) → unique < 2 ^ 64 → IsRequestText asked (sent (Cas key flags block unique) quiet) (Logged (Cas key flags block unique) quiet)
   sent_cas unique fits =
       text_of_block (codes "cas" ∷ key ∷ decimal flags ∷ codes "0" ∷ decimal (length block) ∷ decimal unique ∷ noreply_if quiet) (CheckAndSet unique) key flags block quiet
       (fit_storage (decimal unique ∷ noreply_if quiet) (and_from (is_fit (decimal unique)) (are_fit (noreply_if quiet)) (fit_decimal unique fits) (fit_noreply quiet))) (omega (arith, one_more quiet))
@@ -386,7 +386,7 @@ module _ (verb : Verb) (key : List ℕ) (flags size : ℕ) (quiet : Bool) (lawfu
   large_asked false large readable = large_line None refl large readable
   large_asked true large readable = large_line (Some (codes "noreply")) refl large readable
 
-  pub large_refused : (block : List ℕ) → length block ≡ size → 1048576 < size → size ≤ 2147483645 → IsRequestText (line_sent parts_sent ++ block_sent block) (refused E6 quiet)
+  pub large_refused : (block : List ℕ) → length block ≡ size → 1048576 < size → size ≤ 2147483645 → IsRequestText asked (line_sent parts_sent ++ block_sent block) (refused E6 quiet)
   large_refused block is_length large readable =
       text_of_words parts_sent (block_sent block) (RefusedBlock size E6 quiet) fit_parts_sent (few_words parts_sent fit_parts_sent (omega (arith, one_more quiet)))
       (name_asked verb (key ∷ decimal flags ∷ codes "0" ∷ decimal size ∷ noreply_if quiet) ∙ large_asked quiet large readable) (omega (arith, is_length, length-append block (13 ∷ 10 ∷ [])))
@@ -398,9 +398,9 @@ module _ (verb : Verb) (key : List ℕ) (flags size : ℕ) (quiet : Bool) (lawfu
   unreadable_asked false large = ap (asked_of_length (line_of None)) (unreadable large)
   unreadable_asked true large = ap (asked_of_length (line_of (Some (codes "noreply")))) (unreadable large)
 
-  pub unreadable_refused : 2147483645 < size → IsRequestText (line_sent parts_sent) (refused E2 false)
+  pub unreadable_refused : 2147483645 < size → IsRequestText asked (line_sent parts_sent) (refused E2 false)
   unreadable_refused large =
       text_of_few parts_sent (refused E2 false) fit_parts_sent (omega (arith, one_more quiet)) (name_asked verb (key ∷ decimal flags ∷ codes "0" ∷ decimal size ∷ noreply_if quiet) ∙ unreadable_asked quiet large)
 
-pub long_line_refused : (text : List ℕ) → length text ≡ 65537 → IsUnbroken text → IsRequestText text TooLong
+pub long_line_refused : (text : List ℕ) → length text ≡ 65537 → IsUnbroken text → IsRequestText asked text TooLong
 long_line_refused text long unbroken = inr (record { long = long; unbroken = unbroken; is_too_long = refl })

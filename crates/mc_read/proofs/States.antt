@@ -10,9 +10,10 @@ use Rattle.mc_read.specs.declared.line.Header.{Header}
 use Rattle.mc_read.specs.declared.reader.State.{State}
 use Rattle.mc_read.specs.declared.reader.State.TheVariants as state
 use Rattle.mc_read.specs.First.{is_line_feed, line_length}
-use Rattle.mc_read.specs.Line.{asked, refused}
+use Rattle.mc_read.specs.Line.{refused}
 use Rattle.mc_read.specs.Reading.{Ended, Held, IsFed, Kept, ReadsOn, Swallowing}
 use Rattle.mc_read.specs.State.{IsLineAt, IsSearched, IsStateOf, held_in}
+use Rattle.mc_read.specs.Text.{Lines}
 use Rattle.mc_read.proofs.Holdings.{fed_within, reads_alike}
 use Rattle.mc_read.proofs.Lines.{line_length_le}
 
@@ -43,45 +44,46 @@ searched_more searched bytes piece is = record {
   few = is.few;
 }
 
-block_more : (line : ℕ) (header : Header) (bytes piece : List ℕ) → IsStateOf (state.AwaitsBlock line header) bytes → IsStateOf (state.AwaitsBlock line header) (bytes ++ piece)
-block_more line header bytes piece is =
-    let at = is.0 in
-    let same = line_length-append bytes piece (omega (arith, at.is_length, at.ends)) in (
-      record { is_length = same ∙ at.is_length; ends = omega (arith, at.ends, length-append bytes piece); short = at.short },
-      ap asked (take-append-le line bytes piece (omega (arith, at.ends))) ∙ is.1,
-      is.2,
-    )
+module _ (lines : Lines) where
+  block_more : (line : ℕ) (header : Header) (bytes piece : List ℕ) → IsStateOf lines (state.AwaitsBlock line header) bytes → IsStateOf lines (state.AwaitsBlock line header) (bytes ++ piece)
+  block_more line header bytes piece is =
+      let at = is.0 in
+      let same = line_length-append bytes piece (omega (arith, at.is_length, at.ends)) in (
+        record { is_length = same ∙ at.is_length; ends = omega (arith, at.ends, length-append bytes piece); short = at.short },
+        ap lines (take-append-le line bytes piece (omega (arith, at.ends))) ∙ is.1,
+        is.2,
+      )
 
--- a state that keeps all bytes is a state of them and a piece, or of what they were
-pub state_more : (s : State) (old piece new : List ℕ) (r : Result (Unit {0}) Fault)
-    → ((searched : ℕ) × (s ≡ state.AwaitsLine searched)) ⊎ ((line : ℕ) × (header : Header) × (s ≡ state.AwaitsBlock line header))
-    → IsStateOf s old → OnOk r (new ≡ old ++ piece) → OnErr r (new ≡ old) → IsStateOf s new
-state_more s old piece new (Ok u) which is more same = subst (IsStateOf s) (sym more) (grown which)
-  where
-    grown : ((searched : ℕ) × (s ≡ state.AwaitsLine searched)) ⊎ ((line : ℕ) × (header : Header) × (s ≡ state.AwaitsBlock line header)) → IsStateOf s (old ++ piece)
-    grown (inl line) = subst (λ t. IsStateOf t (old ++ piece)) (sym line.1) (searched_more line.0 old piece (subst (λ t. IsStateOf t old) line.1 is))
-    grown (inr block) = subst (λ t. IsStateOf t (old ++ piece)) (sym block.2) (block_more block.0 block.1 old piece (subst (λ t. IsStateOf t old) block.2 is))
-state_more s old piece new (Err fault) which is more same = subst (IsStateOf s) (sym same) is
+  -- a state that keeps all bytes is a state of them and a piece, or of what they were
+  pub state_more : (s : State) (old piece new : List ℕ) (r : Result (Unit {0}) Fault)
+      → ((searched : ℕ) × (s ≡ state.AwaitsLine searched)) ⊎ ((line : ℕ) × (header : Header) × (s ≡ state.AwaitsBlock line header))
+      → IsStateOf lines s old → OnOk r (new ≡ old ++ piece) → OnErr r (new ≡ old) → IsStateOf lines s new
+  state_more s old piece new (Ok u) which is more same = subst (IsStateOf lines s) (sym more) (grown which)
+    where
+      grown : ((searched : ℕ) × (s ≡ state.AwaitsLine searched)) ⊎ ((line : ℕ) × (header : Header) × (s ≡ state.AwaitsBlock line header)) → IsStateOf lines s (old ++ piece)
+      grown (inl line) = subst (λ t. IsStateOf lines t (old ++ piece)) (sym line.1) (searched_more line.0 old piece (subst (λ t. IsStateOf lines t old) line.1 is))
+      grown (inr block) = subst (λ t. IsStateOf lines t (old ++ piece)) (sym block.2) (block_more block.0 block.1 old piece (subst (λ t. IsStateOf lines t old) block.2 is))
+  state_more s old piece new (Err fault) which is more same = subst (IsStateOf lines s) (sym same) is
 
--- a piece within a refused block, also where none of the block is still to come
-pub fed_refused : (request : Request) (left : ℕ) (bytes piece : List ℕ) → (0 < left → bytes ≡ []) → length piece ≤ left → IsFed (Swallowing request left bytes) piece (Swallowing request (left - length piece) bytes)
-fed_refused request left bytes piece empty within =
-    ⊎_elim
-    (λ some. rw (empty some) (fed_within request left piece within))
-    (λ none.
-    let nothing : piece ≡ [] = nil_from_length piece (omega (arith, within, none)) in
-    let same : left - length piece ≡ left = omega (arith, none) in
-    λ more requests. subst (λ p. ReadsOn (Swallowing request (left - length piece) bytes) more requests ↔ ReadsOn (Swallowing request left bytes) (p ++ more) requests) (sym nothing)
-    (subst (λ n. ReadsOn (Swallowing request n bytes) more requests ↔ ReadsOn (Swallowing request left bytes) more requests) (sym same) (reads_alike (Swallowing request left bytes) more requests)))
-    (cases_lt 0 left)
+  -- a piece within a refused block, also where none of the block is still to come
+  pub fed_refused : (request : Request) (left : ℕ) (bytes piece : List ℕ) → (0 < left → bytes ≡ []) → length piece ≤ left → IsFed lines (Swallowing request left bytes) piece (Swallowing request (left - length piece) bytes)
+  fed_refused request left bytes piece empty within =
+      ⊎_elim
+      (λ some. rw (empty some) (fed_within lines request left piece within))
+      (λ none.
+      let nothing : piece ≡ [] = nil_from_length piece (omega (arith, within, none)) in
+      let same : left - length piece ≡ left = omega (arith, none) in
+      λ more requests. subst (λ p. ReadsOn lines (Swallowing request (left - length piece) bytes) more requests ↔ ReadsOn lines (Swallowing request left bytes) (p ++ more) requests) (sym nothing)
+      (subst (λ n. ReadsOn lines (Swallowing request n bytes) more requests ↔ ReadsOn lines (Swallowing request left bytes) more requests) (sym same) (reads_alike lines (Swallowing request left bytes) more requests)))
+      (cases_lt 0 left)
 
--- while a block is awaited, its line stands at the front of what is held
-pub line_of_block : (s : State) (inside : List ℕ) (line : ℕ) (header : Header) (bytes : List ℕ) → s ≡ state.AwaitsBlock line header → IsStateOf s inside → held_in s inside ≡ Kept bytes → IsLineAt bytes line
-line_of_block s inside line header bytes is_block is held =
-    let is_state : IsStateOf (state.AwaitsBlock line header) inside = subst (λ t. IsStateOf t inside) is_block is in
-    let kept : Kept inside ≡ Kept bytes = ap (λ t. held_in t inside) (sym is_block) ∙ held in
-    let same : inside ≡ bytes = cc in
-    subst (λ b. IsLineAt b line) same is_state.0
+  -- while a block is awaited, its line stands at the front of what is held
+  pub line_of_block : (s : State) (inside : List ℕ) (line : ℕ) (header : Header) (bytes : List ℕ) → s ≡ state.AwaitsBlock line header → IsStateOf lines s inside → held_in s inside ≡ Kept bytes → IsLineAt bytes line
+  line_of_block s inside line header bytes is_block is held =
+      let is_state : IsStateOf lines (state.AwaitsBlock line header) inside = subst (λ t. IsStateOf lines t inside) is_block is in
+      let kept : Kept inside ≡ Kept bytes = ap (λ t. held_in t inside) (sym is_block) ∙ held in
+      let same : inside ≡ bytes = cc in
+      subst (λ b. IsLineAt b line) same is_state.0
 
 -- A refused block that has come whole, and one of which a piece comes.
 pub left_of_block : (refusal other : WireNo) (quiet noreply : Bool) (left more : ℕ) → state.SwallowsBlock refusal quiet left ≡ state.SwallowsBlock other noreply more → left ≡ more

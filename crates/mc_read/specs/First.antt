@@ -5,8 +5,7 @@ use Rattle.mc_model.specs.declared.request.Request.{Request}
 use Rattle.mc_model.specs.declared.request.Request.TheVariants.{TooLong}
 use Rattle.mc_read.specs.declared.line.Asked.{Asked}
 use Rattle.mc_read.specs.declared.line.TheConstants.{LINE_BYTES}
-use Rattle.mc_read.specs.Line.{asked}
-use Rattle.mc_read.specs.Text.{body_length, request_of}
+use Rattle.mc_read.specs.Text.{Lines, body_length, request_of}
 
 abbrev pub is_line_feed : ℕ → Bool
 is_line_feed byte = byte == 10
@@ -27,9 +26,9 @@ first_of_line asked body =
     else None
 
 -- the first request and what follows it, where a whole request stands there
-abbrev pub first_request : List ℕ → Option (Request × List ℕ)
-first_request bytes =
+abbrev pub first_request : Lines → List ℕ → Option (Request × List ℕ)
+first_request lines bytes =
     if nat_lt LINE_BYTES (line_length bytes) then found TooLong (drop (LINE_BYTES + 1) bytes)
     else if nat_lt (line_length bytes) (length bytes)
-    then first_of_line (asked (before_first is_line_feed bytes)) (after_first is_line_feed bytes)
+    then first_of_line (lines (before_first is_line_feed bytes)) (after_first is_line_feed bytes)
     else None

@@ -3,7 +3,7 @@
 use Rattle.std.specs.Prelude.{◌≡◌, ◌≢◌, ◌↔◌, ℕ, Bool, true, false, nat_lt, MatchBool, List, [], ◌∷◌, ◌++◌, length, drop}
 use Rattle.mc_model.specs.declared.request.Request.{Request}
 use Rattle.mc_model.specs.declared.request.Request.TheVariants.{Local, Logged, Quit, TooLong}
-use Rattle.mc_read.specs.Text.{IsRequestText}
+use Rattle.mc_read.specs.Text.{IsRequestText, Lines}
 
 -- nothing is read after such a request
 abbrev pub ends_stream : Request → Bool
@@ -13,15 +13,15 @@ ends_stream Quit = true
 ends_stream TooLong = true
 
 -- no request text is a beginning of the bytes
-abbrev pub HasNoRequest : List ℕ → Type 0
-HasNoRequest bytes = (text more : List ℕ) (request : Request) → IsRequestText text request → bytes ≢ text ++ more
+abbrev pub HasNoRequest : Lines → List ℕ → Type 0
+HasNoRequest lines bytes = (text more : List ℕ) (request : Request) → IsRequestText lines text request → bytes ≢ text ++ more
 
 -- the bytes read as these requests and a rest
-abbrev pub Reads : List ℕ → List Request → List ℕ → Type 0
-Reads bytes [] rest = (bytes ≡ rest) × HasNoRequest bytes
-Reads bytes (request ∷ requests) rest =
-    (text : List ℕ) × (more : List ℕ) × IsRequestText text request × (bytes ≡ text ++ more)
-    × MatchBool (ends_stream request) ((requests ≡ []) × (more ≡ rest)) (Reads more requests rest)
+abbrev pub Reads : Lines → List ℕ → List Request → List ℕ → Type 0
+Reads lines bytes [] rest = (bytes ≡ rest) × HasNoRequest lines bytes
+Reads lines bytes (request ∷ requests) rest =
+    (text : List ℕ) × (more : List ℕ) × IsRequestText lines text request × (bytes ≡ text ++ more)
+    × MatchBool (ends_stream request) ((requests ≡ []) × (more ≡ rest)) (Reads lines more requests rest)
 
 -- What a reader holds: bytes; or a request that was refused, with so many bytes still to come of its block
 -- and the two bytes after it, and the bytes that follow those; or nothing, after the end.
@@ -40,30 +40,30 @@ GoesOn request P [] = ⊥
 GoesOn request P (first ∷ others) = (first ≡ request) × P others
 
 -- the requests that the bytes read as, whatever the rest
-abbrev pub ReadsAs : List ℕ → List Request → Type 0
-ReadsAs bytes requests = (rest : List ℕ) × Reads bytes requests rest
+abbrev pub ReadsAs : Lines → List ℕ → List Request → Type 0
+ReadsAs lines bytes requests = (rest : List ℕ) × Reads lines bytes requests rest
 
 -- the requests that what is held, followed by more bytes, reads as
-abbrev pub ReadsOn : Held → List ℕ → List Request → Type 0
-ReadsOn (Kept bytes) more requests = ReadsAs (bytes ++ more) requests
-ReadsOn (Swallowing request left bytes) more requests =
-    MatchBool (nat_lt (length more) left) (requests ≡ []) (GoesOn request (ReadsAs (bytes ++ drop left more)) requests)
-ReadsOn Ended more requests = requests ≡ []
+abbrev pub ReadsOn : Lines → Held → List ℕ → List Request → Type 0
+ReadsOn lines (Kept bytes) more requests = ReadsAs lines (bytes ++ more) requests
+ReadsOn lines (Swallowing request left bytes) more requests =
+    MatchBool (nat_lt (length more) left) (requests ≡ []) (GoesOn request (ReadsAs lines (bytes ++ drop left more)) requests)
+ReadsOn lines Ended more requests = requests ≡ []
 
 -- whatever follows, what is held before reads as this request and then as what is held after
-abbrev pub IsNext : Held → Request → Held → Type 0
-IsNext before request after =
-    (more : List ℕ) (requests : List Request) → ReadsOn before more requests ↔ GoesOn request (ReadsOn after more) requests
+abbrev pub IsNext : Lines → Held → Request → Held → Type 0
+IsNext lines before request after =
+    (more : List ℕ) (requests : List Request) → ReadsOn lines before more requests ↔ GoesOn request (ReadsOn lines after more) requests
 
 -- what is held reads as no request
-abbrev pub HasNone : Held → Type 0
-HasNone held = (requests : List Request) → ReadsOn held [] requests ↔ (requests ≡ [])
+abbrev pub HasNone : Lines → Held → Type 0
+HasNone lines held = (requests : List Request) → ReadsOn lines held [] requests ↔ (requests ≡ [])
 
 -- whatever follows, both read alike
-abbrev pub ReadAlike : Held → Held → Type 0
-ReadAlike before after = (more : List ℕ) (requests : List Request) → ReadsOn before more requests ↔ ReadsOn after more requests
+abbrev pub ReadAlike : Lines → Held → Held → Type 0
+ReadAlike lines before after = (more : List ℕ) (requests : List Request) → ReadsOn lines before more requests ↔ ReadsOn lines after more requests
 
 -- whatever follows, what is held after a piece reads as what was held before it, followed by the piece
-abbrev pub IsFed : Held → List ℕ → Held → Type 0
-IsFed before piece after =
-    (more : List ℕ) (requests : List Request) → ReadsOn after more requests ↔ ReadsOn before (piece ++ more) requests
+abbrev pub IsFed : Lines → Held → List ℕ → Held → Type 0
+IsFed lines before piece after =
+    (more : List ℕ) (requests : List Request) → ReadsOn lines after more requests ↔ ReadsOn lines before (piece ++ more) requests

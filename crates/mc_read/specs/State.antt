@@ -11,8 +11,8 @@ use Rattle.mc_read.specs.declared.reader.State.TheVariants as state
 use Rattle.mc_read.specs.declared.reader.Sought.{Sought}
 use Rattle.mc_read.specs.declared.reader.Sought.TheVariants as sought
 use Rattle.mc_read.specs.First.{line_length}
-use Rattle.mc_read.specs.Line.{asked, refused}
-use Rattle.mc_read.specs.Text.{ends_well}
+use Rattle.mc_read.specs.Line.{refused}
+use Rattle.mc_read.specs.Text.{Lines, ends_well}
 use Rattle.mc_read.specs.Reading.{Ended, HasNone, Held, IsNext, Kept, ReadAlike, Swallowing, ends_stream}
 
 -- what is held in this state with these bytes
@@ -34,11 +34,11 @@ pub record IsSearched (searched : ℕ) (bytes : List ℕ) : Type 0 where
   pub few : searched ≤ LINE_BYTES
 
 -- what a state says of the bytes
-abbrev pub IsStateOf : State → List ℕ → Type 0
-IsStateOf (state.AwaitsLine searched) bytes = IsSearched searched bytes
-IsStateOf (state.AwaitsBlock line header) bytes = IsLineAt bytes line × (asked (take line bytes) ≡ StoredBlock header) × (header.length ≤ DATA_BYTES)
-IsStateOf (state.SwallowsBlock refusal quiet left) bytes = 0 < left → bytes ≡ []
-IsStateOf state.Ended bytes = bytes ≡ []
+abbrev pub IsStateOf : Lines → State → List ℕ → Type 0
+IsStateOf lines (state.AwaitsLine searched) bytes = IsSearched searched bytes
+IsStateOf lines (state.AwaitsBlock line header) bytes = IsLineAt bytes line × (lines (take line bytes) ≡ StoredBlock header) × (header.length ≤ DATA_BYTES)
+IsStateOf lines (state.SwallowsBlock refusal quiet left) bytes = 0 < left → bytes ≡ []
+IsStateOf lines state.Ended bytes = bytes ≡ []
 
 -- how many bytes are kept
 abbrev pub kept_length : Held → ℕ
@@ -51,18 +51,18 @@ abbrev pub IsBounded : Held → Type 0
 IsBounded held = kept_length held ≤ LINE_BYTES + 1 + DATA_BYTES + 1
 
 -- what holds before and after an answer of `next`
-abbrev pub IsAnswer : Held → Option Request → Held → Type 0
-IsAnswer before (Some request) after = IsNext before request after
-IsAnswer before None after = HasNone before × ReadAlike before after × IsBounded after
+abbrev pub IsAnswer : Lines → Held → Option Request → Held → Type 0
+IsAnswer lines before (Some request) after = IsNext lines before request after
+IsAnswer lines before None after = HasNone lines before × ReadAlike lines before after × IsBounded after
 
 -- the bytes end within a refused block or the two bytes after it, and so many of these are still to come
-pub record EndsInRefusal (bytes : List ℕ) (request : Request) (left : ℕ) : Type 0 where
+pub record EndsInRefusal (lines : Lines) (bytes : List ℕ) (request : Request) (left : ℕ) : Type 0 where
   pub line : ℕ
   pub size : ℕ
   pub refusal : WireNo
   pub quiet : Bool
   pub is_line : IsLineAt bytes line
-  pub is_asked : asked (take line bytes) ≡ RefusedBlock size refusal quiet
+  pub is_asked : lines (take line bytes) ≡ RefusedBlock size refusal quiet
   pub is_request : request ≡ refused refusal quiet
   pub is_left : length bytes + left ≡ line + 1 + size + 2
   pub some : 0 < left

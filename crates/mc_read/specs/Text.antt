@@ -14,8 +14,12 @@ use Rattle.mc_read.specs.declared.line.Header.{Header}
 use Rattle.mc_read.specs.declared.line.Storage.TheVariants.{CheckAndSet, Plain}
 use Rattle.mc_read.specs.declared.line.Storage.{Storage}
 use Rattle.mc_read.specs.declared.line.TheConstants.{LINE_BYTES}
-use Rattle.mc_read.specs.Line.{asked, refused}
+use Rattle.mc_read.specs.Line.{refused}
 use Rattle.mc_read.specs.Word.{is_word}
+
+-- what each line asks for
+abbrev pub Lines : Type 0
+Lines = List ℕ → Asked
 
 -- how many bytes a request has after its line: none, or a block and two more
 abbrev pub body_length : Asked → ℕ
@@ -57,14 +61,14 @@ pub record IsUnended (bytes : List ℕ) : Type 0 where
   pub short : length bytes ≤ LINE_BYTES
 
 -- a line with its line feed, and its body: nothing, or a block and two more bytes
-pub record IsLineText (text : List ℕ) (request : Request) : Type 0 where
+pub record IsLineText (lines : Lines) (text : List ℕ) (request : Request) : Type 0 where
   pub line : List ℕ
   pub body : List ℕ
   pub short : length line ≤ LINE_BYTES
   pub unbroken : IsUnbroken line
-  pub whole : length body ≡ body_length (asked line)
+  pub whole : length body ≡ body_length (lines line)
   pub in_text : text ≡ line ++ 10 ∷ body
-  pub is_asked : request ≡ request_of (asked line) body
+  pub is_asked : request ≡ request_of (lines line) body
 
 -- one byte more than a line may have, and no line feed among them
 pub record IsTooLongText (text : List ℕ) (request : Request) : Type 0 where
@@ -72,5 +76,5 @@ pub record IsTooLongText (text : List ℕ) (request : Request) : Type 0 where
   pub unbroken : IsUnbroken text
   pub is_too_long : request ≡ TooLong
 
-abbrev pub IsRequestText : List ℕ → Request → Type 0
-IsRequestText text request = IsLineText text request ⊎ IsTooLongText text request
+abbrev pub IsRequestText : Lines → List ℕ → Request → Type 0
+IsRequestText lines text request = IsLineText lines text request ⊎ IsTooLongText text request

@@ -9,9 +9,8 @@ use Rattle.mc_model.specs.declared.request.Request.TheVariants.{TooLong}
 use Rattle.mc_read.specs.declared.line.Asked.{Asked}
 use Rattle.mc_read.specs.declared.line.TheConstants.{LINE_BYTES}
 use Rattle.mc_read.specs.First.{first_of_line, first_request, found, is_line_feed, line_length}
-use Rattle.mc_read.specs.Line.{asked}
 use Rattle.mc_read.specs.Reading.{HasNoRequest}
-use Rattle.mc_read.specs.Text.{IsRequestText, IsUnbroken, body_length, request_of}
+use Rattle.mc_read.specs.Text.{IsRequestText, IsUnbroken, Lines, body_length, request_of}
 
 cases_le : (m n : ℕ) → (m ≤ n) ⊎ (n < m)
 cases_le m n = ⊎_elim (λ above. inr above) (λ below. inl below) (cases_lt n m)
@@ -38,16 +37,6 @@ module _ (line rest : List ℕ) (unbroken : IsUnbroken line) where
       ∙ (ap (λ bytes. drop (length line + 1) bytes) (sym (append_assoc line (10 ∷ []) rest))
       ∙ drop_at (line ++ 10 ∷ []) rest (length line + 1) (length-append line (10 ∷ [])))
 
-  -- what stands after a line of lawful length decides
-  pub first_request_at : length line ≤ LINE_BYTES → first_request (line ++ 10 ∷ rest) ≡ first_of_line (asked line) rest
-  first_request_at short =
-      let in_limit : line_length (line ++ 10 ∷ rest) ≤ LINE_BYTES = omega (arith, line_length_at) in
-      let stands : line_length (line ++ 10 ∷ rest) < length (line ++ 10 ∷ rest) = omega (arith, line_length_at, length-append line (10 ∷ rest)) in
-      cond-false _ _ _ (le-ltb LINE_BYTES _ in_limit)
-      ∙ (cond-true _ _ _ (lt-ltb _ _ stands)
-      ∙ (ap (λ text. first_of_line (asked text) (after_first is_line_feed (line ++ 10 ∷ rest))) before_first_at
-      ∙ ap (first_of_line (asked line)) after_first_at))
-
 -- where no line feed stands in the first bytes, the line is longer
 pub line_length-too_long : (text more : List ℕ) → length text ≡ LINE_BYTES + 1 → IsUnbroken text → LINE_BYTES < line_length (text ++ more)
 line_length-too_long text more long unbroken =
@@ -64,18 +53,6 @@ first_of_line_at a body more whole =
     cond-true _ _ _ (le-leb _ _ enough)
     ∙ ap Some (λ i. (request_of a (take_at body more (body_length a) whole i), drop_at body more (body_length a) whole i))
 
--- the text of a request at the front is the first request, whatever follows
-pub first_of_text : (text more : List ℕ) (request : Request) → IsRequestText text request → first_request (text ++ more) ≡ found request more
-first_of_text text more request (inl is) =
-    ap (λ bytes. first_request (bytes ++ more)) is.in_text
-    ∙ (ap first_request (append_assoc is.line (10 ∷ is.body) more)
-    ∙ (first_request_at is.line (is.body ++ more) is.unbroken is.short
-    ∙ (first_of_line_at (asked is.line) is.body more is.whole ∙ ap (λ r. found r more) (sym is.is_asked))))
-first_of_text text more request (inr is) =
-    let long : LINE_BYTES < line_length (text ++ more) = line_length-too_long text more is.long is.unbroken in
-    cond-true _ _ _ (lt-ltb LINE_BYTES _ long)
-    ∙ ap Some (λ i. (sym is.is_too_long i, drop_at text more (LINE_BYTES + 1) is.long i))
-
 pub some_parts : (request other : Request) (more rest : List ℕ) → found request more ≡ found other rest → (request ≡ other) × (more ≡ rest)
 some_parts request other more rest is =
     let pair : ◌≡◌ {A = Request × List ℕ} (request, more) (other, rest) = cc in
@@ -88,73 +65,96 @@ before_first-unbroken bytes n within k d below line_feed =
     let byte : get_or bytes k d ≡ 10 = sym (get_or-take n bytes k d short) ∙ line_feed in
     both_ways _ (fails_before_first is_line_feed bytes k d (omega (arith, short, within))) (ap is_line_feed byte)
 
-too_long_at : (bytes : List ℕ) (request : Request) (more : List ℕ) → LINE_BYTES < line_length bytes → found TooLong (drop (LINE_BYTES + 1) bytes) ≡ found request more → (text : List ℕ) × IsRequestText text request × (bytes ≡ text ++ more)
-too_long_at bytes request more long is =
-    let parts = some_parts TooLong request _ more is in
-    let within = prefix_len-le-length (λ byte. not (is_line_feed byte)) bytes in (
-      take (LINE_BYTES + 1) bytes,
-      inr (record {
-        long = length-take-le (LINE_BYTES + 1) bytes (omega (arith, long, within));
-        unbroken = before_first-unbroken bytes (LINE_BYTES + 1) (omega (arith, long));
-        is_too_long = sym parts.0;
-      }),
-      sym (take-append-drop (LINE_BYTES + 1) bytes) ∙ ap (λ rest. take (LINE_BYTES + 1) bytes ++ rest) parts.1,
-    )
+module _ (lines : Lines) where
+  -- what stands after a line of lawful length decides
+  pub first_request_at : (line rest : List ℕ) → IsUnbroken line → length line ≤ LINE_BYTES → first_request lines (line ++ 10 ∷ rest) ≡ first_of_line (lines line) rest
+  first_request_at line rest unbroken short =
+      let in_limit : line_length (line ++ 10 ∷ rest) ≤ LINE_BYTES = omega (arith, line_length_at line rest unbroken) in
+      let stands : line_length (line ++ 10 ∷ rest) < length (line ++ 10 ∷ rest) = omega (arith, line_length_at line rest unbroken, length-append line (10 ∷ rest)) in
+      cond-false _ _ _ (le-ltb LINE_BYTES _ in_limit)
+      ∙ (cond-true _ _ _ (lt-ltb _ _ stands)
+      ∙ (ap (λ text. first_of_line (lines text) (after_first is_line_feed (line ++ 10 ∷ rest))) (before_first_at line rest unbroken)
+      ∙ ap (first_of_line (lines line)) (after_first_at line rest unbroken)))
 
-line_at : (bytes : List ℕ) (request : Request) (more : List ℕ) → line_length bytes ≤ LINE_BYTES → line_length bytes < length bytes
-    → first_of_line (asked (before_first is_line_feed bytes)) (after_first is_line_feed bytes) ≡ found request more → (text : List ℕ) × IsRequestText text request × (bytes ≡ text ++ more)
-line_at bytes request more short stands is =
-    let line = before_first is_line_feed bytes in
-    let after = after_first is_line_feed bytes in
-    let n = body_length (asked line) in
-    let feed : get_or bytes (line_length bytes) 0 ≡ 10 = eqb-true _ 10 (passes_at_first is_line_feed bytes 0 stands) in
-    let split : bytes ≡ line ++ 10 ∷ after = split_at_first is_line_feed bytes 0 stands ∙ ap (λ byte. line ++ byte ∷ after) feed in
-    ⊎_elim
-    (λ whole.
-    let parts = some_parts _ request _ more whole.1 in
-    let enough : n ≤ length after = leb-true _ _ whole.0 in (
-      line ++ 10 ∷ take n after,
-      inl (record {
-        line = line;
-        body = take n after;
-        short = omega (arith, short, length-take (line_length bytes) bytes);
-        unbroken = before_first-unbroken bytes (line_length bytes) (omega arith);
-        whole = length-take-le n after enough;
-        in_text = refl;
-        is_asked = sym parts.0;
-      }),
-      split ∙ (ap (λ rest. line ++ 10 ∷ rest) (sym (take-append-drop n after) ∙ ap (λ rest. take n after ++ rest) parts.1)
-          ∙ sym (append_assoc line (10 ∷ take n after) more)),
-    ))
-    (λ short_of. absurd (none_is_some request more short_of.1))
-    (cond_is (nat_le n (length after)) _ None _ is)
-  where
-    none_is_some : (request : Request) (more : List ℕ) → None ≡ found request more → ⊥
-    none_is_some request more is = cc
+  -- the text of a request at the front is the first request, whatever follows
+  pub first_of_text : (text more : List ℕ) (request : Request) → IsRequestText lines text request → first_request lines (text ++ more) ≡ found request more
+  first_of_text text more request (inl is) =
+      ap (λ bytes. first_request lines (bytes ++ more)) is.in_text
+      ∙ (ap (first_request lines) (append_assoc is.line (10 ∷ is.body) more)
+      ∙ (first_request_at is.line (is.body ++ more) is.unbroken is.short
+      ∙ (first_of_line_at (lines is.line) is.body more is.whole ∙ ap (λ r. found r more) (sym is.is_asked))))
+  first_of_text text more request (inr is) =
+      let long : LINE_BYTES < line_length (text ++ more) = line_length-too_long text more is.long is.unbroken in
+      cond-true _ _ _ (lt-ltb LINE_BYTES _ long)
+      ∙ ap Some (λ i. (sym is.is_too_long i, drop_at text more (LINE_BYTES + 1) is.long i))
 
--- what the computation finds has its text at the front
-pub text_of_first : (bytes : List ℕ) (request : Request) (more : List ℕ) → first_request bytes ≡ found request more → (text : List ℕ) × IsRequestText text request × (bytes ≡ text ++ more)
-text_of_first bytes request more is =
-    ⊎_elim
-    (λ long. too_long_at bytes request more (ltb-true _ _ long.0) long.1)
-    (λ short. ⊎_elim
-    (λ stands. line_at bytes request more (ltb-false _ _ short.0) (ltb-true _ _ stands.0) stands.1)
-    (λ open_line. absurd (none_is_some open_line.1))
-    (cond_is (nat_lt (line_length bytes) (length bytes)) _ None _ short.1))
-    (cond_is (nat_lt LINE_BYTES (line_length bytes)) _ _ _ is)
-  where
-    none_is_some : None ≡ found request more → ⊥
-    none_is_some no_request = cc
+  too_long_at : (bytes : List ℕ) (request : Request) (more : List ℕ) → LINE_BYTES < line_length bytes → found TooLong (drop (LINE_BYTES + 1) bytes) ≡ found request more → (text : List ℕ) × IsRequestText lines text request × (bytes ≡ text ++ more)
+  too_long_at bytes request more long is =
+      let parts = some_parts TooLong request _ more is in
+      let within = prefix_len-le-length (λ byte. not (is_line_feed byte)) bytes in (
+        take (LINE_BYTES + 1) bytes,
+        inr (record {
+          long = length-take-le (LINE_BYTES + 1) bytes (omega (arith, long, within));
+          unbroken = before_first-unbroken bytes (LINE_BYTES + 1) (omega (arith, long));
+          is_too_long = sym parts.0;
+        }),
+        sym (take-append-drop (LINE_BYTES + 1) bytes) ∙ ap (λ rest. take (LINE_BYTES + 1) bytes ++ rest) parts.1,
+      )
 
--- no request stands where the computation finds none, and the other way round
-pub none_of_first : (bytes : List ℕ) → first_request bytes ≡ None → HasNoRequest bytes
-none_of_first bytes none text more request is split =
-    let both = sym none ∙ (ap first_request split ∙ first_of_text text more request is) in absurd (cc)
+  line_at : (bytes : List ℕ) (request : Request) (more : List ℕ) → line_length bytes ≤ LINE_BYTES → line_length bytes < length bytes
+      → first_of_line (lines (before_first is_line_feed bytes)) (after_first is_line_feed bytes) ≡ found request more → (text : List ℕ) × IsRequestText lines text request × (bytes ≡ text ++ more)
+  line_at bytes request more short stands is =
+      let line = before_first is_line_feed bytes in
+      let after = after_first is_line_feed bytes in
+      let n = body_length (lines line) in
+      let feed : get_or bytes (line_length bytes) 0 ≡ 10 = eqb-true _ 10 (passes_at_first is_line_feed bytes 0 stands) in
+      let split : bytes ≡ line ++ 10 ∷ after = split_at_first is_line_feed bytes 0 stands ∙ ap (λ byte. line ++ byte ∷ after) feed in
+      ⊎_elim
+      (λ whole.
+      let parts = some_parts _ request _ more whole.1 in
+      let enough : n ≤ length after = leb-true _ _ whole.0 in (
+        line ++ 10 ∷ take n after,
+        inl (record {
+          line = line;
+          body = take n after;
+          short = omega (arith, short, length-take (line_length bytes) bytes);
+          unbroken = before_first-unbroken bytes (line_length bytes) (omega arith);
+          whole = length-take-le n after enough;
+          in_text = refl;
+          is_asked = sym parts.0;
+        }),
+        split ∙ (ap (λ rest. line ++ 10 ∷ rest) (sym (take-append-drop n after) ∙ ap (λ rest. take n after ++ rest) parts.1)
+            ∙ sym (append_assoc line (10 ∷ take n after) more)),
+      ))
+      (λ short_of. absurd (none_is_some request more short_of.1))
+      (cond_is (nat_le n (length after)) _ None _ is)
+    where
+      none_is_some : (request : Request) (more : List ℕ) → None ≡ found request more → ⊥
+      none_is_some request more is = cc
 
-pub first_of_none : (bytes : List ℕ) → HasNoRequest bytes → first_request bytes ≡ None
-first_of_none bytes has_none = from_cases (first_request bytes) refl
-  where
-    from_cases : (first : Option (Request × List ℕ)) → first_request bytes ≡ first → first ≡ None
-    from_cases None is = refl
-    from_cases (Some (request, more)) is =
-        let text = text_of_first bytes request more is in absurd (has_none text.0 more request text.1 text.2)
+  -- what the computation finds has its text at the front
+  pub text_of_first : (bytes : List ℕ) (request : Request) (more : List ℕ) → first_request lines bytes ≡ found request more → (text : List ℕ) × IsRequestText lines text request × (bytes ≡ text ++ more)
+  text_of_first bytes request more is =
+      ⊎_elim
+      (λ long. too_long_at bytes request more (ltb-true _ _ long.0) long.1)
+      (λ short. ⊎_elim
+      (λ stands. line_at bytes request more (ltb-false _ _ short.0) (ltb-true _ _ stands.0) stands.1)
+      (λ open_line. absurd (none_is_some open_line.1))
+      (cond_is (nat_lt (line_length bytes) (length bytes)) _ None _ short.1))
+      (cond_is (nat_lt LINE_BYTES (line_length bytes)) _ _ _ is)
+    where
+      none_is_some : None ≡ found request more → ⊥
+      none_is_some no_request = cc
+
+  -- no request stands where the computation finds none, and the other way round
+  pub none_of_first : (bytes : List ℕ) → first_request lines bytes ≡ None → HasNoRequest lines bytes
+  none_of_first bytes none text more request is split =
+      let both = sym none ∙ (ap (first_request lines) split ∙ first_of_text text more request is) in absurd (cc)
+
+  pub first_of_none : (bytes : List ℕ) → HasNoRequest lines bytes → first_request lines bytes ≡ None
+  first_of_none bytes has_none = from_cases (first_request lines bytes) refl
+    where
+      from_cases : (first : Option (Request × List ℕ)) → first_request lines bytes ≡ first → first ≡ None
+      from_cases None is = refl
+      from_cases (Some (request, more)) is =
+          let text = text_of_first bytes request more is in absurd (has_none text.0 more request text.1 text.2)

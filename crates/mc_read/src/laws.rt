@@ -15,6 +15,7 @@ ghost use Rattle.mc_model.specs.declared.request.Request.{Request};
 ghost use Rattle.mc_model.specs.declared.request.Request.TheVariants.{Local, Logged, TooLong};
 ghost use Rattle.mc_model.specs.Key.{is_lawful_key};
 ghost use Rattle.mc_read.specs.declared.line.TheConstants.{BLOCK_LENGTH, DELTA, FLAGS, LINE_BYTES, UNIQUE};
+ghost use Rattle.mc_read.specs.Line.{asked};
 ghost use Rattle.mc_read.specs.Reading.{Reads};
 ghost use Rattle.mc_read.specs.Sending.{IsLawfulCommand, block_sent, line_sent, noreply_if, sent, verb_name};
 ghost use Rattle.mc_read.specs.Text.{IsRequestText, IsUnbroken};
@@ -22,19 +23,19 @@ ghost use Rattle.mc_read.specs.Word.{is_zero, words};
 
 /// Every byte list has a reading.
 pub fn every_stream_reads()
-    ensures { (bytes : List ℕ) → (requests : List Request) × (rest : List ℕ) × Reads bytes requests rest }
+    ensures { (bytes : List ℕ) → (requests : List Request) × (rest : List ℕ) × Reads asked bytes requests rest }
 {}
 
 /// A byte list has only one reading.
 pub fn a_stream_reads_one_way()
     ensures { (bytes : List ℕ) (requests others : List Request) (rest left : List ℕ) →
-        Reads bytes requests rest → Reads bytes others left → (requests ≡ others) × (rest ≡ left) }
+        Reads asked bytes requests rest → Reads asked bytes others left → (requests ≡ others) × (rest ≡ left) }
 {}
 
 /// No request text is a proper beginning of another, and a text is that of one request.
 pub fn no_text_begins_another()
     ensures { (text more : List ℕ) (request other : Request) →
-        IsRequestText text request → IsRequestText (text ++ more) other → (more ≡ []) × (request ≡ other) }
+        IsRequestText asked text request → IsRequestText asked (text ++ more) other → (more ≡ []) × (request ≡ other) }
 {}
 
 /// The numbers of the profile: how many bytes a line may have, and the greatest length of a block that can be read, flags,
@@ -53,39 +54,39 @@ pub fn numbers_of_the_profile()
 pub fn each_command_can_be_sent()
     ensures store { (verb : Verb) (key : Key) (flags : ℕ) (block : Data) (quiet : Bool) →
         IsTrue (is_lawful_key key) → flags < 2 ^ 32 → length block ≤ 1048576 →
-        IsRequestText (sent (Store verb key flags block) quiet) (Logged (Store verb key flags block) quiet) }
+        IsRequestText asked (sent (Store verb key flags block) quiet) (Logged (Store verb key flags block) quiet) }
     ensures cas { (key : Key) (flags : ℕ) (block : Data) (unique : ℕ) (quiet : Bool) →
         IsTrue (is_lawful_key key) → flags < 2 ^ 32 → length block ≤ 1048576 → unique < 2 ^ 64 →
-        IsRequestText (sent (Cas key flags block unique) quiet) (Logged (Cas key flags block unique) quiet) }
+        IsRequestText asked (sent (Cas key flags block unique) quiet) (Logged (Cas key flags block unique) quiet) }
     ensures get { (keys : KeyList) (uniques : Bool) →
         0 < length keys → All (λ key. IsTrue (is_lawful_key key)) keys → length (sent (Get keys uniques) false) ≤ 65537 →
-        IsRequestText (sent (Get keys uniques) false) (Logged (Get keys uniques) false) }
+        IsRequestText asked (sent (Get keys uniques) false) (Logged (Get keys uniques) false) }
     ensures delete { (key : Key) (quiet : Bool) → IsTrue (is_lawful_key key) →
-        IsRequestText (sent (Delete key) quiet) (Logged (Delete key) quiet) }
+        IsRequestText asked (sent (Delete key) quiet) (Logged (Delete key) quiet) }
     ensures incr { (key : Key) (by : ℕ) (quiet : Bool) → IsTrue (is_lawful_key key) → by < 2 ^ 64 →
-        IsRequestText (sent (Incr key by) quiet) (Logged (Incr key by) quiet) }
+        IsRequestText asked (sent (Incr key by) quiet) (Logged (Incr key by) quiet) }
     ensures decr { (key : Key) (by : ℕ) (quiet : Bool) → IsTrue (is_lawful_key key) → by < 2 ^ 64 →
-        IsRequestText (sent (Decr key by) quiet) (Logged (Decr key by) quiet) }
-    ensures flush { (quiet : Bool) → IsRequestText (sent Flush quiet) (Logged Flush quiet) }
+        IsRequestText asked (sent (Decr key by) quiet) (Logged (Decr key by) quiet) }
+    ensures flush { (quiet : Bool) → IsRequestText asked (sent Flush quiet) (Logged Flush quiet) }
 {}
 
 /// What is too long is refused. After 65,537 bytes of a line nothing more is read; data above 1,048,576 bytes are taken off
 /// the stream and refused; and a length above 2,147,483,645 can't be read, so that the line is refused alone.
 pub fn too_long_is_refused()
-    ensures line { (text : List ℕ) → length text ≡ 65537 → IsUnbroken text → IsRequestText text TooLong }
+    ensures line { (text : List ℕ) → length text ≡ 65537 → IsUnbroken text → IsRequestText asked text TooLong }
     ensures data { (verb : Verb) (key : Key) (flags : ℕ) (block : List ℕ) (quiet : Bool) →
         IsTrue (is_lawful_key key) → flags < 2 ^ 32 → 1048576 < length block → length block ≤ 2147483645 →
-        IsRequestText (line_sent (verb_name verb ∷ key ∷ decimal flags ∷ codes "0" ∷ decimal (length block) ∷ noreply_if quiet) ++ block_sent block)
+        IsRequestText asked (line_sent (verb_name verb ∷ key ∷ decimal flags ∷ codes "0" ∷ decimal (length block) ∷ noreply_if quiet) ++ block_sent block)
         (Local (Refused E6) quiet) }
     ensures length { (verb : Verb) (key : Key) (flags size : ℕ) (quiet : Bool) →
         IsTrue (is_lawful_key key) → flags < 2 ^ 32 → 2147483645 < size → size < 2 ^ 64 →
-        IsRequestText (line_sent (verb_name verb ∷ key ∷ decimal flags ∷ codes "0" ∷ decimal size ∷ noreply_if quiet)) (Local (Refused E2) false) }
+        IsRequestText asked (line_sent (verb_name verb ∷ key ∷ decimal flags ∷ codes "0" ∷ decimal size ∷ noreply_if quiet)) (Local (Refused E2) false) }
 {}
 
 /// Only lawful commands are read: the keys are lawful, and the numbers and the data within the profile. So each limit of
 /// the profile is exact, for up to it each command can be sent.
 pub fn only_lawful_commands_are_read()
-    ensures { (text : List ℕ) (command : Command) (quiet : Bool) → IsRequestText text (Logged command quiet) → IsLawfulCommand command }
+    ensures { (text : List ℕ) (command : Command) (quiet : Bool) → IsRequestText asked text (Logged command quiet) → IsLawfulCommand command }
 {}
 
 /// No command expires: a line that becomes a command has an exptime of zero wherever it has one, but for `append` and
@@ -93,11 +94,11 @@ pub fn only_lawful_commands_are_read()
 pub fn no_command_expires()
     ensures storage { (line body key flags exptime : List ℕ) (more : List (List ℕ)) (verb : Verb) (command : Command) (quiet : Bool) →
         IsUnbroken line → words line ≡ verb_name verb ∷ key ∷ flags ∷ exptime ∷ more → verb ≢ Append → verb ≢ Prepend →
-        IsRequestText (line ++ 10 ∷ body) (Logged command quiet) → IsTrue (is_zero exptime) }
+        IsRequestText asked (line ++ 10 ∷ body) (Logged command quiet) → IsTrue (is_zero exptime) }
     ensures cas { (line body key flags exptime : List ℕ) (more : List (List ℕ)) (command : Command) (quiet : Bool) →
         IsUnbroken line → words line ≡ codes "cas" ∷ key ∷ flags ∷ exptime ∷ more →
-        IsRequestText (line ++ 10 ∷ body) (Logged command quiet) → IsTrue (is_zero exptime) }
+        IsRequestText asked (line ++ 10 ∷ body) (Logged command quiet) → IsTrue (is_zero exptime) }
     ensures flush { (line body exptime : List ℕ) (more : List (List ℕ)) (command : Command) (quiet : Bool) →
         IsUnbroken line → words line ≡ codes "flush_all" ∷ exptime ∷ more → exptime ≢ codes "noreply" →
-        IsRequestText (line ++ 10 ∷ body) (Logged command quiet) → IsTrue (is_zero exptime) }
+        IsRequestText asked (line ++ 10 ∷ body) (Logged command quiet) → IsTrue (is_zero exptime) }
 {}

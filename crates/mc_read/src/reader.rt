@@ -3,6 +3,7 @@ ghost use Rattle.std.specs.Bool.{MatchBool, OnTrue};
 ghost use Rattle.std.specs.Prelude.{◌≡◌, ◌≢◌, ℕ, ◌+◌, ◌-◌, ◌<◌, ◌≤◌, if◌then◌else◌, List, [], ◌++◌, length, take, drop, IfOk, IfSome, IsOk, IsOkUnless, OnOk, OnErr};
 ghost use Rattle.mc_model.specs.declared.item.TheConstants.{DATA_BYTES};
 ghost use Rattle.mc_model.specs.declared.request.Request.{Request};
+ghost use Rattle.mc_read.specs.Line.{asked};
 ghost use Rattle.mc_read.specs.Reading.{ends_stream, Ended, IsFed, Kept, Swallowing};
 ghost use Rattle.mc_read.specs.State.{EndsInRefusal, IsAnswer, IsLineAt, IsSearched, IsSought, IsStateOf, IsTaken, held_in, state_after};
 ghost use Rattle.mc_read.specs.Text.{IsTooLongText, IsUnended, ends_well, stored_if};
@@ -161,10 +162,10 @@ fn read_line(
     line: usize,
 ) -> Result<(Option<Request>, State), Fault>
     requires { IsLineAt buffer.old line }
-    ensures answer { IfOk result (λ step. IsAnswer (Kept buffer.old) step.0 (held_in step.1 buffer.new)) }
-    ensures state { IfOk result (λ step. IsStateOf step.1 buffer.new) }
+    ensures answer { IfOk result (λ step. IsAnswer asked (Kept buffer.old) step.0 (held_in step.1 buffer.new)) }
+    ensures state { IfOk result (λ step. IsStateOf asked step.1 buffer.new) }
     ensures end { IfOk result (λ step. IfSome step.0 (λ request. step.1 ≡ state_after request)) }
-    ensures refused { (request : Request) (left : ℕ) → EndsInRefusal buffer.old request left →
+    ensures refused { (request : Request) (left : ℕ) → EndsInRefusal asked buffer.old request left →
         IfOk result (λ step. held_in step.1 buffer.new ≡ Swallowing request left []) }
     ensures memory { IsOkUnless result Fault.Memory }
     ensures unchanged { OnErr result (buffer.new ≡ buffer.old) }
@@ -214,10 +215,10 @@ fn next_line(
     searched: usize,
 ) -> Result<(Option<Request>, State), Fault>
     requires { IsSearched searched buffer.old }
-    ensures answer { IfOk result (λ step. IsAnswer (Kept buffer.old) step.0 (held_in step.1 buffer.new)) }
-    ensures state { IfOk result (λ step. IsStateOf step.1 buffer.new) }
+    ensures answer { IfOk result (λ step. IsAnswer asked (Kept buffer.old) step.0 (held_in step.1 buffer.new)) }
+    ensures state { IfOk result (λ step. IsStateOf asked step.1 buffer.new) }
     ensures end { IfOk result (λ step. IfSome step.0 (λ request. step.1 ≡ state_after request)) }
-    ensures refused { (request : Request) (left : ℕ) → EndsInRefusal buffer.old request left →
+    ensures refused { (request : Request) (left : ℕ) → EndsInRefusal asked buffer.old request left →
         IfOk result (λ step. held_in step.1 buffer.new ≡ Swallowing request left []) }
     ensures unended { IsUnended buffer.old → result ≡ Ok (None, State.AwaitsLine (length buffer.old)) × (buffer.new ≡ buffer.old) }
     ensures too_long { (text more : List ℕ) (request : Request) → buffer.old ≡ text ++ more → IsTooLongText text request →
@@ -250,6 +251,7 @@ pub struct Reader {
 }
 
 impl Model for Reader {
+    ghost use Rattle.mc_read.specs.Line.{asked};
     ghost use Rattle.mc_read.specs.Reading.{ReaderView};
     ghost use Rattle.mc_read.specs.State.{IsStateOf, held_in};
 
@@ -257,7 +259,7 @@ impl Model for Reader {
 
     ghost view = { λ reader. record { held = held_in reader.state reader.buffer } };
 
-    ghost invariant = { λ reader. IsStateOf reader.state reader.buffer };
+    ghost invariant = { λ reader. IsStateOf asked reader.state reader.buffer };
 }
 
 impl Reader {
@@ -286,7 +288,7 @@ impl Reader {
 
     /// Takes the next piece of the stream. After the end it is dropped.
     pub fn feed(&mut self, piece: &[u8]) -> Result<(), Fault>
-        ensures readings { OnOk result (IsFed self.old.held piece.now self.new.held) }
+        ensures readings { OnOk result (IsFed asked self.old.held piece.now self.new.held) }
         ensures memory { IsOkUnless result Fault.Memory }
         ensures unchanged { OnErr result (self.new.held ≡ self.old.held) }
 
@@ -316,13 +318,13 @@ impl Reader {
     pub fn next(&mut self) -> Result<Option<Request>, Fault>
         // Whatever follows, what was held reads as the request and then as what is held now; without a request, as
         // before, and no request stood in it.
-        ensures answer { IfOk result (λ next. IsAnswer self.old.held next self.new.held) }
+        ensures answer { IfOk result (λ next. IsAnswer asked self.old.held next self.new.held) }
         ensures end { IfOk result (λ next. IfSome next (λ request. OnTrue (ends_stream request) (self.new.held ≡ Ended))) }
         ensures ended { self.old.held ≡ Ended → result ≡ Ok None × (self.new.held ≡ Ended) }
 
         // Of a refused block only the length is kept; until all of it has come, and then for its request, no memory is needed.
         ensures refused { (bytes : List ℕ) (request : Request) (left : ℕ) →
-            self.old.held ≡ Kept bytes → EndsInRefusal bytes request left → OnOk result (self.new.held ≡ Swallowing request left []) }
+            self.old.held ≡ Kept bytes → EndsInRefusal asked bytes request left → OnOk result (self.new.held ≡ Swallowing request left []) }
         ensures swallowing { (request : Request) (left : ℕ) → self.old.held ≡ Swallowing request left [] → 0 < left → result ≡ Ok None × (self.new.held ≡ self.old.held) }
         ensures swallowed { (request : Request) (bytes : List ℕ) → self.old.held ≡ Swallowing request 0 bytes → result ≡ Ok (Some request) × (self.new.held ≡ Kept bytes) }
 

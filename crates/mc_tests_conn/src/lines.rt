@@ -1,6 +1,7 @@
 //! A connection beside its worker and the log, with an input and an output over memory.
 ghost use Rattle.std.specs.Prelude.{◌≡◌, ◌<◌, ℕ, Some, length, slice_get, IfOk, IfSome};
-ghost use Rattle.uc_worker.specs.Worker.{tenants_of};
+ghost use Rattle.mc_conn.specs.declared.conn.Role.TheVariants.{Tenant};
+ghost use Rattle.mc_conn.specs.Owed.{IsKnown};
 ghost use Rattle.mc_tests_conn.specs.Fresh.{IsFresh};
 
 use mc_conn::{Conn, PULL_BYTES, State};
@@ -29,7 +30,7 @@ pub(crate) struct Line<'a> {
     input: MemoryInput,
     output: MemoryOutput,
     ghost same: { worker.log.now ≡ log.now },
-    ghost whose: { conn.tenant ≡ tenant },
+    ghost whose: { conn.role ≡ Tenant tenant },
 }
 
 /// A turn that promises no more than that the line stays what it is.
@@ -40,8 +41,8 @@ fn turn(
     output: &mut MemoryOutput,
     buffer: &mut [u8; PULL_BYTES],
 ) -> Result<State, Fault>
-    requires { conn.old.tenant < length (tenants_of worker.old) }
-    ensures tenant { conn.new.tenant ≡ conn.old.tenant }
+    requires { IsKnown conn.old.role worker.old }
+    ensures role { conn.new.role ≡ conn.old.role }
     ensures log { worker.new.log ≡ worker.old.log }
 {
     conn.turn(worker, input, output, &mut Open, buffer)

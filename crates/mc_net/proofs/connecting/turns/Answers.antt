@@ -5,7 +5,7 @@ use Rattle.mc_net.proofs.Servings.{once_few, served_later, stands_later, still_g
 use Rattle.mc_net.proofs.connecting.turns.Goals as goal
 
 pub loop-init : goal.loop-init
-loop-init g c = record { going = takes_self _; few = omega arith; tenant = refl; onward = continues_self _ }
+loop-init g c = record { going = takes_self _; few = omega arith; role = refl; onward = continues_self _ }
 
 pub returns-then-ne-clause-served : goal.returns-then-ne-clause-served
 returns-then-ne-clause-served g c = served_later _ _ _ c.loop.invariant.going c.turn-state.ensures.served
@@ -24,7 +24,7 @@ pub loop-preserved : goal.loop-preserved
 loop-preserved g c = record {
   going = takes_trans _ _ _ c.loop.invariant.going (still_going _ _ c.turn-state.result (search rules) c.turn-state.ensures.stands c.turn-state.ensures.served);
   few = omega (arith, c.loop.invariant.few, once_few _ _ c.turn-state.ensures.once);
-  tenant = c.turn-state.ensures.tenant ∙ c.loop.invariant.tenant;
+  role = c.turn-state.ensures.role ∙ c.loop.invariant.role;
   onward = continues_through _ _ _ c.loop.invariant.onward c.turn-state.ensures.onward;
 }
 

@@ -1,4 +1,4 @@
--- The turns so far went well, pulled once each at most, kept the connection's tenant, and led the worker onward.
+-- The turns so far went well, pulled once each at most, kept the connection's role, and led the worker onward.
 use Rattle.std.proofs.Common.{◌≡◌, ◌+◌, ◌≤◌, length}
 use Rattle.uc_worker.specs.Going.{Continues}
 use Rattle.mc_conn.specs.Turn.{Takes, scene}
@@ -10,6 +10,6 @@ invariant-loop g l = record {
   going : Takes (scene l.fn.conn l.fn.worker (both (g.I.Input.tells l.fn.input) (g.O.Output.tells l.fn.output)))
       (scene l.conn l.worker (both (g.I.Input.tells l.input) (g.O.Output.tells l.output)));
   few : 1 + length (g.I.Input.tells l.input).events ≤ l.counter + length (g.I.Input.tells l.fn.input).events;
-  tenant : l.conn.tenant ≡ l.fn.conn.tenant;
+  role : l.conn.role ≡ l.fn.conn.role;
   onward : Continues l.fn.worker l.worker;
 }

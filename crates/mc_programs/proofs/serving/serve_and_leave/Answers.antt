@@ -1,5 +1,6 @@
-use Rattle.std.proofs.Common.{◌∙◌, inl}
+use Rattle.std.proofs.Common.{◌∙◌, ap, inl}
 use Rattle.mc_stream.specs.Stream.{both}
+use Rattle.mc_conn.specs.declared.conn.Role.TheVariants.{Tenant}
 use Rattle.mc_conn.specs.Turn.{scene}
 use Rattle.mc_programs.proofs.Served.{begins_new, refused, result_is}
 use Rattle.mc_programs.proofs.serving.serve_and_leave.Goals as goal
@@ -9,7 +10,7 @@ returns-in-Left g c =
     let begins =
     begins_new c.args.limits c.args.places c.in-Ok.opened.0 c.in-Ok.opened.1 c.new-conn.result c.in-Ok-open.worker (both (g.I.Input.tells c.args.input.now) (g.O.Output.tells c.args.output.now))
     c.in-Ok.ensures.opened
-    (c.new-conn.ensures.tenant ∙ c.first_tenant.ensures, c.new-conn.ensures.holding, c.new-conn.ensures.queue, c.new-conn.ensures.open.0, c.new-conn.ensures.open.1)
+    (c.new-conn.ensures.role ∙ ap Tenant c.first_tenant.ensures, c.new-conn.ensures.holding, c.new-conn.ensures.queue, c.new-conn.ensures.open.0, c.new-conn.ensures.open.1)
     c.in-Ok-open.ensures.log c.in-Ok-open.ensures.seat c.in-Ok-open.ensures.history c.in-Ok-open.ensures.openings
     in
     let after = scene c.pump-served.new.conn c.pump-served.new.worker (both (g.I.Input.tells c.pump-served.new.input) (g.O.Output.tells c.pump-served.new.output)) in
@@ -20,7 +21,7 @@ returns-in_default g c =
     let begins =
     begins_new c.args.limits c.args.places c.in-Ok.opened.0 c.in-Ok.opened.1 c.new-conn.result c.in-Ok-open.worker (both (g.I.Input.tells c.args.input.now) (g.O.Output.tells c.args.output.now))
     c.in-Ok.ensures.opened
-    (c.new-conn.ensures.tenant ∙ c.first_tenant.ensures, c.new-conn.ensures.holding, c.new-conn.ensures.queue, c.new-conn.ensures.open.0, c.new-conn.ensures.open.1)
+    (c.new-conn.ensures.role ∙ ap Tenant c.first_tenant.ensures, c.new-conn.ensures.holding, c.new-conn.ensures.queue, c.new-conn.ensures.open.0, c.new-conn.ensures.open.1)
     c.in-Ok-open.ensures.log c.in-Ok-open.ensures.seat c.in-Ok-open.ensures.history c.in-Ok-open.ensures.openings
     in
     let after = scene c.pump-served.new.conn c.pump-served.new.worker (both (g.I.Input.tells c.pump-served.new.input) (g.O.Output.tells c.pump-served.new.output)) in

@@ -15,10 +15,10 @@ returns-in-LineOnly-clause-answer c =
     let is_asked : asked (take line bytes) ≡ LineOnly c.in-LineOnly.request = sym (rw c.as_slice.ensures at c.in_ok-request.ensures.asked) ∙ c.in-LineOnly.is in
     let left = drop (line + 1) bytes in
     let same_left : left ≡ drop (line + 1 + 0) bytes = ap (λ n. drop n bytes) (sym (add-zero (line + 1))) in
-    let answer = answer_whole bytes line c.requires (LineOnly c.in-LineOnly.request) is_asked (omega (arith, c.requires.ends)) c.in-LineOnly.request left refl same_left in
+    let answer = answer_whole asked bytes line c.requires (LineOnly c.in-LineOnly.request) is_asked (omega (arith, c.requires.ends)) c.in-LineOnly.request left refl same_left in
     let held : held_in c.move_on-state.result c.move_on-state.new.buffer ≡ held_after c.in-LineOnly.request left =
     (λ i. held_in (c.move_on-state.ensures.state i) (c.move_on-state.ensures.bytes i)) ∙ held_in_state_after c.in-LineOnly.request left in
-    subst (λ h. IsAnswer (Kept bytes) (Some c.in-LineOnly.request) h) (sym held) answer
+    subst (λ h. IsAnswer asked (Kept bytes) (Some c.in-LineOnly.request) h) (sym held) answer
 
 pub returns-then-left-gt0-clause-answer : goal.returns-then-left-gt0-clause-answer
 returns-then-left-gt0-clause-answer c =
@@ -26,9 +26,9 @@ returns-then-left-gt0-clause-answer c =
     let asks = c.in-RefusedBlock in
     let left = c.swallow-left.result in
     let is_asked : asked (take c.args.line bytes) ≡ RefusedBlock asks.length asks.refusal asks.quiet = sym (rw c.as_slice.ensures at c.in_ok-request.ensures.asked) ∙ asks.is in
-    let answer = answer_swallowing bytes c.args.line c.requires asks.length left asks.refusal asks.quiet is_asked (omega (arith, c.swallow-left.ensures.left, c.if-left-gt0.true)) c.if-left-gt0.true in
+    let answer = answer_swallowing asked bytes c.args.line c.requires asks.length left asks.refusal asks.quiet is_asked (omega (arith, c.swallow-left.ensures.left, c.if-left-gt0.true)) c.if-left-gt0.true in
     let nothing : c.swallow-left.new.buffer ≡ [] = c.swallow-left.ensures.bytes ∙ drop_all _ bytes (omega (arith, c.swallow-left.ensures.left, c.if-left-gt0.true)) in
-    subst (λ b. IsAnswer (Kept bytes) None (Swallowing (refused asks.refusal asks.quiet) left b)) (sym nothing) answer
+    subst (λ b. IsAnswer asked (Kept bytes) None (Swallowing (refused asks.refusal asks.quiet) left b)) (sym nothing) answer
 
 pub returns-else-left-gt0-clause-answer : goal.returns-else-left-gt0-clause-answer
 returns-else-left-gt0-clause-answer c =
@@ -36,16 +36,16 @@ returns-else-left-gt0-clause-answer c =
     let asks = c.in-RefusedBlock in
     let is_asked : asked (take c.args.line bytes) ≡ RefusedBlock asks.length asks.refusal asks.quiet = sym (rw c.as_slice.ensures at c.in_ok-request.ensures.asked) ∙ asks.is in
     let whole : c.args.line + 1 + (asks.length + 2) ≤ length bytes = omega (arith, c.swallow-left.ensures.left, c.if-left-gt0.false) in
-    rw c.refused.ensures (answer_whole bytes c.args.line c.requires (RefusedBlock asks.length asks.refusal asks.quiet) is_asked whole (refused asks.refusal asks.quiet) c.swallow-left.new.buffer refl c.swallow-left.ensures.bytes)
+    rw c.refused.ensures (answer_whole asked bytes c.args.line c.requires (RefusedBlock asks.length asks.refusal asks.quiet) is_asked whole (refused asks.refusal asks.quiet) c.swallow-left.new.buffer refl c.swallow-left.ensures.bytes)
 
 pub returns-in-Some-clause-answer : goal.returns-in-Some-clause-answer
 returns-in-Some-clause-answer c =
     let bytes = c.args.buffer.now in
     let is_asked : asked (take c.args.line bytes) ≡ StoredBlock c.in-StoredBlock.header = sym (rw c.as_slice.ensures at c.in_ok-request.ensures.asked) ∙ c.in-StoredBlock.is in
-    rw c.stored-request.ensures (answer_taken bytes c.args.line c.requires c.in-StoredBlock.header is_asked (c.in-Some.block, c.in-Some.ends_well) c.take_block.new.buffer (rw c.in-Some.is at c.in_ok-block-in-StoredBlock.ensures.taken))
+    rw c.stored-request.ensures (answer_taken asked bytes c.args.line c.requires c.in-StoredBlock.header is_asked (c.in-Some.block, c.in-Some.ends_well) c.take_block.new.buffer (rw c.in-Some.is at c.in_ok-block-in-StoredBlock.ensures.taken))
 
 pub returns-in-None-clause-answer : goal.returns-in-None-clause-answer
 returns-in-None-clause-answer c =
     let bytes = c.args.buffer.now in
     let is_asked : asked (take c.args.line bytes) ≡ StoredBlock c.in-StoredBlock.header = sym (rw c.as_slice.ensures at c.in_ok-request.ensures.asked) ∙ c.in-StoredBlock.is in
-    answer_awaited bytes c.args.line c.requires c.in-StoredBlock.header is_asked (rw c.in-StoredBlock.is at c.in_ok-request.ensures.lawful) c.take_block.new.buffer (rw c.in-None.is at c.in_ok-block-in-StoredBlock.ensures.taken)
+    answer_awaited asked bytes c.args.line c.requires c.in-StoredBlock.header is_asked (rw c.in-StoredBlock.is at c.in_ok-request.ensures.lawful) c.take_block.new.buffer (rw c.in-None.is at c.in_ok-block-in-StoredBlock.ensures.taken)

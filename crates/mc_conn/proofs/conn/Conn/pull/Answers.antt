@@ -4,7 +4,8 @@ use Rattle.std.proofs.lemmas.Result.{err_from_is_err_and}
 use Rattle.mc_conn.specs.ConnFault.{InputFailed, OutOfMemory}
 use Rattle.mc_stream.specs.Event.{ends, failures, has_ended, moved}
 use Rattle.mc_conn.proofs.Breakings.{breaks_pulling}
-use Rattle.mc_conn.proofs.Readings.{read_fed_at, read_refl}
+use Rattle.mc_conn.specs.Held.{lines_of}
+use Rattle.mc_conn.proofs.Readings.{fed_by_role, read_fed_at, read_refl}
 use Rattle.mc_conn.proofs.Takings.{does_fed, does_waited, remembers_open}
 use Rattle.mc_conn.specs.Turn.{holding_of}
 use Rattle.mc_conn.proofs.conn.Conn.pull.Goals as goal
@@ -20,7 +21,8 @@ pub returns-in_ok-feed-in-Bytes-clause-outcome : goal.returns-in_ok-feed-in-Byte
 returns-in_ok-feed-in-Bytes-clause-outcome g c worker output =
     let said = c.in-Bytes.ensures in
     does_fed c.args.self.now _ worker _ _ output (take c.in-Bytes.count c.pull.new.buffer)
-    (read_fed_at c.args.self.now.waiting c.args.self.now.waiting c.args.self.now.reader.held c.feed.new.self.held (take c.in-Bytes.count c.pull.new.buffer) c.requires.waiting refl c.in_ok-feed-in-Bytes.ensures.readings)
+    (read_fed_at (lines_of c.args.self.now.role) c.args.self.now.waiting c.args.self.now.waiting c.args.self.now.reader.held c.feed.new.self.held (take c.in-Bytes.count c.pull.new.buffer) c.requires.waiting refl
+    (fed_by_role c.args.self.now.role c.args.self.now.reader.held c.feed.new.self.held (take c.in-Bytes.count c.pull.new.buffer) c.in_ok-feed-in-Bytes.ensures.readings))
     refl refl refl (ap moved said.event) said.rest (ap failures said.event) (remembers_open c.args.self.now.has_ended _ _ c.requires.going (ap ends said.event)) refl
     (let taken = length-take-le c.in-Bytes.count c.pull.new.buffer said.count.1 in let some = said.count.0 in omega arith)
 

@@ -10,7 +10,7 @@ use Rattle.mc_conn.proofs.conn.Conn.take.Goals as goal
 pub loop-did-init : goal.loop-did-init
 loop-did-init g c = record {
   does = λ streams. does_nothing _;
-  keeps = record { tenant = refl; has_ended = refl; onward = continues_self _ };
+  keeps = record { role = refl; has_ended = refl; onward = continues_self _ };
 }
 
 pub returns-in_err-take_one-clause-outcome : goal.returns-in_err-take_one-clause-outcome
@@ -27,7 +27,7 @@ loop-did-preserved g c =
     let after = c.take_one.ensures.keeps in record {
       does = λ streams. did_then _ _ _ _ _ c.if-branch.true (c.loop-did.invariant.does streams) (c.in_ok-take_one.ensures.outcome streams);
       keeps = record {
-        tenant = after.tenant ∙ before.tenant;
+        role = after.role ∙ before.role;
         has_ended = after.has_ended ∙ before.has_ended;
         onward = continues_through _ _ _ before.onward after.onward;
       };
