@@ -15,7 +15,7 @@ use Rattle.mc_conn.specs.declared.conn.State.TheVariants.{Closed}
 use Rattle.mc_conn.proofs.Owings.{same_sighting}
 use Rattle.mc_model.specs.declared.fault.Fault.{Fault}
 use Rattle.mc_model.specs.declared.request.Request.{Request}
-use Rattle.mc_net.specs.Asking.{HasBeenAsked, IsLogged, WasAsked}
+use Rattle.mc_net.specs.Asking.{Announcement, HasBeenAsked, IsAnnounced, IsEarlier, IsLogged, WasAsked}
 use Rattle.mc_net.specs.Life.{came_of}
 use Rattle.mc_net.specs.Serving.{Becomes, IsNewConnection, IsServedLater, connection_at, scene_of}
 use Rattle.mc_net.specs.Working.{HasServed, IsUnused, ServesOne, Standing, TakesIn, Works, begins, goes_on, standing}
@@ -536,6 +536,30 @@ module _ (from : ℕ) (v : View) (asking : Asking from v) (nobody : (key : ℕ) 
       ∙ ap ended_after same
       ∙ sym (is_ended two (asking.asker two) _ (asking.found two (omega (arith, low, less)) high)))
 
+-- the only one of a list
+only_at : {X : Type 0} (x y : X) (place : ℕ) → slice_get (x ∷ []) place ≡ Some y → (place ≡ 0) × (x ≡ y)
+only_at x y zero at = (refl, same_Some x y at)
+only_at x y (suc place) at = absurd (none-some y at)
+
+-- of one log alone
+module _ (before after : Worker) where
+  -- what was announced there, since
+  announced_there : (which : Announcement) (worker : Worker) → IsAnnounced (before ∷ []) (after ∷ []) which worker →
+      (after ≡ worker) × (which.log ≡ 0) × (length (announced_of before) ≤ which.number) × (which.number < length (announced_of after))
+  announced_there which worker is =
+      let first = only_at before is.first which.log is.was in
+      let last = only_at after worker which.log is.is in (
+        last.1,
+        last.0,
+        subst (λ (worker : Worker). length (announced_of worker) ≤ which.number) (sym first.1) is.since,
+        subst (λ (worker : Worker). which.number < length (announced_of worker)) (sym last.1) is.by_now,
+      )
+
+  -- the earlier number
+  number_before : (one two : Announcement) → one.log ≡ 0 → two.log ≡ 0 → IsEarlier one two → one.number < two.number
+  number_before one two first second earlier =
+      ⊎_elim (λ (log : one.log < two.log). let no : ⊥ = omega (arith, first, second, log) in absurd no) (λ both. both.1) earlier
+
 -- a worker that has served was asked for all that it announced
 has_been_asked : (worker : Worker) (back : Returned) → HasServed worker back → HasBeenAsked worker back
 has_been_asked worker back served =
@@ -548,11 +572,18 @@ has_been_asked worker back served =
     (asking_working from first last (sound_first first served.new) (asking_first first served.new) served.works)
     in
     let nobody = nothing_at served.last.by_key.slots (eqb-true _ 0 served.over) in
+    let end = view back.worker live back.ended.connections in
     record {
-      asker = λ number. number_of (asking.asker number);
-      request = asking.request;
-      asked = found_ended from (view back.worker live back.ended.connections) asking nobody;
-      in_order = in_order_ended from (view back.worker live back.ended.connections) asking nobody;
+      asker = λ which. number_of (asking.asker which.number);
+      request = λ which. asking.request which.number;
+      asked = λ which one is.
+          let there = announced_there worker back.worker which one is in
+          subst (λ (worker : Worker). WasAsked worker back.ended.connections which.number (number_of (asking.asker which.number)) (asking.request which.number)) there.0
+          (found_ended from end asking nobody which.number there.2 there.3);
+      in_order = λ one two a b first second earlier same.
+          let here = announced_there worker back.worker one a first in
+          let there = announced_there worker back.worker two b second in
+          in_order_ended from end asking nobody one.number two.number here.2 (number_before worker back.worker one two here.1 there.1 earlier) there.3 same;
     }
 
 pub all_have_been_asked : (workers : List Worker) (back : List Returned) → AllZip HasServed workers back → AllZip HasBeenAsked workers back

@@ -32,7 +32,7 @@ use Rattle.mc_stream.specs.Stream.{Inflow, Outflow, both}
 use Rattle.mc_write.specs.Text.{text}
 use Rattle.uc_worker.specs.declared.worker.Worker.{Worker}
 use Rattle.uc_worker.proofs.Lists.{begins_length}
-use Rattle.mc_net.specs.Life.{FailedSoOften, HasAnswered, HasFault, WasAnswered, IsBehind, OwesInParts, and_then, came_of, none_yet, sent_of, words_of}
+use Rattle.mc_net.specs.Life.{FailedSoOften, HasAnswered, HasFault, WasAnswered, IsBehind, OwesInLogs, OwesInParts, and_then, next_log, no_log, came_of, none_yet, sent_of, words_of}
 use Rattle.mc_net.specs.Serving.{Becomes, HasEnded, IsNewConnection, IsServedLater, connection_at, scene_of}
 use Rattle.mc_net.specs.Working.{HasServed, IsUnused, ServesOne, Standing, TakesIn, Works, begins, goes_on, standing}
 use Rattle.mc_net.specs.declared.listener.Arrival.{Arrival}
@@ -78,6 +78,44 @@ parts_grow old new on role _ _ _ none_yet = none_yet
 parts_grow old new on role _ _ _ (and_then requests more bytes others to from last parts behind owes) =
     and_then requests more bytes others to from last (parts_grow old new on role requests bytes to parts) behind (owes_grow old new on role from more others last owes)
 
+-- requests that one worker took, on one log
+pub in_one_log : (worker : Worker) (role : Role) (requests : List Request) (owed : List ℕ) (to : Mark) → OwesInParts worker role requests owed to → OwesInLogs role (worker ∷ []) requests owed
+in_one_log worker role requests owed to parts =
+    subst (λ (requests : List Request). OwesInLogs role (worker ∷ []) requests owed) (append-nil requests)
+    (subst (λ (owed : List ℕ). OwesInLogs role (worker ∷ []) (requests ++ []) owed) (append-nil owed) (next_log worker [] requests [] owed [] to parts no_log))
+
+-- what is owed by the first of the logs, where it is the last one too
+abbrev OwesAlone : Role → List Worker → List Request → List ℕ → Type 0
+OwesAlone role [] requests owed = (requests ≡ []) × (owed ≡ [])
+OwesAlone role (worker ∷ []) requests owed = (to : Mark) × OwesInParts worker role requests owed to
+OwesAlone role (worker ∷ (next ∷ workers)) requests owed = Unit {0}
+
+behind_none : (worker : Worker) (workers : List Worker) (role : Role) (requests more : List Request) (bytes others : List ℕ) (to : Mark) → OwesInParts worker role requests bytes to →
+    OwesAlone role workers more others → OwesAlone role (worker ∷ workers) (requests ++ more) (bytes ++ others)
+behind_none worker [] role requests more bytes others to parts none = (
+  to,
+  subst (λ (all : List Request). OwesInParts worker role all (bytes ++ others) to) (sym (ap (λ (more : List Request). requests ++ more) none.0 ∙ append-nil requests))
+      (subst (λ (all : List ℕ). OwesInParts worker role requests all to) (sym (ap (λ (others : List ℕ). bytes ++ others) none.1 ∙ append-nil bytes)) parts),
+)
+behind_none worker (next ∷ workers) role requests more bytes others to parts alone = tt
+
+owes_alone : (role : Role) (workers : List Worker) (requests : List Request) (owed : List ℕ) → OwesInLogs role workers requests owed → OwesAlone role workers requests owed
+owes_alone role _ _ _ no_log = (refl, refl)
+owes_alone role _ _ _ (next_log worker workers requests more bytes others to parts owes) =
+    behind_none worker workers role requests more bytes others to parts (owes_alone role workers more others owes)
+
+pub of_one_log : (worker : Worker) (role : Role) (requests : List Request) (owed : List ℕ) → OwesInLogs role (worker ∷ []) requests owed → (to : Mark) × OwesInParts worker role requests owed to
+of_one_log worker role requests owed owes = owes_alone role (worker ∷ []) requests owed owes
+
+one_log_grows : (old new : Worker) → Continues old new → (role : Role) (requests : List Request) (owed : List ℕ) → OwesInLogs role (old ∷ []) requests owed → OwesInLogs role (new ∷ []) requests owed
+one_log_grows old new on role requests owed owes =
+    let parts = of_one_log old role requests owed owes in
+    in_one_log new role requests owed parts.0 (parts_grow old new on role requests owed parts.0 parts.1)
+
+-- what a worker has answered, on one log
+abbrev AnsweredBy : Worker → Connection → Type 0
+AnsweredBy worker = WasAnswered (worker ∷ [])
+
 behind_grows : (old new : Worker) (to : Mark) → Continues old new → IsBehind to (mark_of old) → IsBehind to (mark_of new)
 behind_grows old new to on behind =
     (omega (arith, behind.0, begins_length _ _ on.announced), omega (arith, behind.1, begins_length _ _ on.history))
@@ -97,13 +135,12 @@ lives_on old new connection on lives = record {
   end = lives.end;
 }
 
-answered_on : (old new : Worker) (connection : Connection) → Continues old new → WasAnswered old connection → WasAnswered new connection
+answered_on : (old new : Worker) (connection : Connection) → Continues old new → AnsweredBy old connection → AnsweredBy new connection
 answered_on old new connection on answered = record {
   requests = answered.requests;
   owed = answered.owed;
-  to = answered.to;
   first = answered.first;
-  owes = parts_grow old new on connection.conn.role answered.requests answered.owed answered.to answered.owes;
+  owes = one_log_grows old new on connection.conn.role answered.requests answered.owed answered.owes;
   ending = answered.ending;
 }
 
@@ -191,15 +228,15 @@ module _ (before after : Worker) (old new : Connection) (role : new.conn.role �
           one.1 ∙ ap (λ (others : List Request). lives.requests ++ others) two.1 ∙ sym (append_assoc lives.requests breaks.taken.requests (breaks.met ++ two.0)),
         )
 
-    answered_broken : (cause : ConnFault) → HasFault cause new → BeginsWith ((moved between.events ++ queue_of new.conn) ++ words_of cause) (sent_of new) → WasAnswered after new
+    answered_broken : (cause : ConnFault) → HasFault cause new → BeginsWith ((moved between.events ++ queue_of new.conn) ++ words_of cause) (sent_of new) → AnsweredBy after new
     answered_broken cause why sent = record {
       requests = lives.requests ++ breaks.taken.requests;
       owed = owed_then;
-      to = breaks.to;
       first = first_requests;
-      owes =
+      owes = in_one_log after new.conn.role _ _ breaks.to (
           and_then lives.requests breaks.taken.requests lives.owed breaks.taken.owed lives.to (mark_of before) breaks.to (parts_so_far breaks.taken.onward) lives.behind
-          (subst (λ (role : Role). Owes after role (mark_of before) breaks.taken.requests breaks.taken.owed breaks.to) (sym role) breaks.taken.owes);
+          (subst (λ (role : Role). Owes after role (mark_of before) breaks.taken.requests breaks.taken.owed breaks.to) (sym role) breaks.taken.owes)
+          );
       ending = inr (record { fault = cause; why = why; sent = subst (λ (owed : List ℕ). BeginsWith (owed ++ words_of cause) (sent_of new)) all_queued sent });
     }
 
@@ -216,7 +253,7 @@ module _ (before after : Worker) (old new : Connection) (role : new.conn.role �
       failed_before same = ap (λ (output : Outflow). failures output.events) (sym said ∙ same)
 
       answered_told : (cause : ConnFault) → CountsFailures cause (scene_of old before).streams (both (record { events = new.received.events; left = None }) between) →
-          IsTold cause (queue_of new.conn) between told_to → WasAnswered after new
+          IsTold cause (queue_of new.conn) between told_to → AnsweredBy after new
       answered_told OutOfMemory counts told =
           let rest = told.0.0 in
           let unqueues = told.0.1 in
@@ -234,18 +271,17 @@ module _ (before after : Worker) (old new : Connection) (role : new.conn.role �
       answered_told OutputFailed counts told =
           answered_broken OutputFailed (counts.0 ∙ lives.unfailed.0, failed_before told ∙ counts.1 ∙ ap (λ n. n + 1) lives.unfailed.1) (untold told)
 
-  answered_stopping : (fault : Fault) → Stops (scene_of old before) (scene_of new after) fault → WasAnswered after new
+  answered_stopping : (fault : Fault) → Stops (scene_of old before) (scene_of new after) fault → AnsweredBy after new
   answered_stopping fault stops =
       answered_told fault stops.told_from stops.breaks (record { events = new.sent.events }) refl stops.breaks.cause stops.breaks.failures stops.told
 
 -- a connection on which nothing is left to be done
-answered_done : (worker : Worker) (connection : Connection) → Lives worker connection → IsDone connection.conn → WasAnswered worker connection
+answered_done : (worker : Worker) (connection : Connection) → Lives worker connection → IsDone connection.conn → AnsweredBy worker connection
 answered_done worker connection lives done = record {
   requests = lives.requests;
   owed = lives.owed;
-  to = lives.to;
   first = λ more all reads. let then = (lives.reads more all).0 reads in (then.0, then.1);
-  owes = lives.owes;
+  owes = in_one_log worker connection.conn.role lives.requests lives.owed lives.to lives.owes;
   ending = inl (record {
     unfailed = lives.unfailed;
     end = ⊎_elim (λ ended. inl (lives.end ended)) (λ is_over. inr (sym lives.over ∙ is_over)) done.0;
@@ -258,9 +294,9 @@ answered_done worker connection lives done = record {
 record Steps (before after : Standing) (new : Option Connection) : Type 0 where
   onward : Continues before.worker after.worker
   stays : (connection : Connection) → new ≡ Some connection → Lives after.worker connection
-  ended : All (WasAnswered before.worker) before.connections.ended.connections → All (WasAnswered after.worker) after.connections.ended.connections
+  ended : All (AnsweredBy before.worker) before.connections.ended.connections → All (AnsweredBy after.worker) after.connections.ended.connections
 
-all_on : (old new : Worker) → Continues old new → (list : List Connection) → All (WasAnswered old) list → All (WasAnswered new) list
+all_on : (old new : Worker) → Continues old new → (list : List Connection) → All (AnsweredBy old) list → All (AnsweredBy new) list
 all_on old new on list all = λ i d inside. answered_on old new (slice_index_or list i d) on (all i d inside)
 
 later_onward : (before after : Worker) (old new : Connection) (state : State) → IsServedLater before after old new state → Continues before after
@@ -279,7 +315,7 @@ later_lives before after old new state isnt later lives =
     (λ stopped. absurd (going_on before after old new state isnt later (inl stopped.1.shut)))
     later.served
 
-later_answered : (before after : Worker) (old new : Connection) → IsServedLater before after old new Closed → Lives before old → WasAnswered after new
+later_answered : (before after : Worker) (old new : Connection) → IsServedLater before after old new Closed → Lives before old → AnsweredBy after new
 later_answered before after old new later lives =
     ⊎_elim
     (λ served.
@@ -294,7 +330,7 @@ steps_at : (before after : Standing) (state : State) (old new : Option Connectio
 steps_at before after state None new lives (gone, still, idle, past) = record {
   onward = subst (Continues before.worker) (sym still) (continues_self before.worker);
   stays = λ connection is. let no : None ≡ Some connection = sym gone ∙ is in cc;
-  ended = λ all. subst (λ (worker : Worker). All (WasAnswered worker) after.connections.ended.connections) (sym still) (subst (All (WasAnswered before.worker)) (sym past) all);
+  ended = λ all. subst (λ (worker : Worker). All (AnsweredBy worker) after.connections.ended.connections) (sym still) (subst (All (AnsweredBy before.worker)) (sym past) all);
 }
 steps_at before after state (Some old) (Some new) lives (later, isnt, past) =
     let on = later_onward before.worker after.worker old new state later in
@@ -302,7 +338,7 @@ steps_at before after state (Some old) (Some new) lives (later, isnt, past) =
       onward = on;
       stays = λ connection is.
           subst (Lives after.worker) (same_Some new connection is) (later_lives before.worker after.worker old new state isnt later (lives old refl));
-      ended = λ all. subst (All (WasAnswered after.worker)) (sym past) (all_on before.worker after.worker on before.connections.ended.connections all);
+      ended = λ all. subst (All (AnsweredBy after.worker)) (sym past) (all_on before.worker after.worker on before.connections.ended.connections all);
     }
 steps_at before after state (Some old) None lives (last, past, later, closed) =
     let on = later_onward before.worker after.worker old last Closed later in
@@ -310,15 +346,15 @@ steps_at before after state (Some old) None lives (last, past, later, closed) =
       onward = on;
       stays = λ connection is. let no : None ≡ Some connection = is in cc;
       ended = λ all.
-          subst (All (WasAnswered after.worker)) (sym past)
-          (All-cons (WasAnswered after.worker) last before.connections.ended.connections (later_answered before.worker after.worker old last later (lives old refl))
+          subst (All (AnsweredBy after.worker)) (sym past)
+          (All-cons (AnsweredBy after.worker) last before.connections.ended.connections (later_answered before.worker after.worker old last later (lives old refl))
           (all_on before.worker after.worker on before.connections.ended.connections all));
     }
 
 -- what stands among those of a worker lives, and what has ended was answered
 pub record IsSound (standing : Standing) : Type 0 where
   pub lives : (key : ℕ) (connection : Connection) → connection_at standing.connections key ≡ Some connection → Lives standing.worker connection
-  ended : All (WasAnswered standing.worker) standing.connections.ended.connections
+  ended : All (AnsweredBy standing.worker) standing.connections.ended.connections
 
 pub same_key : (one two : ℕ) → (one ≡ two) ⊎ (one ≢ two)
 same_key zero zero = inl refl
@@ -338,8 +374,8 @@ sound_taking before after sound taken = record {
       (λ (not : key ≢ taken.key). sound.lives key connection (sym (taken.admits.updates.others key not) ∙ at))
       (same_key key taken.key));
   ended =
-      subst (λ (worker : Worker). All (WasAnswered worker) after.connections.ended.connections) (sym taken.worker)
-      (subst (λ (ended : Ended). All (WasAnswered before.worker) ended.connections) (sym taken.admits.ended) sound.ended);
+      subst (λ (worker : Worker). All (AnsweredBy worker) after.connections.ended.connections) (sym taken.worker)
+      (subst (λ (ended : Ended). All (AnsweredBy before.worker) ended.connections) (sym taken.admits.ended) sound.ended);
 }
 
 sound_serving : (before after : Standing) → IsSound before → ServesOne before after → IsSound after
@@ -371,7 +407,7 @@ nothing_at (Some x ∷ slots) none key = let no : ⊥ = omega (arith, none, sum_
 pub sound_first : (standing : Standing) → IsUnused standing.connections → IsSound standing
 sound_first standing new = record {
   lives = λ key connection at. let no : None ≡ Some connection = sym (nothing_at standing.connections.by_key.slots (eqb-true _ 0 new.0) key) ∙ at in cc;
-  ended = subst (All (WasAnswered standing.worker)) (sym new.1) (All-nil (WasAnswered standing.worker));
+  ended = subst (All (AnsweredBy standing.worker)) (sym new.1) (All-nil (AnsweredBy standing.worker));
 }
 
 -- a worker that has served has answered
@@ -379,7 +415,7 @@ has_answered : (worker : Worker) (back : Returned) → HasServed worker back →
 has_answered worker back served =
     let first = standing worker served.first in
     let last = standing back.worker served.last in
-    subst (λ (ended : Ended). All (WasAnswered back.worker) ended.connections) served.ended (sound_working first last (sound_first first served.new) served.works).ended
+    subst (λ (ended : Ended). All (AnsweredBy back.worker) ended.connections) served.ended (sound_working first last (sound_first first served.new) served.works).ended
 
 pub all_have_answered : (workers : List Worker) (back : List Returned) → AllZip HasServed workers back → All HasAnswered back
 all_have_answered [] [] served = All-nil HasAnswered

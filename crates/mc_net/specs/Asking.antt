@@ -1,5 +1,5 @@
 -- For whom a worker announces commands. After memcached's doc/protocol.txt, "Protocol": commands are what clients send, in order, on their connections.
-use Rattle.std.specs.Prelude.{◌≡◌, ℕ, ◌<◌, ◌≤◌, Bool, List, ◌∷◌, ◌++◌, length, Some, slice_get}
+use Rattle.std.specs.Prelude.{◌≡◌, ◌⊎◌, ℕ, ◌<◌, ◌≤◌, Bool, List, [], ◌∷◌, ◌++◌, length, Some, slice_get}
 use Rattle.mc_conn.specs.Held.{lines_of}
 use Rattle.mc_conn.specs.Onward.{own_sighting}
 use Rattle.mc_conn.specs.Owed.{Logs, demand_of}
@@ -36,12 +36,33 @@ pub record WasAsked (worker : Worker) (ended : List Connection) (number asker re
   pub logged : IsLogged worker connection.conn.role asked number
   pub asks : Asks connection request asked
 
--- Each command that a worker has announced since was asked for by one connection that it served, and those of one connection were announced in the order
--- in which it asked: so no request was carried out twice.
-pub record HasBeenAsked (worker : Worker) (back : Returned) : Type 0 where
-  pub asker : ℕ → ℕ
-  pub request : ℕ → ℕ
-  pub asked : (number : ℕ) → length (announced_of worker) ≤ number → number < length (announced_of back.worker) →
-      WasAsked back.worker back.ended.connections number (asker number) (request number)
-  pub in_order : (one two : ℕ) → length (announced_of worker) ≤ one → one < two → two < length (announced_of back.worker) →
-      asker one ≡ asker two → request one < request two
+-- Which command: of which of the logs, and under which number of the worker there.
+pub record Announcement : Type 0 where
+  pub log : ℕ
+  pub number : ℕ
+
+-- the worker of that log has announced it, since it was the one that stands there before
+pub record IsAnnounced (before after : List Worker) (which : Announcement) (worker : Worker) : Type 0 where
+  pub first : Worker
+  pub was : slice_get before which.log ≡ Some first
+  pub is : slice_get after which.log ≡ Some worker
+  pub since : length (announced_of first) ≤ which.number
+  pub by_now : which.number < length (announced_of worker)
+
+-- one was announced before the other: in an earlier log, or under an earlier number
+abbrev pub IsEarlier : Announcement → Announcement → Type 0
+IsEarlier one two = (one.log < two.log) ⊎ (one.log ≡ two.log) × (one.number < two.number)
+
+-- Workers came from where they stood before to where they stand after, one after another, each on the next log. Each command that they have announced since was
+-- asked for by one connection that they served, and those of one connection were announced in the order in which it asked: so no request was carried out twice.
+pub record HaveBeenAsked (before after : List Worker) (ended : List Connection) : Type 0 where
+  pub asker : Announcement → ℕ
+  pub request : Announcement → ℕ
+  pub asked : (which : Announcement) (worker : Worker) → IsAnnounced before after which worker →
+      WasAsked worker ended which.number (asker which) (request which)
+  pub in_order : (one two : Announcement) (first second : Worker) → IsAnnounced before after one first → IsAnnounced before after two second →
+      IsEarlier one two → asker one ≡ asker two → request one < request two
+
+-- so of a worker that came back, on one log
+abbrev pub HasBeenAsked : Worker → Returned → Type 0
+HasBeenAsked worker back = HaveBeenAsked (worker ∷ []) (back.worker ∷ []) back.ended.connections

@@ -2,7 +2,7 @@
 -- request texts, each answered in order. That they are answered over a log which many share is Herlihy's construction (Wait-Free
 -- Synchronization, TOPLAS 1991).
 use Rattle.std.specs.List.{list_any}
-use Rattle.std.specs.Prelude.{◌≡◌, ◌⊎◌, ℕ, ◌≤◌, true, List, [], ◌++◌, All}
+use Rattle.std.specs.Prelude.{◌≡◌, ◌⊎◌, ℕ, ◌≤◌, true, List, [], ◌∷◌, ◌++◌, All}
 use Rattle.mc_conn.specs.Alone.{first_mark}
 use Rattle.mc_conn.specs.Held.{lines_of}
 use Rattle.mc_conn.specs.ConnFault.{CellTaken, ConnFault, InputFailed, OutOfMemory, OutputFailed}
@@ -36,6 +36,12 @@ pub data OwesInParts (worker : Worker) (role : Role) : List Request → List ℕ
   and_then : (requests more : List Request) (bytes others : List ℕ) (to from last : Mark) → OwesInParts worker role requests bytes to →
       IsBehind to from → Owes worker role from more others last → OwesInParts worker role (requests ++ more) (bytes ++ others) last
 
+-- The same over logs that followed one another, by the worker of each: the first of them took the first requests in parts, and the others all others.
+pub data OwesInLogs (role : Role) : List Worker → List Request → List ℕ → Type 0 where
+  no_log : OwesInLogs role [] [] []
+  next_log : (worker : Worker) (workers : List Worker) (requests more : List Request) (bytes others : List ℕ) (to : Mark) → OwesInParts worker role requests bytes to →
+      OwesInLogs role workers more others → OwesInLogs role (worker ∷ workers) (requests ++ more) (bytes ++ others)
+
 -- how often reads of the connection's stream have failed, and writes
 abbrev pub FailedSoOften : Connection → ℕ → ℕ → Type 0
 FailedSoOften connection reads writes = (failures connection.received.events ≡ reads) × (failures connection.sent.events ≡ writes)
@@ -68,16 +74,15 @@ pub record IsCut (connection : Connection) (owed : List ℕ) : Type 0 where
   pub why : HasFault fault connection
   pub sent : BeginsWith (owed ++ words_of fault) (sent_of connection)
 
--- A connection's whole life. Its first requests, whatever more might have come, were taken in order, and are answered over the worker's history, each at
--- its own place by its own tenant's commands before that; what was sent is what is owed for these.
-pub record WasAnswered (worker : Worker) (connection : Connection) : Type 0 where
+-- A connection's whole life, which these workers served one after another. Its first requests, whatever more might have come, were taken in order, and are
+-- answered over the history of the worker that took each, at its own place by its own tenant's commands before that; what was sent is what is owed for these.
+pub record WasAnswered (workers : List Worker) (connection : Connection) : Type 0 where
   pub requests : List Request
   pub owed : List ℕ
-  pub to : Mark
   pub first : (more : List ℕ) (all : List Request) → ReadsAs (lines_of connection.conn.role) (came_of connection ++ more) all → BeginsWith all requests
-  pub owes : OwesInParts worker connection.conn.role requests owed to
+  pub owes : OwesInLogs connection.conn.role workers requests owed
   pub ending : EndsWithoutFault connection requests owed ⊎ IsCut connection owed
 
--- so of each connection that a worker has served
+-- so of each connection that a worker has served, on one log
 abbrev pub HasAnswered : Returned → Type 0
-HasAnswered back = All (WasAnswered back.worker) back.ended.connections
+HasAnswered back = All (WasAnswered (back.worker ∷ [])) back.ended.connections

@@ -18,6 +18,7 @@ pub mod ended;
 mod event_loop;
 pub mod halt;
 pub mod handing;
+pub mod laws;
 pub mod listener;
 mod mailbox;
 mod ready_queue;
