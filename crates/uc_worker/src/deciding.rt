@@ -1,22 +1,20 @@
 //! From an announcement on until it is decided.
-ghost use Rattle.std.specs.Prelude.{◌≡◌, ◌≢◌, length, None, true, false};
+ghost use Rattle.std.specs.Bool.{MatchBool};
+ghost use Rattle.std.specs.Prelude.{◌≡◌, ◌≢◌, length, None, false};
 ghost use Rattle.mc_model.specs.declared.shown.Phase.TheVariants as phase;
-ghost use Rattle.mc_model.specs.Lawful.{HasRoom};
 ghost use Rattle.uc_log.specs.Passes.{IsOf, learned, seat, size, state};
 ghost use Rattle.uc_worker.specs.Steps.{Decided};
-ghost use Rattle.uc_worker.specs.Waiting.{LearnsOn};
+ghost use Rattle.uc_worker.specs.Waiting.{IsMarked, LearnsOn, RunsOut};
 
 use crate::gate::{Gate, Step};
 use uc_log::{Log, Pass};
 
-/// Reads until an empty place is marked, or the own ticket or all places are learned. Says whether the own ticket is.
+/// Reads until an empty place is marked, or its own ticket or all places are learned. Returns whether its own ticket is.
 fn read_on<G: Gate>(log: &Log, pass: &mut Pass, gate: &mut G) -> bool
     requires of { IsOf log.now pass.old }
     requires pending { (state pass.old).phase ≡ phase.Pending }
     ensures on { LearnsOn log.now pass.old pass.new }
-    ensures decided { result ≡ true → Decided (seat pass.old) (seat pass.new) }
-    ensures pending { result ≡ false → (state pass.new).phase ≡ phase.Pending }
-    ensures marked { result ≡ false → HasRoom (size pass.new) (state pass.new) → (state pass.new).mark ≢ None }
+    ensures outcome { MatchBool result (Decided (seat pass.old) (seat pass.new)) (IsMarked pass.new) }
 {
     for _place in pass.learned()..pass.places() {
         let found = log.read(pass);
@@ -31,15 +29,13 @@ fn read_on<G: Gate>(log: &Log, pass: &mut Pass, gate: &mut G) -> bool
     false
 }
 
-/// Looks and proposes until the own ticket is learned. Says whether it is; if not, all places are learned.
+/// Looks and proposes until its own ticket is learned. Returns whether it is; if not, all places are learned.
 fn propose_on<G: Gate>(log: &Log, pass: &mut Pass, gate: &mut G) -> bool
     requires of { IsOf log.now pass.old }
     requires pending { (state pass.old).phase ≡ phase.Pending }
     requires marked { (state pass.old).mark ≢ None }
     ensures on { LearnsOn log.now pass.old pass.new }
-    ensures decided { result ≡ true → Decided (seat pass.old) (seat pass.new) }
-    ensures pending { result ≡ false → (state pass.new).phase ≡ phase.Pending }
-    ensures full { result ≡ false → length (learned pass.new) ≡ (size pass.new).places }
+    ensures outcome { MatchBool result (Decided (seat pass.old) (seat pass.new)) (RunsOut pass.new) }
 {
     for _place in pass.learned()..pass.places() {
         log.look(pass);
@@ -53,14 +49,12 @@ fn propose_on<G: Gate>(log: &Log, pass: &mut Pass, gate: &mut G) -> bool
     false
 }
 
-/// Goes on until the command that was announced last is decided. Says whether it is; if not, all places are learned.
+/// Goes on until the command that was announced last is decided. Returns whether it is; if not, all places are learned.
 pub(crate) fn decide<G: Gate>(log: &Log, pass: &mut Pass, gate: &mut G) -> bool
     requires of { IsOf log.now pass.old }
     requires pending { (state pass.old).phase ≡ phase.Pending }
     ensures on { LearnsOn log.now pass.old pass.new }
-    ensures decided { result ≡ true → Decided (seat pass.old) (seat pass.new) }
-    ensures pending { result ≡ false → (state pass.new).phase ≡ phase.Pending }
-    ensures full { result ≡ false → length (learned pass.new) ≡ (size pass.new).places }
+    ensures outcome { MatchBool result (Decided (seat pass.old) (seat pass.new)) (RunsOut pass.new) }
     ensures spent { length (learned pass.old) ≡ (size pass.old).places → result ≡ false }
 {
     if pass.is_full() {

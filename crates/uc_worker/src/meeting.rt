@@ -2,8 +2,9 @@
 ghost use Rattle.std.specs.Prelude.{◌≡◌, ◌≤◌, length, IsOkUnless, OnOk};
 ghost use Rattle.mc_model.specs.declared.fault.Fault.TheVariants as faults;
 ghost use Rattle.mc_model.specs.Helping.{BeginsWith};
-ghost use Rattle.uc_log.specs.Passes.{IsOf, learned, own_sightings, seat, size, state};
-ghost use Rattle.uc_worker.specs.Steps.{IsSame, Rests};
+ghost use Rattle.uc_log.specs.Passes.{IsOf, learned, seat, size, state};
+ghost use Rattle.uc_worker.specs.Steps.{Rests};
+ghost use Rattle.uc_worker.specs.Waiting.{LearnsMore};
 ghost use Rattle.uc_worker.specs.Going.{CatchesUp};
 ghost use Rattle.uc_worker.specs.Worker.{IsUpToDate, history_of, openings_of, seat_of, tables_of};
 
@@ -19,10 +20,7 @@ fn read_told(log: &Log, pass: &mut Pass, end: usize)
     requires end { end ≡ length (seat pass.old).told }
     requires room { end ≤ (size pass.old).places }
     requires told { BeginsWith (seat pass.old).told (learned pass.old) }
-    ensures of { IsOf log.now pass.new }
-    ensures rests { Rests (state pass.new).phase }
-    ensures same { IsSame (seat pass.old) (seat pass.new) }
-    ensures own { own_sightings pass.new ≡ own_sightings pass.old }
+    ensures more { LearnsMore log.now pass.old pass.new }
     ensures learned { learned pass.new ≡ (seat pass.old).told }
 {
     for _place in pass.learned()..end {
@@ -34,13 +32,9 @@ fn read_told(log: &Log, pass: &mut Pass, end: usize)
 fn even(log: &Log, one: &mut Pass, other: &mut Pass)
     requires of { IsOf log.now one.old × IsOf log.now other.old }
     requires rests { Rests (state one.old).phase × Rests (state other.old).phase }
-    ensures of { IsOf log.now one.new × IsOf log.now other.new }
-    ensures rests { Rests (state one.new).phase × Rests (state other.new).phase }
-    ensures same { IsSame (seat one.old) (seat one.new) × IsSame (seat other.old) (seat other.new) }
-    ensures own { (own_sightings one.new ≡ own_sightings one.old) × (own_sightings other.new ≡ own_sightings other.old) }
+    ensures one { LearnsMore log.now one.old one.new }
+    ensures other { LearnsMore log.now other.old other.new }
     ensures learned { learned one.new ≡ learned other.new }
-    ensures first { BeginsWith (learned one.new) (learned one.old) }
-    ensures second { BeginsWith (learned other.new) (learned other.old) }
 {
     if one.learned() < other.learned() {
         log.tell(other, one);

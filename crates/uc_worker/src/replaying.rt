@@ -12,7 +12,7 @@ use crate::worker::Worker;
 use mc_model::{Fault, Reply};
 
 impl<'a> Worker<'a> {
-    /// ReplaysMore what was learned before this place. Nobody waits for an answer there, so none is made: not of an own command either, which an
+    /// Replays what was learned before this place. Nobody waits for an answer there, so none is made: not of an own command either, which an
     /// earlier call has left behind.
     pub(crate) fn replay_to<G: Gate>(&mut self, end: usize, gate: &mut G) -> Result<(), Fault>
         requires learned { end ≤ length (learned self.old.pass) }
@@ -31,7 +31,7 @@ impl<'a> Worker<'a> {
         Ok(())
     }
 
-    /// ReplaysMore what was learned up to the place that was learned last, where an own command stands, and gives its reply.
+    /// Replays what was learned up to the place that was learned last, where an own command stands, and gives its reply.
     pub(crate) fn reply_last<G: Gate>(&mut self, gate: &mut G) -> Result<Reply, Fault>
         requires behind { length (history_of self.old) < length (learned self.old.pass) }
         requires last { slice_get (learned self.old.pass) (length (learned self.old.pass) - 1) ≡ Some (last_entry self.old.pass).ticket }

@@ -14,10 +14,10 @@ pub returns-in_err-decide_new-clause-continues : goal.returns-in_err-decide_new-
 returns-in_err-decide_new-clause-continues g c = record {
   log = refl;
   openings = refl;
-  same = c.decide_new.ensures.same;
+  same = c.decide_new.ensures.advances.same;
   history = begins_self (history_of c.args.self.now);
-  announced = ⊎_elim (begins_same _ (announced_of c.args.self.now)) (λ more. (_ ∷ [], more)) c.in_err-decide_new.ensures.kept;
-  learned = c.decide_new.ensures.begins;
+  announced = ⊎_elim (begins_same _ (announced_of c.args.self.now)) (λ more. (_ ∷ [], more)) c.in_err-decide_new.ensures.outcome.kept;
+  learned = c.decide_new.ensures.advances.begins;
 }
 
 pub returns-clause-submits : goal.returns-clause-submits
@@ -25,12 +25,12 @@ returns-clause-submits g c =
     let worker = c.args.self.now in let old = worker.pass in let pass = c.decide_new.new.pass in let next = next_entry old c.args.tenant c.args.command in
     let new = c.reply_last.new.self in let same_pass = c.reply_last.ensures.replays.pass in
     let same : last_entry pass ≡ next = last_is pass (state old).announced next (row_of worker.log.now (next_ticket old))
-    c.in_ok-decide_new.ensures.put c.in_ok-decide_new.ensures.announced in
+    c.in_ok-decide_new.ensures.outcome.put c.in_ok-decide_new.ensures.outcome.announced in
     let long : length (learned pass) ≡ c.learned.result = ap (λ (p : Pass). length (learned p)) (sym same_pass) ∙ sym c.learned.ensures.value in
     let place : c.learned.result - 1 ≡ length (learned pass) - 1 = ap (λ (n : ℕ). n - 1) (sym long) in
-    let short = worker.short in let more = c.in_ok-decide_new.ensures.more in let all = c.in_ok-reply.ensures.all in record {
-      announced = ap own_sightings same_pass ∙ c.in_ok-decide_new.ensures.own;
-      count = ap (λ (p : Pass). (state p).announced) same_pass ∙ c.in_ok-decide_new.ensures.announced;
+    let short = worker.short in let more = c.in_ok-decide_new.ensures.outcome.more in let all = c.in_ok-reply.ensures.all in record {
+      announced = ap own_sightings same_pass ∙ c.in_ok-decide_new.ensures.outcome.own;
+      count = ap (λ (p : Pass). (state p).announced) same_pass ∙ c.in_ok-decide_new.ensures.outcome.announced;
       place = omega (arith, short, more, long);
       last = omega (arith, more, long, all);
       own = ap (λ (n : ℕ). slice_get (history_of new) n) place ∙ c.in_ok-reply.ensures.stands
