@@ -1,69 +1,82 @@
--- Worker threads and their workers, place by place.
-use Rattle.std.proofs.Common.{◌≡◌, ℕ, ◌<◌, suc, List, [], ◌∷◌, length, map, ap, refl, sym, subst, ◌++◌, arith, slice_index_or, All, Bor, ◌∙◌, Result, IfOk}
+-- Worker threads, what came back of them, and their event loops, place by place.
+use Rattle.std.proofs.Common.{◌≡◌, ℕ, ◌<◌, suc, List, [], ◌∷◌, length, map, ap, refl, sym, subst, ◌++◌, arith, slice_index_or, take, All, Bor, ◌∙◌, Result, IfOk}
 use Rattle.std.specs.List.{AllZip}
-use Rattle.std.proofs.lemmas.List.Elements.{AllZip-get_or, length_all_zip}
+use Rattle.std.proofs.Math.Seq.{take-append_seam}
+use Rattle.std.proofs.lemmas.List.Elements.{AllZip-get_or, length_all_zip, All-head, All-tail}
 use Rattle.uc_log.specs.declared.log.Log.{Log}
 use Rattle.uc_worker.specs.Going.{Continues}
+use Rattle.mc_net.specs.declared.event_loop.EventLoop.{EventLoop}
 use Rattle.mc_net.specs.declared.halt.Halt.{Halt}
 use Rattle.mc_net.specs.declared.worker_thread.Returned.{Returned}
 use Rattle.mc_net.specs.declared.worker_thread.WorkerThread.{WorkerThread}
 use Rattle.uc_worker.specs.declared.worker.Worker.{Worker}
-use Rattle.mc_net.specs.Running.{HasRun, HasWorked, HaveRun, IsReturned, worker_of, workers_of}
-use Rattle.mc_net.specs.Working.{HasServed, IsUnused, Works, standing}
+use Rattle.mc_net.specs.Running.{HasRun, HasServedAt, HaveRun, HaveServedAt, IsNewLoop, IsReturned, event_loops_of, no_more, one_more, worker_of, workers_of}
+use Rattle.mc_net.specs.Working.{HasServed, HasWorked, standing_at}
+use Rattle.mc_net.proofs.Workings.{works_onward}
 
-all_onward_of : {G : Type 0} (old new : List (WorkerThread G)) → length new ≡ length old →
-    ((i : ℕ) (d : WorkerThread G) → i < length old → HasRun (slice_index_or old i d) (slice_index_or new i d)) → AllZip Continues (workers_of old) (workers_of new)
-all_onward_of [] [] long each = tt
-all_onward_of [] (y ∷ ys) long each = let no : ⊥ = omega arith in absurd no
-all_onward_of (x ∷ xs) [] long each = let no : ⊥ = omega arith in absurd no
-all_onward_of (x ∷ xs) (y ∷ ys) long each = ((each 0 x (omega arith)).onward, all_onward_of xs ys (omega arith) (λ i d inside. each (suc i) d (omega arith)))
-
-pub all_onward : {G : Type 0} (old new : List (WorkerThread G)) → HaveRun old new → AllZip Continues (workers_of old) (workers_of new)
-all_onward old new run = all_onward_of old new run.long run.each
+-- what stands before the rest
+pub taken_whole : {A : Type 0} (n : ℕ) (all rest : List A) → n ≡ length all → take n (all ++ rest) ≡ all
+taken_whole n all rest is = rw is (take-append_seam all rest)
 
 -- one more thread, in front of the workers that are left
-pub one_more : {G : Type 0} (worker_threads : List (WorkerThread G)) (worker_thread : WorkerThread G) (left : List Worker) → workers_of (worker_threads ++ worker_thread ∷ []) ++ left ≡ workers_of worker_threads ++ worker_thread.worker ∷ left
-one_more [] worker_thread left = refl
-one_more (first ∷ worker_threads) worker_thread left = ap (λ (list : List Worker). first.worker ∷ list) (one_more worker_threads worker_thread left)
+pub one_more_worker : {G : Type 0} (worker_threads : List (WorkerThread G)) (worker_thread : WorkerThread G) (left : List Worker) →
+    workers_of (worker_threads ++ worker_thread ∷ []) ++ left ≡ workers_of worker_threads ++ worker_thread.worker ∷ left
+one_more_worker [] worker_thread left = refl
+one_more_worker (first ∷ worker_threads) worker_thread left = ap (λ (list : List Worker). first.worker ∷ list) (one_more_worker worker_threads worker_thread left)
 
--- what came back has the threads' workers
-pub returned_workers : {G : Type 0} (worker_threads : List (WorkerThread G)) (back : List Returned) → AllZip IsReturned worker_threads back → map worker_of back ≡ workers_of worker_threads
-returned_workers [] [] are = refl
-returned_workers [] (z ∷ zs) are = absurd are
-returned_workers (y ∷ ys) [] are = absurd are
-returned_workers (y ∷ ys) (z ∷ zs) are =
-    ap (λ (worker : Worker). worker ∷ map worker_of zs) are.0.worker ∙ ap (λ (list : List Worker). y.worker ∷ list) (returned_workers ys zs are.1)
+-- one more thread, in front of the event loops that are left
+pub one_more_loop : {G : Type 0} (worker_threads : List (WorkerThread G)) (worker_thread : WorkerThread G) (left : List EventLoop) →
+    event_loops_of (worker_threads ++ worker_thread ∷ []) ++ left ≡ event_loops_of worker_threads ++ worker_thread.event_loop ∷ left
+one_more_loop [] worker_thread left = refl
+one_more_loop (first ∷ worker_threads) worker_thread left = ap (λ (list : List EventLoop). first.event_loop ∷ list) (one_more_loop worker_threads worker_thread left)
 
 -- a worker that came back of a loop that has ended well
-served_by : {G : Type 0} (old new : WorkerThread G) (back : Returned) → HasRun old new → IsUnused old.event_loop.ready.connections → IsReturned new back → HasServed old.worker back
-served_by {G} old new back run fresh is =
-    let worked : HasWorked old new = subst (λ (outcome : Result (Unit {0}) Halt). IfOk outcome (λ _. HasWorked old new)) is.well run.worked in
-    record {
-      onward = subst (Continues old.worker) (sym is.worker) run.onward;
-      first = old.event_loop.ready.connections;
-      last = new.event_loop.ready.connections;
-      new = fresh;
-      works = subst (λ (worker : Worker). Works (standing old.worker old.event_loop.ready.connections) (standing worker new.event_loop.ready.connections)) (sym is.worker) worked.works;
-      over = worked.over;
-      ended = sym is.ended;
-    }
+served_at : {G : Type 0} (old new : WorkerThread G) (back : Returned) → HasRun old new → IsReturned new back → HasServedAt old.worker old.event_loop back new.event_loop
+served_at {G} old new back run is = record {
+  worked = subst (λ (worker : Worker). HasWorked (standing_at old.worker old.event_loop) (standing_at worker new.event_loop)) (sym is.worker)
+      (subst (λ (outcome : Result (Unit {0}) Halt). IfOk outcome (λ _. HasWorked (standing_at old.worker old.event_loop) (standing_at new.worker new.event_loop))) is.well run);
+  ended = is.ended;
+}
 
-all_served_of : {G : Type 0} (old new : List (WorkerThread G)) (back : List Returned) → length new ≡ length old →
-    ((i : ℕ) (d : WorkerThread G) → i < length old → HasRun (slice_index_or old i d) (slice_index_or new i d)) →
-    All (λ (worker_thread : WorkerThread G). IsUnused worker_thread.event_loop.ready.connections) old → AllZip IsReturned new back → AllZip HasServed (workers_of old) back
-all_served_of [] [] [] long each fresh are = tt
-all_served_of [] [] (z ∷ zs) long each fresh are = absurd are
-all_served_of [] (y ∷ ys) back long each fresh are = let no : ⊥ = omega arith in absurd no
-all_served_of (x ∷ xs) [] back long each fresh are = let no : ⊥ = omega arith in absurd no
-all_served_of (x ∷ xs) (y ∷ ys) [] long each fresh are = absurd are
-all_served_of (x ∷ xs) (y ∷ ys) (z ∷ zs) long each fresh are = (
-  served_by x y z (each 0 x (omega arith)) (fresh 0 x (omega arith)) are.0,
-  all_served_of xs ys zs (omega arith) (λ i d inside. each (suc i) d (omega arith)) (λ i d inside. fresh (suc i) d (omega arith)) are.1,
+all_served_at : {G : Type 0} (old new : List (WorkerThread G)) (back : List Returned) → length new ≡ length old →
+    ((i : ℕ) (d : WorkerThread G) → i < length old → HasRun (slice_index_or old i d) (slice_index_or new i d)) → AllZip IsReturned new back →
+    HaveServedAt (workers_of old) (event_loops_of old) back (event_loops_of new)
+all_served_at [] [] [] long each are = no_more
+all_served_at [] [] (z ∷ zs) long each are = absurd are
+all_served_at [] (y ∷ ys) back long each are = let no : ⊥ = omega arith in absurd no
+all_served_at (x ∷ xs) [] back long each are = let no : ⊥ = omega arith in absurd no
+all_served_at (x ∷ xs) (y ∷ ys) [] long each are = absurd are
+all_served_at (x ∷ xs) (y ∷ ys) (z ∷ zs) long each are =
+    one_more x.worker x.event_loop z y.event_loop (workers_of xs) (event_loops_of xs) zs (event_loops_of ys)
+    (served_at x y z (each 0 x (omega arith)) are.0)
+    (all_served_at xs ys zs (omega arith) (λ i d inside. each (suc i) d (omega arith)) are.1)
+
+pub have_served_at : {G : Type 0} (old new : List (WorkerThread G)) (back : List Returned) → HaveRun old new → AllZip IsReturned new back →
+    HaveServedAt (workers_of old) (event_loops_of old) back (event_loops_of new)
+have_served_at old new back run = all_served_at old new back run.long run.each
+
+-- a worker that came back of a new event loop
+pub served_anew : (tenants : ℕ) (workers : List Worker) (before : List EventLoop) (back : List Returned) (after : List EventLoop) →
+    HaveServedAt workers before back after → All (IsNewLoop tenants) before → AllZip HasServed workers back
+served_anew tenants _ _ _ _ no_more new = tt
+served_anew tenants _ _ _ _ (one_more worker before back after workers befores backs afters served more) new = (
+  record {
+    onward = works_onward (standing_at worker before) (standing_at back.worker after) served.worked.works;
+    first = before.ready.connections;
+    last = after.ready.connections;
+    new = (All-head (IsNewLoop tenants) before befores new).1;
+    works = served.worked.works;
+    over = served.worked.over;
+    ended = sym served.ended;
+  },
+  served_anew tenants workers befores backs afters more (All-tail (IsNewLoop tenants) before befores new),
 )
 
-pub all_served : {G : Type 0} (old new : List (WorkerThread G)) (back : List Returned) → HaveRun old new →
-    All (λ (worker_thread : WorkerThread G). IsUnused worker_thread.event_loop.ready.connections) old → AllZip IsReturned new back → AllZip HasServed (workers_of old) back
-all_served old new back run = all_served_of old new back run.long run.each
+pub all_onward : (workers : List Worker) (back : List Returned) → AllZip HasServed workers back → AllZip Continues workers (map worker_of back)
+all_onward [] [] all = tt
+all_onward [] (back ∷ backs) all = absurd all
+all_onward (worker ∷ workers) [] all = absurd all
+all_onward (worker ∷ workers) (back ∷ backs) all = (all.0.onward, all_onward workers backs all.1)
 
 -- workers that have gone onward are of the log that they were of
 pub all_of : (log : Log) (old new : List Worker) → AllZip Continues old new → All (λ (worker : Worker). worker.log.now ≡ log) old → All (λ (worker : Worker). worker.log.now ≡ log) new

@@ -1,6 +1,7 @@
--- What a turn leaves of its connection, turns behind turns, and a connection that has ended goes.
-use Rattle.std.proofs.Common.{◌≡◌, ◌⊎◌, ℕ, ◌+◌, ◌≤◌, length, ap, arith, Bool, true, false, Option, Some, Result, Ok, Err, IsSome, ⊎_elim, inl, inr, refl, sym, subst, ◌∙◌}
-use Rattle.slab.specs.Slab.{Updates, with_value}
+-- What a turn leaves of its connection, turns behind turns, and whether a connection stays.
+use Rattle.std.proofs.Common.{◌≡◌, ◌≢◌, ◌⊎◌, ℕ, ◌+◌, ◌≤◌, ◌∷◌, length, ap, arith, Bool, true, false, Option, Some, None, Result, Ok, Err, IsSome, ⊎_elim, inl, inr, refl, sym, subst, ◌∙◌}
+use Rattle.std.proofs.lemmas.Option.{same_Some}
+use Rattle.slab.specs.Slab.{Updates, get, with_value}
 use Rattle.slab.proofs.SlabLemmas.{Updates-with_value}
 use Rattle.mc_conn.specs.declared.conn.Conn.{Conn}
 use Rattle.mc_conn.specs.declared.conn.State.{State}
@@ -11,10 +12,11 @@ use Rattle.mc_conn.proofs.Endings.{stops_later}
 use Rattle.mc_conn.proofs.Takings.{takes_self, takes_trans}
 use Rattle.mc_model.specs.declared.fault.Fault.{Fault}
 use Rattle.mc_stream.specs.Stream.{Inflow, Streams}
+use Rattle.uc_worker.specs.Going.{Continues}
 use Rattle.uc_worker.specs.declared.worker.Worker.{Worker}
 use Rattle.mc_net.specs.declared.connections.Connection.{Connection}
 use Rattle.mc_net.specs.declared.connections.Connections.{Connections}
-use Rattle.mc_net.specs.Serving.{HasEnded, HasTurns, TakesOrStops, ChangesAt, Stands, Stays, connection_at}
+use Rattle.mc_net.specs.Serving.{Becomes, ChangesAt, HasEnded, IsServedLater, Stands, Stays, TakesOrStops, connection_at}
 
 true_or_false : (is : Bool) → (is ≡ true) ⊎ (is ≡ false)
 true_or_false true = inl refl
@@ -74,6 +76,12 @@ still_going a b state busy stands served =
     (λ (stopped : (fault : Fault) × Stops a b fault). absurd (going (inl stopped.1.shut)))
     served
 
+pub served_onward : (a b : Scene) → TakesOrStops a b → Continues a.worker b.worker
+served_onward a b =
+    ⊎_elim
+    (λ (takes : Takes a b). takes.taken.onward)
+    (λ (stopped : (fault : Fault) × Stops a b fault). stopped.1.breaks.taken.onward)
+
 -- turns behind turns without a fault
 pub served_later : (a b c : Scene) → Takes a b → TakesOrStops b c → TakesOrStops a c
 served_later a b c one two =
@@ -104,16 +112,34 @@ once_few before after once =
     (λ pull. omega (arith, ap length pull.1))
     once
 
--- a connection had its turns in its place
-module _ (Later : Connection → Connection → State → Type 0) (Still : Type 0) (state : State) where
-  pub serves_in_place : (before after : Connections) (key : ℕ) (old new : Connection) → connection_at before key ≡ Some old →
-      after.by_key ≡ with_value before.by_key key new → after.tenants ≡ before.tenants → Later old new state → ChangesAt (HasTurns Later Still state) before after key
-  serves_in_place before after key old new there is tenants later =
-      let updates : Updates before.by_key after.by_key key (Some new) =
-      subst (λ slab. Updates before.by_key slab key (Some new)) (sym is) (Updates-with_value before.by_key key new (subst IsSome (sym there) refl)) in
+-- a connection was served under its key, and stays there or goes
+module _ (worker after_worker : Worker) (state : State) (before after : Connections) (key : ℕ) (old new : Connection) (there : connection_at before key ≡ Some old)
+    (later : IsServedLater worker after_worker old new state) (tenants : after.tenants ≡ before.tenants) where
+  abbrev pub HasBecome : Option Connection → Option Connection → Type 0
+  HasBecome = Becomes (IsServedLater worker after_worker) (after_worker ≡ worker) state before.ended.connections after.ended.connections
+
+  in_place : Updates before.by_key (with_value before.by_key key new) key (Some new)
+  in_place = Updates-with_value before.by_key key new (subst IsSome (sym there) refl)
+
+  pub stays_in_place : state ≢ Closed → after.by_key ≡ with_value before.by_key key new → after.ended.connections ≡ before.ended.connections → ChangesAt HasBecome before after key
+  stays_in_place isnt is ended =
+      let updates : Updates before.by_key after.by_key key (Some new) = subst (λ slab. Updates before.by_key slab key (Some new)) (sym is) in_place in
       record {
-        becomes = subst (λ (slot : Option Connection). HasTurns Later Still state slot (connection_at after key)) (sym there)
-            (subst (λ (slot : Option Connection). HasTurns Later Still state (Some old) slot) (sym updates.changed) later);
+        becomes = subst (λ (slot : Option Connection). HasBecome slot (connection_at after key)) (sym there)
+            (subst (HasBecome (Some old)) (sym updates.changed) (later, isnt, ended));
         others = updates.others;
+        tenants = tenants;
+      }
+
+  pub goes_closed : (last : Connection) → state ≡ Closed → Some last ≡ get (with_value before.by_key key new) key → Updates (with_value before.by_key key new) after.by_key key None →
+      after.ended.connections ≡ last ∷ before.ended.connections → ChangesAt HasBecome before after key
+  goes_closed last closed had gone ended =
+      let is : new ≡ last = sym (same_Some last new (had ∙ in_place.changed)) in
+      let ends : IsServedLater worker after_worker old last Closed = subst (λ (one : Connection). IsServedLater worker after_worker old one Closed) is
+      (subst (IsServedLater worker after_worker old new) closed later) in
+      record {
+        becomes = subst (λ (slot : Option Connection). HasBecome slot (connection_at after key)) (sym there)
+            (subst (HasBecome (Some old)) (sym gone.changed) (last, ended, ends, closed));
+        others = λ other not. gone.others other not ∙ in_place.others other not;
         tenants = tenants;
       }

@@ -1,23 +1,24 @@
 -- Work behind work, one connection at a time.
-use Rattle.std.proofs.Common.{◌≡◌, ℕ, length, Option, Some, None, IfSome, IfNone, ap, inl, inr, refl, sym, subst}
+use Rattle.std.proofs.Common.{◌≡◌, ◌⊎◌, ℕ, length, Option, Some, None, IfSome, IfNone, ap, inl, inr, refl, sym, subst, ◌∙◌, ⊎_elim}
 use Rattle.uc_worker.specs.Going.{Continues}
+use Rattle.uc_worker.proofs.Going.{continues_self, continues_through}
 use Rattle.mc_conn.specs.declared.conn.State.{State}
-use Rattle.mc_net.specs.Serving.{Admits, Becomes, IsServedLater, ChangesAt}
-use Rattle.mc_net.specs.Working.{Standing, Works, begins, goes_on, standing}
+use Rattle.mc_net.specs.Serving.{Admits, Becomes, IsServedLater, connection_at}
+use Rattle.mc_net.specs.Working.{ServesAt, ServesOne, Standing, TakesIn, Works, begins, goes_on, standing}
 use Rattle.mc_net.specs.declared.listener.Arrival.{Arrival}
+use Rattle.mc_net.specs.declared.connections.Connection.{Connection}
 use Rattle.mc_net.specs.declared.connections.Connections.{Connections}
 use Rattle.uc_worker.specs.declared.worker.Worker.{Worker}
 use Rattle.uc_worker.specs.Worker.{tenants_of}
+use Rattle.mc_net.proofs.Servings.{served_onward}
 
 pub works_trans : (a b c : Standing) → Works a b → Works b c → Works a c
 works_trans a b _ one begins = one
 works_trans a b _ one (goes_on between last two step) = goes_on between last (works_trans a b between one two) step
 
 -- the connection under a key was served, behind other work
-pub works_serving : (first : Standing) (worker after_worker : Worker) (connections after : Connections) (key : ℕ) (state : State) → Works first (standing worker connections) →
-    ChangesAt (Becomes (IsServedLater worker after_worker) (after_worker ≡ worker) state connections.ended.connections after.ended.connections) connections after key → Works first (standing after_worker after)
-works_serving first worker after_worker connections after key state works serves =
-    goes_on (standing worker connections) (standing after_worker after) works (inr (record { key = key; state = state; serves = serves }))
+pub works_serving : (first before after : Standing) (key : ℕ) (state : State) → Works first before → ServesAt key state before after → Works first after
+works_serving first before after key state works serves = goes_on before after works (inr (record { key = key; state = state; serves = serves }))
 
 -- an arrival was taken in or not, behind other work
 pub works_admitting : (first : Standing) (worker : Worker) (connections after : Connections) (arrival : Arrival _) (result : Option ℕ) → Works first (standing worker connections) →
@@ -27,6 +28,33 @@ works_admitting first worker connections after arrival None works admits same =
 works_admitting first worker connections after arrival (Some key) works admits same =
     goes_on (standing worker connections) (standing worker after) works (inl (record { worker = refl; arrival = arrival; key = key; admits = admits }))
 
--- the log has as many tenants as ever
-pub same_tenants : (before after : Worker) → Continues before after → length (tenants_of before) ≡ length (tenants_of after)
-same_tenants before after onward = sym (ap (λ log. length log.now.settings.tenants) onward.log)
+-- a worker goes on while it serves
+becomes_onward : (before after : Standing) (state : State) (old new : Option Connection) →
+    Becomes (IsServedLater before.worker after.worker) (after.worker ≡ before.worker) state before.connections.ended.connections after.connections.ended.connections old new →
+    Continues before.worker after.worker
+becomes_onward before after state None new (gone, still, idle, ended) = subst (Continues before.worker) (sym still) (continues_self before.worker)
+becomes_onward before after state (Some old) (Some new) (later, isnt, ended) = served_onward _ _ later.served
+becomes_onward before after state (Some old) None (last, ended, later, closed) = served_onward _ _ later.served
+
+step_onward : (before after : Standing) → TakesIn before after ⊎ ServesOne before after → Continues before.worker after.worker
+step_onward before after =
+    ⊎_elim
+    (λ (taken : TakesIn before after). subst (Continues before.worker) (sym taken.worker) (continues_self before.worker))
+    (λ (one : ServesOne before after).
+    becomes_onward before after one.state (connection_at before.connections one.key) (connection_at after.connections one.key) one.serves.becomes)
+
+pub works_onward : (first last : Standing) → Works first last → Continues first.worker last.worker
+works_onward first _ begins = continues_self first.worker
+works_onward first _ (goes_on between last works step) =
+    continues_through first.worker between.worker last.worker (works_onward first between works) (step_onward between last step)
+
+works_tenants : (first last : Standing) → Works first last → last.connections.tenants ≡ first.connections.tenants
+works_tenants first _ begins = refl
+works_tenants first _ (goes_on between last works step) =
+    ⊎_elim (λ (taken : TakesIn between last). taken.admits.tenants) (λ (one : ServesOne between last). one.serves.tenants) step ∙ works_tenants first between works
+
+-- the connections are for its log's tenants still
+pub works_known : (first last : Standing) → Works first last → first.connections.tenants ≡ length (tenants_of first.worker) →
+    last.connections.tenants ≡ length (tenants_of last.worker)
+works_known first last works known =
+    works_tenants first last works ∙ (known ∙ sym (ap (λ log. length log.now.settings.tenants) (works_onward first last works).log))

@@ -1,8 +1,9 @@
 -- What the loops leave; this project's profile.
-use Rattle.std.specs.Prelude.{◌≡◌, ◌<◌, ℕ, List, length, map, slice_index_or, IfOk, Ok}
-use Rattle.uc_worker.specs.Going.{Continues}
+use Rattle.std.specs.Prelude.{◌≡◌, ◌<◌, ℕ, List, [], ◌∷◌, All, length, map, slice_index_or, IfOk, Ok}
+use Rattle.uc_log.specs.declared.log.Log.{Log}
+use Rattle.mc_net.specs.declared.event_loop.EventLoop.{EventLoop}
 use Rattle.mc_net.specs.declared.listener.TenantListener.{TenantListener}
-use Rattle.mc_net.specs.Working.{IsEmpty, Works, standing}
+use Rattle.mc_net.specs.Working.{HasWorked, IsNewFor, standing_at}
 use Rattle.mc_net.specs.declared.worker_thread.Returned.{Returned}
 use Rattle.mc_net.specs.declared.worker_thread.WorkerThread.{WorkerThread}
 use Rattle.uc_worker.specs.declared.worker.Worker.{Worker}
@@ -15,19 +16,32 @@ listeners_of listeners = map (λ listener. (listener.tenant, listener.socket)) l
 abbrev pub workers_of : {G : Type 0} → List (WorkerThread G) → List Worker
 workers_of worker_threads = map (λ worker_thread. worker_thread.worker) worker_threads
 
+-- the event loop of each thread
+abbrev pub event_loops_of : {G : Type 0} → List (WorkerThread G) → List EventLoop
+event_loops_of worker_threads = map (λ worker_thread. worker_thread.event_loop) worker_threads
+
 -- the worker that came back
 abbrev pub worker_of : Returned → Worker
 worker_of back = back.worker
 
--- a worker's loop has worked until no connection was left
-pub record HasWorked {G : Type 0} (old new : WorkerThread G) : Type 0 where
-  pub works : Works (standing old.worker old.event_loop.ready.connections) (standing new.worker new.event_loop.ready.connections)
-  pub over : IsEmpty new.event_loop.ready.connections
+-- the event loop is for a log of so many tenants
+abbrev pub IsFor : ℕ → EventLoop → Type 0
+IsFor tenants event_loop = event_loop.ready.connections.tenants ≡ tenants
 
--- a worker's thread has the worker that it had, later on; and where its loop has ended well, it has worked
-pub record HasRun {G : Type 0} (old new : WorkerThread G) : Type 0 where
-  pub onward : Continues old.worker new.worker
-  pub worked : IfOk new.outcome (λ _. HasWorked old new)
+-- and nothing was served at it yet
+abbrev pub IsNewLoop : ℕ → EventLoop → Type 0
+IsNewLoop tenants event_loop = IsNewFor tenants event_loop.ready.connections
+
+-- each worker is of the log, and there are a gate and an event loop for it, for the tenants of that log
+pub record FitTogether {G : Type 0} (log : Log) (workers : List Worker) (gates : List G) (event_loops : List EventLoop) : Type 0 where
+  pub logs : All (λ (worker : Worker). worker.log.now ≡ log) workers
+  pub a_gate_each : length gates ≡ length workers
+  pub a_loop_each : length event_loops ≡ length workers
+  pub tenants : All (IsFor (length log.settings.tenants)) event_loops
+
+-- where a thread's loop has ended well, its worker has worked until no connection was left
+abbrev pub HasRun : {G : Type 0} → WorkerThread G → WorkerThread G → Type 0
+HasRun old new = IfOk new.outcome (λ _. HasWorked (standing_at old.worker old.event_loop) (standing_at new.worker new.event_loop))
 
 -- so of each
 pub record HaveRun {G : Type 0} (old new : List (WorkerThread G)) : Type 0 where
@@ -39,3 +53,15 @@ pub record IsReturned {G : Type 0} (worker_thread : WorkerThread G) (back : Retu
   pub worker : back.worker ≡ worker_thread.worker
   pub ended : back.ended ≡ worker_thread.event_loop.ready.connections.ended
   pub well : worker_thread.outcome ≡ Ok tt
+
+-- a worker came back of an event loop that it had served until no connection was left, with those that have ended there
+pub record HasServedAt (worker : Worker) (before : EventLoop) (back : Returned) (after : EventLoop) : Type 0 where
+  pub worked : HasWorked (standing_at worker before) (standing_at back.worker after)
+  pub ended : back.ended ≡ after.ready.connections.ended
+
+-- so each, at the event loop of its place
+pub data HaveServedAt : List Worker → List EventLoop → List Returned → List EventLoop → Type 0 where
+  no_more : HaveServedAt [] [] [] []
+  one_more : (worker : Worker) (before : EventLoop) (back : Returned) (after : EventLoop) (workers : List Worker) (befores : List EventLoop)
+      (backs : List Returned) (afters : List EventLoop) → HasServedAt worker before back after → HaveServedAt workers befores backs afters →
+      HaveServedAt (worker ∷ workers) (before ∷ befores) (back ∷ backs) (after ∷ afters)

@@ -45,6 +45,7 @@ pub record Admits (before after : Connections) (arrival : Arrival _) (key : ℕ)
   pub fresh : IsNewConnection connection arrival
   pub updates : Updates before.by_key after.by_key key (Some connection)
   pub ended : after.ended ≡ before.ended
+  pub tenants : after.tenants ≡ before.tenants
 
 -- A connection was served over its streams: bytes came, the requests that they read as were taken, and what was sent and what is queued
 -- then is what was queued and what is owed for them; or a fault stopped this, and has closed the connection for good.
@@ -81,12 +82,6 @@ pub record IsServedLater (before after : Worker) (old new : Connection) (state :
   pub served : TakesOrStops (scene_of old before) (scene_of new after)
   pub stands : Stands (scene_of old before) (scene_of new after) state
   pub few : HasAtMost TURNS old.received.events new.received.events
-
--- where something is, it had its turns, after which it is the same later on; where nothing is, nothing was done
-abbrev pub HasTurns : {C : Type 0} → (C → C → State → Type 0) → Type 0 → State → Option C → Option C → Type 0
-HasTurns Later Still state None new = (new ≡ None) × Still × (state ≡ Idle)
-HasTurns Later Still state (Some old) None = ⊥
-HasTurns Later Still state (Some old) (Some new) = Later old new state
 
 -- What was served stays, and stands as the state says; or it has ended, and is the latest of those that have; where nothing is, nothing was done.
 -- The last two lists are those that had ended before, and that have now.

@@ -7,6 +7,7 @@ use Rattle.mc_net.specs.Serving.{Admits, Becomes, IsServedLater, ChangesAt}
 use Rattle.mc_net.specs.declared.listener.Arrival.{Arrival}
 use Rattle.mc_net.specs.declared.worker_thread.Returned.{Returned}
 use Rattle.mc_net.specs.declared.connections.Connections.{Connections}
+use Rattle.mc_net.specs.declared.event_loop.EventLoop.{EventLoop}
 use Rattle.uc_worker.specs.declared.worker.Worker.{Worker}
 
 -- a worker and its connections
@@ -17,6 +18,10 @@ pub record Standing : Type 0 where
 abbrev pub standing : Worker → Connections → Standing
 standing worker connections = record { worker = worker; connections = connections }
 
+-- a worker with the connections of the event loop that it serves
+abbrev pub standing_at : Worker → EventLoop → Standing
+standing_at worker event_loop = standing worker event_loop.ready.connections
+
 -- an arrival was taken in, which is nothing to the worker
 pub record TakesIn (before after : Standing) : Type 0 where
   pub worker : after.worker ≡ before.worker
@@ -24,13 +29,17 @@ pub record TakesIn (before after : Standing) : Type 0 where
   pub key : ℕ
   pub admits : Admits before.connections after.connections arrival key
 
+-- the connection under the key was served, if there was one, and stands as the state says
+abbrev pub ServesAt : ℕ → State → Standing → Standing → Type 0
+ServesAt key state before after =
+    ChangesAt (Becomes (IsServedLater before.worker after.worker) (after.worker ≡ before.worker) state before.connections.ended.connections after.connections.ended.connections)
+    before.connections after.connections key
+
 -- the connection under a key was served, if there was one
 pub record ServesOne (before after : Standing) : Type 0 where
   pub key : ℕ
   pub state : State
-  pub serves :
-      ChangesAt (Becomes (IsServedLater before.worker after.worker) (after.worker ≡ before.worker) state before.connections.ended.connections after.connections.ended.connections)
-      before.connections after.connections key
+  pub serves : ServesAt key state before after
 
 -- Arrivals were taken in and connections served, one after another. What stands last and what has ended are actual, and so are their
 -- tapes: each is what a first connection, or an arrival, became by being served.
@@ -45,6 +54,15 @@ IsEmpty connections = (slab_len connections.by_key == 0) ≡ true
 -- and none has ended
 abbrev pub IsUnused : Connections → Type 0
 IsUnused connections = IsEmpty connections × (connections.ended.connections ≡ [])
+
+-- and each is to be of one of so many tenants
+abbrev pub IsNewFor : ℕ → Connections → Type 0
+IsNewFor tenants connections = (connections.tenants ≡ tenants) × IsUnused connections
+
+-- a loop has worked until no connection was left
+pub record HasWorked (before after : Standing) : Type 0 where
+  pub works : Works before after
+  pub over : IsEmpty after.connections
 
 -- a worker came back later on, behind connections that it had taken in and served until each had ended: those on what it brought back
 pub record HasServed (worker : Worker) (back : Returned) : Type 0 where

@@ -1,10 +1,8 @@
 //! The acceptor's loop.
-ghost use Rattle.std.specs.Prelude.{◌<◌, vec_len};
-
 use crate::halt::Halt;
 use crate::handing::{Accepted, accept_one};
 use crate::listener::TenantListener;
-use crate::mailbox::{Shared, Signal};
+use crate::mailbox::{Mailboxes, Signal};
 use mio::net::TcpListener;
 use mio::{Events, Interest, Poll, Token};
 use std::alloc::Global;
@@ -38,7 +36,6 @@ pub(crate) struct Acceptor {
     is_troubled: bool,
     // More may wait at some listener, which is to be asked again at once.
     has_more: bool,
-    pub(crate) outcome: Result<(), Halt>,
 }
 
 impl Acceptor {
@@ -68,7 +65,6 @@ impl Acceptor {
             rounds: 0,
             is_troubled: false,
             has_more: false,
-            outcome: Ok(()),
         })
     }
 
@@ -81,10 +77,8 @@ impl Acceptor {
         &mut self,
         rt: &R,
         number: usize,
-        shared: &Shared,
-    ) -> Result<(), Halt>
-        requires { 0 < vec_len shared.now.mailboxes }
-    {
+        mailboxes: &Mailboxes,
+    ) -> Result<(), Halt> {
         for _ in 0..ACCEPTS {
             if self.is_done() {
                 return Ok(());
@@ -92,7 +86,7 @@ impl Acceptor {
             let Some(open) = self.listeners.get(number) else {
                 return Ok(());
             };
-            match accept_one(rt, open, &shared.mailboxes, self.done)? {
+            match accept_one(rt, open, &mailboxes.of_workers, self.done)? {
                 Accepted::One => self.done = self.done.wrapping_add(1),
                 Accepted::None => return Ok(()),
                 Accepted::Failed => {
@@ -115,9 +109,7 @@ impl Acceptor {
     }
 
     /// Polls once, and accepts at each listener of which an event tells, or at all where one is to be asked again.
-    fn poll_and_accept<R: Wait>(&mut self, rt: &R, shared: &Shared) -> Result<(), Halt>
-        requires { 0 < vec_len shared.now.mailboxes }
-    {
+    fn poll_and_accept<R: Wait>(&mut self, rt: &R, mailboxes: &Mailboxes) -> Result<(), Halt> {
         let timeout = self.timeout();
         if self.poll.poll(&mut self.events, timeout).is_err() {
             return Err(Halt::Poll);
@@ -135,7 +127,7 @@ impl Acceptor {
                     .iter()
                     .any(|event| event.token() == Token(number))
             {
-                self.accept_waiting(rt, number, shared)?;
+                self.accept_waiting(rt, number, mailboxes)?;
             }
         }
         Ok(())
@@ -143,12 +135,12 @@ impl Acceptor {
 
     /// Waits until every worker's loop has begun, so that no stream is handed to a thread that never runs. Where one doesn't in good
     /// time, as where the system refuses its thread: `Memory`. An event that comes meanwhile is not lost: all listeners are asked first.
-    fn await_workers<R: Wait>(&mut self, rt: &R, shared: &Shared) -> Result<(), Halt> {
+    fn await_workers<R: Wait>(&mut self, rt: &R, mailboxes: &Mailboxes) -> Result<(), Halt> {
         let pause = Duration::from_millis(1);
         self.has_more = true;
         let mut left = POLLS_TO_BEGIN;
         for _ in rt.forever() {
-            if shared.has_begun(rt) {
+            if mailboxes.has_begun(rt) {
                 return Ok(());
             }
             if left == 0 {
@@ -164,17 +156,25 @@ impl Acceptor {
         unreachable!()
     }
 
-    /// Accepts until so many streams were handed over, or another loop has failed. Nothing is accepted before all workers are there.
-    pub(crate) fn run<R: Wait>(&mut self, rt: &R, shared: &Shared) -> Result<(), Halt>
-        requires { 0 < vec_len shared.now.mailboxes }
-    {
-        self.await_workers(rt, shared)?;
+    /// Accepts until so many streams were handed over, or another loop has failed, and tells the workers that no more come. Nothing is
+    /// accepted before all workers are there.
+    fn accept_all<R: Wait>(&mut self, rt: &R, mailboxes: &Mailboxes) -> Result<(), Halt> {
+        self.await_workers(rt, mailboxes)?;
         for _ in rt.forever() {
-            if self.is_done() || shared.of_acceptor.signal(rt) == Signal::Halted {
-                return Ok(());
+            if self.is_done() || mailboxes.of_acceptor.signal(rt) == Signal::Halted {
+                return mailboxes.tell_workers(rt, Signal::Closed);
             }
-            self.poll_and_accept(rt, shared)?;
+            self.poll_and_accept(rt, mailboxes)?;
         }
         unreachable!()
+    }
+
+    /// The acceptor's loop. Where it fails, all others are told to end.
+    pub(crate) fn run<R: Wait>(&mut self, rt: &R, mailboxes: &Mailboxes) -> Result<(), Halt> {
+        let outcome = self.accept_all(rt, mailboxes);
+        if outcome.is_err() {
+            mailboxes.halt(rt);
+        }
+        outcome
     }
 }

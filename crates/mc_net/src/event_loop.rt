@@ -1,7 +1,6 @@
 //! A worker's loop.
 ghost use Rattle.std.specs.Prelude.{◌≡◌, length, IfOk};
-ghost use Rattle.uc_worker.specs.Going.{Continues};
-ghost use Rattle.mc_net.specs.Working.{IsEmpty, IsUnused, Works, standing};
+ghost use Rattle.mc_net.specs.Working.{HasWorked, IsNewFor, Works, standing_at};
 ghost use Rattle.uc_worker.specs.Worker.{tenants_of};
 ghost use Rattle.uc_worker.specs.declared.worker.Worker.{Worker};
 
@@ -31,11 +30,19 @@ pub(crate) struct EventLoop {
     alloc: Global,
 }
 
+/// Waits for events, or only looks for them where it isn't to wait.
+fn poll_events(poll: &mut Poll, events: &mut Events, waits: bool) -> Result<(), Halt> {
+    let timeout = if waits { None } else { Some(Duration::ZERO) };
+    match poll.poll(events, timeout) {
+        Ok(()) => Ok(()),
+        Err(_) => Err(Halt::Poll),
+    }
+}
+
 impl EventLoop {
     /// An event loop with no connection, for a log of so many tenants. Where memory runs out: `Memory`.
     pub(crate) fn new(alloc: Global, poll: Poll, tenants: usize) -> Result<EventLoop, Halt>
-        ensures tenants { IfOk result (λ event_loop. event_loop.ready.connections.tenants ≡ tenants) }
-        ensures new { IfOk result (λ event_loop. IsUnused event_loop.ready.connections) }
+        ensures { IfOk result (λ event_loop. IsNewFor tenants event_loop.ready.connections) }
     {
         let events = Events::with_capacity(alloc, EVENTS)?;
         let ready = ReadyQueue::new(alloc, tenants)?;
@@ -49,8 +56,7 @@ impl EventLoop {
 
     /// Takes in what the acceptor left, but no more than so many. Answers the signal that stands behind them, and none where more may be left.
     fn admit_arrivals<R: Wait>(&mut self, rt: &R, mailbox: &Mailbox) -> Option<Signal>
-        ensures works { (worker : Worker) → Works (standing worker self.old.ready.connections) (standing worker self.new.ready.connections) }
-        ensures tenants { self.new.ready.connections.tenants ≡ self.old.ready.connections.tenants }
+        ensures { (worker : Worker) → Works (standing_at worker self.old) (standing_at worker self.new) }
     {
         for _ in 0..ARRIVALS {
             match mailbox.next(rt) {
@@ -64,31 +70,6 @@ impl EventLoop {
         None
     }
 
-    /// Polls, without a wait where the queue is to be looked at again, and serves whose turn it is then. Says whether the acceptor has woken
-    /// the worker.
-    fn poll_and_serve<G: Gate>(
-        &mut self,
-        worker: &mut Worker<'_>,
-        gate: &mut G,
-        buffer: &mut [u8; PULL_BYTES],
-        looks_again: bool,
-    ) -> Result<bool, Halt>
-        requires { self.old.ready.connections.tenants ≡ length (tenants_of worker.old) }
-        ensures works { Works (standing worker.old self.old.ready.connections) (standing worker.new self.new.ready.connections) }
-        ensures onward { Continues worker.old worker.new }
-        ensures tenants { self.new.ready.connections.tenants ≡ self.old.ready.connections.tenants }
-    {
-        let timeout = if !looks_again && self.ready.may_wait() {
-            None
-        } else {
-            Some(Duration::ZERO)
-        };
-        if self.poll.poll(&mut self.events, timeout).is_err() {
-            return Err(Halt::Poll);
-        }
-        self.ready.serve_round(worker, gate, buffer, &self.events)
-    }
-
     /// Serves what the acceptor leaves in the mailbox, until no more comes and every connection has ended. Where memory runs out: `Memory`;
     /// where a poll fails: `Poll`; where another loop has failed: `Elsewhere`, and the connections are closed.
     pub(crate) fn run<R: Wait, G: Gate>(
@@ -99,10 +80,9 @@ impl EventLoop {
         mailbox: &Mailbox,
     ) -> Result<(), Halt>
         requires { self.old.ready.connections.tenants ≡ length (tenants_of worker.old) }
-        ensures works { IfOk result (λ _. Works (standing worker.old self.old.ready.connections) (standing worker.new self.new.ready.connections)) }
-        ensures empty { IfOk result (λ _. IsEmpty self.new.ready.connections) }
-        ensures onward { Continues worker.old worker.new }
-        ensures tenants { self.new.ready.connections.tenants ≡ self.old.ready.connections.tenants }
+        ensures worked { IfOk result
+            (λ _. HasWorked (standing_at worker.old self.old) (standing_at worker.new self.new)) }
+        ensures tenants { self.new.ready.connections.tenants ≡ length (tenants_of worker.new) }
     {
         mailbox.raise(rt, Signal::Open);
         let mut buffer = [0u8; PULL_BYTES];
@@ -115,7 +95,12 @@ impl EventLoop {
             if signal == Some(Signal::Closed) && self.ready.connections.is_empty() {
                 return Ok(());
             }
-            let is_woken = self.poll_and_serve(worker, gate, &mut buffer, signal.is_none())?;
+            // More may be left in the mailbox, or somebody is to be served without an event.
+            let waits = signal.is_some() && self.ready.may_wait();
+            poll_events(&mut self.poll, &mut self.events, waits)?;
+            let is_woken = self
+                .ready
+                .serve_round(worker, gate, &mut buffer, &self.events)?;
             if is_woken || signal.is_none() {
                 signal = self.admit_arrivals(rt, mailbox);
             }

@@ -1,5 +1,5 @@
 //! Where the acceptor leaves streams for a worker, and how loops are told to end.
-ghost use Rattle.std.specs.Prelude.{⊤, OnOk};
+ghost use Rattle.std.specs.Prelude.{◌<◌, ⊤, OnOk, vec_len};
 
 use crate::halt::Halt;
 use crate::handing::Receive;
@@ -110,18 +110,19 @@ impl Receive<TcpStream> for Mailbox {
     }
 }
 
-/// All that the loops share.
+/// The mailboxes of all loops, of one worker at least.
 #[derive(Drop)]
-pub(crate) struct Shared {
+pub(crate) struct Mailboxes {
     /// One for each worker.
-    pub(crate) mailboxes: Vec<Mailbox>,
+    pub(crate) of_workers: Vec<Mailbox>,
     pub(crate) of_acceptor: Mailbox,
+    ghost some: { 0 < vec_len of_workers },
 }
 
-impl Shared {
+impl Mailboxes {
     /// Whether every worker's loop has begun, or is to end.
     pub(crate) fn has_begun<R: Wait>(&self, rt: &R) -> bool {
-        self.mailboxes
+        self.of_workers
             .iter()
             .all(|mailbox| mailbox.signal(rt) != Signal::Starting)
     }
@@ -130,14 +131,14 @@ impl Shared {
     pub(crate) fn halt<R: Wait>(&self, rt: &R) {
         // Where nothing wakes a loop, its next event does.
         let _ = self.of_acceptor.tell(rt, Signal::Halted);
-        for mailbox in &self.mailboxes {
+        for mailbox in &self.of_workers {
             let _ = mailbox.tell(rt, Signal::Halted);
         }
     }
 
     /// Tells all workers.
     pub(crate) fn tell_workers<R: Wait>(&self, rt: &R, signal: Signal) -> Result<(), Halt> {
-        for mailbox in &self.mailboxes {
+        for mailbox in &self.of_workers {
             mailbox.tell(rt, signal)?;
         }
         Ok(())

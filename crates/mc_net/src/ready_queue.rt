@@ -1,7 +1,6 @@
 //! Whose turn it is among the connections of a worker.
 ghost use Rattle.std.specs.Prelude.{◌≡◌, length, IfOk};
-ghost use Rattle.uc_worker.specs.Going.{Continues};
-ghost use Rattle.mc_net.specs.Working.{IsUnused, Works, standing};
+ghost use Rattle.mc_net.specs.Working.{IsNewFor, Works, standing};
 ghost use Rattle.uc_worker.specs.Worker.{tenants_of};
 
 use crate::connections::{Connections, MOST_CONNECTIONS};
@@ -32,8 +31,7 @@ fn stops_short(event: &Event) -> bool {
 impl ReadyQueue {
     /// No connection, for a log of so many tenants. Where memory runs out: `Memory`.
     pub(crate) fn new(alloc: Global, tenants: usize) -> Result<ReadyQueue, Halt>
-        ensures tenants { IfOk result (λ ready. ready.connections.tenants ≡ tenants) }
-        ensures new { IfOk result (λ ready. IsUnused ready.connections) }
+        ensures { IfOk result (λ ready. IsNewFor tenants ready.connections) }
     {
         let mut again = Vec::new(alloc);
         let mut next = Vec::new(alloc);
@@ -62,9 +60,8 @@ impl ReadyQueue {
         stops_short: bool,
     ) -> Result<(), Halt>
         requires { self.old.connections.tenants ≡ length (tenants_of worker.old) }
-        ensures works { Works (standing worker.old self.old.connections) (standing worker.new self.new.connections) }
-        ensures onward { Continues worker.old worker.new }
-        ensures tenants { self.new.connections.tenants ≡ self.old.connections.tenants }
+        ensures { Works (standing worker.old self.old.connections)
+            (standing worker.new self.new.connections) }
     {
         let State::Busy = self
             .connections
@@ -75,29 +72,9 @@ impl ReadyQueue {
         Ok(self.next.push(key)?)
     }
 
-    /// Serves those that are to be served again.
-    fn serve_again<G: Gate>(
-        &mut self,
-        worker: &mut Worker<'_>,
-        gate: &mut G,
-        buffer: &mut [u8; PULL_BYTES],
-    ) -> Result<(), Halt>
-        requires { self.old.connections.tenants ≡ length (tenants_of worker.old) }
-        ensures works { Works (standing worker.old self.old.connections) (standing worker.new self.new.connections) }
-        ensures onward { Continues worker.old worker.new }
-        ensures tenants { self.new.connections.tenants ≡ self.old.connections.tenants }
-    {
-        for i in 0..self.again.len() {
-            let Some(key) = self.again.get(i).copied() else {
-                break;
-            };
-            self.serve(worker, gate, buffer, key, false)?;
-        }
-        Ok(())
-    }
-
-    /// Serves those of which an event tells, but not those that are in the next round. Says whether the acceptor has woken the worker.
-    fn serve_events<G: Gate>(
+    /// A round: serves those that are to be served again, and those of which an event tells, but not those that are in the next round. Says
+    /// whether the acceptor has woken the worker. Where memory runs out: `Memory`.
+    pub(crate) fn serve_round<G: Gate>(
         &mut self,
         worker: &mut Worker<'_>,
         gate: &mut G,
@@ -105,10 +82,16 @@ impl ReadyQueue {
         events: &Events,
     ) -> Result<bool, Halt>
         requires { self.old.connections.tenants ≡ length (tenants_of worker.old) }
-        ensures works { Works (standing worker.old self.old.connections) (standing worker.new self.new.connections) }
-        ensures onward { Continues worker.old worker.new }
-        ensures tenants { self.new.connections.tenants ≡ self.old.connections.tenants }
+        ensures { Works (standing worker.old self.old.connections)
+            (standing worker.new self.new.connections) }
     {
+        self.next.clear();
+        for i in 0..self.again.len() {
+            let Some(key) = self.again.get(i).copied() else {
+                break;
+            };
+            self.serve(worker, gate, buffer, key, false)?;
+        }
         let mut is_woken = false;
         for event in events {
             let token = event.token();
@@ -118,26 +101,6 @@ impl ReadyQueue {
                 self.serve(worker, gate, buffer, token.0, stops_short(event))?;
             }
         }
-        Ok(is_woken)
-    }
-
-    /// A round: those that are to be served again, and those of which an event tells. Says whether the acceptor has woken the worker.
-    /// Where memory runs out: `Memory`.
-    pub(crate) fn serve_round<G: Gate>(
-        &mut self,
-        worker: &mut Worker<'_>,
-        gate: &mut G,
-        buffer: &mut [u8; PULL_BYTES],
-        events: &Events,
-    ) -> Result<bool, Halt>
-        requires { self.old.connections.tenants ≡ length (tenants_of worker.old) }
-        ensures works { Works (standing worker.old self.old.connections) (standing worker.new self.new.connections) }
-        ensures onward { Continues worker.old worker.new }
-        ensures tenants { self.new.connections.tenants ≡ self.old.connections.tenants }
-    {
-        self.next.clear();
-        self.serve_again(worker, gate, buffer)?;
-        let is_woken = self.serve_events(worker, gate, buffer, events)?;
         mem::swap(&mut self.again, &mut self.next);
         Ok(is_woken)
     }

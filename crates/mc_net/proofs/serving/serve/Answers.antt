@@ -1,16 +1,13 @@
-use Rattle.std.proofs.Common.{sym}
 use Rattle.mc_net.proofs.Askings.{all_have_been_asked}
 use Rattle.mc_net.proofs.Lives.{all_have_answered}
-use Rattle.mc_net.proofs.Runnings.{all_of, all_onward, all_served, returned_workers}
+use Rattle.mc_net.proofs.Runnings.{all_of, all_onward, served_anew}
 use Rattle.mc_net.proofs.serving.serve.Goals as goal
 
-pub returns-clause-back : goal.returns-clause-back
-returns-clause-back g c =
-    rw (returned_workers _ _ c.in_ok-returned_of.ensures) (rw (sym c.in_ok-mailboxes.ensures.worker_threads) (all_onward _ _ c.run.ensures))
-
 pub returns-clause-served : goal.returns-clause-served
-returns-clause-served g c =
-    rw (sym c.in_ok-mailboxes.ensures.worker_threads) (all_served _ _ _ c.run.ensures c.in_ok-mailboxes.ensures.new c.in_ok-returned_of.ensures)
+returns-clause-served g c = served_anew _ _ _ _ _ c.in_ok-run.ensures c.in_ok-front.ensures.new
+
+pub returns-clause-back : goal.returns-clause-back
+returns-clause-back g c = all_onward _ _ (returns-clause-served g c)
 
 pub returns-clause-answered : goal.returns-clause-answered
 returns-clause-answered g c = all_have_answered _ _ (returns-clause-served g c)

@@ -1,11 +1,7 @@
--- Arrivals were taken in, and the connections are for as many tenants still.
-use Rattle.std.proofs.Common.{◌≡◌}
+-- Arrivals were taken in, whoever the worker is.
 use Rattle.mc_net.specs.Working.{Works, standing}
 use Rattle.uc_worker.specs.declared.worker.Worker.{Worker}
 use Rattle.mc_net.proofs.event_loop.EventLoop.admit_arrivals.Given as goal
 
 abbrev pub invariant-loop : goal.invariant-loop
-invariant-loop g l = record {
-  tenants : l.self.ready.connections.tenants ≡ l.fn.self.ready.connections.tenants;
-  works : (worker : Worker) → Works (standing worker l.fn.self.ready.connections) (standing worker l.self.ready.connections);
-}
+invariant-loop g l = (worker : Worker) → Works (standing worker l.fn.self.ready.connections) (standing worker l.self.ready.connections)

@@ -1,27 +1,29 @@
-use Rattle.std.proofs.Common.{refl, ◌∙◌}
-use Rattle.uc_worker.proofs.Going.{continues_self, continues_through}
+use Rattle.std.proofs.Common.{◌∙◌}
 use Rattle.mc_net.specs.Working.{begins}
-use Rattle.mc_net.proofs.Workings.{same_tenants, works_trans}
+use Rattle.mc_net.proofs.Workings.{works_known, works_trans}
 use Rattle.mc_net.proofs.event_loop.EventLoop.run.Goals as goal
 
 pub loop-init : goal.loop-init
-loop-init g c = record { tenants = refl; known = c.requires; onward = continues_self _; works = begins }
+loop-init g c = begins
 
-pub returns-in_err-is_woken-clause-onward : goal.returns-in_err-is_woken-clause-onward
-returns-in_err-is_woken-clause-onward g c = continues_through _ _ _ c.loop.invariant.onward c.poll_and_serve.ensures.onward
+pub returns-then-eq-clause-tenants : goal.returns-then-eq-clause-tenants
+returns-then-eq-clause-tenants g c = c.clear.ensures.tenants ∙ works_known _ _ c.loop.invariant c.requires
+
+pub returns-then-is_empty-clause-tenants : goal.returns-then-is_empty-clause-tenants
+returns-then-is_empty-clause-tenants g c = works_known _ _ c.loop.invariant c.requires
+
+pub returns-in_err-poll_events-clause-tenants : goal.returns-in_err-poll_events-clause-tenants
+returns-in_err-poll_events-clause-tenants g c = works_known _ _ c.loop.invariant c.requires
+
+pub serve_round-requires : goal.serve_round-requires
+serve_round-requires g c = works_known _ _ c.loop.invariant c.requires
+
+pub returns-in_err-is_woken-clause-tenants : goal.returns-in_err-is_woken-clause-tenants
+returns-in_err-is_woken-clause-tenants g c = works_known _ _ (works_trans _ _ _ c.loop.invariant c.serve_round.ensures) c.requires
 
 pub loop-preserved-in-loop : goal.loop-preserved-in-loop
-loop-preserved-in-loop g c = record {
-  tenants = c.admit_arrivals-signal.ensures.tenants ∙ (c.poll_and_serve.ensures.tenants ∙ c.loop.invariant.tenants);
-  known = c.admit_arrivals-signal.ensures.tenants ∙ (c.poll_and_serve.ensures.tenants ∙ (c.loop.invariant.known ∙ same_tenants _ _ c.poll_and_serve.ensures.onward));
-  onward = continues_through _ _ _ c.loop.invariant.onward c.poll_and_serve.ensures.onward;
-  works = works_trans _ _ _ c.loop.invariant.works (works_trans _ _ _ c.poll_and_serve.ensures.works (c.admit_arrivals-signal.ensures.works c.poll_and_serve.new.worker));
-}
+loop-preserved-in-loop g c =
+    works_trans _ _ _ c.loop.invariant (works_trans _ _ _ c.serve_round.ensures (c.admit_arrivals-signal.ensures c.serve_round.new.worker))
 
 pub loop-preserved : goal.loop-preserved
-loop-preserved g c = record {
-  tenants = c.poll_and_serve.ensures.tenants ∙ c.loop.invariant.tenants;
-  known = c.poll_and_serve.ensures.tenants ∙ (c.loop.invariant.known ∙ same_tenants _ _ c.poll_and_serve.ensures.onward);
-  onward = continues_through _ _ _ c.loop.invariant.onward c.poll_and_serve.ensures.onward;
-  works = works_trans _ _ _ c.loop.invariant.works c.poll_and_serve.ensures.works;
-}
+loop-preserved g c = works_trans _ _ _ c.loop.invariant c.serve_round.ensures

@@ -1,15 +1,28 @@
-use Rattle.uc_worker.proofs.Going.{continues_through}
-use Rattle.mc_net.proofs.Workings.{works_trans}
+use Rattle.mc_net.specs.Working.{begins}
+use Rattle.mc_net.proofs.Workings.{works_known, works_trans}
 use Rattle.mc_net.proofs.ready_queue.ReadyQueue.serve_round.Goals as goal
 
-pub returns-in_err-is_woken-clause-works : goal.returns-in_err-is_woken-clause-works
-returns-in_err-is_woken-clause-works g c = works_trans _ _ _ c.serve_again.ensures.works c.serve_events.ensures.works
+pub loop-i-init : goal.loop-i-init
+loop-i-init g c = begins
 
-pub returns-in_err-is_woken-clause-onward : goal.returns-in_err-is_woken-clause-onward
-returns-in_err-is_woken-clause-onward g c = continues_through _ _ _ c.serve_again.ensures.onward c.serve_events.ensures.onward
+pub serve-requires : goal.serve-requires
+serve-requires g c = works_known _ _ c.loop-i.invariant c.requires
 
-pub returns-clause-works : goal.returns-clause-works
-returns-clause-works g c = works_trans _ _ _ c.serve_again.ensures.works c.serve_events.ensures.works
+pub returns-in_err-serve : goal.returns-in_err-serve
+returns-in_err-serve g c = works_trans _ _ _ c.loop-i.invariant c.serve.ensures
 
-pub returns-clause-onward : goal.returns-clause-onward
-returns-clause-onward g c = continues_through _ _ _ c.serve_again.ensures.onward c.serve_events.ensures.onward
+pub loop-i-preserved : goal.loop-i-preserved
+loop-i-preserved g c = works_trans _ _ _ c.loop-i.invariant c.serve.ensures
+
+pub serve-requires-then-not-contains : goal.serve-requires-then-not-contains
+serve-requires-then-not-contains g c = works_known _ _ c.loop-event.invariant.works c.requires
+
+pub loop-event-preserved-in-Continue-branch-2 : goal.loop-event-preserved-in-Continue-branch-2
+loop-event-preserved-in-Continue-branch-2 g c = record {
+  next = tt;
+  finite = tt;
+  works = works_trans _ _ _ c.loop-event.invariant.works c.serve-then-not-contains.ensures;
+}
+
+pub returns-in_err-serve-2 : goal.returns-in_err-serve-2
+returns-in_err-serve-2 g c = works_trans _ _ _ c.loop-event.invariant.works c.serve-then-not-contains.ensures

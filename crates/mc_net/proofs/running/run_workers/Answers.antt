@@ -1,7 +1,7 @@
 use Rattle.std.proofs.Common.{subst, slice_index_or, rules}
 use Rattle.mc_net.specs.Running.{HasRun}
 use Rattle.mc_net.specs.declared.worker_thread.WorkerThread.{WorkerThread}
-use Rattle.mc_net.proofs.serving.run_workers.Goals as goal
+use Rattle.mc_net.proofs.running.run_workers.Goals as goal
 
 pub returns : goal.returns
 returns g c = record {

@@ -1,0 +1,12 @@
+-- What came back so far is of the threads so far: whatever comes back of those that are left, put behind it, comes back of all. So with the event loops.
+use Rattle.std.proofs.Common.{◌≡◌, List, ◌++◌}
+use Rattle.std.specs.List.{AllZip}
+use Rattle.mc_net.specs.declared.worker_thread.Returned.{Returned}
+use Rattle.mc_net.specs.Running.{IsReturned, event_loops_of}
+use Rattle.mc_net.proofs.running.parted.Given as goal
+
+abbrev pub invariant-loop-worker_thread : goal.invariant-loop-worker_thread
+invariant-loop-worker_thread g l = record {
+  back : (more : List Returned) → AllZip IsReturned l.worker_thread-iterator.rest.items more → AllZip IsReturned l.fn.worker_threads.items (l.back.items ++ more);
+  event_loops : l.event_loops.items ++ event_loops_of l.worker_thread-iterator.rest.items ≡ event_loops_of l.fn.worker_threads.items;
+}

@@ -1,9 +1,0 @@
--- What came back so far is of the threads so far: whatever comes back of those that are left, put behind it, comes back of all.
-use Rattle.std.proofs.Common.{List, ◌++◌}
-use Rattle.std.specs.List.{AllZip}
-use Rattle.mc_net.specs.declared.worker_thread.Returned.{Returned}
-use Rattle.mc_net.specs.Running.{IsReturned}
-use Rattle.mc_net.proofs.serving.returned_of.Given as goal
-
-abbrev pub invariant-loop-worker_thread : goal.invariant-loop-worker_thread
-invariant-loop-worker_thread g l = (more : List Returned) → AllZip IsReturned l.worker_thread-iterator.rest.items more → AllZip IsReturned l.fn.worker_threads.items (l.back.items ++ more)

@@ -1,0 +1,134 @@
+//! Where streams come in, and the event loops that serve them. No worker is part of it, so that connections outlive who serves them.
+ghost use Rattle.std.specs.Prelude.{◌≡◌, ◌<◌, All, IfOk, vec_len};
+ghost use Rattle.mc_net.specs.Running.{FitTogether, HaveServedAt, IsNewLoop, listeners_of};
+
+use crate::accepting::Acceptor;
+use crate::event_loop::EventLoop;
+use crate::halt::Halt;
+use crate::listener::TenantListener;
+use crate::mailbox::{Mailbox, Mailboxes};
+use crate::running::{first_failure, parted, run_all, threads_of};
+use crate::worker_thread::Returned;
+use mc_model::TenantId;
+use mio::Poll;
+use mio::net::TcpListener;
+use std::alloc::Global;
+use std::mem;
+use std::net::Net;
+use std::sync::Wait;
+use std::thread::Threads;
+use uc_log::Log;
+use uc_worker::{Gate, Worker};
+
+/// The acceptor at its listeners, the event loops with their connections, and the mailbox of each.
+#[derive(Drop)]
+pub(crate) struct Front {
+    acceptor: Acceptor,
+    mailboxes: Mailboxes,
+    pub(crate) event_loops: Vec<EventLoop>,
+}
+
+/// A poll, and the mailbox that wakes it. Where one can't be made: `Poll`.
+fn new_poll<R: Net>(rt: &R, alloc: Global) -> Result<(Poll, Mailbox), Halt> {
+    let Ok(poll) = Poll::new(rt) else {
+        return Err(Halt::Poll);
+    };
+    match Mailbox::new(alloc, poll.registry()) {
+        Ok(mailbox) => Ok((poll, mailbox)),
+        Err(_) => Err(Halt::Poll),
+    }
+}
+
+/// So many event loops for a log of so many tenants, and the mailbox of each.
+fn new_event_loops<R: Net>(
+    rt: &R,
+    alloc: Global,
+    count: usize,
+    tenants: usize,
+) -> Result<(Vec<Mailbox>, Vec<EventLoop>), Halt>
+    ensures mailboxes { IfOk result (λ pair. vec_len pair.0 ≡ count) }
+    ensures many { IfOk result (λ pair. vec_len pair.1 ≡ count) }
+    ensures new { IfOk result (λ pair. All (IsNewLoop tenants) pair.1.items) }
+{
+    let mut mailboxes = Vec::new(alloc);
+    let mut event_loops = Vec::new(alloc);
+    for _ in 0..count {
+        let (poll, mailbox) = new_poll(rt, alloc)?;
+        mailboxes.push(mailbox)?;
+        event_loops.push(EventLoop::new(alloc, poll, tenants)?)?;
+    }
+    Ok((mailboxes, event_loops))
+}
+
+/// These listeners with their tenants, in their order. Where memory runs out: `Memory`.
+fn tenant_listeners(
+    alloc: Global,
+    listeners: Vec<(TenantId, TcpListener)>,
+) -> Result<Vec<TenantListener<TcpListener>>, Halt>
+    ensures { IfOk result (λ all. listeners_of all.items ≡ listeners.items) }
+{
+    let mut all = Vec::new(alloc);
+    for (tenant, socket) in listeners {
+        all.push(TenantListener { tenant, socket })?;
+    }
+    Ok(all)
+}
+
+impl Front {
+    /// The front of these listeners, at which so many streams are to be accepted (with 0 there is no end), for so many workers of a log
+    /// of so many tenants.
+    pub(crate) fn new<R: Net>(
+        rt: &R,
+        alloc: Global,
+        listeners: Vec<(TenantId, TcpListener)>,
+        connections: u64,
+        workers: usize,
+        tenants: usize,
+    ) -> Result<Front, Halt>
+        requires { 0 < workers }
+        ensures many { IfOk result (λ front. vec_len front.event_loops ≡ workers) }
+        ensures new { IfOk result (λ front. All (IsNewLoop tenants) front.event_loops.items) }
+    {
+        let (of_workers, event_loops) = new_event_loops(rt, alloc, workers, tenants)?;
+        let (poll, of_acceptor) = new_poll(rt, alloc)?;
+        let listeners = tenant_listeners(alloc, listeners)?;
+        let acceptor = Acceptor::new(alloc, poll, listeners, connections)?;
+        let mailboxes = Mailboxes {
+            of_workers,
+            of_acceptor,
+        };
+        Ok(Front {
+            acceptor,
+            mailboxes,
+            event_loops,
+        })
+    }
+
+    /// Has these workers of the log serve, each at the event loop of its place and in a thread of its own where one can be made, until no
+    /// stream is to come and every connection has ended. Gives the workers back in their order. Where it fails, the connections are closed.
+    pub(crate) fn run<'a, R: Threads + Wait + Sync, G: Gate + Send + Drop>(
+        &mut self,
+        rt: &R,
+        alloc: Global,
+        log: &'a Log,
+        workers: Vec<Worker<'a>>,
+        gates: Vec<G>,
+    ) -> Result<Vec<Returned<'a>>, Halt>
+        requires { FitTogether log.now workers.items gates.items self.old.event_loops.items }
+        ensures { IfOk result (λ back. HaveServedAt workers.entry.items self.old.event_loops.items
+            back.items self.new.event_loops.items) }
+    {
+        let Front {
+            acceptor,
+            mailboxes,
+            event_loops,
+        } = self;
+        let lent = mem::replace(event_loops, Vec::new(alloc));
+        let mut worker_threads = threads_of(alloc, log, workers, gates, lent)?;
+        run_all(rt, mailboxes, acceptor, &mut worker_threads)?;
+        first_failure(&worker_threads)?;
+        let (back, left) = parted(alloc, worker_threads)?;
+        *event_loops = left;
+        Ok(back)
+    }
+}
