@@ -1,41 +1,43 @@
 -- How the answer to words that ask for no service bears out what clap's definitions say of the words.
-use Rattle.std.proofs.Common.{◌≡◌, ◌≢◌, ◌⊎◌, ⊎_elim, List, ℕ, refl}
+use Rattle.std.proofs.Common.{◌≡◌, ◌≢◌, ◌⊎◌, inl, inr, ⊎_elim, List, ℕ, refl}
 use Rattle.clap.specs.Simple.{App}
 use Rattle.clap.specs.Walk.{Text}
 use Rattle.clap.specs.declared.error.kind.ErrorKind.{ErrorKind}
 use Rattle.clap.specs.declared.error.kind.ErrorKind.TheVariants.{OutOfMemory}
-use Rattle.mc_model.specs.declared.fault.Fault.{Fault}
-use Rattle.mc_model.specs.declared.fault.Fault.TheVariants.{Memory, LogFull, Taken, Input, Output, BadEvent, BadSettings}
-use Rattle.mc_programs.specs.Words.{FailsToAnswer, FailsToShow, IsAnswered, IsShown, StopsShowing, TellsMistake}
-use Rattle.mc_stream.specs.Pushing.{PushesOrFails}
+use Rattle.mc_programs.specs.Words.{AnswersWords, AsksToShow, FailsToAnswer, FailsToShow, IsAnswered, IsShown, Shows, TellsMistake}
 use Rattle.mc_stream.specs.Stream.{Inflow, Outflow, both}
 
--- what stopped, by a weaker fact of what is shown
-stops_by : (fault : Fault) (first second : Type 0) → (first → second) → (before after : Outflow) → StopsShowing fault first before after → StopsShowing fault second before after
-stops_by Memory first second then before after stops = stops
-stops_by LogFull first second then before after stops = stops
-stops_by Taken first second then before after stops = stops
-stops_by Input first second then before after stops = stops
-stops_by Output first second then before after stops = (then stops.0, stops.1, stops.2)
-stops_by BadEvent first second then before after stops = stops
-stops_by BadSettings first second then before after stops = stops
+shown_there : (kind : ErrorKind) → IsShown kind → kind ≢ OutOfMemory
+shown_there kind shown starved = ⊎_elim (λ help. cc) (λ version. cc) shown
 
 module _ (app : App) (words : List Text) (kind : ErrorKind) (failed : (kind ≡ OutOfMemory) ⊎ IsAnswered app words kind) where
   -- clap names the kind for these words, where memory didn't run out
-  pub is_answered : kind ≢ OutOfMemory → IsAnswered app words kind
+  is_answered : kind ≢ OutOfMemory → IsAnswered app words kind
   is_answered there = ⊎_elim (λ starved. absurd (there starved)) (λ among. among) failed
 
+  asks_to_show : IsShown kind → AsksToShow app words
+  asks_to_show shown = (kind, is_answered (shown_there kind shown), shown)
+
   -- a fault kept help, the version or a mistake from being told
-  pub fails_to_show : (program : List ℕ) (input : Inflow) (before after errors_before errors : Outflow)
+  fails_to_show : (program : List ℕ) (input : Inflow) (before after errors_before errors : Outflow)
       → FailsToAnswer program kind before after errors_before errors → FailsToShow program app words (both input before) (both input after) errors_before errors
   fails_to_show program input before after errors_before errors fails = record {
     fault = fails.fault;
     unread = refl;
-    stops = stops_by fails.fault _ _ (λ shown. (kind, is_answered shown.0, shown.1)) before after fails.stops;
+    stops = ⊎_elim (λ starved. inl starved) (λ shown. inr (asks_to_show shown.0, shown.1)) fails.stops;
     told = fails.told;
   }
 
-  -- a mistake was told
-  pub tells_mistake : (errors_before errors : Outflow) → (kind ≢ OutOfMemory) × ¬ (IsShown kind) → (text : List ℕ) → PushesOrFails text errors_before errors
-      → TellsMistake app words errors_before errors
-  tells_mistake errors_before errors is text told = record { mistaken = (kind, is_answered is.0, is.1); text = text; told = told }
+  -- help or the version was shown, or a fault was told, or a mistake
+  pub answered : (program : List ℕ) (status : ℕ) (input : Inflow) (before after errors_before errors : Outflow) → AnswersWords program kind status before after errors_before errors →
+      (status ≡ 0) × Shows app words (both input before) (both input after) × (errors ≡ errors_before)
+      ⊎ (status ≡ 1) × FailsToShow program app words (both input before) (both input after) errors_before errors
+      ⊎ (status ≡ 2) × TellsMistake app words errors_before errors × (after ≡ before)
+  answered program status input before after errors_before errors answers =
+      ⊎_elim
+      (λ shown. inl (shown.0, record { asks = asks_to_show shown.1; unread = refl; text = shown.2.0; went = shown.2.1 }, shown.3))
+      (λ others. ⊎_elim
+      (λ fails. inr (inl (fails.0, fails_to_show program input before after errors_before errors fails.1)))
+      (λ mistake. inr (inr (mistake.0, record { mistaken = (kind, is_answered mistake.1.0, mistake.1.1); text = mistake.2.0; told = mistake.2.1 }, mistake.3)))
+      others)
+      answers

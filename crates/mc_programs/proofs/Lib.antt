@@ -4,3 +4,4 @@ pub mod Owings
 pub mod Reported
 pub mod Served
 mod Rows
+pub mod Waited

@@ -4,4 +4,5 @@ pub mod Options
 pub mod Opening
 pub mod Reporting
 pub mod Serving
+pub mod Waiting
 pub mod Words

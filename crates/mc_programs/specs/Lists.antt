@@ -6,17 +6,17 @@ use Rattle.clap.specs.Simple.{App, with_rule}
 use Rattle.clap.specs.Walk.{Text}
 use Rattle.mc_model.specs.Settings.{Configuration, IsLawful}
 use Rattle.mc_model.specs.declared.fault.Fault.{Fault}
-use Rattle.mc_model.specs.declared.fault.Fault.TheVariants.{Memory, Input, Output, BadSettings}
+use Rattle.mc_model.specs.declared.fault.Fault.TheVariants.{Memory, Input, BadSettings}
 use Rattle.mc_schedules.specs.declared.schedule.TheConstants.{INPUT_BYTES}
 use Rattle.mc_schedules.specs.Doing.{DoesAll, Ending}
 use Rattle.mc_schedules.specs.Report.{report}
 use Rattle.mc_schedules.specs.Schedule.{BadLine, Listed, Whole, reading}
 use Rattle.mc_programs.specs.Faults.{fault_line, program_line}
-use Rattle.mc_conn.specs.Turn.{NeitherFails}
 use Rattle.mc_programs.specs.Serving.{IsUnfailedInput}
+use Rattle.mc_programs.specs.Waiting.{FailsToPush, PushesAll}
 use Rattle.mc_programs.specs.Words.{FailsToShow, Shows, TellsMistake, bare_app, flag_asked, flag_rule}
 use Rattle.mc_stream.specs.Event.{failures, has_ended, moved}
-use Rattle.mc_stream.specs.Pushing.{FailsOnce, Pushes, PushesFront, PushesOrFails}
+use Rattle.mc_stream.specs.Pushing.{PushesOrFails}
 use Rattle.mc_stream.specs.Stream.{Inflow, Outflow, Streams}
 use Rattle.uc_core.specs.Core.{CoreState, new_core}
 use Rattle.uc_core.specs.Run.{Given}
@@ -62,30 +62,31 @@ pub record Ran (words : List Text) (before after : Inflow) (end : Ending) (text 
 
 -- The text of such a run was pushed, and neither stream failed.
 abbrev pub Reports : List Text → Streams → Streams → Ending → Type 0
-Reports words before after end =
-    (text : List ℕ) × Ran words before.input after.input end text × Pushes before.output after.output text × NeitherFails before after
+Reports words before after end = (text : List ℕ) × Ran words before.input after.input end text × PushesAll text before.output after.output
 
--- status 0: all of the list was done, and that was reported, or help or the version was shown
+-- all of the list was done, and that was reported, or help or the version was shown
 abbrev pub EndsWell : List Text → Streams → Streams → Type 0
-EndsWell words before after = Reports words before after None ⊎ Shows schedule_app words before after × NeitherFails before after
+EndsWell words before after = Reports words before after None ⊎ Shows schedule_app words before after
+
+-- what the input did where a fault kept its bytes from being received or answered
+abbrev pub StopsReading : Inflow → Inflow → Fault → Type 0
+StopsReading before after fault =
+    (fault ≡ Memory) × IsUnfailedInput before after ⊎ (fault ≡ Input) × (failures after.events ≡ failures before.events + 1)
 
 -- What was read and pushed before a fault of the program: where memory ran out, or the input failed, nothing was pushed; where the output
 -- failed, a front of the text of a run.
-abbrev pub StopsReporting : Fault → List Text → Streams → Streams → Type 0
-StopsReporting Memory words before after = IsUnfailedInput before.input after.input × (after.output ≡ before.output)
-StopsReporting Input words before after = (failures after.input.events ≡ failures before.input.events + 1) × (after.output ≡ before.output)
-StopsReporting Output words before after =
-    (end : Ending) × (text : List ℕ) × Ran words before.input after.input end text
-    × PushesFront text before.output after.output × FailsOnce before.output after.output
-StopsReporting fault words before after = ⊥
+abbrev pub StopsReporting : List Text → Streams → Streams → Fault → Type 0
+StopsReporting words before after fault =
+    StopsReading before.input after.input fault × (after.output ≡ before.output)
+    ⊎ ((end : Ending) × (text : List ℕ) × Ran words before.input after.input end text × FailsToPush text before.output after.output fault)
 
 -- A fault of the program kept it from reporting, and was told.
 pub record FailsToReport (words : List Text) (before after : Streams) (errors_before errors : Outflow) : Type 0 where
   pub fault : Fault
-  pub stops : StopsReporting fault words before after
+  pub stops : StopsReporting words before after fault
   pub told : PushesOrFails (fault_line (codes "mc_schedule") fault) errors_before errors
 
--- status 1: an event met a fault, which the report names, or a fault of the program was told
+-- an event met a fault, which the report names, or a fault of the program was told
 abbrev pub EndsInFault : List Text → Streams → Streams → Outflow → Outflow → Type 0
 EndsInFault words before after errors_before errors =
     ((met : ℕ × Fault) × Reports words before after (Some met) × (errors ≡ errors_before))
@@ -103,8 +104,15 @@ RefusesList bytes errors_before errors =
     ⊎ ((list : Listed) × (reading bytes ≡ Whole list) × ¬ (IsLawful (settings_of list))
     × PushesOrFails (fault_line (codes "mc_schedule") BadSettings) errors_before errors)
 
--- status 2: the list is refused, or the words are a mistake, which was told
+-- the list is refused, or the words are a mistake, which was told
 abbrev pub Refuses : List Text → Inflow → Inflow → Outflow → Outflow → Type 0
 Refuses words before after errors_before errors =
     ((bytes : List ℕ) × (fault_of schedule_app words ≡ []) × Receives bytes before after × RefusesList bytes errors_before errors)
     ⊎ (after ≡ before) × TellsMistake schedule_app words errors_before errors
+
+-- how a run of mc_schedule ends, by its status
+abbrev pub Ends : List Text → ℕ → Streams → Streams → Outflow → Outflow → Type 0
+Ends words status before after errors_before errors =
+    (status ≡ 0) × EndsWell words before after × (errors ≡ errors_before)
+    ⊎ (status ≡ 1) × EndsInFault words before after errors_before errors
+    ⊎ (status ≡ 2) × Refuses words before.input after.input errors_before errors × (after.output ≡ before.output)

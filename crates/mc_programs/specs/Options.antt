@@ -9,6 +9,7 @@ use Rattle.mc_model.specs.declared.fault.Fault.{Fault}
 use Rattle.mc_model.specs.declared.fault.Fault.TheVariants.{BadSettings}
 use Rattle.mc_model.specs.declared.settings.Limits.{Limits}
 use Rattle.mc_model.specs.declared.settings.TheConstants.{MAX_PLACES}
+use Rattle.mc_programs.specs.declared.options.StdinOptions.{StdinOptions}
 use Rattle.mc_programs.specs.Faults.{fault_line}
 use Rattle.mc_programs.specs.Serving.{Serves, Stops}
 use Rattle.mc_programs.specs.Words.{FailsToShow, Shows, TellsMistake, bare_app, number_asked, number_rule}
@@ -38,6 +39,12 @@ AsksInRange words = (fault_of stdin_app words ≡ []) × IsInRange words
 abbrev pub AsksOutOfRange : List Text → Type 0
 AsksOutOfRange words = (fault_of stdin_app words ≡ []) × ¬ (IsInRange words)
 
+-- The command takes the words, and they ask for these options.
+pub record AsksFor (words : List Text) (options : StdinOptions) : Type 0 where
+  pub taken : fault_of stdin_app words ≡ []
+  pub places : options.places ≡ places_asked words
+  pub limits : options.limits ≡ limits_asked words
+
 -- A run that failed met one fault, gave the client what it gives at that fault, which the failures of the
 -- input and the output bear out, and said so.
 pub record Fails (limits : Limits) (places : ℕ) (before after : Streams) (errors_before errors : Outflow) : Type 0 where
@@ -45,16 +52,23 @@ pub record Fails (limits : Limits) (places : ℕ) (before after : Streams) (erro
   pub stops : Stops limits places before after fault
   pub told : PushesOrFails (fault_line (codes "mc_stdin") fault) errors_before errors
 
--- status 0: a client was served by the numbers that the words ask for, or help or the version was shown
+-- a client was served by the numbers that the words ask for, or help or the version was shown
 abbrev pub EndsWell : List Text → Streams → Streams → Type 0
 EndsWell words before after = AsksInRange words × Serves (limits_asked words) (places_asked words) before after ⊎ Shows stdin_app words before after
 
--- status 1: a fault ended the service, or kept the words from being read or answered, and was told
+-- a fault ended the service, or kept the words from being read or answered, and was told
 abbrev pub EndsInFault : List Text → Streams → Streams → Outflow → Outflow → Type 0
 EndsInFault words before after errors_before errors =
     AsksInRange words × Fails (limits_asked words) (places_asked words) before after errors_before errors ⊎ FailsToShow (codes "mc_stdin") stdin_app words before after errors_before errors
 
--- status 2: a number is out of its range, or the words are a mistake, and that was told
+-- a number is out of its range, or the words are a mistake, and that was told
 abbrev pub RefusesWords : List Text → Outflow → Outflow → Type 0
 RefusesWords words errors_before errors =
     AsksOutOfRange words × PushesOrFails (fault_line (codes "mc_stdin") BadSettings) errors_before errors ⊎ TellsMistake stdin_app words errors_before errors
+
+-- how a run of mc_stdin ends, by its status
+abbrev pub Ends : List Text → ℕ → Streams → Streams → Outflow → Outflow → Type 0
+Ends words status before after errors_before errors =
+    (status ≡ 0) × EndsWell words before after × (errors ≡ errors_before)
+    ⊎ (status ≡ 1) × EndsInFault words before after errors_before errors
+    ⊎ (status ≡ 2) × RefusesWords words errors_before errors × (after ≡ before)

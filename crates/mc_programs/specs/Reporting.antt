@@ -1,8 +1,9 @@
 -- What the parts of mc_schedule's run give each other: the bytes that came, what they are answered, and what is pushed of that; this
 -- project's profile.
-use Rattle.std.specs.Prelude.{◌≡◌, ◌⊎◌, ◌+◌, ℕ, false, List, [], ◌++◌, Some, None, codes}
+use Rattle.std.specs.Prelude.{◌≡◌, ◌⊎◌, ℕ, false, List, [], ◌++◌, Some, None, codes}
+use Rattle.clap.specs.Faults.{fault_of}
+use Rattle.clap.specs.Walk.{Text}
 use Rattle.mc_model.specs.Settings.{Configuration, IsLawful}
-use Rattle.mc_model.specs.declared.fault.Fault.{Fault}
 use Rattle.mc_model.specs.declared.fault.Fault.TheVariants as fault
 use Rattle.mc_schedules.specs.declared.schedule.Item.{Item}
 use Rattle.mc_schedules.specs.Doing.{DoesAll, Ending}
@@ -12,19 +13,18 @@ use Rattle.mc_programs.specs.declared.schedule.Answer.{Answer}
 use Rattle.mc_programs.specs.declared.schedule.Answer.TheVariants as answer
 use Rattle.mc_programs.specs.declared.schedule_words.ScheduleOptions.{ScheduleOptions}
 use Rattle.mc_programs.specs.Faults.{fault_line}
-use Rattle.mc_programs.specs.Lists.{Receives, bad_line_text, settings_of}
-use Rattle.mc_programs.specs.Serving.{IsUnfailedInput}
-use Rattle.mc_stream.specs.Event.{failures}
-use Rattle.mc_stream.specs.Pushing.{FailsOnce, IsUnfailed, Pushes, PushesFront, PushesOrFails}
+use Rattle.mc_programs.specs.Lists.{Receives, asks_picture, asks_quiet, bad_line_text, schedule_app, settings_of}
+use Rattle.mc_programs.specs.Waiting.{FailsToPush, PushesAll}
+use Rattle.mc_stream.specs.Pushing.{PushesOrFails}
 use Rattle.mc_stream.specs.Stream.{Inflow, Outflow}
 use Rattle.uc_core.specs.Core.{CoreState, new_core}
 use Rattle.uc_core.specs.Run.{Given}
 
--- what the input did where a fault kept its bytes from being received or answered
-abbrev pub StopsReading : Fault → Inflow → Inflow → Type 0
-StopsReading fault.Memory before after = IsUnfailedInput before after
-StopsReading fault.Input before after = failures after.events ≡ failures before.events + 1
-StopsReading other before after = ⊥
+-- The command takes the words, and they ask for these options.
+pub record AsksFor (words : List Text) (options : ScheduleOptions) : Type 0 where
+  pub taken : fault_of schedule_app words ≡ []
+  pub quiet : options.quiet ≡ asks_quiet words
+  pub picture : options.picture ≡ asks_picture words
 
 -- The items were done in these settings, which ended so, and this is the report of that, after a picture where one is asked for.
 pub record Runs (settings : Configuration) (items : List Item) (options : ScheduleOptions) (end : Ending) (text : List ℕ) : Type 0 where
@@ -60,8 +60,8 @@ status_of (Some met) = 1
 -- the text was pushed, with the status that tells how its run ended; or the output failed, and that was told
 abbrev pub GivesReport : List ℕ → Ending → ℕ → Outflow → Outflow → Outflow → Outflow → Type 0
 GivesReport text end status before after errors_before errors =
-    (status ≡ status_of end) × Pushes before after text × IsUnfailed before after × (errors ≡ errors_before)
-    ⊎ (status ≡ 1) × PushesFront text before after × FailsOnce before after × PushesOrFails (fault_line (codes "mc_schedule") fault.Output) errors_before errors
+    (status ≡ status_of end) × PushesAll text before after × (errors ≡ errors_before)
+    ⊎ (status ≡ 1) × FailsToPush text before after fault.Output × PushesOrFails (fault_line (codes "mc_schedule") fault.Output) errors_before errors
 
 -- an answer was given, with this status
 abbrev pub Gives : Answer → ℕ → Outflow → Outflow → Outflow → Outflow → Type 0

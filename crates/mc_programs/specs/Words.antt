@@ -16,9 +16,10 @@ use Rattle.clap.specs.declared.error.kind.ErrorKind.TheVariants.{DisplayHelp, Di
 use Rattle.clap.specs.declared.parser.matches.Found.{Found}
 use Rattle.mc_model.specs.Number.{number_up_to}
 use Rattle.mc_model.specs.declared.fault.Fault.{Fault}
-use Rattle.mc_model.specs.declared.fault.Fault.TheVariants.{Memory, Output}
+use Rattle.mc_model.specs.declared.fault.Fault.TheVariants.{Memory}
 use Rattle.mc_programs.specs.Faults.{fault_line, program_line}
-use Rattle.mc_stream.specs.Pushing.{FailsOnce, Pushes, PushesFront, PushesOrFails}
+use Rattle.mc_programs.specs.Waiting.{FailsToPush, PushesAll}
+use Rattle.mc_stream.specs.Pushing.{PushesOrFails}
 use Rattle.mc_stream.specs.Stream.{Outflow, Streams}
 
 -- a command without its options: `--help` and `--version`; its first word is no program's name
@@ -65,6 +66,10 @@ IsAnswered app words kind = IsAmong kind (fault_of app words)
 abbrev pub IsShown : ErrorKind → Type 0
 IsShown kind = (kind ≡ DisplayHelp) ⊎ (kind ≡ DisplayVersion)
 
+-- a mistake in the words, and no want of memory
+abbrev pub IsMistake : ErrorKind → Type 0
+IsMistake kind = (kind ≢ OutOfMemory) × ¬ (IsShown kind)
+
 -- the words ask for help or the version
 abbrev pub AsksToShow : App → List Text → Type 0
 AsksToShow app words = (kind : ErrorKind) × IsAnswered app words kind × IsShown kind
@@ -73,30 +78,36 @@ AsksToShow app words = (kind : ErrorKind) × IsAnswered app words kind × IsShow
 abbrev pub IsMistaken : App → List Text → Type 0
 IsMistaken app words = (kind : ErrorKind) × IsAnswered app words kind × ¬ (IsShown kind)
 
--- The words ask for help or the version. A text was pushed, and nothing was pulled.
+-- The words ask for help or the version. A text was pushed, nothing was pulled, and neither stream failed.
 pub record Shows (app : App) (words : List Text) (before after : Streams) : Type 0 where
   pub asks : AsksToShow app words
   pub unread : after.input ≡ before.input
   pub text : List ℕ
-  pub went : Pushes before.output after.output text
+  pub went : PushesAll text before.output after.output
 
 -- what went to the output before a fault: where memory ran out nothing, and at a failure of the output a front of what is shown
-abbrev pub StopsShowing : Fault → Type 0 → Outflow → Outflow → Type 0
-StopsShowing Memory is_shown before after = after ≡ before
-StopsShowing Output is_shown before after = is_shown × ((text : List ℕ) × PushesFront text before after) × FailsOnce before after
-StopsShowing fault is_shown before after = ⊥
+abbrev pub StopsShowing : Type 0 → Outflow → Outflow → Fault → Type 0
+StopsShowing is_shown before after fault =
+    (fault ≡ Memory) × (after ≡ before) ⊎ is_shown × ((text : List ℕ) × FailsToPush text before after fault)
 
 -- A fault kept words from being answered, and was told.
 pub record FailsToAnswer (program : List ℕ) (kind : ErrorKind) (before after errors_before errors : Outflow) : Type 0 where
   pub fault : Fault
-  pub stops : StopsShowing fault ((kind ≢ OutOfMemory) × IsShown kind) before after
+  pub stops : StopsShowing (IsShown kind) before after fault
   pub told : PushesOrFails (fault_line program fault) errors_before errors
+
+-- how words that ask for no service are answered, by the status: help or the version is shown, a fault is told, or a mistake
+abbrev pub AnswersWords : List ℕ → ErrorKind → ℕ → Outflow → Outflow → Outflow → Outflow → Type 0
+AnswersWords program kind status before after errors_before errors =
+    (status ≡ 0) × IsShown kind × ((text : List ℕ) × PushesAll text before after) × (errors ≡ errors_before)
+    ⊎ (status ≡ 1) × FailsToAnswer program kind before after errors_before errors
+    ⊎ (status ≡ 2) × IsMistake kind × ((text : List ℕ) × PushesOrFails text errors_before errors) × (after ≡ before)
 
 -- A fault kept the words from being read or answered, and was told. Nothing was pulled.
 pub record FailsToShow (program : List ℕ) (app : App) (words : List Text) (before after : Streams) (errors_before errors : Outflow) : Type 0 where
   pub fault : Fault
   pub unread : after.input ≡ before.input
-  pub stops : StopsShowing fault (AsksToShow app words) before.output after.output
+  pub stops : StopsShowing (AsksToShow app words) before.output after.output fault
   pub told : PushesOrFails (fault_line program fault) errors_before errors
 
 -- the words are a mistake, on which a text was told

@@ -1,9 +1,9 @@
 //! What the words of mc_stdin's command line ask for.
-ghost use Rattle.std.specs.Prelude.{◌≡◌, ◌↔◌, IfOk, IsTrue, map, string_bytes};
-ghost use Rattle.clap.specs.Words.{FailsBy, app_of, fault_of};
+ghost use Rattle.std.specs.Prelude.{◌≡◌, ◌↔◌, IfOk, IsTrue, MatchResult, map, string_bytes};
+ghost use Rattle.clap.specs.Words.{HasKind, app_of, fault_of};
 ghost use Rattle.mc_model.specs.Settings.{AreLawfulLimits, IsBetween};
 ghost use Rattle.mc_model.specs.declared.settings.TheConstants.{MAX_PLACES};
-ghost use Rattle.mc_programs.specs.Options.{limits_asked, places_asked, stdin_app};
+ghost use Rattle.mc_programs.specs.Options.{AsksFor, stdin_app};
 
 use crate::words::{number, number_option};
 use clap::{Command, Error};
@@ -54,9 +54,8 @@ fn stdin_command<'a>(alloc: Global) -> Result<Command<'a>, AllocError>
 
 /// What the words after the program's name ask for.
 pub(crate) fn read_words(alloc: Global, words: &[String]) -> Result<StdinOptions, Error>
-    ensures places { IfOk result (λ options. options.places ≡ places_asked (map string_bytes words.now)) }
-    ensures limits { IfOk result (λ options. options.limits ≡ limits_asked (map string_bytes words.now)) }
-    ensures kinds { FailsBy (fault_of stdin_app (map string_bytes words.now)) result }
+    ensures outcome { MatchResult result (AsksFor (map string_bytes words.now))
+        (HasKind (fault_of stdin_app (map string_bytes words.now))) }
 {
     let matches = stdin_command(alloc)?.try_get_matches_from(words)?;
     let limits = Limits {

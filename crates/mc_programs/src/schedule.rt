@@ -1,7 +1,7 @@
 //! What the program that runs event lists does.
-ghost use Rattle.std.specs.Prelude.{◌≡◌, ◌⊎◌, IfErr, IfOk, IsOkUnless, map, string_bytes};
-ghost use Rattle.mc_programs.specs.Lists.{EndsInFault, EndsWell, Receives, Refuses, bad_line_text};
-ghost use Rattle.mc_programs.specs.Reporting.{Gives, IsAnswerTo, IsAnswerToInput, Runs, StopsReading};
+ghost use Rattle.std.specs.Prelude.{◌≡◌, MatchResult, map, string_bytes};
+ghost use Rattle.mc_programs.specs.Lists.{Ends, Receives, StopsReading, bad_line_text};
+ghost use Rattle.mc_programs.specs.Reporting.{Gives, IsAnswerTo, IsAnswerToInput, Runs};
 ghost use Rattle.mc_stream.specs.Pushing.{PushesOrFails};
 ghost use Rattle.mc_stream.specs.Stream.{both};
 
@@ -38,8 +38,9 @@ enum Answer {
 /// The bytes of an event list: all that come until the input's end, or more than a list may have. An input that has nothing
 /// is asked again.
 fn receive<R: Wait, I: Input>(rt: &R, alloc: Global, input: &mut I) -> Result<Vec<u8>, Fault>
-    ensures receives { IfOk result (λ bytes. Receives bytes.items (I.tells input.old) (I.tells input.new)) }
-    ensures stops { IfErr result (λ fault. StopsReading fault (I.tells input.old) (I.tells input.new)) }
+    ensures outcome { MatchResult result
+        (λ bytes. Receives bytes.items (I.tells input.old) (I.tells input.new))
+        (StopsReading (I.tells input.old) (I.tells input.new)) }
 {
     let mut buffer = [0u8; PULL_BYTES];
     let mut bytes = Vec::new(alloc);
@@ -64,8 +65,9 @@ fn report_of(
     items: Vec<Item>,
     options: ScheduleOptions,
 ) -> Result<(Vec<u8>, Option<(u64, Fault)>), Fault>
-    ensures runs { IfOk result (λ told. Runs settings.now items.items options told.1 told.0.items) }
-    ensures memory { IsOkUnless result Fault.Memory }
+    ensures outcome { MatchResult result
+        (λ told. Runs settings.now items.items options told.1 told.0.items)
+        (λ fault. fault ≡ Fault.Memory) }
 {
     let (mut text, outcome) = if options.picture {
         draw_items(alloc, settings, items)?
@@ -80,8 +82,8 @@ fn report_of(
 
 /// What a list of these bytes is answered.
 fn answer_to(alloc: Global, options: ScheduleOptions, bytes: &[u8]) -> Result<Answer, Fault>
-    ensures answer { IfOk result (λ answer. IsAnswerTo options bytes.now answer) }
-    ensures memory { IsOkUnless result Fault.Memory }
+    ensures outcome { MatchResult result (IsAnswerTo options bytes.now)
+        (λ fault. fault ≡ Fault.Memory) }
 {
     let schedule = match read_schedule(alloc, bytes)? {
         Reading::Bad(line) => return Ok(Answer::BadLine(line)),
@@ -101,8 +103,9 @@ fn do_list<R: Wait, I: Input>(
     options: ScheduleOptions,
     input: &mut I,
 ) -> Result<Answer, Fault>
-    ensures answer { IfOk result (λ answer. IsAnswerToInput options (I.tells input.old) (I.tells input.new) answer) }
-    ensures stops { IfErr result (λ fault. StopsReading fault (I.tells input.old) (I.tells input.new)) }
+    ensures outcome { MatchResult result
+        (IsAnswerToInput options (I.tells input.old) (I.tells input.new))
+        (StopsReading (I.tells input.old) (I.tells input.new)) }
 {
     let bytes = receive(rt, alloc, input)?;
     answer_to(alloc, options, &bytes)
@@ -125,7 +128,8 @@ fn give<R: Wait, O: Output, E: Output>(
     output: &mut O,
     errors: &mut E,
 ) -> u8
-    ensures { Gives answer.now result (O.tells output.old) (O.tells output.new) (E.tells errors.old) (E.tells errors.new) }
+    ensures { Gives answer.now result (O.tells output.old) (O.tells output.new)
+        (E.tells errors.old) (E.tells errors.new) }
 {
     match answer {
         Answer::Report { text, end } => match push_all(rt, text, output) {
@@ -163,14 +167,10 @@ pub fn run_schedule<R: Wait, I: Input, O: Output, E: Output>(
     output: &mut O,
     errors: &mut E,
 ) -> u8
-    ensures status { (result ≡ 0) ⊎ (result ≡ 1) ⊎ (result ≡ 2) }
     // From the bytes that came in to the bytes that went out.
-    ensures reports { result ≡ 0 → EndsWell (map string_bytes words.items) (both (I.tells input.old) (O.tells output.old)) (both (I.tells input.new) (O.tells output.new)) }
-    ensures silent { result ≡ 0 → E.tells errors.new ≡ E.tells errors.old }
-    ensures fails { result ≡ 1 → EndsInFault (map string_bytes words.items) (both (I.tells input.old) (O.tells output.old)) (both (I.tells input.new) (O.tells output.new))
+    ensures { Ends (map string_bytes words.items) result
+        (both (I.tells input.old) (O.tells output.old)) (both (I.tells input.new) (O.tells output.new))
         (E.tells errors.old) (E.tells errors.new) }
-    ensures refuses { result ≡ 2 → Refuses (map string_bytes words.items) (I.tells input.old) (I.tells input.new) (E.tells errors.old) (E.tells errors.new) }
-    ensures untouched { result ≡ 2 → O.tells output.new ≡ O.tells output.old }
 {
     let options = match read_words(alloc, &words) {
         Ok(options) => options,

@@ -1,7 +1,8 @@
 //! What the words of mc_schedule's command line ask for.
-ghost use Rattle.std.specs.Prelude.{◌≡◌, IfOk, map, string_bytes};
-ghost use Rattle.clap.specs.Words.{FailsBy, app_of, fault_of};
-ghost use Rattle.mc_programs.specs.Lists.{asks_picture, asks_quiet, schedule_app};
+ghost use Rattle.std.specs.Prelude.{◌≡◌, IfOk, MatchResult, map, string_bytes};
+ghost use Rattle.clap.specs.Words.{HasKind, app_of, fault_of};
+ghost use Rattle.mc_programs.specs.Lists.{schedule_app};
+ghost use Rattle.mc_programs.specs.Reporting.{AsksFor};
 
 use crate::words::{flag, flag_option};
 use clap::{Command, Error};
@@ -53,9 +54,8 @@ fn schedule_command<'a>(alloc: Global) -> Result<Command<'a>, AllocError>
 
 /// What the words after the program's name ask for.
 pub(crate) fn read_words(alloc: Global, words: &[String]) -> Result<ScheduleOptions, Error>
-    ensures quiet { IfOk result (λ options. options.quiet ≡ asks_quiet (map string_bytes words.now)) }
-    ensures picture { IfOk result (λ options. options.picture ≡ asks_picture (map string_bytes words.now)) }
-    ensures kinds { FailsBy (fault_of schedule_app (map string_bytes words.now)) result }
+    ensures outcome { MatchResult result (AsksFor (map string_bytes words.now))
+        (HasKind (fault_of schedule_app (map string_bytes words.now))) }
 {
     let matches = schedule_command(alloc)?.try_get_matches_from(words)?;
     Ok(ScheduleOptions {

@@ -1,7 +1,6 @@
 //! What the program over standard input does.
-ghost use Rattle.std.specs.Prelude.{◌≡◌, ◌⊎◌, map, string_bytes};
-ghost use Rattle.mc_programs.specs.Options.{EndsInFault, EndsWell, RefusesWords};
-ghost use Rattle.mc_conn.specs.Turn.{NeitherFails};
+ghost use Rattle.std.specs.Prelude.{map, string_bytes};
+ghost use Rattle.mc_programs.specs.Options.{Ends};
 ghost use Rattle.mc_stream.specs.Stream.{both};
 
 use crate::faults::{fail, tell_fault};
@@ -35,15 +34,10 @@ pub fn run_stdin<R: Wait, I: Input, O: Output, E: Output>(
     output: &mut O,
     errors: &mut E,
 ) -> u8
-    ensures status { (result ≡ 0) ⊎ (result ≡ 1) ⊎ (result ≡ 2) }
     // From the bytes that came in to the bytes that went out, by the quotas and the number of places that the words ask for.
-    ensures serves { result ≡ 0 → EndsWell (map string_bytes words.items) (both (I.tells input.old) (O.tells output.old)) (both (I.tells input.new) (O.tells output.new)) }
-    ensures no_failure { result ≡ 0 → NeitherFails (both (I.tells input.old) (O.tells output.old)) (both (I.tells input.new) (O.tells output.new)) }
-    ensures silent { result ≡ 0 → E.tells errors.new ≡ E.tells errors.old }
-    ensures fails { result ≡ 1 → EndsInFault (map string_bytes words.items) (both (I.tells input.old) (O.tells output.old)) (both (I.tells input.new) (O.tells output.new))
+    ensures { Ends (map string_bytes words.items) result
+        (both (I.tells input.old) (O.tells output.old)) (both (I.tells input.new) (O.tells output.new))
         (E.tells errors.old) (E.tells errors.new) }
-    ensures refuses { result ≡ 2 → RefusesWords (map string_bytes words.items) (E.tells errors.old) (E.tells errors.new) }
-    ensures untouched { result ≡ 2 → both (I.tells input.new) (O.tells output.new) ≡ both (I.tells input.old) (O.tells output.old) }
 {
     let options = match read_words(alloc, &words) {
         Ok(options) => options,

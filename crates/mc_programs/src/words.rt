@@ -2,11 +2,11 @@
 ghost use Rattle.clap.specs.Words.{found_of, kind_of, rule_of};
 ghost use Rattle.std.specs.IoError.{error_kind};
 ghost use Rattle.std.specs.declared.io.ErrorKind.TheVariants.{OutOfMemory as StdOutOfMemory};
-ghost use Rattle.std.specs.Prelude.{◌≡◌, ◌≢◌, ◌⊎◌, ℕ, Err, IfErr, List, false};
+ghost use Rattle.std.specs.Prelude.{◌≡◌, ◌≢◌, ◌⊎◌, Err, IfErr, false};
 ghost use Rattle.mc_model.specs.declared.fault.Fault.{Fault};
 ghost use Rattle.mc_programs.specs.Faults.{fault_line};
-ghost use Rattle.mc_programs.specs.Words.{FailsToAnswer, IsShown, flag_given, flag_rule, number_given, number_rule, unreadable_line};
-ghost use Rattle.mc_stream.specs.Pushing.{IsUnfailed, Pushes, PushesOrFails};
+ghost use Rattle.mc_programs.specs.Words.{AnswersWords, flag_given, flag_rule, number_given, number_rule, unreadable_line};
+ghost use Rattle.mc_stream.specs.Pushing.{PushesOrFails};
 
 use crate::faults::{fail, tell_line};
 use crate::waiting::push_all;
@@ -67,15 +67,8 @@ pub fn answer_words<R: Wait, O: Output, E: Output>(
     output: &mut O,
     errors: &mut E,
 ) -> u8
-    ensures status { (result ≡ 0) ⊎ (result ≡ 1) ⊎ (result ≡ 2) }
-    ensures shown { result ≡ 0 → (text : List ℕ) × Pushes (O.tells output.old) (O.tells output.new) text }
-    ensures shown_kind { result ≡ 0 → (kind_of error.now ≢ ErrorKind.OutOfMemory) × IsShown (kind_of error.now) }
-    ensures shown_whole { result ≡ 0 → IsUnfailed (O.tells output.old) (O.tells output.new) }
-    ensures silent { result ≡ 0 → E.tells errors.new ≡ E.tells errors.old }
-    ensures fails { result ≡ 1 → FailsToAnswer program.now (kind_of error.now) (O.tells output.old) (O.tells output.new) (E.tells errors.old) (E.tells errors.new) }
-    ensures told { result ≡ 2 → (text : List ℕ) × PushesOrFails text (E.tells errors.old) (E.tells errors.new) }
-    ensures told_kind { result ≡ 2 → (kind_of error.now ≢ ErrorKind.OutOfMemory) × ¬ (IsShown (kind_of error.now)) }
-    ensures untouched { result ≡ 2 → O.tells output.new ≡ O.tells output.old }
+    ensures { AnswersWords program.now (kind_of error.now) result
+        (O.tells output.old) (O.tells output.new) (E.tells errors.old) (E.tells errors.new) }
 {
     if error.kind() == ErrorKind::OutOfMemory {
         return fail(rt, program, Fault::Memory, errors);
@@ -110,9 +103,10 @@ pub fn refuse_words<R: Wait, E: Output>(
     error: &io::Error,
     errors: &mut E,
 ) -> u8
-    ensures status { (result ≡ 1) ⊎ (result ≡ 2) }
-    ensures starved { error_kind error.now ≡ StdOutOfMemory → (result ≡ 1) × PushesOrFails (fault_line program.now Fault.Memory) (E.tells errors.old) (E.tells errors.new) }
-    ensures unreadable { error_kind error.now ≢ StdOutOfMemory → (result ≡ 2) × PushesOrFails (unreadable_line program.now) (E.tells errors.old) (E.tells errors.new) }
+    ensures { (error_kind error.now ≡ StdOutOfMemory) × (result ≡ 1)
+        × PushesOrFails (fault_line program.now Fault.Memory) (E.tells errors.old) (E.tells errors.new)
+        ⊎ (error_kind error.now ≢ StdOutOfMemory) × (result ≡ 2)
+        × PushesOrFails (unreadable_line program.now) (E.tells errors.old) (E.tells errors.new) }
 {
     if error.kind() == io::ErrorKind::OutOfMemory {
         return fail(rt, program, Fault::Memory, errors);

@@ -6,13 +6,8 @@ use Rattle.std.specs.Option.{IsSomeAnd, MatchOption}
 use Rattle.clap.specs.Walk.{Text}
 use Rattle.mc_model.specs.declared.settings.Limits.{Limits}
 use Rattle.mc_server.specs.NetworkWords.{Asks, NetworkAsked, NetworkGiven, settings_asked}
-use Rattle.mc_server.specs.TenantWord.{Says, TenantAsked, asked_of}
+use Rattle.mc_server.specs.TenantWord.{IsOnly, Says, TenantAsked, asked_of}
 use Rattle.mc_server.specs.declared.tenant_word.Tenant.{Tenant}
-
--- the word says this tenant, and no other
-pub record IsOnly (word : Text) (tenant : TenantAsked) : Type 0 where
-  pub says : Says word tenant
-  pub only : (other : TenantAsked) → Says word other → other ≡ tenant
 
 pub all_say : (words : List Text) (tenants : List TenantAsked) → AllZip IsOnly words tenants → AllZip Says words tenants
 all_say [] [] h = tt

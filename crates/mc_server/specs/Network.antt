@@ -3,7 +3,7 @@ use Rattle.std.specs.List.{AllZip}
 use Rattle.std.specs.Prelude.{◌≡◌, ◌<◌, ◌≤◌, ◌⊎◌, ℕ, ◌+◌, List, [], ◌++◌, All, Contains, None, codes, length, map}
 use Rattle.clap.specs.Walk.{Text}
 use Rattle.mc_model.specs.declared.fault.Fault.{Fault}
-use Rattle.mc_model.specs.declared.fault.Fault.TheVariants.{Memory, Input, Output, BadSettings}
+use Rattle.mc_model.specs.declared.fault.Fault.TheVariants.{Memory, Input, BadSettings}
 use Rattle.mc_model.specs.declared.id.Ticket.{Ticket}
 use Rattle.mc_model.specs.declared.shown.Phase.TheVariants.{Idle}
 use Rattle.mc_model.specs.Helping.{BeginsWith}
@@ -17,11 +17,12 @@ use Rattle.mc_programs.specs.Faults.{fault_line}
 use Rattle.mc_server.specs.Listeners.{CountsFrom, IsTold}
 use Rattle.mc_server.specs.NetworkTexts.{cannot_listen_line, done_line, ready_text}
 use Rattle.mc_server.specs.NetworkWords.{AsksForNone, AsksForService, NetworkAsked, network_app, settings_asked}
+use Rattle.mc_programs.specs.Waiting.{FailsToPush, PushesAll}
 use Rattle.mc_programs.specs.Words.{FailsToShow, Shows, TellsMistake}
 use Rattle.mc_server.specs.declared.listeners.Stop.{Stop}
 use Rattle.mc_server.specs.declared.listeners.Stop.TheVariants.{CannotListen, Failed}
 use Rattle.mc_server.specs.declared.network_texts.Listening.{Listening}
-use Rattle.mc_stream.specs.Pushing.{FailsOnce, IsUnfailed, Pushes, PushesFront, PushesOrFails}
+use Rattle.mc_stream.specs.Pushing.{PushesOrFails}
 use Rattle.mc_stream.specs.Stream.{Outflow, Streams, both}
 use Rattle.uc_cells.specs.Sighting.{Sighting}
 use Rattle.uc_log.specs.declared.log.Log.{Log}
@@ -60,6 +61,10 @@ pub record AreWorkersOf (settings : Configuration) (log : Log) (workers : List W
   pub of : AreOf log workers
   pub many : length workers ≡ settings.workers
   pub numbers : CountsFrom 0 (map number_of workers)
+
+-- the workers of a log, at least one
+abbrev pub IsCrew : List Worker → Type 0
+IsCrew workers = (settings : Configuration) × (log : Log) × AreWorkersOf settings log workers × (0 < length workers)
 
 -- This worker has met the other: its history begins with the other's, and each command that the other has announced stands in it, but for
 -- one at most, which waits (Herlihy, Wait-Free Synchronization, TOPLAS 1991, the universal construction: all processes agree on one order
@@ -120,36 +125,33 @@ alone output = both (record { events = []; left = None }) output
 
 -- it was printed who listens where
 abbrev pub IsReady : List Listening → Outflow → Outflow → Type 0
-IsReady listening before after = Pushes before after (ready_text listening) × IsUnfailed before after
+IsReady listening before after = PushesAll (ready_text listening) before after
 
 -- these workers have met, and it was printed how long their history is
 abbrev pub IsDone : List Worker → Outflow → Outflow → Type 0
-IsDone workers before after = (number : ℕ) × HaveMet workers number × Pushes before after (done_line number) × IsUnfailed before after
+IsDone workers before after = (number : ℕ) × HaveMet workers number × PushesAll (done_line number) before after
 
 -- it was printed who listens where, and then, when the tenants had been served, how long the log has become
 abbrev pub IsServed : Configuration → List Listening → Outflow → Outflow → Type 0
 IsServed settings listening before after =
-    (number : ℕ) × WereServed settings number × Pushes before after (ready_text listening ++ done_line number) × IsUnfailed before after
+    (number : ℕ) × WereServed settings number × PushesAll (ready_text listening ++ done_line number) before after
 
 -- what was printed where a fault kept it from being printed who listens where
-abbrev pub StopsAnnouncing : Fault → List Listening → Outflow → Outflow → Type 0
-StopsAnnouncing Memory listening before after = after ≡ before
-StopsAnnouncing Output listening before after = PushesFront (ready_text listening) before after × FailsOnce before after
-StopsAnnouncing fault listening before after = ⊥
+abbrev pub StopsAnnouncing : List Listening → Outflow → Outflow → Fault → Type 0
+StopsAnnouncing listening before after fault = (fault ≡ Memory) × (after ≡ before) ⊎ FailsToPush (ready_text listening) before after fault
 
 -- what was printed where a fault kept it from being printed how long these workers' log has become
-abbrev pub StopsFinishing : Fault → List Worker → Outflow → Outflow → Type 0
-StopsFinishing Memory workers before after = after ≡ before
-StopsFinishing Output workers before after = (number : ℕ) × HaveMet workers number × PushesFront (done_line number) before after × FailsOnce before after
-StopsFinishing fault workers before after = ⊥
+abbrev pub StopsFinishing : List Worker → Outflow → Outflow → Fault → Type 0
+StopsFinishing workers before after fault =
+    (fault ≡ Memory) × (after ≡ before) ⊎ ((number : ℕ) × HaveMet workers number × FailsToPush (done_line number) before after fault)
 
 -- what was printed where a fault ended the service: nothing, who listens where, or a front of all that is to be printed
-abbrev pub StopsServing : Configuration → Fault → List Listening → Outflow → Outflow → Type 0
-StopsServing settings Memory listening before after = (after ≡ before) ⊎ IsReady listening before after
-StopsServing settings Input listening before after = IsReady listening before after
-StopsServing settings Output listening before after = PushesFront (ready_text listening) before after × FailsOnce before after
-    ⊎ ((number : ℕ) × WereServed settings number × PushesFront (ready_text listening ++ done_line number) before after × FailsOnce before after)
-StopsServing settings fault listening before after = ⊥
+abbrev pub StopsServing : Configuration → List Listening → Outflow → Outflow → Fault → Type 0
+StopsServing settings listening before after fault =
+    (fault ≡ Memory) × (after ≡ before)
+    ⊎ ((fault ≡ Memory) ⊎ (fault ≡ Input)) × IsReady listening before after
+    ⊎ FailsToPush (ready_text listening) before after fault
+    ⊎ ((number : ℕ) × WereServed settings number × FailsToPush (ready_text listening ++ done_line number) before after fault)
 
 -- the tenants' names
 abbrev pub names_of : NetworkAsked → List Text
@@ -157,10 +159,10 @@ names_of asked = map (λ tenant. tenant.name) asked.tenants
 
 -- what was printed where a run stopped: nothing where an address can't be listened at, or memory ran out before all were; and else what the
 -- fault leaves
-abbrev pub StopsRun : NetworkAsked → Stop → Outflow → Outflow → Type 0
-StopsRun asked (CannotListen name) before after = Contains (names_of asked) name.now × (after ≡ before)
-StopsRun asked (Failed fault) before after =
-    (fault ≡ Memory) × (after ≡ before) ⊎ ((listening : List Listening) × AllZip IsTold asked.tenants listening × StopsServing (settings_asked asked) fault listening before after)
+abbrev pub StopsRun : NetworkAsked → Outflow → Outflow → Stop → Type 0
+StopsRun asked before after (CannotListen name) = Contains (names_of asked) name.now × (after ≡ before)
+StopsRun asked before after (Failed fault) =
+    (fault ≡ Memory) × (after ≡ before) ⊎ ((listening : List Listening) × AllZip IsTold asked.tenants listening × StopsServing (settings_asked asked) listening before after fault)
 
 -- what is told of it
 abbrev pub stop_line : Stop → List ℕ
@@ -170,7 +172,7 @@ stop_line (Failed fault) = fault_line (codes "wfmc") fault
 -- A run stopped, and why was told.
 pub record FailsToServe (asked : NetworkAsked) (before after errors_before errors : Outflow) : Type 0 where
   pub stop : Stop
-  pub stops : StopsRun asked stop before after
+  pub stops : StopsRun asked before after stop
   pub told : PushesOrFails (stop_line stop) errors_before errors
 
 -- Each tenant was listened for, all connections were served, and that was printed, with the length of the log.
@@ -179,17 +181,24 @@ pub record Serves (asked : NetworkAsked) (before after : Outflow) : Type 0 where
   pub is_told : AllZip IsTold asked.tenants listening
   pub served : IsServed (settings_asked asked) listening before after
 
--- status 0: what the words ask for was served, or help or the version was shown
+-- what the words ask for was served, or help or the version was shown
 abbrev pub EndsWell : List Text → Outflow → Outflow → Type 0
 EndsWell words before after = ((asked : NetworkAsked) × AsksForService words asked × Serves asked before after) ⊎ Shows network_app words (alone before) (alone after)
 
--- status 1: an address can't be listened at, or a fault ended the service, or kept the words from being read or answered; it was told
+-- an address can't be listened at, or a fault ended the service, or kept the words from being read or answered; it was told
 abbrev pub EndsInFault : List Text → Outflow → Outflow → Outflow → Outflow → Type 0
 EndsInFault words before after errors_before errors =
     ((asked : NetworkAsked) × AsksForService words asked × FailsToServe asked before after errors_before errors)
     ⊎ FailsToShow (codes "wfmc") network_app words (alone before) (alone after) errors_before errors
 
--- status 2: the words ask for nothing that can be served, or are a mistake, and that was told
+-- the words ask for nothing that can be served, or are a mistake, and that was told
 abbrev pub RefusesWords : List Text → Outflow → Outflow → Type 0
 RefusesWords words errors_before errors =
     AsksForNone words × PushesOrFails (fault_line (codes "wfmc") BadSettings) errors_before errors ⊎ TellsMistake network_app words errors_before errors
+
+-- how a run of wfmc ends, by its status
+abbrev pub Ends : List Text → ℕ → Outflow → Outflow → Outflow → Outflow → Type 0
+Ends words status before after errors_before errors =
+    (status ≡ 0) × EndsWell words before after × (errors ≡ errors_before)
+    ⊎ (status ≡ 1) × EndsInFault words before after errors_before errors
+    ⊎ (status ≡ 2) × RefusesWords words errors_before errors × (after ≡ before)

@@ -93,3 +93,13 @@ served_by service = record {
   connections = service.connections;
   tenants = map asked_of service.tenants.items;
 }
+
+-- The command takes the words, and they give this.
+pub record AsksFor (words : List Text) (read : NetworkWords) : Type 0 where
+  pub taken : fault_of network_app words ≡ []
+  pub given : given_of read ≡ given_by words
+
+-- The settings are those of what is to be served, and that can be served.
+pub record IsChecked (service : Service) : Type 0 where
+  pub settings : service.settings ≡ settings_asked (served_by service)
+  pub servable : IsServable (served_by service)

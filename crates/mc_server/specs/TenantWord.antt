@@ -46,3 +46,8 @@ pub record Says (word : Text) (tenant : TenantAsked) : Type 0 where
   pub is_address : IsSocketV4Text address tenant.address
   pub is_items : u64_of items ≡ Some tenant.limits.items
   pub is_bytes : u64_of bytes ≡ Some tenant.limits.bytes
+
+-- The word says this tenant, and no other.
+pub record IsOnly (word : Text) (tenant : TenantAsked) : Type 0 where
+  pub says : Says word tenant
+  pub only : (other : TenantAsked) → Says word other → other ≡ tenant

@@ -1,9 +1,8 @@
 //! The workers of wfmc, before and after they serve.
 ghost use Rattle.std.specs.List.{AllZip};
-ghost use Rattle.std.specs.Prelude.{◌≡◌, ◌<◌, All, IfOk, IsOkUnless, OnOk, length, map, slice_get, Some, ℕ};
+ghost use Rattle.std.specs.Prelude.{◌≡◌, All, MatchResult, length, slice_get, Some, ℕ};
 ghost use Rattle.mc_model.specs.declared.fault.Fault.TheVariants as faults;
-ghost use Rattle.mc_server.specs.Listeners.{CountsFrom};
-ghost use Rattle.mc_server.specs.Network.{AreOf, AreWorkersOf, HasDoneNothing, HaveMet, Meets, number_of};
+ghost use Rattle.mc_server.specs.Network.{AreOf, AreWorkersOf, HasDoneNothing, HaveMet, IsCrew, Meets};
 ghost use Rattle.uc_worker.specs.Going.{CatchesUp};
 ghost use Rattle.uc_worker.specs.Worker.{IsUpToDate};
 ghost use Rattle.uc_log.specs.Passes.{IsNew};
@@ -19,12 +18,12 @@ pub(crate) fn open_workers<'a>(
     log: &'a Log,
     passes: Vec<Pass>,
 ) -> Result<Vec<Worker<'a>>, Fault>
-    requires { (number : ℕ) (pass : _) → slice_get passes.items number ≡ Some pass → IsNew log.now number pass }
-    ensures count { IfOk result (λ workers. length workers.items ≡ length passes.items) }
-    ensures log { IfOk result (λ workers. AreOf log.now workers.items) }
-    ensures numbers { IfOk result (λ workers. CountsFrom 0 (map number_of workers.items)) }
-    ensures new { IfOk result (λ workers. All HasDoneNothing workers.items) }
-    ensures memory { IsOkUnless result faults.Memory }
+    requires passes { (number : ℕ) (pass : _) → slice_get passes.items number ≡ Some pass
+        → IsNew log.now number pass }
+    requires count { length passes.items ≡ log.now.settings.workers }
+    ensures outcome { MatchResult result
+        (λ workers. AreWorkersOf log.now.settings log.now workers.items × All HasDoneNothing workers.items)
+        (λ fault. fault ≡ faults.Memory) }
 {
     let mut workers = Vec::with_capacity(alloc, passes.len())?;
     for pass in passes {
@@ -42,10 +41,10 @@ fn meet_others<'a>(
 ) -> Result<Vec<Worker<'a>>, Fault>
     requires log { AreOf one.old.log.now others.items }
     requires whole { IsUpToDate one.old }
-    ensures met { IfOk result (λ met. AllZip (Meets one.old one.new) others.entry.items met.items) }
-    ensures whole { OnOk result (IsUpToDate one.new) }
+    ensures outcome { MatchResult result
+        (λ met. AllZip (Meets one.old one.new) others.entry.items met.items × IsUpToDate one.new)
+        (λ fault. fault ≡ faults.Memory) }
     ensures later { CatchesUp one.old one.new }
-    ensures memory { IsOkUnless result faults.Memory }
 {
     let mut met = Vec::with_capacity(alloc, others.len())?;
     for other in others {
@@ -59,10 +58,9 @@ fn meet_others<'a>(
 /// Has the last worker catch up and meet all others until it learns nothing more by that, so that all have the same history. Counts what
 /// stands there: all that any of them had. Where memory runs out: `Memory`.
 pub(crate) fn meet_all(alloc: Global, workers: Vec<Worker<'_>>) -> Result<usize, Fault>
-    requires all { (settings : _) × (log : _) × AreWorkersOf settings log workers.items }
-    requires some { 0 < length workers.items }
-    ensures met { IfOk result (λ count. HaveMet workers.entry.items count) }
-    ensures memory { IsOkUnless result faults.Memory }
+    requires { IsCrew workers.items }
+    ensures outcome { MatchResult result (HaveMet workers.entry.items)
+        (λ fault. fault ≡ faults.Memory) }
 {
     let mut others = workers;
     let Some(mut last) = others.pop() else {

@@ -1,5 +1,5 @@
 //! The listeners of wfmc's tenants.
-ghost use Rattle.std.specs.Prelude.{◌≡◌, ◌≤◌, IfErr, IfOk, length, map};
+ghost use Rattle.std.specs.Prelude.{◌≡◌, ◌≤◌, IfOk, MatchResult, length, map};
 ghost use Rattle.mc_model.specs.declared.fault.Fault.TheVariants.{Memory};
 ghost use Rattle.mc_model.specs.declared.id.TheConstants.{TENANTS};
 ghost use Rattle.mc_server.specs.Listeners.{AreListenersOf, IsTold, StopsListening};
@@ -65,8 +65,8 @@ pub(crate) fn bind_all<'a, R: Net>(
     tenants: &[Tenant<'a>],
 ) -> Result<Listeners<'a>, Stop<'a>>
     requires { length tenants.now ≤ TENANTS }
-    ensures bound { IfOk result (λ bound. AreListenersOf tenants.now bound) }
-    ensures stops { IfErr result (λ stop. StopsListening (map (λ tenant. tenant.name.now) tenants.now) stop) }
+    ensures outcome { MatchResult result (AreListenersOf tenants.now)
+        (StopsListening (map (λ tenant. tenant.name.now) tenants.now)) }
 {
     let mut listeners = Vec::new(alloc);
     let mut told = Vec::new(alloc);

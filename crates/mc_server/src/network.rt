@@ -1,8 +1,8 @@
 //! What the program that serves several tenants does.
-ghost use Rattle.std.specs.Prelude.{◌≡◌, ◌<◌, ◌⊎◌, IfErr, IfOk, OnOk, length, map, string_bytes, vec_len};
+ghost use Rattle.std.specs.Prelude.{MatchResult, map, string_bytes};
 ghost use Rattle.mc_server.specs.Listeners.{AreListenersOf};
-ghost use Rattle.mc_server.specs.Network.{AreWorkersOf, EndsInFault, EndsWell, IsDone, IsReady, IsServed, RefusesWords, Serves, StopsAnnouncing, StopsFinishing, StopsRun, StopsServing, stop_line};
-ghost use Rattle.mc_server.specs.NetworkWords.{IsServable, served_by, settings_asked};
+ghost use Rattle.mc_server.specs.Network.{Ends, IsCrew, IsDone, IsReady, IsServed, Serves, StopsAnnouncing, StopsFinishing, StopsRun, StopsServing, stop_line};
+ghost use Rattle.mc_server.specs.NetworkWords.{IsChecked, served_by, settings_asked};
 ghost use Rattle.mc_stream.specs.Pushing.{PushesOrFails};
 
 use crate::crew::{meet_all, open_workers};
@@ -30,8 +30,9 @@ fn announce<R: Wait, O: Output>(
     told: &[Listening],
     output: &mut O,
 ) -> Result<(), Fault>
-    ensures ready { OnOk result (IsReady told.now (O.tells output.old) (O.tells output.new)) }
-    ensures stops { IfErr result (λ fault. StopsAnnouncing fault told.now (O.tells output.old) (O.tells output.new)) }
+    ensures outcome { MatchResult result
+        (λ _. IsReady told.now (O.tells output.old) (O.tells output.new))
+        (StopsAnnouncing told.now (O.tells output.old) (O.tells output.new)) }
 {
     let text = ready_text(alloc, told)?;
     push_all(rt, text.as_bytes(), output)
@@ -44,10 +45,10 @@ fn finish<R: Wait, O: Output>(
     workers: Vec<Worker<'_>>,
     output: &mut O,
 ) -> Result<(), Fault>
-    requires all { (settings : _) × (log : _) × AreWorkersOf settings log workers.items }
-    requires some { 0 < length workers.items }
-    ensures done { OnOk result (IsDone workers.entry.items (O.tells output.old) (O.tells output.new)) }
-    ensures stops { IfErr result (λ fault. StopsFinishing fault workers.entry.items (O.tells output.old) (O.tells output.new)) }
+    requires { IsCrew workers.items }
+    ensures outcome { MatchResult result
+        (λ _. IsDone workers.entry.items (O.tells output.old) (O.tells output.new))
+        (StopsFinishing workers.entry.items (O.tells output.old) (O.tells output.new)) }
 {
     let count = meet_all(alloc, workers)?;
     tell_done(rt, count as u64, output)
@@ -62,11 +63,12 @@ fn serve_tenants<R: Threads + Wait + Net + Sync, O: Output>(
     bound: Listeners,
     output: &mut O,
 ) -> Result<(), Fault>
-    requires settings { service.now.settings ≡ settings_asked (served_by service.now) }
-    requires servable { IsServable (served_by service.now) }
+    requires checked { IsChecked service.now }
     requires bound { AreListenersOf service.now.tenants.items bound }
-    ensures serves { OnOk result (IsServed (settings_asked (served_by service.now)) bound.entry.told.items (O.tells output.old) (O.tells output.new)) }
-    ensures stops { IfErr result (λ fault. StopsServing (settings_asked (served_by service.now)) fault bound.entry.told.items (O.tells output.old) (O.tells output.new)) }
+    ensures outcome { let settings = settings_asked (served_by service.now) in
+        MatchResult result
+        (λ _. IsServed settings bound.entry.told.items (O.tells output.old) (O.tells output.new))
+        (StopsServing settings bound.entry.told.items (O.tells output.old) (O.tells output.new)) }
 {
     let Listeners { listeners, told } = bound;
     let (log, passes) = Log::open(alloc, &service.settings)?;
@@ -93,10 +95,10 @@ fn run_service<'a, R: Threads + Wait + Net + Sync, O: Output>(
     service: &Service<'a>,
     output: &mut O,
 ) -> Result<(), Stop<'a>>
-    requires settings { service.now.settings ≡ settings_asked (served_by service.now) }
-    requires servable { IsServable (served_by service.now) }
-    ensures serves { OnOk result (Serves (served_by service.now) (O.tells output.old) (O.tells output.new)) }
-    ensures stops { IfErr result (λ stop. StopsRun (served_by service.now) stop (O.tells output.old) (O.tells output.new)) }
+    requires { IsChecked service.now }
+    ensures outcome { MatchResult result
+        (λ _. Serves (served_by service.now) (O.tells output.old) (O.tells output.new))
+        (StopsRun (served_by service.now) (O.tells output.old) (O.tells output.new)) }
 {
     let bound = bind_all(rt, alloc, &service.tenants)?;
     Ok(serve_tenants(rt, alloc, service, bound, output)?)
@@ -131,13 +133,9 @@ pub fn run_wfmc<R: Threads + Wait + Net + Sync, O: Output, E: Output>(
     output: &mut O,
     errors: &mut E,
 ) -> u8
-    ensures status { (result ≡ 0) ⊎ (result ≡ 1) ⊎ (result ≡ 2) }
     // What is printed, by what the words ask for.
-    ensures serves { result ≡ 0 → EndsWell (map string_bytes words.items) (O.tells output.old) (O.tells output.new) }
-    ensures silent { result ≡ 0 → E.tells errors.new ≡ E.tells errors.old }
-    ensures fails { result ≡ 1 → EndsInFault (map string_bytes words.items) (O.tells output.old) (O.tells output.new) (E.tells errors.old) (E.tells errors.new) }
-    ensures refuses { result ≡ 2 → RefusesWords (map string_bytes words.items) (E.tells errors.old) (E.tells errors.new) }
-    ensures untouched { result ≡ 2 → O.tells output.new ≡ O.tells output.old }
+    ensures { Ends (map string_bytes words.items) result (O.tells output.old) (O.tells output.new)
+        (E.tells errors.old) (E.tells errors.new) }
 {
     let given = match read_words(alloc, &words) {
         Ok(given) => given,

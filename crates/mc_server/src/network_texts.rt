@@ -1,8 +1,8 @@
 //! What wfmc prints of its listeners and at its end.
-ghost use Rattle.std.specs.Prelude.{◌≡◌, ◌++◌, IfOk, IsOkUnless, MatchResult, codes, string_bytes};
-ghost use Rattle.mc_model.specs.declared.fault.Fault.{Fault};
+ghost use Rattle.std.specs.Prelude.{◌≡◌, ◌++◌, IfOk, MatchResult, codes, string_bytes};
+ghost use Rattle.mc_programs.specs.Waiting.{FailsToPush, PushesAll};
 ghost use Rattle.mc_server.specs.NetworkTexts.{cannot_listen_line, done_line, listening_line, ready_text, told_address};
-ghost use Rattle.mc_stream.specs.Pushing.{FailsOnce, IsUnfailed, PushesOrFails};
+ghost use Rattle.mc_stream.specs.Pushing.{PushesOrFails};
 
 use itoa::Buffer;
 use mc_model::Fault;
@@ -57,9 +57,9 @@ fn push_line<R: Wait, O: Output>(
     back: &[u8],
     output: &mut O,
 ) -> Result<(), Fault>
-    ensures pushed { PushesOrFails (front.now ++ (back.now ++ codes "\n")) (O.tells output.old) (O.tells output.new) }
-    ensures fault { IsOkUnless result Fault.Output }
-    ensures failures { MatchResult result (λ _. IsUnfailed (O.tells output.old) (O.tells output.new)) (λ _. FailsOnce (O.tells output.old) (O.tells output.new)) }
+    ensures outcome { let line = front.now ++ (back.now ++ codes "\n") in
+        MatchResult result (λ _. PushesAll line (O.tells output.old) (O.tells output.new))
+        (FailsToPush line (O.tells output.old) (O.tells output.new)) }
 {
     push_all(rt, front, output)?;
     push_all(rt, back, output)?;
@@ -72,9 +72,9 @@ pub(crate) fn tell_done<R: Wait, O: Output>(
     length: u64,
     output: &mut O,
 ) -> Result<(), Fault>
-    ensures pushed { PushesOrFails (done_line length) (O.tells output.old) (O.tells output.new) }
-    ensures fault { IsOkUnless result Fault.Output }
-    ensures failures { MatchResult result (λ _. IsUnfailed (O.tells output.old) (O.tells output.new)) (λ _. FailsOnce (O.tells output.old) (O.tells output.new)) }
+    ensures outcome { MatchResult result
+        (λ _. PushesAll (done_line length) (O.tells output.old) (O.tells output.new))
+        (FailsToPush (done_line length) (O.tells output.old) (O.tells output.new)) }
 {
     let mut buffer = Buffer::new();
     push_line(rt, b"done ", buffer.format(length).as_bytes(), output)

@@ -1,11 +1,11 @@
 //! What the words of wfmc's command line ask for.
 ghost use Rattle.std.specs.List.{AllZip, IsDistinct, list_any};
-ghost use Rattle.std.specs.Prelude.{◌≡◌, ◌↔◌, ◌⊎◌, List, Err, IfErr, IfOk, IsTrue, false, map, string_bytes};
+ghost use Rattle.std.specs.Prelude.{◌≡◌, ◌↔◌, ◌⊎◌, List, IfOk, IsTrue, MatchResult, false, map, string_bytes};
 ghost use Rattle.std.specs.Str.{bytes_eq};
-ghost use Rattle.clap.specs.Words.{FailsBy, app_of, fault_of, rule_of};
+ghost use Rattle.clap.specs.Words.{HasKind, app_of, fault_of, rule_of};
 ghost use Rattle.mc_model.specs.declared.fault.Fault.TheVariants as faults;
-ghost use Rattle.mc_server.specs.NetworkWords.{Asks, AsksInVain, IsServable, given_by, given_of, network_app, options_app, served_by, settings_asked, tenants_rule};
-ghost use Rattle.mc_server.specs.TenantWord.{Says, TenantAsked, asked_of};
+ghost use Rattle.mc_server.specs.NetworkWords.{Asks, AsksFor, AsksInVain, IsChecked, given_of, network_app, options_app, served_by, tenants_rule};
+ghost use Rattle.mc_server.specs.TenantWord.{IsOnly, Says, TenantAsked, asked_of};
 
 use crate::tenant_word::{Tenant, read_tenant};
 use clap::{Arg, Command, Error};
@@ -90,8 +90,8 @@ fn network_command<'a>(alloc: Global) -> Result<Command<'a>, AllocError>
 
 /// What the words after the program's name give.
 pub(crate) fn read_words(alloc: Global, words: &[String]) -> Result<NetworkWords<'_>, Error>
-    ensures given { IfOk result (λ read. given_of read ≡ given_by (map string_bytes words.now)) }
-    ensures kinds { FailsBy (fault_of network_app (map string_bytes words.now)) result }
+    ensures outcome { MatchResult result (AsksFor (map string_bytes words.now))
+        (HasKind (fault_of network_app (map string_bytes words.now))) }
 {
     let matches = network_command(alloc)?.try_get_matches_from(words)?;
     let tenants = matches.get_raw("tenants").unwrap_or(&[]);
@@ -106,10 +106,10 @@ pub(crate) fn read_words(alloc: Global, words: &[String]) -> Result<NetworkWords
 
 /// The tenants that words say, in their order. Where one is not of a tenant's form: `BadSettings`.
 fn read_tenants<'a>(alloc: Global, words: &[&'a str]) -> Result<Vec<Tenant<'a>>, Fault>
-    ensures says { IfOk result (λ tenants. AllZip Says (map (λ word. word.now) words.now) (map asked_of tenants.items)) }
-    ensures only { IfOk result (λ tenants. (others : List TenantAsked) → AllZip Says (map (λ word. word.now) words.now) others → others ≡ map asked_of tenants.items) }
-    ensures other { result ≡ Err faults.BadSettings → (others : List TenantAsked) → ¬ (AllZip Says (map (λ word. word.now) words.now) others) }
-    ensures faults { IfErr result (λ fault. (fault ≡ faults.Memory) ⊎ (fault ≡ faults.BadSettings)) }
+    ensures outcome { let texts = map (λ word. word.now) words.now in
+        MatchResult result (λ tenants. AllZip IsOnly texts (map asked_of tenants.items))
+        (λ fault. (fault ≡ faults.Memory)
+        ⊎ (fault ≡ faults.BadSettings) × ((others : List TenantAsked) → ¬ (AllZip Says texts others))) }
 {
     let mut tenants = Vec::new(alloc);
     for word in words {
@@ -148,11 +148,10 @@ fn quotas_of(alloc: Global, tenants: &[Tenant]) -> Result<Vec<Limits>, AllocErro
 /// What the words ask to be served. Where that can't be, since a tenant's word is of another form, a number is out of its bounds, or a
 /// name is used twice: `BadSettings`.
 pub(crate) fn service_of<'a>(alloc: Global, words: &NetworkWords<'a>) -> Result<Service<'a>, Fault>
-    ensures asks { IfOk result (λ service. Asks (given_of words.now) (served_by service)) }
-    ensures settings { IfOk result (λ service. service.settings ≡ settings_asked (served_by service)) }
-    ensures servable { IfOk result (λ service. IsServable (served_by service)) }
-    ensures vain { result ≡ Err faults.BadSettings → AsksInVain (given_of words.now) }
-    ensures faults { IfErr result (λ fault. (fault ≡ faults.Memory) ⊎ (fault ≡ faults.BadSettings)) }
+    ensures outcome { MatchResult result
+        (λ service. Asks (given_of words.now) (served_by service) × IsChecked service)
+        (λ fault. (fault ≡ faults.Memory)
+        ⊎ (fault ≡ faults.BadSettings) × AsksInVain (given_of words.now)) }
 {
     let tenants = read_tenants(alloc, &words.tenants)?;
     let quotas = quotas_of(alloc, &tenants)?;

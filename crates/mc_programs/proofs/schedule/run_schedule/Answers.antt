@@ -1,47 +1,32 @@
-use Rattle.std.proofs.Common.{◌≡◌, ◌⊎◌, inr, map, refl, string_bytes, subst, List, String, Global}
+use Rattle.std.proofs.Common.{◌≡◌, ◌⊎◌, inl, inr, ⊎_elim, map, refl, string_bytes, subst, List, String, Global}
 use Rattle.clap.specs.Words.{kind_of}
 use Rattle.clap.specs.declared.error.kind.ErrorKind.TheVariants.{OutOfMemory}
 use Rattle.mc_programs.specs.Lists.{schedule_app}
+use Rattle.mc_programs.specs.Reporting.{AsksFor}
 use Rattle.mc_programs.specs.Words.{IsAnswered}
 use Rattle.mc_stream.specs.Stream.{both}
-use Rattle.mc_programs.proofs.Answered.{fails_to_show, tells_mistake}
-use Rattle.mc_programs.proofs.Reported.{AsksFor, ends_in_fault, ends_well, refuses}
+use Rattle.mc_programs.proofs.Answered.{answered}
+use Rattle.mc_programs.proofs.Reported.{ends}
 use Rattle.mc_programs.proofs.schedule.run_schedule.Goals as goal
 
--- a fault kept help, the version or a mistake from being told
-pub returns-in-Err-clause-fails : goal.returns-in-Err-clause-fails
-returns-in-Err-clause-fails g c =
-    λ one.
+-- the words ask for no service
+pub returns-in-Err : goal.returns-in-Err
+returns-in-Err g c =
     let failed : (kind_of c.in-Err.error ≡ OutOfMemory) ⊎ IsAnswered schedule_app (map string_bytes c.args.words.items) (kind_of c.in-Err.error) =
-    subst (λ (words : List (String Global)). (kind_of c.in-Err.error ≡ OutOfMemory) ⊎ IsAnswered schedule_app (map string_bytes words) (kind_of c.in-Err.error)) c.deref.ensures.value c.in-Err.ensures.kinds in
-    inr (inr (fails_to_show schedule_app _ _ failed _ _ _ _ _ _ (c.answer_words.ensures.fails one)))
+    subst (λ (words : List (String Global)). (kind_of c.in-Err.error ≡ OutOfMemory) ⊎ IsAnswered schedule_app (map string_bytes words) (kind_of c.in-Err.error)) c.deref.ensures.value c.in-Err.ensures.outcome in
+    ⊎_elim
+    (λ shown. inl (shown.0, inr shown.1, shown.2))
+    (λ others. inr (⊎_elim (λ fails. inl (fails.0, inr (inr fails.1))) (λ mistake. inr (mistake.0, inr (refl, mistake.1), mistake.2)) others))
+    (answered schedule_app _ _ failed _ _ _ _ _ _ _ c.answer_words.ensures)
 
--- a mistake in the words was told
-pub returns-in-Err-clause-refuses : goal.returns-in-Err-clause-refuses
-returns-in-Err-clause-refuses g c =
-    λ two.
-    let failed : (kind_of c.in-Err.error ≡ OutOfMemory) ⊎ IsAnswered schedule_app (map string_bytes c.args.words.items) (kind_of c.in-Err.error) =
-    subst (λ (words : List (String Global)). (kind_of c.in-Err.error ≡ OutOfMemory) ⊎ IsAnswered schedule_app (map string_bytes words) (kind_of c.in-Err.error)) c.deref.ensures.value c.in-Err.ensures.kinds in
-    let told = c.answer_words.ensures.told two in
-    inr (refl, tells_mistake schedule_app _ _ failed _ _ (c.answer_words.ensures.told_kind two) told.0 told.1)
+-- a fault kept the list from being read or answered
+pub returns : goal.returns
+returns g c =
+    inr (inl (c.fail.ensures.status, inr (inl (record { fault = c.in-Err-do_list.fault; stops = inl (c.in-Err-do_list.ensures.outcome, refl); told = c.fail.ensures.told }))))
 
-pub returns-in-Ok-do_list-clause-reports : goal.returns-in-Ok-do_list-clause-reports
-returns-in-Ok-do_list-clause-reports g c =
-    let asks : AsksFor (map string_bytes c.args.words.items) c.in-Ok.options = subst (λ (words : List (String Global)). AsksFor (map string_bytes words) c.in-Ok.options) c.deref.ensures.value
-    (record { taken = c.in-Ok.ensures.kinds; quiet = c.in-Ok.ensures.quiet; picture = c.in-Ok.ensures.picture }) in
-    ends_well _ _ asks (both (g.I.Input.tells c.args.input.now) (g.O.Output.tells c.args.output.now)) (both (g.I.Input.tells c.do_list.new.input) (g.O.Output.tells c.give.new.output)) _ _ _
-    c.in-Ok-do_list.answer c.in-Ok-do_list.ensures.answer c.give.ensures
-
-pub returns-in-Ok-do_list-clause-fails : goal.returns-in-Ok-do_list-clause-fails
-returns-in-Ok-do_list-clause-fails g c =
-    let asks : AsksFor (map string_bytes c.args.words.items) c.in-Ok.options = subst (λ (words : List (String Global)). AsksFor (map string_bytes words) c.in-Ok.options) c.deref.ensures.value
-    (record { taken = c.in-Ok.ensures.kinds; quiet = c.in-Ok.ensures.quiet; picture = c.in-Ok.ensures.picture }) in
-    ends_in_fault _ _ asks (both (g.I.Input.tells c.args.input.now) (g.O.Output.tells c.args.output.now)) (both (g.I.Input.tells c.do_list.new.input) (g.O.Output.tells c.give.new.output)) _ _ _
-    c.in-Ok-do_list.answer c.in-Ok-do_list.ensures.answer c.give.ensures
-
-pub returns-in-Ok-do_list-clause-refuses : goal.returns-in-Ok-do_list-clause-refuses
-returns-in-Ok-do_list-clause-refuses g c =
-    let asks : AsksFor (map string_bytes c.args.words.items) c.in-Ok.options = subst (λ (words : List (String Global)). AsksFor (map string_bytes words) c.in-Ok.options) c.deref.ensures.value
-    (record { taken = c.in-Ok.ensures.kinds; quiet = c.in-Ok.ensures.quiet; picture = c.in-Ok.ensures.picture }) in
-    refuses _ _ asks (both (g.I.Input.tells c.args.input.now) (g.O.Output.tells c.args.output.now)) (both (g.I.Input.tells c.do_list.new.input) (g.O.Output.tells c.give.new.output)) _ _ _
-    c.in-Ok-do_list.answer c.in-Ok-do_list.ensures.answer c.give.ensures
+pub returns-in-Ok-do_list : goal.returns-in-Ok-do_list
+returns-in-Ok-do_list g c =
+    let asks : AsksFor (map string_bytes c.args.words.items) c.in-Ok.options =
+    subst (λ (words : List (String Global)). AsksFor (map string_bytes words) c.in-Ok.options) c.deref.ensures.value c.in-Ok.ensures.outcome in
+    ends _ _ asks (both (g.I.Input.tells c.args.input.now) (g.O.Output.tells c.args.output.now)) (both (g.I.Input.tells c.do_list.new.input) (g.O.Output.tells c.give.new.output)) _ _ _
+    c.in-Ok-do_list.answer c.in-Ok-do_list.ensures.outcome c.give.ensures

@@ -1,6 +1,7 @@
 use Rattle.std.proofs.Common.{◌≡◌, ◌∙◌, List, ℕ, ◌++◌, codes, decimal, refl, sym, ap, subst, append_assoc}
 use Rattle.mc_programs.specs.Lists.{bad_line_text}
-use Rattle.mc_stream.specs.Pushed.{tells_front, tells_more, told}
+use Rattle.mc_programs.proofs.Waited.{told}
+use Rattle.mc_stream.specs.Pushed.{tells_front, tells_more}
 use Rattle.mc_stream.specs.Pushing.{PushesOrFails}
 use Rattle.mc_stream.specs.Stream.{Outflow}
 use Rattle.mc_programs.proofs.schedule.tell_bad_line.Goals as goal
@@ -21,17 +22,17 @@ tells_line line digits before after is tells = subst (λ (text : List ℕ). Push
 pub returns-in_err-push_all : goal.returns-in_err-push_all
 returns-in_err-push_all g c =
     tells_line c.args.line _ _ _ refl
-    (tells_front front (digits_on (decimal c.args.line)) (g.E.Output.tells c.args.errors.now) (g.E.Output.tells c.push_all.new.output) c.in_err-push_all.ensures.front c.in_err-push_all.ensures.failures)
+    (tells_front front (digits_on (decimal c.args.line)) (g.E.Output.tells c.args.errors.now) (g.E.Output.tells c.push_all.new.output) c.in_err-push_all.ensures.outcome.front c.in_err-push_all.ensures.outcome.failed)
 
 pub returns-in_err-push_all-2 : goal.returns-in_err-push_all-2
 returns-in_err-push_all-2 g c =
     tells_line c.args.line c.as_bytes.result.now _ _ (c.as_bytes.ensures.value ∙ c.format.ensures.text)
-    (tells_more front (digits_on c.as_bytes.result.now) (g.E.Output.tells c.args.errors.now) (g.E.Output.tells c.push_all.new.output) (g.E.Output.tells c.push_all-2.new.output) c.in_ok-push_all.ensures.pushed c.in_ok-push_all.ensures.failures
-    (tells_front c.as_bytes.result.now (codes ": bad line\n") (g.E.Output.tells c.push_all.new.output) (g.E.Output.tells c.push_all-2.new.output) c.in_err-push_all-2.ensures.front c.in_err-push_all-2.ensures.failures))
+    (tells_more front (digits_on c.as_bytes.result.now) (g.E.Output.tells c.args.errors.now) (g.E.Output.tells c.push_all.new.output) (g.E.Output.tells c.push_all-2.new.output) c.in_ok-push_all.ensures.outcome.went c.in_ok-push_all.ensures.outcome.unfailed
+    (tells_front c.as_bytes.result.now (codes ": bad line\n") (g.E.Output.tells c.push_all.new.output) (g.E.Output.tells c.push_all-2.new.output) c.in_err-push_all-2.ensures.outcome.front c.in_err-push_all-2.ensures.outcome.failed))
 
 pub returns : goal.returns
 returns g c =
     tells_line c.args.line c.as_bytes.result.now _ _ (c.as_bytes.ensures.value ∙ c.format.ensures.text)
-    (tells_more front (digits_on c.as_bytes.result.now) (g.E.Output.tells c.args.errors.now) (g.E.Output.tells c.push_all.new.output) (g.E.Output.tells c.push_all-3.new.output) c.in_ok-push_all.ensures.pushed c.in_ok-push_all.ensures.failures
-    (tells_more c.as_bytes.result.now (codes ": bad line\n") (g.E.Output.tells c.push_all.new.output) (g.E.Output.tells c.push_all-2.new.output) (g.E.Output.tells c.push_all-3.new.output) c.in_ok-push_all-2.ensures.pushed c.in_ok-push_all-2.ensures.failures
-    (told c.push_all-3.result (codes ": bad line\n") (g.E.Output.tells c.push_all-2.new.output) (g.E.Output.tells c.push_all-3.new.output) c.push_all-3.ensures.pushed c.push_all-3.ensures.front c.push_all-3.ensures.failures)))
+    (tells_more front (digits_on c.as_bytes.result.now) (g.E.Output.tells c.args.errors.now) (g.E.Output.tells c.push_all.new.output) (g.E.Output.tells c.push_all-3.new.output) c.in_ok-push_all.ensures.outcome.went c.in_ok-push_all.ensures.outcome.unfailed
+    (tells_more c.as_bytes.result.now (codes ": bad line\n") (g.E.Output.tells c.push_all.new.output) (g.E.Output.tells c.push_all-2.new.output) (g.E.Output.tells c.push_all-3.new.output) c.in_ok-push_all-2.ensures.outcome.went c.in_ok-push_all-2.ensures.outcome.unfailed
+    (told c.push_all-3.result (codes ": bad line\n") (g.E.Output.tells c.push_all-2.new.output) (g.E.Output.tells c.push_all-3.new.output) c.push_all-3.ensures.outcome)))

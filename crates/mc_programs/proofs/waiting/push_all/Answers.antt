@@ -1,4 +1,4 @@
-use Rattle.std.proofs.Common.{length, ◌∙◌, ap, length-drop, arith}
+use Rattle.std.proofs.Common.{length, ◌+◌, ◌∙◌, ap, refl, length-drop, arith}
 use Rattle.std.proofs.lemmas.List.{take_rest}
 use Rattle.mc_stream.specs.Event.{failures, moved}
 use Rattle.mc_stream.specs.Pushed.{front_sent, sent_more}
@@ -14,5 +14,13 @@ loop-preserved-in-Taken g c =
       unfailed = ap failures c.in-Taken.ensures.event ∙ so_far.unfailed;
     }
 
-pub returns-in-Failed-clause-front : goal.returns-in-Failed-clause-front
-returns-in-Failed-clause-front g c = front_sent _ _ _ c.args.bytes.now c.loop.sent c.loop.invariant.pushed (ap moved c.in-Failed.ensures.event)
+pub returns-in-Failed : goal.returns-in-Failed
+returns-in-Failed g c =
+    let so_far = c.loop.invariant in
+    record {
+      outcome = record {
+        is_output = refl;
+        front = front_sent _ _ _ c.args.bytes.now c.loop.sent so_far.pushed (ap moved c.in-Failed.ensures.event);
+        failed = ap failures c.in-Failed.ensures.event ∙ ap (λ n. n + 1) so_far.unfailed;
+      };
+    }

@@ -5,15 +5,14 @@ use Rattle.uc_cells.specs.Sighting.{Sighting}
 use Rattle.uc_worker.specs.declared.worker.Worker.{Worker}
 use Rattle.uc_worker.specs.Worker.{history_of}
 use Rattle.mc_server.specs.Network.{AreWorkersOf, HaveMet}
-use Rattle.uc_worker.specs.Going.{CatchesUp}
 use Rattle.mc_server.proofs.Meetings.{HasCome, all_have_come, all_later_on, all_later_self, all_of, have_met}
 use Rattle.uc_worker.proofs.Going.{catches_self, catches_through}
 use Rattle.mc_server.proofs.crew.meet_all.Goals as goal
 
 pub loop-last-init : goal.loop-last-init
 loop-last-init c =
-    let log = c.requires.all.1 in
-    let both = All-pop (λ (worker : Worker). worker.log.now ≡ log) _ _ (Some c.in-Some.last) c.in-Some.ensures.items c.requires.all.2.of in
+    let log = c.requires.1 in
+    let both = All-pop (λ (worker : Worker). worker.log.now ≡ log) _ _ (Some c.in-Some.last) c.in-Some.ensures.items c.requires.2.of in
     record {
       later = catches_self c.catch_up.new.self;
       whole = c.in_ok-catch_up.ensures.all;
@@ -25,12 +24,12 @@ loop-last-init c =
 pub loop-last-preserved : goal.loop-last-preserved
 loop-last-preserved c =
     let before = c.loop-last.invariant in
-    let met = c.in_ok-others.ensures.met in
+    let met = c.in_ok-others.ensures.outcome.0 in
     let later = c.meet_others.ensures.later in
     let log = c.meet_others.new.one.log.now in
     record {
       later = catches_through _ _ _ before.later later;
-      whole = c.in_ok-others.ensures.whole;
+      whole = c.in_ok-others.ensures.outcome.1;
       of = all_of log c.loop-last.last c.meet_others.new.one c.loop-last.others.items c.in_ok-others.others.items met
           (All-weaker (λ (worker : Worker). worker.log.now ≡ c.loop-last.last.log.now) (λ (worker : Worker). worker.log.now ≡ log)
           (λ worker of. of ∙ ap (λ lent. lent.now) (sym later.continues.log)) c.loop-last.others.items before.of);
@@ -38,22 +37,22 @@ loop-last-preserved c =
     }
 
 -- the last round taught the last worker nothing, so all have its history
-pub returns-then-history-known-clause-met : goal.returns-then-history-known-clause-met
-returns-then-history-known-clause-met c =
+pub returns-then-history-known : goal.returns-then-history-known
+returns-then-history-known c =
     let before = c.loop-last.invariant in
     let others = c.pop.new.self.items in
     let first = c.in-Some.last in
     let old = c.loop-last.last in
     let one = c.meet_others.new.one in
     let later = catches_through first old one (catches_through first c.catch_up.new.self old c.catch_up.ensures.catches before.later) c.meet_others.ensures.later in
-    let whole = c.in_ok-others.ensures.whole in
+    let whole = c.in_ok-others.ensures.outcome.1 in
     let same : length c.history.result.now ≡ length c.history-known.result.now = c.if-history-known.true in
     let known : length (history_of old) ≡ length c.history-known.result.now = ap (length {A = Sighting}) (sym c.history-known.ensures.history) in
     let long : length (history_of one) ≡ length c.history-known.result.now = ap (length {A = Sighting}) (sym c.history.ensures.history) ∙ same in
-    let come = all_have_come old one others c.loop-last.others.items c.in_ok-others.others.items (long ∙ sym known) before.others c.in_ok-others.ensures.met in
+    let come = all_have_come old one others c.loop-last.others.items c.in_ok-others.others.items (long ∙ sym known) before.others c.in_ok-others.ensures.outcome.0 in
     let own : HasCome one first one = record { later = later; whole = whole; equal = refl } in
     let all = all_zipped_more (HasCome one) others c.in_ok-others.others.items first one come own in
     let workers = c.in-Some.ensures.items in
-    let are = subst (AreWorkersOf c.requires.all.0 c.requires.all.1) workers c.requires.all.2 in
-    subst (λ (list : List Worker). HaveMet list (length c.history-known.result.now)) (sym workers)
-    (have_met c.requires.all.0 c.requires.all.1 (others ++ first ∷ []) (c.in_ok-others.others.items ++ one ∷ []) first one _ are (Contains-push others first) later whole all long)
+    let are = subst (AreWorkersOf c.requires.0 c.requires.1) workers c.requires.2 in
+    let met = have_met c.requires.0 c.requires.1 (others ++ first ∷ []) (c.in_ok-others.others.items ++ one ∷ []) first one _ are (Contains-push others first) later whole all long in
+    record { outcome = subst (λ (list : List Worker). HaveMet list (length c.history-known.result.now)) (sym workers) met }

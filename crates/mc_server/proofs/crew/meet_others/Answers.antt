@@ -6,7 +6,6 @@ use Rattle.uc_cells.specs.Sighting.{Sighting}
 use Rattle.mc_model.specs.declared.id.Ticket.{Ticket}
 use Rattle.uc_worker.specs.declared.worker.Worker.{Worker}
 use Rattle.mc_server.specs.Network.{AreOf, Meets}
-use Rattle.uc_worker.specs.Going.{CatchesUp}
 use Rattle.uc_worker.specs.Worker.{IsUpToDate}
 use Rattle.mc_server.proofs.Meetings.{meets, one_more_met}
 use Rattle.uc_worker.proofs.Going.{catches_self, catches_through}
@@ -45,10 +44,10 @@ loop-other-preserved c =
       met = (done ++ c.in-Some.other ∷ [], split, subst (AllZip (Meets c.args.one.now c.meet.new.self) (done ++ c.in-Some.other ∷ [])) (sym {A = List Worker} c.in_ok-push.ensures.items) met);
     }
 
-pub returns-clause-met : goal.returns-clause-met
-returns-clause-met c =
+pub returns-clause-outcome : goal.returns-clause-outcome
+returns-clause-outcome c =
     let met = c.loop-other.invariant.met in
     let none : c.loop-other.other-iterator.rest.items ≡ [] =
     nil_from_length c.loop-other.other-iterator.rest.items (sym c.loop-other.other-iterator.rest.ok.0 ∙ c.in-None.ensures.steps.0) in
     let all : met.0 ≡ c.args.others.items = sym (append-nil met.0) ∙ (ap (λ rest. met.0 ++ rest) (sym none) ∙ met.1) in
-    subst (λ (others : List Worker). AllZip (Meets c.args.one.now c.loop-other.one) others c.loop-other.met.items) all met.2
+    (subst (λ (others : List Worker). AllZip (Meets c.args.one.now c.loop-other.one) others c.loop-other.met.items) all met.2, c.loop-other.invariant.whole)

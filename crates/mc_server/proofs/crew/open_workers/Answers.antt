@@ -1,10 +1,10 @@
 -- The next pass was never used, and its worker is of the log, under the pass's number.
-use Rattle.std.proofs.Common.{◌≡◌, ◌∙◌, ◌∷◌, [], ◌++◌, All, List, length, map, ap, sym, subst, arith, append_assoc, append-nil, length-append}
+use Rattle.std.proofs.Common.{◌≡◌, ◌∙◌, ◌∷◌, [], ◌++◌, All, List, length, map, ap, refl, sym, subst, arith, append_assoc, append-nil, length-append}
 use Rattle.std.proofs.lemmas.List.{nil_from_length}
 use Rattle.std.proofs.lemmas.List.{map-append}
 use Rattle.std.proofs.lemmas.List.Elements.{All-head, All-nil, All-push, All-rest}
 use Rattle.mc_server.specs.Listeners.{CountsFrom}
-use Rattle.mc_server.specs.Network.{HasDoneNothing, IsFresh, number_of}
+use Rattle.mc_server.specs.Network.{AreWorkersOf, HasDoneNothing, IsFresh, number_of}
 use Rattle.uc_log.specs.declared.pass.Pass.{Pass}
 use Rattle.uc_log.specs.Passes.{worker}
 use Rattle.uc_places.specs.declared.view.View.{View}
@@ -16,7 +16,7 @@ use Rattle.mc_server.proofs.crew.open_workers.Goals as goal
 pub loop-pass-init : goal.loop-pass-init
 loop-pass-init c =
     let gives = c.into_iter-pass-iterator.ensures.into_iter_gives.0 in
-    let passes : All (IsFresh c.args.log.now) c.args.passes.items = all_fresh c.args.log.now _ c.requires in
+    let passes : All (IsFresh c.args.log.now) c.args.passes.items = all_fresh c.args.log.now _ c.requires.passes in
     let P = λ (worker : Worker). worker.log.now ≡ c.args.log.now in
     record {
       of = subst (All P) (sym c.in_ok-workers.ensures.items) (All-nil P);
@@ -51,11 +51,18 @@ loop-pass-preserved c =
           ∙ (ap (λ (passes : List Pass). map number_of workers ++ map worker passes) (sym c.in-Some.ensures.steps.0) ∙ before.numbers))));
     }
 
-pub returns-clause-numbers : goal.returns-clause-numbers
-returns-clause-numbers c =
+pub returns : goal.returns
+returns c =
+    let before = c.loop-pass.invariant in
     let none : c.loop-pass.pass-iterator.rest.items ≡ [] =
     nil_from_length c.loop-pass.pass-iterator.rest.items (sym c.loop-pass.pass-iterator.rest.ok.0 ∙ c.in-None.ensures.steps.0) in
     let numbers = map number_of c.loop-pass.workers.items in
     let all : numbers ≡ map worker c.args.passes.items =
-    sym (append-nil numbers) ∙ (ap (λ (passes : List Pass). numbers ++ map worker passes) (sym none) ∙ c.loop-pass.invariant.numbers) in
-    subst (CountsFrom 0) (sym all) (all_numbered c.args.log.now c.args.passes.items c.requires)
+    sym (append-nil numbers) ∙ (ap (λ (passes : List Pass). numbers ++ map worker passes) (sym none) ∙ before.numbers) in
+    let are : AreWorkersOf c.args.log.now.settings c.args.log.now c.loop-pass.workers.items = record {
+      opened = refl;
+      of = before.of;
+      many = omega (arith, before.count, ap length none, c.requires.count);
+      numbers = subst (CountsFrom 0) (sym all) (all_numbered c.args.log.now c.args.passes.items c.requires.passes);
+    } in
+    record { outcome = (are, before.new) }

@@ -1,8 +1,8 @@
-use Rattle.std.proofs.Common.{◌≡◌, ℕ, zero, suc, ◌<◌, ◌≤◌, List, [], ◌∷◌, refl, map, take, get_or, sym, subst, Bor, length, Some, arith}
+use Rattle.std.proofs.Common.{◌≡◌, ℕ, zero, suc, ◌<◌, ◌≤◌, List, [], ◌∷◌, inr, refl, map, take, get_or, sym, subst, Bor, length, Some, arith}
 use Rattle.std.proofs.lemmas.List.{take_all, take_more}
 use Rattle.std.specs.List.{AllZip, slice_get}
-use Rattle.mc_server.specs.TenantWord.{TenantAsked, asked_of}
-use Rattle.mc_server.proofs.TenantLists.{IsOnly, all_only, all_say, none_say, one_more}
+use Rattle.mc_server.specs.TenantWord.{IsOnly, TenantAsked, asked_of}
+use Rattle.mc_server.proofs.TenantLists.{none_say, one_more}
 use Rattle.mc_server.proofs.network_words.read_tenants.Goals as goal
 
 -- the text of a word, by its place
@@ -11,9 +11,9 @@ text_at [] place some low = absurd (omega arith)
 text_at (x ∷ xs) zero some low = refl
 text_at (x ∷ xs) (suc n) some low = text_at xs n some (omega arith)
 
-pub returns-in-None-clause-other : goal.returns-in-None-clause-other
-returns-in-None-clause-other c refused others h =
-    none_say _ others c.loop-word.word-index _ (text_at _ c.loop-word.word-index _ c.loop-word-test.true) c.in-None.ensures.only h
+pub returns-in-None : goal.returns-in-None
+returns-in-None c =
+    record { outcome = inr (refl, λ others says. none_say _ others c.loop-word.word-index _ (text_at _ c.loop-word.word-index _ c.loop-word-test.true) c.in-None.ensures.only says) }
 
 pub loop-word-preserved : goal.loop-word-preserved
 loop-word-preserved c =
@@ -27,8 +27,5 @@ all_read : (words : List (Bor (List ℕ))) (tenants : List TenantAsked) (count :
     → AllZip IsOnly (map (λ word. word.now) words) tenants
 all_read words tenants count all h = let P : List (Bor (List ℕ)) → Type 0 = λ ws. AllZip IsOnly (map (λ word. word.now) ws) tenants in subst P (take_all count words all) h
 
-pub returns-clause-says : goal.returns-clause-says
-returns-clause-says c = all_say _ _ (all_read _ _ _ c.loop-word-test.false c.loop-word.invariant)
-
-pub returns-clause-only : goal.returns-clause-only
-returns-clause-only c others h = all_only _ _ others (all_read _ _ _ c.loop-word-test.false c.loop-word.invariant) h
+pub returns : goal.returns
+returns c = record { outcome = all_read _ _ _ c.loop-word-test.false c.loop-word.invariant }

@@ -21,14 +21,10 @@ lent_words : (o : Option (Bor (List (Bor Text)))) (some : Bor (List (Bor Text)))
 lent_words None some none = ap (map (λ word. word.now)) none
 lent_words (Some x) some none = refl
 
-pub returns-clause-kinds : goal.returns-clause-kinds
-returns-clause-kinds c =
+pub returns : goal.returns
+returns c =
     let app_is : app_of c.in_ok-network_command.field-0 ≡ network_app = c.in_ok-network_command.ensures in
-    sym (ap (λ a. fault_of a (map string_bytes c.args.words.now)) app_is) ∙ c.in_ok-matches.ensures.kinds (ap is_simple_and_free app_is ∙ app_is_free)
-
-pub returns-clause-given : goal.returns-clause-given
-returns-clause-given c =
-    let app_is : app_of c.in_ok-network_command.field-0 ≡ network_app = c.in_ok-network_command.ensures in
+    let taken = sym (ap (λ a. fault_of a (map string_bytes c.args.words.now)) app_is) ∙ c.in_ok-matches.ensures.kinds (ap is_simple_and_free app_is ∙ app_is_free) in
     let rows = (c.in_ok-matches.ensures.matches (ap is_simple app_is ∙ app_is_simple)).0 ∙ ap (λ a. matches_of a (map string_bytes c.args.words.now)) app_is in
     let number_of = λ (name : Text). ap (option_and_then u64_of) (one_text-rows (found_of c.in_ok-matches.matches) name ∙ ap (one_of name) rows) in
     let workers = c.unwrap_or.ensures ∙ ap (λ o. unwrap_or o 2) (c.number.ensures ∙ number_of (codes "workers")) in
@@ -36,4 +32,4 @@ returns-clause-given c =
     let connections = c.unwrap_or-3.ensures ∙ ap (λ o. unwrap_or o 0) (c.number-3.ensures ∙ number_of (codes "connections")) in
     let raw = c.get_raw.ensures ∙ raw_values-rows (found_of c.in_ok-matches.matches) (codes "tenants") ∙ ap (all_of (codes "tenants")) rows in
     let tenants = ap (map (λ word. word.now)) (c.in_ok-tenants.ensures.items ∙ ap (λ lent. lent.now) c.unwrap_or-tenants.ensures) ∙ lent_words c.get_raw.result _ refl ∙ ap (λ o. unwrap_or o []) raw in
-    λ i. record { workers = workers i; places = places i; connections = connections i; tenants = tenants i }
+    record { outcome = record { taken = taken; given = λ i. record { workers = workers i; places = places i; connections = connections i; tenants = tenants i } } }

@@ -1,37 +1,60 @@
-use Rattle.std.proofs.Common.{◌≡◌, ◌∙◌, List, ℕ, Bool, Bor, map, sym, ap, subst, true, false}
+use Rattle.std.proofs.Common.{◌≡◌, ◌∙◌, ◌⊎◌, inl, inr, ⊎_elim, refl, List, ℕ, Bool, Bor, map, sym, ap, subst, true, false}
+use Rattle.std.proofs.lemmas.Result.{err_from_is_err_and}
 use Rattle.std.specs.List.{AllZip, IsDistinct}
 use Rattle.std.specs.Str.{bytes_eq}
+use Rattle.mc_model.specs.declared.fault.Fault.TheVariants.{Memory, BadSettings}
 use Rattle.mc_model.specs.Settings.{Configuration, IsLawful}
 use Rattle.mc_model.specs.declared.settings.Limits.{Limits}
-use Rattle.mc_server.specs.NetworkWords.{Asks, NetworkAsked, given_of}
-use Rattle.mc_server.specs.TenantWord.{Says, TenantAsked, asked_of}
+use Rattle.mc_server.specs.NetworkWords.{Asks, AsksInVain, IsServable, NetworkAsked, given_of}
+use Rattle.mc_server.specs.TenantWord.{IsOnly, Says, TenantAsked, asked_of}
 use Rattle.mc_server.specs.declared.network_words.NetworkWords.{NetworkWords}
 use Rattle.mc_server.specs.declared.tenant_word.Tenant.{Tenant}
-use Rattle.mc_server.proofs.TenantLists.{limits_are, names_are, names_are_read, settings_are}
+use Rattle.mc_server.proofs.TenantLists.{all_only, all_say, limits_are, names_are, names_are_read, settings_are}
 use Rattle.mc_server.proofs.network_words.service_of.Goals as goal
 
 -- the tenants that were read are those that are asked
 read_are_asked : (words : NetworkWords) (lent : List (Bor (List ℕ))) (tenants : List Tenant) (asked : NetworkAsked)
-    → ((others : List TenantAsked) → AllZip Says (map (λ word. word.now) lent) others → others ≡ map asked_of tenants) → lent ≡ words.tenants.items → Asks (given_of words) asked
+    → AllZip IsOnly (map (λ word. word.now) lent) (map asked_of tenants) → lent ≡ words.tenants.items → Asks (given_of words) asked
     → asked.tenants ≡ map asked_of tenants
 read_are_asked words lent tenants asked only e asks =
-    let P : List (Bor (List ℕ)) → Type 0 = λ ws. AllZip Says (map (λ word. word.now) ws) asked.tenants in only asked.tenants (subst P (sym e) asks.tenants)
+    let P : List (Bor (List ℕ)) → Type 0 = λ ws. AllZip Says (map (λ word. word.now) ws) asked.tenants in all_only _ _ asked.tenants only (subst P (sym e) asks.tenants)
 
 apart : (b : Bool) → b ≡ true → b ≡ false → ⊥
 apart b passes fails = cc
 
-pub returns-in_err-settings-clause-vain : goal.returns-in_err-settings-clause-vain
-returns-in_err-settings-clause-vain c refused asked asks servable =
-    let tenants = read_are_asked c.args.words.now _ c.in_ok-tenants.tenants.items asked c.in_ok-tenants.ensures.only c.deref.ensures.value asks in
+-- a tenant's word is of another form, or memory ran out
+pub returns-in_err-tenants : goal.returns-in_err-tenants
+returns-in_err-tenants c =
+    let vain = λ (none : (others : List TenantAsked) → AllZip Says (map (λ word. word.now) c.deref.result.now) others → ⊥) (asked : NetworkAsked) (asks : Asks (given_of c.args.words.now) asked) (servable : IsServable asked).
+    let P : List (Bor (List ℕ)) → Type 0 = λ ws. AllZip Says (map (λ word. word.now) ws) asked.tenants in
+    none asked.tenants (subst P (sym c.deref.ensures.value) asks.tenants)
+    in
+    let left = err_from_is_err_and c.from_residual.result c.from_residual.ensures.1 in
+    let fault : (c.in_err-tenants.field-0.0 ≡ Memory) ⊎ (c.in_err-tenants.field-0.0 ≡ BadSettings) × AsksInVain (given_of c.args.words.now) =
+    ⊎_elim (λ starved. inl starved) (λ none. inr (none.0, vain none.1)) c.in_err-tenants.ensures.outcome in
+    record { outcome = rw (left.1, left.2) fault }
+
+-- a number is out of its bounds
+pub returns-in_err-settings : goal.returns-in_err-settings
+returns-in_err-settings c =
+    let vain : AsksInVain (given_of c.args.words.now) = λ asked asks servable.
+    let tenants = read_are_asked c.args.words.now _ c.in_ok-tenants.tenants.items asked c.in_ok-tenants.ensures.outcome c.deref.ensures.value asks in
     let quotas = c.in_ok-quotas.ensures ∙ ap (map (λ tenant. tenant.limits)) c.deref-2.ensures.value in
     let same = settings_are _ asked c.in_ok-tenants.tenants.items _ asks tenants quotas in
-    absurd (apart _ (c.in_err-settings.ensures.lawful.1 (subst IsLawful same servable.lawful)) (λ i. false))
+    apart _ (c.in_err-settings.ensures.lawful.1 (subst IsLawful same servable.lawful)) (λ i. false)
+    in
+    let left = err_from_is_err_and c.from_residual-in_err-settings.result c.from_residual-in_err-settings.ensures.1 in
+    record { outcome = rw (left.1, left.2) (inr (c.in_err-settings.ensures.fault, vain)) }
 
-pub returns-then-not-have_own_names-clause-vain : goal.returns-then-not-have_own_names-clause-vain
-returns-then-not-have_own_names-clause-vain c refused asked asks servable =
-    let tenants = read_are_asked c.args.words.now _ c.in_ok-tenants.tenants.items asked c.in_ok-tenants.ensures.only c.deref.ensures.value asks in
+-- a name is used twice
+pub returns-then-not-have_own_names : goal.returns-then-not-have_own_names
+returns-then-not-have_own_names c =
+    let vain : AsksInVain (given_of c.args.words.now) = λ asked asks servable.
+    let tenants = read_are_asked c.args.words.now _ c.in_ok-tenants.tenants.items asked c.in_ok-tenants.ensures.outcome c.deref.ensures.value asks in
     let names = names_are asked c.in_ok-tenants.tenants.items tenants ∙ ap (map (λ tenant. tenant.name.now)) (sym c.deref-3.ensures.value) in
     apart _ (c.have_own_names.ensures.1 (subst (IsDistinct bytes_eq) names servable.names)) c.if-not-have_own_names.true
+    in
+    record { outcome = inr (refl, vain) }
 
 -- the settings that were checked are those that are asked
 checked_are_asked : (settings : Configuration) (workers places : ℕ) (quotas : List Limits) (tenants : List Tenant) → settings ≡ record { workers = workers; places = places; tenants = quotas }
@@ -40,17 +63,28 @@ checked_are_asked : (settings : Configuration) (workers places : ℕ) (quotas : 
 checked_are_asked settings workers places quotas tenants e q =
     let limits = ap (λ (s : Configuration). s.tenants) e ∙ q ∙ sym (limits_are tenants) in λ i. record { workers = settings.workers; places = settings.places; tenants = limits i }
 
-pub returns-clause-settings : goal.returns-clause-settings
-returns-clause-settings c =
+pub returns : goal.returns
+returns c =
+    let tenants = c.in_ok-tenants.tenants.items in
+    let P : List (Bor (List ℕ)) → Type 0 = λ ws. AllZip Says (map (λ word. word.now) ws) (map asked_of tenants) in
     let quotas = c.in_ok-quotas.ensures ∙ ap (map (λ tenant. tenant.limits)) c.deref-2.ensures.value in
-    checked_are_asked _ _ _ _ c.in_ok-tenants.tenants.items c.in_ok-settings.ensures.settings quotas
-
-pub returns-clause-servable : goal.returns-clause-servable
-returns-clause-servable c =
-    let quotas = c.in_ok-quotas.ensures ∙ ap (map (λ tenant. tenant.limits)) c.deref-2.ensures.value in
-    let settings = sym c.in_ok-settings.ensures.settings ∙ checked_are_asked _ _ _ _ c.in_ok-tenants.tenants.items c.in_ok-settings.ensures.settings quotas in
-    let lent = ap (map (λ tenant. tenant.name.now)) c.deref-3.ensures.value ∙ sym (names_are_read c.in_ok-tenants.tenants.items) in
-    record {
-      lawful = subst IsLawful settings (c.in_ok-settings.ensures.lawful.0 (λ i. true));
+    let checked = c.in_ok-settings.ensures.settings in
+    let settings = checked_are_asked _ _ _ _ tenants checked quotas in
+    let lent = ap (map (λ tenant. tenant.name.now)) c.deref-3.ensures.value ∙ sym (names_are_read tenants) in
+    let asked : NetworkAsked = record {
+      workers = c.in_ok-settings.settings.workers;
+      places = c.in_ok-settings.settings.places;
+      connections = c.args.words.now.connections;
+      tenants = map asked_of tenants;
+    } in
+    let asks : Asks (given_of c.args.words.now) asked = record {
+      workers = ap (λ (s : Configuration). s.workers) checked;
+      places = ap (λ (s : Configuration). s.places) checked;
+      connections = refl;
+      tenants = subst P c.deref.ensures.value (all_say _ _ c.in_ok-tenants.ensures.outcome);
+    } in
+    let servable : IsServable asked = record {
+      lawful = subst IsLawful (sym checked ∙ settings) (c.in_ok-settings.ensures.lawful.0 (λ i. true));
       names = subst (IsDistinct bytes_eq) lent (c.have_own_names.ensures.0 c.if-not-have_own_names.false);
-    }
+    } in
+    record { outcome = (asks, record { settings = settings; servable = servable }) }
