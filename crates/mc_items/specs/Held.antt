@@ -11,7 +11,7 @@ use Rattle.mc_model.specs.Table.{Table, count_of, use_of}
 abbrev pub table_of_held : BTreeMap Key Item → Table
 table_of_held held = map.from_entries held.entries
 
--- the total is the use of the table, which is within the quotas
+-- the total is the use of the table, and the table is within the quotas
 pub record IsWithin (limits : Limits) (table : Table) (total : ℕ) : Type 0 where
   pub total_is : total ≡ use_of table
   pub bytes : total ≤ limits.bytes

@@ -1,4 +1,5 @@
--- An item that goes under a key of a tenant's table with the next unique, and whether the quotas allow it.
+-- Storing an item under a key of a tenant's table with the next unique, and whether the quotas
+-- allow it.
 use Rattle.std.specs.Prelude.{ℕ, ◌+◌, Bool, nat_le, if◌then◌else◌, length, Option, Result, Ok, Err}
 use Rattle.std.specs.FinMap as map
 use Rattle.std.specs.Option.{option_map}
@@ -12,7 +13,7 @@ use Rattle.mc_model.specs.Effect.{Effect, stored}
 use Rattle.mc_model.specs.State.{TableState}
 use Rattle.mc_model.specs.Table.{Table, is_within, weight}
 
--- what counts for a key, where it is held
+-- what a key counts for, if it is held
 abbrev pub weight_at : Table → Key → Option ℕ
 weight_at table key = option_map (λ item. weight (key, item)) (map.get table key)
 
@@ -24,15 +25,15 @@ with_item state key flags block = record {
   last_unique = state.last_unique + 1;
 }
 
--- whether the quotas allow it
+-- whether the quotas allow that change
 abbrev pub allows : TableState → Key → ℕ → Data → Bool
 allows state key flags block = is_within state.limits (with_item state key flags block).table
 
--- the effect of such an item, where the quotas allow it
+-- the effect of that change, if the quotas allow it
 abbrev pub stored_in : TableState → Key → ℕ → Data → Reply → Effect
 stored_in state key flags block reply = stored state.limits state.table key (record { flags = flags; block = block; unique = state.last_unique + 1 }) reply
 
--- joined data, or what refuses them: their own length, and then the quotas
+-- joined data, or their refusal: for their own length first, and then for the quotas
 abbrev pub joined_or_refusal : TableState → Key → ℕ → Data → Result Data WireNo
 joined_or_refusal state key flags block =
     if nat_le (length block) DATA_BYTES

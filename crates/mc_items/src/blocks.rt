@@ -1,4 +1,4 @@
-//! Data that commands make of data: joined blocks, and numbers in decimal digits.
+//! The data that commands make of data: joined blocks, and numbers in decimal digits.
 ghost use Rattle.std.specs.Prelude.{◌≡◌, ◌++◌, ◌≤◌, length, decimal, IfOk, IsOkUnless};
 ghost use Rattle.mc_model.specs.Number.{numeric_value};
 ghost use Rattle.mc_model.specs.declared.item.TheConstants.{DATA_BYTES};
@@ -8,10 +8,10 @@ use mc_model::item::DATA_BYTES;
 use mc_model::{Data, Fault, read_number};
 use std::alloc::Global;
 
-/// How many bytes a number in data may have.
+/// The largest number of bytes of a number in data.
 const NUMBER_BYTES: usize = 20;
 
-/// One block after another.
+/// Returns one block followed by the other. Returns `Memory` if an allocation fails.
 pub(crate) fn joined(alloc: Global, front: &Data, back: &Data) -> Result<Data, Fault>
     requires { length (front.now ++ back.now) ≤ DATA_BYTES }
     ensures joined { IfOk result (λ joined. joined ≡ front.now ++ back.now) }
@@ -24,7 +24,7 @@ pub(crate) fn joined(alloc: Global, front: &Data, back: &Data) -> Result<Data, F
     Ok(Data::new(bytes).unwrap())
 }
 
-/// The number that data spell, or `None` where they aren't numeric.
+/// Returns the number that the data spell, or `None` if they aren't numeric.
 pub(crate) fn number_in(block: &Data) -> Option<u64>
     ensures { result ≡ numeric_value block.now }
 {
@@ -36,7 +36,8 @@ pub(crate) fn number_in(block: &Data) -> Option<u64>
     }
 }
 
-/// The digits of a number as data, without leading zeros.
+/// Returns the number's digits as data, without leading zeros. Returns `Memory` if the allocation
+/// fails.
 pub(crate) fn digits_of(alloc: Global, number: u64) -> Result<Data, Fault>
     ensures digits { IfOk result (λ digits. digits ≡ decimal number) }
     ensures memory { IsOkUnless result Fault.Memory }
@@ -46,7 +47,7 @@ pub(crate) fn digits_of(alloc: Global, number: u64) -> Result<Data, Fault>
     Ok(Data::new(digits).unwrap())
 }
 
-/// How many digits a number has, without leading zeros.
+/// Returns the number of decimal digits of a number, without leading zeros.
 pub(crate) fn count_of_digits(number: u64) -> usize
     ensures count { result ≡ length (decimal number) }
     ensures few { result ≤ 20 }

@@ -1,4 +1,4 @@
-//! The ordered map of keys and items that a table is kept in.
+//! The ordered map of keys and items in which a table is kept.
 ghost use Rattle.std.specs.FinMap as map;
 ghost use Rattle.std.specs.List.{filter_map};
 ghost use Rattle.std.specs.Option.{option_copied};
@@ -12,14 +12,15 @@ use mc_model::{Fault, Item, Key, Value};
 use std::alloc::Global;
 use std::collections::BTreeMap;
 
-/// The item under a key.
+/// Returns the item under the key, if it is held.
 pub(crate) fn item_under<'a>(held: &'a BTreeMap<Key, Item>, key: &Key) -> Option<&'a Item>
     ensures { option_copied result ≡ map.get (table_of_held held.now) key.now }
 {
     held.get(key)
 }
 
-/// Puts an item under a key, over what the key held. A key that is held takes no memory again.
+/// Puts an item under a key, over what the key held. The key is copied unless `is_held` says that
+/// it is held. Returns `Memory` if an allocation fails; nothing changes then.
 pub(crate) fn put(
     held: &mut BTreeMap<Key, Item>,
     key: &Key,
@@ -40,7 +41,7 @@ pub(crate) fn put(
     Ok(())
 }
 
-/// Takes a key out, and gives back what it held.
+/// Removes a key and returns what it held.
 pub(crate) fn take_out(held: &mut BTreeMap<Key, Item>, key: &Key) -> Option<Item>
     ensures old { result ≡ map.get (table_of_held held.old) key.now }
     ensures table { table_of_held held.new ≡ map.remove (table_of_held held.old) key.now }
@@ -49,7 +50,7 @@ pub(crate) fn take_out(held: &mut BTreeMap<Key, Item>, key: &Key) -> Option<Item
     held.remove(key)
 }
 
-/// How many bytes a key has with a block of this length.
+/// Returns the bytes that a key counts for with a block of this length.
 pub(crate) fn weight_with(key: &Key, len: usize) -> u64
     requires { len ≤ DATA_BYTES }
     ensures { result ≡ length key.now + len }
@@ -57,14 +58,14 @@ pub(crate) fn weight_with(key: &Key, len: usize) -> u64
     (key.as_bytes().len() + len) as u64
 }
 
-/// How many bytes a key has with the item that it holds.
+/// Returns the bytes that a key counts for with this item.
 pub(crate) fn weight_under(key: &Key, item: &Item) -> u64
     ensures { result ≡ weight (key.now, item.now) }
 {
     weight_with(key, item.block.as_bytes().len())
 }
 
-/// The same keys and items in memory of their own.
+/// Returns a copy of the map. Returns `Memory` if an allocation fails.
 pub(crate) fn copy_of(
     alloc: Global,
     held: &BTreeMap<Key, Item>,
@@ -84,7 +85,8 @@ pub(crate) fn copy_of(
     Ok(copy)
 }
 
-/// What a retrieval shows of these keys, in their order; nothing of a key that isn't held.
+/// Returns what a retrieval shows of these keys, in their order; a key that isn't held is left out.
+/// Returns `Memory` if an allocation fails.
 pub(crate) fn shown_values(
     alloc: Global,
     held: &BTreeMap<Key, Item>,

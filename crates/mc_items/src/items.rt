@@ -1,4 +1,4 @@
-//! The table itself: its calls, and how each command is done.
+//! The table itself: its calls, and how each command is carried out.
 ghost use Rattle.std.specs.FinMap as map;
 ghost use Rattle.std.specs.Option.{option_copied};
 ghost use Rattle.std.specs.Prelude.{◌≡◌, ℕ, ◌+◌, ◌-◌, ◌^◌, ◌<◌, ◌≤◌, true, false, List, [], ◌∷◌, ◌++◌, length, IfOk, OnOk, OnErr, decimal, IsOk, IsOkUnless};
@@ -23,15 +23,15 @@ use std::alloc::Global;
 use std::collections::BTreeMap;
 use std::marker::Model;
 
-/// A tenant's table as an ordered map of its keys and items. It is within the tenant's quotas at all times.
+/// A tenant's table as an ordered map of keys and items, always within the tenant's quotas.
 #[derive(Debug, Drop)]
 pub struct Items {
     alloc: Global,
     limits: Limits,
     held: BTreeMap<Key, Item>,
-    /// How many bytes the keys and the data have in sum.
+    /// The bytes of all keys and data in total.
     used: u64,
-    /// The unique of the latest change, and 0 before the first.
+    /// The unique of the latest change, or 0 before the first.
     last_unique: u64,
 }
 
@@ -49,7 +49,7 @@ impl Model for Items {
 }
 
 impl Items {
-    /// A table that holds nothing. Needs no memory.
+    /// Returns an empty table. Allocates nothing.
     pub fn new(alloc: Global, limits: Limits) -> Items
         ensures state { result ≡ empty_table limits }
         ensures stands { StandsFor limits [] result }
@@ -63,18 +63,20 @@ impl Items {
         }
     }
 
-    /// Does what the command says to the table, and answers it. Where memory runs out: `Memory`, and nothing changes.
-    /// A command that is refused needs no memory, nor does a delete or a flush.
+    /// Carries out a command on the table and returns the reply. Returns `Memory` if an allocation
+    /// fails; the table is unchanged then. A command that is refused never fails so, nor does a
+    /// delete or a flush.
     pub fn apply(&mut self, command: &Command) -> Result<Reply, Fault>
         requires { self.old.last_unique < 2 ^ 64 - 1 }
 
-        // What the definitions say of this command, on this table.
+        // What the definitions say of this command on this table.
         ensures reply { IfOk result (λ reply. reply ≡ next_reply self.old command.now) }
         ensures state { OnOk result (self.new ≡ next_state self.old command.now) }
 
         ensures limits { OnOk result (self.new.limits ≡ self.old.limits) }
 
-        // The same of any list of commands that has led to this table, and of the quotas that it was opened with.
+        // The same for every list of commands that may have led to this table, and for the quotas
+        // that it was opened with.
         ensures stands { OnOk result (StandsForMore self.old command.now self.new) }
         ensures answer { IfOk result (λ reply.
             (opening : Limits) (list : List Command) → StandsFor opening list self.old → reply ≡ answer opening list command.now) }
@@ -105,17 +107,19 @@ impl Items {
         }
     }
 
-    /// Changes the table as `apply` does, and leaves the answer out. Where memory runs out: `Memory`, and nothing
-    /// changes. A command that is refused needs no memory, nor does a get, a delete or a flush.
+    /// Changes the table as `apply` does, without a reply. Returns `Memory` if an allocation fails;
+    /// the table is unchanged then. A command that is refused never fails so, nor does a get, a
+    /// delete or a flush.
     pub fn advance(&mut self, command: &Command) -> Result<(), Fault>
         requires { self.old.last_unique < 2 ^ 64 - 1 }
 
-        // What the definitions say of this command, on this table.
+        // What the definitions say of this command on this table.
         ensures state { OnOk result (self.new ≡ next_state self.old command.now) }
 
         ensures limits { OnOk result (self.new.limits ≡ self.old.limits) }
 
-        // The same of any list of commands that has led to this table, and of the quotas that it was opened with.
+        // The same for every list of commands that may have led to this table, and for the quotas
+        // that it was opened with.
         ensures stands { OnOk result (StandsForMore self.old command.now self.new) }
 
         ensures reads { IsRetrieval command.now → IsOk result }
@@ -131,14 +135,14 @@ impl Items {
         Ok(())
     }
 
-    /// The item under a key.
+    /// Returns the item under the key, if it is held.
     pub fn get(&self, key: &Key) -> Option<&Item>
         ensures { option_copied result ≡ map.get self.now.table key.now }
     {
         item_under(&self.held, key)
     }
 
-    /// The unique of the latest change, and 0 before the first.
+    /// Returns the unique of the latest change, or 0 before the first.
     pub fn last_unique(&self) -> u64
         ensures { result ≡ self.now.last_unique }
     {
@@ -146,7 +150,7 @@ impl Items {
         *last_unique
     }
 
-    /// The tenant's quotas.
+    /// Returns the tenant's quotas.
     pub fn limits(&self) -> Limits
         ensures { result ≡ self.now.limits }
     {
@@ -154,7 +158,7 @@ impl Items {
         *quotas
     }
 
-    /// How many bytes the keys and the data have in sum.
+    /// Returns the bytes of all keys and data in total.
     pub fn used(&self) -> u64
         ensures { result ≡ use_of self.now.table }
     {
@@ -162,14 +166,14 @@ impl Items {
         *used
     }
 
-    /// How many items there are.
+    /// Returns the number of items.
     pub fn count(&self) -> u64
         ensures { result ≡ count_of self.now.table }
     {
         self.held.len() as u64
     }
 
-    /// The same table in memory of its own.
+    /// Returns a copy of the table. Returns `Memory` if an allocation fails.
     pub fn try_clone(&self) -> Result<Items, Fault>
         ensures same { IfOk result (λ items. items ≡ self.now) }
         ensures memory { IsOkUnless result Fault.Memory }
@@ -178,7 +182,8 @@ impl Items {
         Ok(Items { held, ..*self })
     }
 
-    /// Stores as the verb says. Whether the key is held comes before the size of joined data, and that before the quotas.
+    /// Stores as the verb says. The checks are in order: whether the key is held, the size of
+    /// joined data, the quotas.
     fn store(&mut self, verb: Verb, key: &Key, flags: u32, block: &Data) -> Result<Reply, Fault>
         requires { self.old.last_unique < 2 ^ 64 - 1 }
         ensures reply { IfOk result (λ reply. reply ≡ next_reply self.old (Store verb key.now flags block.now)) }
@@ -207,7 +212,7 @@ impl Items {
         }
     }
 
-    /// One block after another for a key, or what refuses them, which needs no memory.
+    /// Joins two blocks for a key, or returns the refusal. A refusal allocates nothing.
     fn join(
         &self,
         key: &Key,
@@ -232,7 +237,7 @@ impl Items {
         Ok(Ok(joined(self.alloc, front, back)?))
     }
 
-    /// Stores under a key whose item still has the unique that was seen.
+    /// Stores under a key if its item still has the unique that was seen.
     fn check_and_set(
         &mut self,
         key: &Key,
@@ -257,7 +262,7 @@ impl Items {
         self.put_copy(key, old_weight, flags, block)
     }
 
-    /// Shows the items of these keys.
+    /// Returns the items under these keys.
     fn retrieve(&self, keys: &KeyList, uniques: bool) -> Result<Reply, Fault>
         ensures reply { IfOk result (λ reply. reply ≡ next_reply self.now (Get keys.now uniques)) }
         ensures memory { IsOkUnless result Fault.Memory }
@@ -266,7 +271,7 @@ impl Items {
         Ok(Reply::Values(ValueList::new(values)))
     }
 
-    /// Takes all keys out. Needs no memory.
+    /// Removes all keys. Allocates nothing.
     fn flush(&mut self) -> Reply
         ensures reply { result ≡ next_reply self.old Flush }
         ensures state { self.new ≡ next_state self.old Flush }
@@ -276,7 +281,7 @@ impl Items {
         Reply::Ok
     }
 
-    /// Takes a key out. Needs no memory.
+    /// Removes a key. Allocates nothing.
     fn delete(&mut self, key: &Key) -> Reply
         ensures reply { result ≡ next_reply self.old (Delete key.now) }
         ensures state { self.new ≡ next_state self.old (Delete key.now) }
@@ -288,7 +293,7 @@ impl Items {
         Reply::Deleted
     }
 
-    /// Adds to the number under a key; at 2^64 it begins again from 0.
+    /// Adds to the number under a key, modulo 2^64.
     fn incr(&mut self, key: &Key, by: u64) -> Result<Reply, Fault>
         requires { self.old.last_unique < 2 ^ 64 - 1 }
         ensures reply { IfOk result (λ reply. reply ≡ next_reply self.old (Incr key.now by)) }
@@ -308,7 +313,7 @@ impl Items {
         self.put_number(key, old_weight, old_flags, number.wrapping_add(by))
     }
 
-    /// Subtracts from the number under a key; at 0 it stops.
+    /// Subtracts from the number under a key, stopping at 0.
     fn decr(&mut self, key: &Key, by: u64) -> Result<Reply, Fault>
         requires { self.old.last_unique < 2 ^ 64 - 1 }
         ensures reply { IfOk result (λ reply. reply ≡ next_reply self.old (Decr key.now by)) }
@@ -328,7 +333,7 @@ impl Items {
         self.put_number(key, old_weight, old_flags, number.saturating_sub(by))
     }
 
-    /// Puts a number under a key in place of what it held, where the quotas allow it.
+    /// Replaces what a key holds by a number, if the quotas allow it.
     fn put_number(
         &mut self,
         key: &Key,
@@ -352,7 +357,7 @@ impl Items {
         Ok(Reply::Number(number))
     }
 
-    /// Puts a copy of the block under a key, where the quotas allow it.
+    /// Puts a copy of the block under a key, if the quotas allow it.
     fn put_copy(
         &mut self,
         key: &Key,
@@ -374,7 +379,7 @@ impl Items {
         self.put_block(key, old_weight, flags, block.try_clone()?)
     }
 
-    /// Puts an item with the next unique under a key, over what it held. The quotas have to allow it.
+    /// Puts an item with the next unique under a key, over what it held. The quotas must allow it.
     fn put_block(
         &mut self,
         key: &Key,
@@ -403,8 +408,8 @@ impl Items {
         Ok(Reply::Stored)
     }
 
-    /// Whether the quotas allow a block of this length under the key, by the totals and the key's old weight: the bytes that count
-    /// for it so far, or `None` where it isn't held.
+    /// Returns whether the quotas allow a block of this length under the key. `old_weight` is what
+    /// the key counts for so far, or `None` if it isn't held.
     fn fits(&self, key: &Key, old_weight: Option<u64>, len: usize) -> bool
         requires len { len ≤ DATA_BYTES }
         requires weight { old_weight ≡ weight_at self.now.table key.now }

@@ -1,5 +1,5 @@
-//! A tenant's table, as an ordered map with a running total, and the tables of all tenants. They answer as the definitions of
-//! `mc_model` say.
+//! A tenant's table, as an ordered map with a running total, and the tables of all tenants, with
+//! the replies that the definitions of `mc_model` give.
 #![tactic(auto)]
 
 pub use items::Items;

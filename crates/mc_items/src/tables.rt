@@ -1,4 +1,4 @@
-//! The tables of all tenants: a tenant's number is the place of its table.
+//! The tables of all tenants, indexed by tenant number.
 ghost use Rattle.std.specs.Option.{option_copied};
 ghost use Rattle.std.specs.Prelude.{◌≡◌, false, ℕ, ◌-◌, ◌^◌, ◌<◌, List, Option, Some, slice_get, IfOk, IfSome, OnOk, OnErr, IsOk, IsOkUnless};
 ghost use Rattle.mc_model.specs.Kinds.{IsRetrieval, IsTakingOut};
@@ -12,14 +12,14 @@ use crate::items::Items;
 use mc_model::{Entry, Fault, Limits, Reply, WorkerId};
 use std::alloc::Global;
 
-/// A tenant's table before any command.
+/// Returns a tenant's table before any command.
 fn empty(alloc: Global, limits: &Limits) -> Items
     ensures { result ≡ empty_table limits.now }
 {
     Items::new(alloc, *limits)
 }
 
-/// An empty table for each tenant's quotas.
+/// Returns an empty table for each tenant's quotas. Returns `Memory` if the allocation fails.
 pub fn tables_of(alloc: Global, limits: &[Limits]) -> Result<Vec<Items>, Fault>
     ensures tables { IfOk result (λ tables. tables.items ≡ empty_tables limits.now) }
     ensures memory { IsOkUnless result Fault.Memory }
@@ -31,7 +31,7 @@ pub fn tables_of(alloc: Global, limits: &[Limits]) -> Result<Vec<Items>, Fault>
     Ok(tables)
 }
 
-/// Whether the entry is the asker's own.
+/// Returns whether the entry is the asker's own.
 fn is_own(asker: Option<WorkerId>, entry: &Entry) -> bool
     ensures { result ≡ is_own asker entry.now }
 {
@@ -41,9 +41,10 @@ fn is_own(asker: Option<WorkerId>, entry: &Entry) -> bool
     }
 }
 
-/// Does what an entry says to its tenant's table, if there is an entry and its tenant is among these, and answers where it
-/// is the asker's own. Where nobody asks, nothing is answered: so a retrieval, whose reply may be large, needs no memory.
-/// Where memory runs out: `Memory`, and nothing changes.
+/// Carries out an entry on its tenant's table, and returns the reply if the entry is the asker's
+/// own. No entry, or one whose tenant has no table, changes nothing. Without an asker there is no
+/// reply, so a retrieval, whose reply may be large, needs no memory. Returns `Memory` if an
+/// allocation fails; nothing changes then.
 pub fn take_effect(
     tables: &mut Vec<Items>,
     asker: Option<WorkerId>,

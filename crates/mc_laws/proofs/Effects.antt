@@ -1,4 +1,5 @@
--- Each effect has one of three shapes: nothing changes, an item goes under a key, or items are taken out.
+-- Each effect has one of three shapes: nothing changes, an item goes under a key, or items are
+-- taken out.
 use Rattle.std.proofs.Common.{◌≡◌, ◌⊎◌, inl, inr, ℕ, ◌+◌, ◌-◌, ◌%◌, ◌^◌, Bool, true, false, if◌then◌else◌, ◌++◌, length, Option, Some, None, refl}
 use Rattle.std.specs.Prelude.{nat_le, ◌==◌, decimal}
 use Rattle.std.specs.FinMap as map
@@ -27,7 +28,8 @@ pub record IsNothing (table : Table) (command : Command) (done : Effect) : Type 
   pub no_change : is_acceptance done.reply ≡ false
   pub refused : (key : Key) → ActsOn key command → is_refusal done.reply ≡ true
 
--- an item with the change's unique goes under the one key that the command acts on, and the table is within the quotas
+-- an item with the change's unique goes under the one key that the command acts on, and the table
+-- is within the quotas
 pub record IsChange (limits : Limits) (table : Table) (unique : ℕ) (command : Command) (done : Effect) : Type 0 where
   pub under : Key
   pub item : Item
@@ -39,7 +41,8 @@ pub record IsChange (limits : Limits) (table : Table) (unique : ℕ) (command : 
   pub only : (key : Key) → ActsOn key command → under ≡ key
   pub acts : ActsOn under command
 
--- what is under a key after items were taken out: nothing where the command acts on it, else what was there
+-- what is under a key after items were taken out: nothing where the command acts on it, else what
+-- was there
 pub record IsTakenOut (limits : Limits) (table : Table) (command : Command) (done : Effect) : Type 0 where
   pub no_change : is_acceptance done.reply ≡ false
   pub granted : is_refusal done.reply ≡ false
@@ -66,7 +69,8 @@ module _ (limits : Limits) (table : Table) (unique : ℕ) where
   kept : (command : Command) (reply : Reply) → is_acceptance reply ≡ false → is_refusal reply ≡ true → Shape limits table unique command (unchanged table reply)
   kept command reply no_change refused = inl (record { same = refl; no_change = no_change; refused = λ key acts. refused })
 
-  -- an item with the change's unique is stored under the key that the command names, or is too much for the quotas
+  -- an item with the change's unique is stored under the key that the command names, or is too much
+  -- for the quotas
   put_under : (command : Command) (key : Key) (flags : ℕ) (block : Data) (reply : Reply) → is_acceptance reply ≡ true → is_refusal reply ≡ false →
       ((other : Key) → ActsOn other command → key ≡ other) → ActsOn key command →
       Shape limits table unique command (stored limits table key (record { flags = flags; block = block; unique = unique }) reply)

@@ -105,8 +105,8 @@ module _ (limits : Limits) where
   refusal_is_nothing list command refused =
       ⊎_elim (λ nothing. nothing) (⊎_elim (λ change. absurd (both_ways _ change.granted refused)) (λ out. absurd (both_ways _ out.granted refused))) (shape_of list command)
 
-  -- What one more command does to what is under a key: it stays, is taken out, or gives way to an item with the next unique;
-  -- the latter two only where the command touches the key.
+  -- What one more command does to what is under a key: it stays, is taken out, or gives way to an
+  -- item with the next unique; the latter two only where the command touches the key.
   record IsFresh (list : List Command) (command : Command) (key : Key) : Type 0 where
     item : Item
     put : map.get (after limits (list ++ command ∷ [])) key ≡ Some item

@@ -199,7 +199,8 @@ first_item key item =
 get_first : (key : Key) (item : Item) → map.get (alone key item) key ≡ Some item
 get_first key item = get-insert_same map.empty key item
 
--- a flush empties the table, and the next change gets the next unique; a key that stands twice is shown twice
+-- a flush empties the table, and the next change gets the next unique; a key that stands twice is
+-- shown twice
 flush_keeps_uniques : AreAnswered (record { items = 9; bytes = 9 }) []
     (Store Set (codes "a") 0 (codes "x") ∷ Flush ∷ Store Append (codes "a") 0 (codes "y") ∷ Store Set (codes "a") 0 (codes "z") ∷ Get (codes "a" ∷ codes "a" ∷ []) true ∷ [])
     (Stored ∷ Ok ∷ NotStored ∷ Stored ∷ Values (with_unique (codes "a") (codes "z") 2 ∷ with_unique (codes "a") (codes "z") 2 ∷ []) ∷ [])
@@ -218,7 +219,8 @@ flush_keeps_uniques =
     answered limits _ map.empty 1 _ _ _ _ _ two append_y (λ three. answered limits _ map.empty 1 _ _ _ _ _ three set_z (λ four.
     answered limits _ (alone a of_z) 2 _ _ _ _ _ four get_z (λ five. all_answered limits _)))))
 
--- a second key where the quota is one item is refused and uses no unique; the key that is held gets new data
+-- a second key where the quota is one item is refused and uses no unique; the key that is held gets
+-- new data
 item_quota : AreAnswered (record { items = 1; bytes = 9 }) []
     (Store Set (codes "a") 0 (codes "x") ∷ Get (codes "a" ∷ []) true ∷ Store Set (codes "b") 0 (codes "y") ∷ Store Set (codes "a") 0 (codes "z") ∷ Get (codes "a" ∷ codes "b" ∷ []) true ∷ [])
     (Stored ∷ Values (with_unique (codes "a") (codes "x") 1 ∷ []) ∷ Refused E7 ∷ Stored ∷ Values (with_unique (codes "a") (codes "z") 2 ∷ []) ∷ [])
@@ -244,7 +246,8 @@ item_quota =
     answered limits _ one 1 _ _ _ _ _ stands_two set_y (λ stands_three. answered limits _ one 1 _ _ _ _ _ stands_three set_z (λ stands_four.
     answered limits _ two 2 _ _ _ _ _ stands_four get_z (λ stands_five. all_answered limits _)))))
 
--- keys and data count where the quota is four bytes; a refused set leaves the item and uses no unique, and a delete makes room
+-- keys and data count where the quota is four bytes; a refused set leaves the item and uses no
+-- unique, and a delete makes room
 byte_quota : AreAnswered (record { items = 9; bytes = 4 }) []
     (Store Set (codes "ab") 0 (codes "xy") ∷ Store Set (codes "ab") 0 (codes "xyz") ∷ Store Replace (codes "ab") 0 (codes "x") ∷ Store Set (codes "c") 0 (codes "y")
     ∷ Delete (codes "ab") ∷ Store Set (codes "c") 0 (codes "yyy") ∷ Get (codes "ab" ∷ codes "c" ∷ []) true ∷ [])
@@ -284,7 +287,8 @@ byte_quota =
     answered limits _ two 2 _ _ _ _ _ stands_four delete_ab (λ stands_five. answered limits _ none 2 _ _ _ _ _ stands_five set_yyy (λ stands_six.
     answered limits _ three 3 _ _ _ _ _ stands_six get_yyy (λ stands_seven. all_answered limits _)))))))
 
--- 9 and one more are two digits, where the quota is two bytes and the key takes one; one less is as long
+-- 9 and one more are two digits, where the quota is two bytes and the key takes one; one less is as
+-- long
 byte_quota_on_arithmetic : AreAnswered (record { items = 9; bytes = 2 }) []
     (Store Set (codes "n") 0 (codes "9") ∷ Incr (codes "n") 1 ∷ Decr (codes "n") 1 ∷ []) (Stored ∷ Refused E7 ∷ Number 8 ∷ [])
 byte_quota_on_arithmetic =
@@ -307,7 +311,8 @@ byte_quota_on_arithmetic =
     answered limits _ map.empty 0 _ _ _ _ _ (Stands-none limits) set_nine (λ stands_one. answered limits _ one 1 _ _ _ _ _ stands_one incr_nine (λ stands_two.
     answered limits _ one 1 _ _ _ _ _ stands_two decr_nine (λ stands_three. all_answered limits _)))
 
--- tenants with equal keys: the one's three changes are none of the other's, whose item gets the unique 1
+-- tenants with equal keys: the one's three changes are none of the other's, whose item gets the
+-- unique 1
 abbrev entry_of : ℕ → ℕ → Command → Option Entry
 entry_of number tenant command = Some (record { ticket = record { worker = 0; number = number }; tenant = tenant; command = command })
 
@@ -327,7 +332,7 @@ tenants_answers =
     let get_q : effect limits (alone a of_q) 2 (Get (a ∷ []) true) ≡ unchanged (alone a of_q) (Values (with_unique a (codes "q") 1 ∷ [])) = rw (get_first a of_q) refl in
     answered limits _ map.empty 0 _ _ _ _ _ (Stands-none limits) set_q (λ stands_one. answered limits _ (alone a of_q) 1 _ _ _ _ _ stands_one get_q (λ stands_two. all_answered limits _))
 
--- keys of 250 bytes are lawful, those of 251 aren't
+-- keys of 250 bytes are valid, those of 251 aren't
 key_of_250_bytes : is_lawful_key (replicate 250 107) ≡ true
 key_of_250_bytes = refl
 

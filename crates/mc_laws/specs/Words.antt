@@ -1,4 +1,5 @@
--- Words of the laws: what they say of commands on one key, and of the change that stored an item. No contract but a law's rests on them.
+-- Terms of the laws: what they say of commands on one key, and of the change that stored an item.
+-- Only the contracts of laws rest on them.
 use Rattle.std.specs.Prelude.{◌≡◌, ◌≢◌, ◌⊎◌, false, IsTrue, List, [], ◌∷◌, ◌++◌, Some}
 use Rattle.std.specs.FinMap as map
 use Rattle.mc_model.specs.declared.command.Command.{Command}
@@ -13,15 +14,15 @@ use Rattle.mc_model.specs.Effect.{Effect, is_refusal}
 use Rattle.mc_model.specs.History.{accepts, after, answer, changes, state_after}
 use Rattle.mc_model.specs.State.{next_effect}
 
--- the effect of a command after a list: two commands with one effect do the same there
+-- the effect of a command after a list: two commands with the same effect do the same there
 abbrev pub effect_after : Limits → List Command → Command → Effect
 effect_after opening list command = next_effect (state_after opening list) command
 
--- whether a cas is let through by its unique: it is stored then, or the quotas refuse it
+-- whether the unique lets a cas through: it is then stored, or the quotas refuse it
 abbrev pub IsLetThrough : Reply → Type 0
 IsLetThrough reply = (reply ≡ Stored) ⊎ (reply ≡ Refused E7)
 
--- the command, where it isn't refused, changes the item under this key or takes it out
+-- the command, unless it is refused, changes the item under this key or removes it
 abbrev pub ActsOn : Key → Command → Type 0
 ActsOn key (Store verb other flags block) = other ≡ key
 ActsOn key (Cas other flags block seen) = other ≡ key
@@ -31,16 +32,17 @@ ActsOn key (Incr other by) = other ≡ key
 ActsOn key (Decr other by) = other ≡ key
 ActsOn key Flush = Unit {0}
 
--- after a list, the command changes the item under the key or takes it out
+-- after a list, the command changes the item under the key or removes it
 abbrev pub Touches : Limits → List Command → Key → Command → Type 0
 Touches opening list key command = ActsOn key command × (is_refusal (answer opening list command) ≡ false)
 
--- none of the commands in between touches the key, each after those before it
+-- none of the commands in between touches the key, each coming after those before it
 abbrev pub IsUntouched : Limits → List Command → Key → List Command → Type 0
 IsUntouched opening earlier key between =
     (front back : List Command) (command : Command) → between ≡ front ++ command ∷ back → Touches opening (earlier ++ front) key command → ⊥
 
--- the change that gave an item: the key didn't hold it before the change, and holds it right after
+-- the change that stored an item: the key didn't hold the item before the change, and holds it
+-- right after
 pub record IsStoredBy (opening : Limits) (list : List Command) (key : Key) (item : Item) : Type 0 where
   pub earlier : List Command
   pub change : Command

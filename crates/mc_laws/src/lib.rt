@@ -1,5 +1,6 @@
-//! What follows from the definitions of `mc_model`, in the protocol's words. A law is the contract of a function with an empty
-//! body: it is proved, and nothing runs. So a definition that says another thing than the protocol is refused here.
+//! What follows from the definitions of `mc_model`, in the protocol's words. A law is the contract
+//! of a function with an empty body: it is proved, and nothing runs. A definition that contradicts
+//! the protocol is rejected here.
 #![tactic(auto)]
 
 pub mod logs;

@@ -1,4 +1,5 @@
-//! What one log of all tenants' commands does to their tables: none of them alters another's table or replies.
+//! What one log of all tenants' commands does to their tables, and the tenants' isolation: no
+//! tenant's commands alter another's table or replies.
 ghost use Rattle.std.specs.Option.{option_map};
 ghost use Rattle.std.specs.Prelude.{◌≡◌, ◌≢◌, ℕ, List, [], ◌∷◌, ◌++◌, Option, Some, None, IfSome, slice_get};
 ghost use Rattle.mc_model.specs.declared.request.Entry.{Entry};
@@ -9,8 +10,9 @@ ghost use Rattle.mc_model.specs.Log.{Sighting, entry_of, own};
 ghost use Rattle.mc_model.specs.Replay.{EachStands, TakeEffect, reply_to};
 ghost use Rattle.mc_model.specs.State.{TableState, next_reply};
 
-/// A tenant's own commands of a log are those of its own entries, in the log's order: such an entry, put anywhere into a log, puts
-/// exactly its command there. Another tenant's entry, or none, leaves them as they are.
+/// A tenant's own commands in a log are those of its own entries, in log order: such an entry,
+/// inserted anywhere into a log, inserts exactly its command there. Another tenant's entry, or
+/// none, leaves them as they are.
 pub fn own_entries_alone_count()
     ensures nothing { (tenant : ℕ) → own tenant [] ≡ [] }
     ensures own { (tenant : ℕ) (front back : List (Option Entry)) (entry : Entry) → entry.tenant ≡ tenant →
@@ -19,15 +21,16 @@ pub fn own_entries_alone_count()
         own tenant (front ++ entry ∷ back) ≡ own tenant (front ++ back) }
 {}
 
-/// The entry of a place counts where it has the ticket that stands there, and else as absent.
+/// The entry of a place counts if it has the ticket that stands there, and otherwise as absent.
 pub fn an_entry_counts_for_its_own_ticket()
     ensures own { (seen : Sighting) (entry : Entry) → seen.entry ≡ Some entry → entry.ticket ≡ seen.ticket → entry_of seen ≡ Some entry }
     ensures others { (seen : Sighting) (entry : Entry) → seen.entry ≡ Some entry → entry.ticket ≢ seen.ticket → entry_of seen ≡ None }
     ensures absent { (seen : Sighting) → seen.entry ≡ None → entry_of seen ≡ None }
 {}
 
-/// The tables of an empty log are those that it was opened over. The entry of one more place is answered as its tenant's table answers it, and takes
-/// effect there alone: then each table stands for its tenant's own commands again.
+/// The tables of an empty log are those that it was opened over. The entry of one more place is
+/// answered as its tenant's table answers it, and takes effect on that table alone: then each table
+/// stands for its tenant's own commands again.
 pub fn a_log_is_replayed_in_order()
     ensures opened { (openings : List TableState) → EachStands openings [] openings }
     ensures reply { (openings : List TableState) (log : List (Option Entry)) (entry : Entry) (tables : List TableState) → EachStands openings log tables →
@@ -36,8 +39,9 @@ pub fn a_log_is_replayed_in_order()
         EachStands openings log old → TakeEffect entry old new → EachStands openings (log ++ entry ∷ []) new }
 {}
 
-/// A log that is opened over a table goes on where that one stood, whatever commands have led to it: after the tenant's own commands of the
-/// log the table is the one after those and these, and answers so.
+/// A log that is opened over a table goes on from it, whatever commands have led to that table:
+/// after the tenant's own commands of the log, the table and the replies are those after the
+/// earlier commands followed by these.
 pub fn a_log_goes_on_where_its_tables_stood()
     ensures answer { (limits : Limits) (base : List Command) (own : List Command) (opening : TableState) (command : Command) → StandsFor limits base opening →
         answer_from opening own command ≡ answer limits (base ++ own) command }
@@ -51,8 +55,8 @@ pub fn a_log_goes_on_where_its_tables_stood()
         slice_get tables tenant ≡ Some (state_after limits (base ++ own tenant log)) }
 {}
 
-/// Another tenant's entry, or none, put into a log or taken out of it anywhere, leaves a tenant's table and the replies to its
-/// commands, whatever tables the others have.
+/// Another tenant's entry, or none, inserted anywhere into a log or removed from it, leaves a
+/// tenant's table and the replies to its commands as they are, whatever tables the others have.
 pub fn tenants_are_apart()
     ensures table { (openings others : List TableState) (front back : List (Option Entry)) (entry : Option Entry) (with_it without : List TableState) (tenant : ℕ) →
         IfSome entry (λ found. found.tenant ≢ tenant) → slice_get openings tenant ≡ slice_get others tenant →

@@ -1,4 +1,5 @@
-//! What commands do to one tenant's table and what they are answered. Each law holds for all quotas and every list of commands.
+//! What commands do to one tenant's table and what their replies are. Each law holds for all quotas
+//! and every list of commands.
 ghost use Rattle.std.specs.FinMap as map;
 ghost use Rattle.std.specs.Prelude.{◌≡◌, ◌≢◌, ◌↔◌, ◌⊎◌, ℕ, ◌+◌, ◌%◌, ◌^◌, ◌<◌, ◌≤◌, Bool, true, false, decimal, List, [], ◌∷◌, ◌++◌, length, Some, None, IsSome, IsNone, IsSomeAnd};
 ghost use Rattle.std.specs.Str.Parse.{IsNumeral, digits_value};
@@ -23,9 +24,9 @@ ghost use Rattle.mc_model.specs.Number.{numeric_value};
 ghost use Rattle.mc_model.specs.State.{TableState, next_state};
 ghost use Rattle.mc_model.specs.Table.{Table, count_of, use_of};
 
-/// A list of commands is read from its front: nothing is there at first, and each command acts by the quotas on what those before
-/// it have left, a change with the next unique. So no list has more changes than commands. The quotas stay those that the table
-/// was opened with.
+/// A list of commands acts from its front: the table is empty at first, and each command acts,
+/// under the quotas, on what those before it have left, a change with the next unique. So no list
+/// has more changes than commands. The quotas stay those that the table was opened with.
 pub fn commands_act_in_order()
     ensures nothing { (opening : Limits) → after opening [] ≡ map.empty }
     ensures no_change { (opening : Limits) → changes opening [] ≡ 0 }
@@ -44,8 +45,8 @@ pub fn commands_act_in_order()
     ensures stands { (state : TableState) (command : Command) → StandsForMore state command (next_state state command) }
 {}
 
-/// What counts for the quotas: the items, and the bytes of their keys and their data. New data count in place of the
-/// old, and what is taken out counts no more.
+/// What counts against the quotas: the items, and the bytes of their keys and data. New data count
+/// in place of the old, and what is removed no longer counts.
 pub fn keys_and_data_count()
     ensures nothing { (use_of map.empty ≡ 0) × (count_of map.empty ≡ 0) }
     ensures added { (table : Table) (key : Key) (item : Item) → map.get table key ≡ None →
@@ -59,7 +60,7 @@ pub fn keys_and_data_count()
         × (count_of (map.remove table key) + 1 ≡ count_of table) }
 {}
 
-/// A command that names a key leaves what every other key holds.
+/// A command that names a key leaves what every other key holds as it is.
 pub fn commands_leave_other_keys()
     ensures store { (opening : Limits) (list : List Command) (verb : Verb) (key other : Key) (flags : ℕ) (block : Data) → other ≢ key →
         map.get (after opening (list ++ Store verb key flags block ∷ [])) other ≡ map.get (after opening list) other }
@@ -73,9 +74,9 @@ pub fn commands_leave_other_keys()
         map.get (after opening (list ++ Decr key by ∷ [])) other ≡ map.get (after opening list) other }
 {}
 
-/// A table never has more bytes or more items than its tenant's quotas say. A command is refused for them exactly where
-/// the table that it would leave has more, which is the one that it leaves where other quotas don't refuse it. A set
-/// would leave the table with its item.
+/// A table never has more bytes or more items than its tenant's quotas allow. A command is refused
+/// for them exactly when the table that it would leave has more, which is the one it leaves under
+/// quotas that don't refuse it. A set would leave the table with its item.
 pub fn quotas_hold()
     ensures bytes { (opening : Limits) (list : List Command) → use_of (after opening list) ≤ (limits_after opening list).bytes }
     ensures items { (opening : Limits) (list : List Command) → count_of (after opening list) ≤ (limits_after opening list).items }
@@ -88,8 +89,9 @@ pub fn quotas_hold()
         (answer opening list (Store Set key flags block) ≡ Refused E7) ↔ (((limits_after opening list).bytes < use_of next) ⊎ ((limits_after opening list).items < count_of next)) }
 {}
 
-/// A get shows what is held under a key, its unique with gets alone. Of several keys it shows each as if it were asked for
-/// alone, in the line's order: one that isn't held is left out, and one that stands twice is shown twice.
+/// A get shows what is held under a key, and gets its unique too. Several keys are shown as if each
+/// were requested alone, in the line's order: one that isn't held is left out, and one that is
+/// given twice is shown twice.
 pub fn get_shows_what_is_held()
     ensures gets { (opening : Limits) (list : List Command) (key : Key) (item : Item) → map.get (after opening list) key ≡ Some item →
         answer opening list (Get (key ∷ []) true)
@@ -104,8 +106,8 @@ pub fn get_shows_what_is_held()
         answer opening list (Get (keys ++ more) uniques) ≡ Values (found ++ rest) }
 {}
 
-/// A set is stored, or the quotas refuse it. A get after a set that was stored gives the flags and the data that were set,
-/// and the unique that the set got, where no command in between has changed the key or taken it out.
+/// A set is stored, or the quotas refuse it. A get after a set that was stored returns its flags
+/// and data and the unique that it got, if no command in between has changed or removed the key.
 pub fn get_after_set()
     ensures answered { (opening : Limits) (list : List Command) (key : Key) (flags : ℕ) (block : Data) →
         (answer opening list (Store Set key flags block) ≡ Stored) ⊎ (answer opening list (Store Set key flags block) ≡ Refused E7) }
@@ -116,7 +118,7 @@ pub fn get_after_set()
         ≡ Values (record { key = key; flags = flags; block = block; unique = Some (changes opening earlier + 1) } ∷ []) }
 {}
 
-/// A get changes nothing: what comes after it, each answer among it, is as if it hadn't been sent.
+/// A get changes nothing: what comes after it, including each reply, is as if it hadn't been sent.
 pub fn get_changes_nothing()
     ensures table { (opening : Limits) (earlier later : List Command) (keys : KeyList) (uniques : Bool) →
         after opening (earlier ++ Get keys uniques ∷ later) ≡ after opening (earlier ++ later) }
@@ -126,8 +128,8 @@ pub fn get_changes_nothing()
         answer opening (earlier ++ Get keys uniques ∷ later) next ≡ answer opening (earlier ++ later) next }
 {}
 
-/// A refused command changes nothing: what comes after it, each answer among it, is as if it hadn't been sent. Refused is
-/// what isn't stored, exists with another unique, isn't found, or is answered with an error.
+/// A refused command changes nothing: what comes after it, including each reply, is as if it hadn't
+/// been sent. A command is refused if its reply is NOT_STORED, EXISTS, NOT_FOUND or an error.
 pub fn refusals_change_nothing()
     ensures refusals { (error : WireNo) →
         ((is_refusal NotStored ≡ true) × (is_refusal Exists ≡ true)) × ((is_refusal NotFound ≡ true) × (is_refusal (Refused error) ≡ true)) }
@@ -145,9 +147,9 @@ pub fn refusals_change_nothing()
         answer opening (earlier ++ command ∷ later) next ≡ answer opening (earlier ++ later) next }
 {}
 
-/// A cas with the unique that a gets showed is let through exactly where no command in between has changed its key or
-/// taken it out. It is then a set, which the quotas may refuse. Otherwise the item exists with another unique, or isn't
-/// found.
+/// A cas with the unique that a gets showed is let through exactly when no command in between has
+/// changed or removed its key. It is then a set, which the quotas may refuse. Otherwise the item
+/// exists with another unique, or isn't found.
 pub fn cas_checks_and_sets()
     ensures let_through { (opening : Limits) (earlier between : List Command) (key : Key) (shown : Value) (unique flags : ℕ) (block : Data) →
         answer opening earlier (Get (key ∷ []) true) ≡ Values (shown ∷ []) → shown.unique ≡ Some unique →
@@ -165,8 +167,8 @@ pub fn cas_checks_and_sets()
         (answer opening list (Cas key flags block unique) ≡ NotFound) ↔ (map.get (after opening list) key ≡ None) }
 {}
 
-/// Add and replace are each other's complement. Where the key is held, replace is a set and add isn't stored; where it
-/// isn't held, add is a set and replace isn't stored.
+/// Add and replace are complements. If the key is held, replace is a set and add isn't stored; if
+/// it isn't held, add is a set and replace isn't stored.
 pub fn add_and_replace_are_complements()
     ensures held { (opening : Limits) (list : List Command) (key : Key) (flags : ℕ) (block : Data) →
         IsSome (map.get (after opening list) key) →
@@ -178,8 +180,9 @@ pub fn add_and_replace_are_complements()
         × (effect_after opening list (Store Add key flags block) ≡ effect_after opening list (Store Set key flags block)) }
 {}
 
-/// An append or a prepend of a key that is held is a set of the joined data with the old flags, and is refused exactly
-/// where those are too many bytes. On a key that isn't held it isn't stored.
+/// An append or a prepend to a key that is held is a set of the joined data with the old flags, and
+/// is refused as too large exactly when those are too many bytes. On a key that isn't held it isn't
+/// stored.
 pub fn joins_set_the_joined_data()
     ensures append { (opening : Limits) (list : List Command) (key : Key) (old : Item) (flags : ℕ) (block : Data) →
         map.get (after opening list) key ≡ Some old → length old.block + length block ≤ DATA_BYTES →
@@ -198,8 +201,8 @@ pub fn joins_set_the_joined_data()
         (answer opening list (Store Append key flags block) ≡ NotStored) × (answer opening list (Store Prepend key flags block) ≡ NotStored) }
 {}
 
-/// A get after an append or a prepend gives the joined data with the old flags, where no command in between has changed
-/// the key or taken it out.
+/// A get after an append or a prepend returns the joined data with the old flags, if no command in
+/// between has changed or removed the key.
 pub fn joins_keep_the_flags()
     ensures append { (opening : Limits) (earlier between : List Command) (key : Key) (old : Item) (flags : ℕ) (block : Data) →
         map.get (after opening earlier) key ≡ Some old → answer opening earlier (Store Append key flags block) ≡ Stored →
@@ -213,8 +216,8 @@ pub fn joins_keep_the_flags()
         ≡ Values (record { key = key; flags = old.flags; block = block ++ old.block; unique = Some (changes opening earlier + 1) } ∷ []) }
 {}
 
-/// Data are numeric where they are 1 to 20 decimal digits of a number below 2^64. On a key that isn't held incr and decr
-/// find nothing, and other data they refuse.
+/// Data are numeric if they are 1 to 20 decimal digits of a number below 2^64. On a key that isn't
+/// held incr and decr find nothing, and data that aren't numeric they refuse.
 pub fn incr_and_decr_want_a_number()
     ensures numeric { (block : Data) (number : ℕ) →
         (numeric_value block ≡ Some number)
@@ -226,8 +229,8 @@ pub fn incr_and_decr_want_a_number()
         (answer opening list (Incr key by) ≡ NotFound) × (answer opening list (Decr key by) ≡ NotFound) }
 {}
 
-/// Incr adds and wraps at 2^64, but where the quotas refuse the number's digits. Decr subtracts and stops at 0; the quotas
-/// never refuse it.
+/// Incr adds modulo 2^64, unless the quotas refuse the sum's digits. Decr subtracts and stops at 0;
+/// the quotas never refuse it.
 pub fn incr_wraps_and_decr_stops()
     ensures sum { (opening : Limits) (list : List Command) (key : Key) (old : Item) (number by : ℕ) →
         map.get (after opening list) key ≡ Some old → numeric_value old.block ≡ Some number →
@@ -245,8 +248,8 @@ pub fn incr_wraps_and_decr_stops()
         answer opening list (Decr key by) ≡ Number 0 }
 {}
 
-/// A get after an incr or a decr that answered a number gives its decimal digits with the old flags, and the unique of that
-/// change, where no command in between has changed the key or taken it out.
+/// A get after an incr or a decr that answered a number returns its decimal digits with the old
+/// flags, and the unique of that change, if no command in between has changed or removed the key.
 pub fn numbers_keep_the_flags()
     ensures incr { (opening : Limits) (earlier between : List Command) (key : Key) (old : Item) (by number : ℕ) →
         map.get (after opening earlier) key ≡ Some old → answer opening earlier (Incr key by) ≡ Number number →
@@ -260,8 +263,8 @@ pub fn numbers_keep_the_flags()
         ≡ Values (record { key = key; flags = old.flags; block = decimal number; unique = Some (changes opening earlier + 1) } ∷ []) }
 {}
 
-/// A decr undoes an incr by the same number that didn't wrap, where no command in between has changed the key or taken it
-/// out: the quotas never refuse it.
+/// A decr undoes an incr by the same number that didn't wrap, if no command in between has changed
+/// or removed the key: the quotas never refuse it.
 pub fn decr_undoes_incr()
     ensures { (opening : Limits) (earlier between : List Command) (key : Key) (old : Item) (number by : ℕ) →
         map.get (after opening earlier) key ≡ Some old → numeric_value old.block ≡ Some number → number + by < 2 ^ 64 →
@@ -270,8 +273,8 @@ pub fn decr_undoes_incr()
         answer opening (earlier ++ Incr key by ∷ between) (Decr key by) ≡ Number number }
 {}
 
-/// A get after a delete of that key finds nothing, where no command in between has touched it. A delete finds exactly
-/// the keys that are held, and is no change.
+/// A get after a delete of that key finds nothing, if no command in between has touched it. A
+/// delete finds exactly the keys that are held, and is no change.
 pub fn delete_takes_out()
     ensures gone { (opening : Limits) (earlier between : List Command) (key : Key) (uniques : Bool) →
         IsUntouched opening (earlier ++ Delete key ∷ []) key between →
@@ -284,7 +287,8 @@ pub fn delete_takes_out()
         changes opening (list ++ Delete key ∷ []) ≡ changes opening list }
 {}
 
-/// A flush is answered with OK and is no change. After it every get finds nothing, and nothing counts for the quotas.
+/// A flush is answered with OK and is no change. After it every get finds nothing, and nothing
+/// counts against the quotas.
 pub fn flush_takes_all_out()
     ensures ok { (opening : Limits) (list : List Command) → answer opening list Flush ≡ Ok }
     ensures nothing { (opening : Limits) (earlier : List Command) (keys : KeyList) (uniques : Bool) →
@@ -294,7 +298,7 @@ pub fn flush_takes_all_out()
     ensures uniques { (opening : Limits) (list : List Command) → changes opening (list ++ Flush ∷ []) ≡ changes opening list }
 {}
 
-/// The unique of an item is the number of changes up to and with the one that stored it.
+/// The unique of an item is the number of changes up to and including the one that stored it.
 pub fn unique_counts_changes()
     ensures { (opening : Limits) (list : List Command) (key : Key) (item : Item) →
         map.get (after opening list) key ≡ Some item → IsStoredBy opening list key item }

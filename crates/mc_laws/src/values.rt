@@ -1,4 +1,4 @@
-//! What values are lawful, and when two of them are equal.
+//! Which values are valid, and when two of them are equal.
 ghost use Rattle.std.specs.Prelude.{◌≡◌, ◌≢◌, ◌↔◌, ◌⊎◌, ℕ, ◌<◌, ◌≤◌, All, Bool, List, length, IsTrue};
 ghost use Rattle.mc_model.specs.declared.command.Command.{Command};
 ghost use Rattle.mc_model.specs.declared.command.Command.TheVariants.{Delete, Flush, Get};
@@ -14,7 +14,7 @@ ghost use Rattle.mc_model.specs.Settings.{Configuration, IsLawful};
 
 use mc_model::{Data, Key, KeyList, ValueList};
 
-/// The numbers of this project's profile.
+/// The numbers in this project's profile.
 pub fn the_profiles_numbers()
     ensures key { KEY_BYTES ≡ 250 }
     ensures data_block { DATA_BYTES ≡ 1048576 }
@@ -25,15 +25,15 @@ pub fn the_profiles_numbers()
     ensures bytes { MAX_BYTES ≡ 1073741824 }
 {}
 
-/// A lawful key is 1 to 250 bytes, none of them a control character or a space.
+/// A valid key is 1 to 250 bytes, none of them a control character or a space.
 pub fn lawful_keys_are_plain()
     ensures { (bytes : List ℕ) →
         IsTrue (is_lawful_key bytes)
         ↔ (((0 < length bytes) × (length bytes ≤ 250)) × All (λ byte. (32 < byte) × (byte ≢ 127)) bytes) }
 {}
 
-/// Settings are lawful where there are 1 to 16 workers, 1 to 1,048,576 places and 1 to 64 tenants, and each tenant has a
-/// quota of 1 to 1,048,576 items and of 1 to 1,073,741,824 bytes.
+/// Settings are valid if there are 1 to 16 workers, 1 to 1,048,576 places and 1 to 64 tenants, and
+/// each tenant has a quota of 1 to 1,048,576 items and of 1 to 1,073,741,824 bytes.
 pub fn lawful_settings_are_in_range()
     ensures { (settings : Configuration) →
         IsLawful settings
@@ -42,34 +42,35 @@ pub fn lawful_settings_are_in_range()
         × All (λ limits. ((1 ≤ limits.items) × (limits.items ≤ 1048576)) × ((1 ≤ limits.bytes) × (limits.bytes ≤ 1073741824))) settings.tenants) }
 {}
 
-/// A retrieval is a get of some keys, and no other command. What takes out is a delete or a flush, and nothing else.
+/// A retrieval is a get of some keys and no other command; a command that only removes keys is a
+/// delete or a flush and no other.
 pub fn kinds_are_by_name()
     ensures retrieval { (command : Command) → IsRetrieval command ↔ ((keys : KeyList) × (uniques : Bool) × (command ≡ Get keys uniques)) }
     ensures takes_out { (command : Command) → IsTakingOut command ↔ (((key : Key) × (command ≡ Delete key)) ⊎ (command ≡ Flush)) }
 {}
 
-/// Two keys are equal exactly where their bytes are.
+/// Two keys are equal exactly when their bytes are.
 pub fn keys_are_equal_by_their_bytes(key: &Key, other: &Key) -> bool
     ensures { IsTrue result ↔ (key.now ≡ other.now) }
 {
     key == other
 }
 
-/// Two data blocks are equal exactly where their bytes are.
+/// Two data blocks are equal exactly when their bytes are.
 pub fn data_are_equal_by_their_bytes(data: &Data, other: &Data) -> bool
     ensures { IsTrue result ↔ (data.now ≡ other.now) }
 {
     data == other
 }
 
-/// Two lists of keys are equal exactly where they have the same keys in the same order.
+/// Two lists of keys are equal exactly when they have the same keys in the same order.
 pub fn key_lists_are_equal_by_their_keys(keys: &KeyList, others: &KeyList) -> bool
     ensures { IsTrue result ↔ (keys.now ≡ others.now) }
 {
     keys == others
 }
 
-/// Two lists of values are equal exactly where they have the same values in the same order.
+/// Two lists of values are equal exactly when they have the same values in the same order.
 pub fn value_lists_are_equal_by_their_values(values: &ValueList, others: &ValueList) -> bool
     ensures { IsTrue result ↔ (values.now ≡ others.now) }
 {

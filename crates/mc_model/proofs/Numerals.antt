@@ -32,11 +32,11 @@ module _ (bytes : List ℕ) (i value : ℕ) (h : i < length bytes) (so_far : Spe
     on = λ all. (next_in_front.on all).1;
   }
 
-  -- where the value is past the limit with the next digit, that of all digits is
+  -- if the value exceeds the limit with the next digit, so does that of all digits
   pub too_large : (limit : ℕ) → limit ≤ value * 10 + digit_value (get_or bytes i 0) → AllDigits 10 bytes × (digits_value 10 bytes < limit) → ⊥
   too_large limit past all = omega (arith, next_in_front.same, digits_value_after-ge (value * 10 + digit_value (get_or bytes i 0)) (drop (i + 1) bytes))
 
--- where no byte is left, all are digits, and the value is theirs
+-- when no byte is left, all are digits, and the value is theirs
 pub SpellsSoFar-all : (bytes : List ℕ) (i value : ℕ) → length bytes ≤ i → SpellsSoFar bytes (drop i bytes) value → AllDigits 10 bytes × (value ≡ digits_value 10 bytes)
 SpellsSoFar-all bytes i value over so_far =
     let done : SpellsSoFar bytes [] value = subst (λ rest. SpellsSoFar bytes rest value) (drop_of_length-le bytes over) so_far in

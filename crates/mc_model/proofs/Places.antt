@@ -1,4 +1,4 @@
--- Bytes from the left as one number, whose greatest byte is the first: such numbers lie as their bytes do.
+-- Bytes as one big-endian number: such numbers are ordered as their bytes are.
 use Rattle.std.proofs.Common.{◌≡◌, ℕ, zero, suc, ◌+◌, ◌*◌, ◌<◌, ◌≤◌, List, [], ◌∷◌, length, get_or, take, drop, drop-drop, length-drop, refl, sym, subst, ap, ◌∙◌, arith}
 use Rattle.std.proofs.Math.Seq.{drop-cons, get_or-drop}
 use Rattle.std.specs.declared.cmp.Ordering.{Ordering}
@@ -11,7 +11,7 @@ use Rattle.std.specs.Slice.Scan.{big_endian}
 abbrev AreBytes : List ℕ → Type 0
 AreBytes bytes = (k : ℕ) → get_or bytes k 0 < 256
 
--- what is greater stays so, whatever bytes come behind
+-- what is greater stays so, whatever bytes come after
 big_endian-lt : (n a b : ℕ) (xs ys : List ℕ) → n ≤ length xs → n ≤ length ys → AreBytes xs → a < b → big_endian a (take n xs) < big_endian b (take n ys)
 big_endian-lt zero a b xs ys p q bytes less = less
 big_endian-lt (suc n) a b [] ys p q bytes less = absurd (omega arith)
@@ -20,7 +20,7 @@ big_endian-lt (suc n) a b (x ∷ xs) (y ∷ ys) p q bytes less =
     let small : x < 256 = bytes 0 in
     big_endian-lt n (a * 256 + x) (b * 256 + y) xs ys (omega arith) (omega arith) (λ k. bytes (suc k)) (omega arith)
 
--- the first n bytes as numbers decide, and where these are equal what comes behind
+-- the first n bytes decide as numbers, and if these are equal, what comes after
 pub slice_cmp-by_front : (n a : ℕ) (xs ys : List ℕ) → n ≤ length xs → n ≤ length ys → AreBytes xs → AreBytes ys
     → slice_cmp nat_cmp xs ys ≡ ordering_then (nat_cmp (big_endian a (take n xs)) (big_endian a (take n ys))) (slice_cmp nat_cmp (drop n xs) (drop n ys))
 slice_cmp-by_front zero a xs ys p q xbytes ybytes = ap (λ o. ordering_then o (slice_cmp nat_cmp xs ys)) (nat_cmp_is a a Equal refl)
@@ -43,7 +43,7 @@ slice_cmp-by_front (suc n) a (x ∷ xs) (y ∷ ys) p q xbytes ybytes =
         ap (λ o. ordering_then o (slice_cmp nat_cmp (drop n xs) (drop n ys)))
         (nat_cmp_is _ _ Greater (big_endian-lt n (a * 256 + y) (a * 256 + x) ys xs (omega arith) (omega arith) (λ k. ybytes (suc k)) (omega arith)))
 
--- numbers that differ answer, whatever stands behind
+-- numbers that differ decide, whatever comes after
 pub differing-decide : (x y : ℕ) (behind : Ordering) → (x ≡ y → ⊥) → ordering_then (nat_cmp x y) behind ≡ nat_cmp x y
 differing-decide x y behind apart = by (nat_cmp x y) (ranks x y)
   where
@@ -52,11 +52,12 @@ differing-decide x y behind apart = by (nat_cmp x y) (ranks x y)
     by Equal h = absurd (apart h)
     by Greater h = refl
 
--- equal numbers leave the answer to what stands behind
+-- equal numbers leave the decision to what comes after
 pub equal-leave : (x y : ℕ) (behind : Ordering) → x ≡ y → ordering_then (nat_cmp x y) behind ≡ behind
 equal-leave x y behind same = sym (ap (λ o. ordering_then o behind) (nat_cmp_is x y Equal same))
 
--- where the bytes before this place decide nothing, the next n do as numbers, and where these are equal what comes behind
+-- if the bytes before this place decide nothing, the next n do as numbers, and if these are equal,
+-- what comes after
 pub slice_cmp-onward : (n at x y : ℕ) (xs ys : List ℕ) → at + n ≤ length xs → at + n ≤ length ys → AreBytes xs → AreBytes ys
     → slice_cmp nat_cmp xs ys ≡ slice_cmp nat_cmp (drop at xs) (drop at ys)
     → x ≡ big_endian 0 (take n (drop at xs)) → y ≡ big_endian 0 (take n (drop at ys))

@@ -1,6 +1,7 @@
--- What a command does to a table and what it is answered, after memcached's doc/protocol.txt, "Storage commands",
--- "Retrieval command", "Deletion", "Increment/Decrement" and, for flush_all, "Other commands". One equation a command. The order
--- of its refusals, a join that is too long, the quotas and a decr without padding are this project's profile.
+-- What a command does to a table and what the reply is, after memcached's doc/protocol.txt,
+-- "Storage commands", "Retrieval command", "Deletion", "Increment/Decrement" and, for flush_all,
+-- "Other commands"; one equation per command. The order of the refusals, the refusal of joined data
+-- that are too long, the quotas and a decr without padding are this project's profile.
 use Rattle.std.specs.Prelude.{ℕ, ◌+◌, ◌-◌, ◌%◌, ◌^◌, ◌==◌, nat_le, Bool, true, false, if◌then◌else◌, ◌++◌, length, decimal, Option, Some, None}
 use Rattle.std.specs.List.{filter_map}
 use Rattle.std.specs.Option.{option_map}
@@ -30,40 +31,41 @@ abbrev pub shown_item : Bool → Key → Item → Value
 shown_item uniques key item =
     record { key = key; flags = item.flags; block = item.block; unique = if uniques then Some item.unique else None }
 
--- what a retrieval shows of a key: its item, or nothing where the key isn't held
+-- what a retrieval shows of a key: its item, or nothing if the key isn't held
 abbrev pub shown_at : Table → Bool → Key → Option Value
 shown_at table uniques key = option_map (shown_item uniques key) (map.get table key)
 
--- the table stays
+-- the table stays as it is
 abbrev pub unchanged : Table → Reply → Effect
 unchanged table reply = record { table = table; reply = reply }
 
--- an item goes under the key, over what the key held, where the table is then within the quotas
+-- puts an item under the key, over what the key held, if the table is then within the quotas
 abbrev pub stored : Limits → Table → Key → Item → Reply → Effect
 stored limits table key item reply =
     if is_within limits (map.insert table key item)
     then record { table = map.insert table key item; reply = reply }
     else unchanged table (Refused E7)
 
--- one effect where there is none, another of what is there
+-- one effect if there is no value, another of the value if there is one
 abbrev pub none_or_some : {A : Type 0} → Option A → Effect → (A → Effect) → Effect
 none_or_some None none some = none
 none_or_some (Some value) none some = some value
 
--- joined data, where a block may have so many bytes
+-- stores joined data, if a block may have that many bytes
 abbrev pub joined : Limits → Table → ℕ → Key → ℕ → Data → Effect
 joined limits table unique key flags block =
     if nat_le (length block) DATA_BYTES
     then stored limits table key (record { flags = flags; block = block; unique = unique }) Stored
     else unchanged table (Refused E6)
 
--- the number under a key gives way to another, in decimal digits; the flags stay
+-- replaces the number under a key by another, in decimal digits; the flags stay
 abbrev pub renumbered : Limits → Table → ℕ → Key → Item → (ℕ → ℕ) → Effect
 renumbered limits table unique key old next =
     none_or_some (numeric_value old.block) (unchanged table (Refused E8))
     (λ number. stored limits table key (record { flags = old.flags; block = decimal (next number); unique = unique }) (Number (next number)))
 
--- A command on a tenant's table, where a change gets this unique. The subtraction of decr is that of natural numbers, which stops at 0.
+-- The effect of a command on a tenant's table, where a change gets this unique. decr subtracts
+-- natural numbers, so it stops at 0.
 abbrev pub effect : Limits → Table → ℕ → Command → Effect
 effect limits table unique (Store Set key flags block) =
     stored limits table key (record { flags = flags; block = block; unique = unique }) Stored
@@ -95,7 +97,7 @@ effect limits table unique (Decr key by) =
     none_or_some (map.get table key) (unchanged table NotFound) (λ old. renumbered limits table unique key old (λ number. number - by))
 effect limits table unique Flush = record { table = map.empty; reply = Ok }
 
--- whether a reply says that a command counts as a change: it has given an item a unique
+-- whether a reply says that a command counts as a change: that it gave an item a unique
 abbrev pub is_acceptance : Reply → Bool
 is_acceptance Stored = true
 is_acceptance (Number number) = true

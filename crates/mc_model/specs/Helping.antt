@@ -1,6 +1,7 @@
--- What is true of every state that events lead to: the log is legal, each worker knows a beginning of it, and a command that waits is
--- helped by turns (Herlihy, Wait-Free Synchronization, TOPLAS 1991: at each place the worker whose number is the place modulo the
--- number of workers is helped first). `Lawful` says which states those are; these are statements about them.
+-- What holds in every reachable state: the log is well-formed, each worker knows a prefix of it,
+-- and a pending command is helped round-robin (Herlihy, Wait-Free Synchronization, TOPLAS 1991: at
+-- each place the worker whose number is the place modulo the number of workers is helped first).
+-- `Lawful` says which states are reachable; these are statements about them.
 use Rattle.std.specs.Prelude.{◌≡◌, ◌≢◌, ◌⊎◌, ℕ, ◌+◌, ◌-◌, ◌%◌, ◌<◌, ◌≤◌, List, ◌++◌, length, slice_get, Some, None}
 use Rattle.mc_model.specs.declared.id.Ticket.{Ticket}
 use Rattle.mc_model.specs.declared.shown.LogSize.{LogSize}
@@ -14,7 +15,8 @@ use Rattle.mc_model.specs.Legal.{IsLegal, StandsBefore, count, ticket_of}
 abbrev pub BeginsWith : {X : Type 0} → List X → List X → Type 0
 BeginsWith {X} list front = (rest : List X) × (list ≡ front ++ rest)
 
--- a worker knows the first places; its commands but the one that waits stand there; what it looked up comes next of its worker
+-- a worker knows the first places, all its commands but the pending one stand there, and the ticket
+-- it looked up is the next one of that ticket's worker
 pub record WorkerLaw (size : LogSize) (state : ShownState) (number : ℕ) (worker : WorkerState) : Type 0 where
   pub begins : BeginsWith state.decided worker.learned
   pub idle : worker.phase ≡ Idle → count number worker.learned ≡ worker.announced
@@ -24,7 +26,7 @@ pub record WorkerLaw (size : LogSize) (state : ShownState) (number : ℕ) (worke
       (ticket.number < announced_by state ticket.worker) × (count ticket.worker worker.learned ≡ ticket.number)
   pub proposals : worker.proposals ≤ size.workers + 1
 
--- the decided places are a legal list of announced tickets, and each worker keeps to its law
+-- the decided places are a well-formed log of announced tickets, and each worker keeps to its law
 pub record LogLaw (size : LogSize) (state : ShownState) : Type 0 where
   pub many : length state.workers ≡ size.workers
   pub few : length state.decided ≤ size.places
@@ -32,8 +34,9 @@ pub record LogLaw (size : LogSize) (state : ShownState) : Type 0 where
   pub announced : (place : ℕ) (ticket : Ticket) → slice_get state.decided place ≡ Some ticket → ticket.number < announced_by state ticket.worker
   pub each : (number : ℕ) (worker : WorkerState) → IsWorker state number worker → WorkerLaw size state number worker
 
--- a worker's ticket is helped from a place on: at each place above whose turn is that worker's, the ticket stands there or before, and
--- whoever has looked at such a place has looked it up, or it stands before
+-- a worker's ticket is helped after a place: at each later place whose turn is that worker's, the
+-- ticket stands there or before, and whoever has looked at such a place has looked it up, or it
+-- stands before
 pub record IsHelped (size : LogSize) (state : ShownState) (ticket : Ticket) (from : ℕ) : Type 0 where
   pub decided : (place : ℕ) → from < place → place < length state.decided → place % size.workers ≡ ticket.worker →
       StandsBefore (place + 1) ticket state.decided
@@ -41,19 +44,21 @@ pub record IsHelped (size : LogSize) (state : ShownState) (ticket : Ticket) (fro
       from < length worker.learned → length worker.learned % size.workers ≡ ticket.worker →
       (worker.look ≡ Some ticket) ⊎ StandsBefore (length worker.learned) ticket state.decided
 
--- a worker has announced a command that it hasn't learned at a place
+-- a worker has announced a command that it hasn't yet learned at a place
 abbrev pub Waits : ℕ → WorkerState → Type 0
 Waits number worker = count number worker.learned < worker.announced
 
--- the helping law: a command that waits is helped from its worker's mark on, and the worker has proposed at most once at each place since
+-- the helping law: a pending command is helped after its worker's mark, and the worker has proposed
+-- at most once at each place since
 abbrev pub HelpingLaw : LogSize → ShownState → Type 0
 HelpingLaw size state = (number : ℕ) (worker : WorkerState) → IsWorker state number worker → Waits number worker →
     (worker.mark ≡ None → worker.proposals ≡ 0)
     × ((mark : ℕ) → worker.mark ≡ Some mark →
     IsHelped size state (ticket_of number (worker.announced - 1)) mark × (worker.proposals + mark ≤ length worker.learned))
 
--- a command that is announced while d places of a log of n workers are decided stands among the first d + n + 1 places, once so many are
--- decided, whatever happens in between and whichever workers stop
+-- a command that is announced while d places of a log of n workers are decided stands among the
+-- first d + n + 1 places once that many are decided, whatever happens in between and whichever
+-- workers stop
 abbrev pub IsSoonDecided : LogSize → Type 0
 IsSoonDecided size = (old announced new : ShownState) (number : ℕ) (events : List ShownEvent) →
     IsReached size old → Step size old (announces number) announced → LeadOn size announced events new →

@@ -1,5 +1,5 @@
--- What a list of commands leaves of a tenant's table: one that stood in some state at first, or one that was opened with these quotas
--- and is empty at first. The lists stand in the order of the commands.
+-- What a list of commands leaves of a tenant's table that was in a given state at first, or that
+-- was opened with these quotas and is empty at first. The lists are in the order of the commands.
 use Rattle.std.specs.Prelude.{◌≡◌, ℕ, ◌+◌, ◌≤◌, length, Bool, true, false, if◌then◌else◌, List, [], ◌∷◌, ◌++◌, refl}
 use Rattle.std.specs.List.{fold}
 use Rattle.std.proofs.Common.{ap, arith, sym, ◌∙◌}
@@ -11,45 +11,46 @@ use Rattle.mc_model.specs.Effect.{is_acceptance}
 use Rattle.mc_model.specs.State.{TableState, empty_table, next_reply, next_state}
 use Rattle.mc_model.specs.Table.{Table}
 
--- the state after a list, where the table stood so before: one command after another
+-- the state after a list of commands, one after another, from this state on
 unfoldable pub state_from : TableState → List Command → TableState
 state_from opening list = fold next_state opening list
 
--- what one more command is answered then
+-- the reply to one more command then
 abbrev pub answer_from : TableState → List Command → Command → Reply
 answer_from opening list command = next_reply (state_from opening list) command
 
--- the same of a table that is empty at first
+-- the same for a table that is empty at first
 abbrev pub state_after : Limits → List Command → TableState
 state_after opening list = state_from (empty_table opening) list
 
--- the quotas that count from then on: those of the opening, as long as no command changes them
+-- the quotas that apply from then on: those of the opening, as long as no command changes them
 abbrev pub limits_after : Limits → List Command → Limits
 limits_after opening list = (state_after opening list).limits
 
--- its table, and how many changes there were
+-- its table, and the number of changes
 abbrev pub after : Limits → List Command → Table
 after opening list = (state_after opening list).table
 
 abbrev pub changes : Limits → List Command → ℕ
 changes opening list = (state_after opening list).last_unique
 
--- what one more command is answered, and whether it is accepted
+-- the reply to one more command, and whether it is accepted
 abbrev pub answer : Limits → List Command → Command → Reply
 answer opening list command = next_reply (state_after opening list) command
 
 abbrev pub accepts : Limits → List Command → Command → Bool
 accepts opening list command = is_acceptance (answer opening list command)
 
--- a table that was opened with these quotas stands for a list
+-- the state stands for a list: a table opened with these quotas is in this state after the list
 abbrev pub StandsFor : Limits → List Command → TableState → Type 0
 StandsFor opening list state = state ≡ state_after opening list
 
--- whatever list the table stood for, and whatever quotas it was opened with, it then stands for that list with this command at the end
+-- whatever list the old state stood for, whatever the quotas of the opening, the new state stands
+-- for that list with this command at the end
 abbrev pub StandsForMore : TableState → Command → TableState → Type 0
 StandsForMore old command new = (opening : Limits) (list : List Command) → StandsFor opening list old → StandsFor opening (list ++ command ∷ []) new
 
--- The same from the front: nothing, and one more command at the end.
+-- The state after no command, and after one more command at the end.
 pub state_from-none : (opening : TableState) → state_from opening [] ≡ opening
 unfolding state_from
 state_from-none opening = refl
@@ -66,7 +67,8 @@ pub state_after-push : (opening : Limits) (list : List Command) (command : Comma
     state_after opening (list ++ command ∷ []) ≡ next_state (state_after opening list) command
 state_after-push opening list command = state_from-push (empty_table opening) list command
 
--- A table that stands for a list stands for it followed by what it does then, whatever opened it; and so it answers.
+-- If the opening stands for a base, the state after a list stands for the base followed by the
+-- list, and the replies are those after both.
 pub state_from-more : (opening : TableState) (base more : List Command) → state_from opening (base ++ more) ≡ state_from (state_from opening base) more
 unfolding state_from
 state_from-more opening base more = fold-append next_state opening base more
@@ -85,7 +87,7 @@ StandsFor-none opening = sym (state_after-none opening)
 pub StandsFor-push : (state : TableState) (command : Command) → StandsForMore state command (next_state state command)
 StandsFor-push state command opening list stands = ap (λ s. next_state s command) stands ∙ sym (state_after-push opening list command)
 
--- no command counts as more than one change
+-- a command counts as at most one change
 pub uniques-le : (opening : TableState) (list : List Command) → (state_from opening list).last_unique ≤ opening.last_unique + length list
 unfolding state_from
 uniques-le opening list = few list opening

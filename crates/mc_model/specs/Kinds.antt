@@ -7,7 +7,7 @@ abbrev pub IsRetrieval : Command → Type 0
 IsRetrieval (Get keys uniques) = Unit {0}
 IsRetrieval _ = ⊥
 
--- the command only takes keys out
+-- the command only removes keys
 abbrev pub IsTakingOut : Command → Type 0
 IsTakingOut (Delete key) = Unit {0}
 IsTakingOut Flush = Unit {0}

@@ -1,6 +1,8 @@
--- The events of the log as steps from one shown state to the next, and the states that steps lead to. Each event is one operation on
--- one word: the announcement raises a worker's own word, a read and a look load a word, a proposal is one compare-exchange of a
--- place's word, which a decided place refuses (Herlihy, Wait-Free Synchronization, TOPLAS 1991: announce, consensus, helping by turns).
+-- The events of the log as transitions from one shown state to the next, and the reachable states.
+-- Each event is one operation on one word: an announcement increments the worker's own word,
+-- reading and looking load a word, a proposal is one compare-exchange of a place's word, which a
+-- decided place refuses (Herlihy, Wait-Free Synchronization, TOPLAS 1991: announce, consensus,
+-- round-robin helping).
 use Rattle.std.specs.Prelude.{◌≡◌, ◌≢◌, ◌⊎◌, ℕ, ◌%◌, ◌<◌, List, [], ◌∷◌, ◌++◌, length, slice_get, slice_set, Option, Some, None}
 use Rattle.std.specs.Option.{option_map_or}
 use Rattle.mc_model.specs.declared.id.Ticket.{Ticket}
@@ -18,15 +20,15 @@ pub data ShownEvent : Type 0 where
   proposes : ℕ → ShownEvent
   stops : ℕ → ShownEvent
 
--- there is a worker of this number, and this is shown of it
+-- there is a worker with this number, and this is its shown state
 abbrev pub IsWorker : ShownState → ℕ → WorkerState → Type 0
 IsWorker state number worker = slice_get state.workers number ≡ Some worker
 
--- the state with another record of one worker
+-- the state with another record for one worker
 abbrev pub with_worker : ShownState → ℕ → WorkerState → ShownState
 with_worker state number worker = record state { workers = slice_set state.workers number worker }
 
--- how many commands a worker has announced
+-- the number of commands that a worker has announced
 abbrev pub announced_by : ShownState → ℕ → ℕ
 announced_by state number = option_map_or (λ (worker : WorkerState). worker.announced) (slice_get state.workers number) 0
 
@@ -38,7 +40,7 @@ abbrev pub decided_with : Ticket → List Ticket → Option Ticket → List Tick
 decided_with proposed decided (Some ticket) = decided
 decided_with proposed decided None = decided ++ proposed ∷ []
 
--- whose turn it is at the worker's next place
+-- the worker whose turn it is at this worker's next place
 abbrev pub turn : LogSize → WorkerState → ℕ
 turn size worker = length worker.learned % size.workers
 
@@ -46,7 +48,8 @@ turn size worker = length worker.learned % size.workers
 abbrev pub HasRoom : LogSize → WorkerState → Type 0
 HasRoom size worker = length worker.learned < size.places
 
--- one event leads from a state to the next: the conditions in their order, and then what it makes
+-- an event leads from one state to the next: its conditions in their order, and then the state that
+-- it makes
 abbrev pub Step : LogSize → ShownState → ShownEvent → ShownState → Type 0
 Step size old (announces number) new = (worker : WorkerState) × IsWorker old number worker
     × (worker.phase ≡ Idle) × HasRoom size worker
@@ -67,16 +70,16 @@ Step size old (stops number) new = (worker : WorkerState) × IsWorker old number
     × (worker.phase ≢ Stopped)
     × (new ≡ with_worker old number (stop worker))
 
--- events lead from the opening to a state; the latest stands first
+-- events lead from the opening to a state; the latest comes first
 abbrev pub Leads : LogSize → List ShownEvent → ShownState → Type 0
 Leads size [] state = state ≡ new_log size
 Leads size (event ∷ events) state = (before : ShownState) × Leads size events before × Step size before event state
 
--- some events lead from the opening to the state
+-- the state is reachable: some events lead to it from the opening
 abbrev pub IsReached : LogSize → ShownState → Type 0
 IsReached size state = (events : List ShownEvent) × Leads size events state
 
--- events in their order lead from one state to another
+-- events, in their order, lead from one state to another
 abbrev pub LeadOn : LogSize → ShownState → List ShownEvent → ShownState → Type 0
 LeadOn size old [] new = new ≡ old
 LeadOn size old (event ∷ events) new = (next : ShownState) × Step size old event next × LeadOn size next events new

@@ -1,5 +1,6 @@
--- Whose commands stand in a log. The log is that of Herlihy's universal construction (Wait-Free Synchronization, TOPLAS 1991): one list
--- of the commands of all. That each belongs to a tenant is this project's profile.
+-- Whose commands a log holds. The log is that of Herlihy's universal construction (Wait-Free
+-- Synchronization, TOPLAS 1991): one list of the commands of all. That each command belongs to a
+-- tenant is this project's profile.
 use Rattle.std.specs.List.{cons_option, filter_map}
 use Rattle.std.specs.Option.{option_and_then, option_to_list}
 use Rattle.std.specs.Prelude.{◌≡◌, ℕ, ◌≤◌, Bool, ◌&&◌, ◌==◌, if◌then◌else◌, List, [], ◌∷◌, ◌++◌, length, map, Option, Some, None, refl}
@@ -10,7 +11,8 @@ use Rattle.mc_model.specs.declared.command.Command.{Command}
 use Rattle.mc_model.specs.declared.id.Ticket.{Ticket}
 use Rattle.mc_model.specs.declared.request.Entry.{Entry}
 
--- What was seen of a place of the log: the ticket that stands there, and an entry that was found for it, if one was.
+-- What was seen at a place of the log: the ticket that stands there, and the entry that was found
+-- for it, if any.
 pub record Sighting : Type 0 where
   pub ticket : Ticket
   pub entry : Option Entry
@@ -22,7 +24,7 @@ is_ticket ticket other = ticket.worker == other.worker && ticket.number == other
 abbrev pub entry_for : Ticket → Entry → Option Entry
 entry_for ticket entry = if is_ticket entry.ticket ticket then Some entry else None
 
--- the entry of a place as it was seen; one of another ticket counts as absent
+-- the entry of a place as it was seen; an entry of another ticket counts as absent
 abbrev pub entry_of : Sighting → Option Entry
 entry_of seen = option_and_then (entry_for seen.ticket) seen.entry
 
@@ -30,12 +32,12 @@ entry_of seen = option_and_then (entry_for seen.ticket) seen.entry
 abbrev pub entries : List Sighting → List (Option Entry)
 entries history = map entry_of history
 
--- the command at a place, where its entry is there and the tenant's
+-- the command at a place, if its entry is there and is the tenant's
 abbrev pub own_command : ℕ → Option Entry → Option Command
 own_command tenant None = None
 own_command tenant (Some entry) = if entry.tenant == tenant then Some entry.command else None
 
--- the tenant's own commands, in the order of the log; a place without an entry belongs to nobody
+-- the tenant's own commands, in log order; a place without an entry belongs to nobody
 abbrev pub own : ℕ → List (Option Entry) → List Command
 own tenant log = filter_map (own_command tenant) log
 

@@ -1,4 +1,4 @@
--- Which bytes spell a number, in std's words: the same as the test of `number_up_to`.
+-- Which bytes spell a number, in std's terms: those that pass the test of `number_up_to`.
 use Rattle.std.specs.Prelude.{◌≡◌, ℕ, ◌<◌, ◌≤◌, true, nat_le, ◌&&◌, List, [], ◌∷◌, Some, None, refl}
 use Rattle.std.specs.Bool.{Decides}
 use Rattle.std.specs.Char.{digit_value, is_ascii_digit}
@@ -11,7 +11,7 @@ use Rattle.std.proofs.lemmas.Bool.Decides.{nat_tests}
 use Rattle.std.proofs.lemmas.Str.Parse.{digit_from_value}
 use Rattle.mc_model.specs.Number.{is_numeral, number_up_to}
 
--- what a text of digits answers to the test, and what the test says of a text
+-- Each digit passes the test, and what passes is a digit.
 digit_passes : (c : ℕ) → digit_value c < 10 → is_ascii_digit c ≡ true
 digit_passes c h = let range : IsInRange 48 57 c = digit_from_value c h in grind (arith, nat_tests)
 
@@ -31,7 +31,7 @@ AllDigits-from_test (c ∷ cs) h =
 abbrev pub IsNumber : ℕ → List ℕ → Type 0
 IsNumber limit bytes = IsNumeral 10 bytes × (digits_value 10 bytes ≤ limit)
 
--- the test of `number_up_to` passes at the numbers that std's words name, and at no others
+-- the test of `number_up_to` passes for exactly the numbers that std's terms name
 pub number_test : (limit : ℕ) (bytes : List ℕ) → Decides (is_numeral bytes && nat_le (digits_value 10 bytes) limit) (IsNumber limit bytes)
 number_test limit bytes = (
   λ h. let both = and_parts _ _ h in let parts = and_parts _ _ both.0 in ((ltb-true _ _ parts.0, AllDigits-from_test bytes parts.1), leb-true _ _ both.1),

@@ -1,5 +1,6 @@
--- The tables of all tenants under one log, and what the entry of one more place does to them: this project's profile. A tenant's number is
--- the place of its table. The openings are the tables that the log was opened over.
+-- The tables of all tenants under one log, and what the entry of one more place does to them: this
+-- project's profile. A tenant's number is the index of its table. The openings are the tables that
+-- the log was opened over.
 use Rattle.std.specs.Prelude.{◌≡◌, ℕ, suc, ◌+◌, ◌-◌, ◌^◌, ◌≤◌, ◌==◌, true, is_some, if◌then◌else◌, List, [], ◌∷◌, ◌++◌, length, map, Option, Some, None, slice_get, IfSome, refl}
 use Rattle.std.specs.Option.{option_map, option_map_or, option_to_list}
 use Rattle.std.proofs.Common.{ap, sym, ◌∙◌, true≢false, arith}
@@ -18,21 +19,21 @@ use Rattle.mc_model.specs.State.{TableState, empty_table, next_reply, next_state
 abbrev pub empty_tables : List Limits → List TableState
 empty_tables openings = map empty_table openings
 
--- there is a table for each that was opened, and it is that one after the tenant's own commands of the log
+-- there is a table for each opening: that opening after the tenant's own commands of the log
 abbrev pub EachStands : List TableState → List (Option Entry) → List TableState → Type 0
 EachStands openings log tables =
     (tenant : ℕ) → slice_get tables tenant ≡ option_map (λ opening. state_from opening (own tenant log)) (slice_get openings tenant)
 
--- so many more changes get uniques of 64 bits in each of the tables
+-- in each table, this many more changes can get uniques of 64 bits
 abbrev pub HaveRoom : List TableState → ℕ → Type 0
 HaveRoom tables places = (tenant : ℕ) (state : TableState) → slice_get tables tenant ≡ Some state → state.last_unique + places ≤ 2 ^ 64 - 1
 
--- a table after a command that may be there
+-- a table after a command, or as it is if there is none
 abbrev pub with_command : TableState → Option Command → TableState
 with_command state command = option_map_or (next_state state) command state
 
--- from one list of tables to the next, each takes its own tenant's command of an entry; where that isn't the tenant's, or
--- there is none, the table is equal to what it was
+-- each table takes its own tenant's command of an entry; if the entry isn't that tenant's, or there
+-- is none, the table stays as it is
 abbrev pub TakeEffect : Option Entry → List TableState → List TableState → Type 0
 TakeEffect entry old new = (tenant : ℕ) → slice_get new tenant ≡ option_map (λ state. with_command state (own_command tenant entry)) (slice_get old tenant)
 
@@ -41,18 +42,19 @@ abbrev pub reply_to : List TableState → List (Option Entry) → Option Entry �
 reply_to openings log None = None
 reply_to openings log (Some entry) = option_map (λ opening. answer_from opening (own entry.tenant log) entry.command) (slice_get openings entry.tenant)
 
--- what a worker answers from its tables: the reply of the tenant's table, where the entry's ticket is the worker's own
+-- what a worker answers from its tables: the reply of the tenant's table, if the entry's ticket is
+-- the worker's own
 abbrev pub reply_from : ℕ → List TableState → Option Entry → Option Reply
 reply_from worker tables None = None
 reply_from worker tables (Some entry) =
     if entry.ticket.worker == worker then option_map (λ (table : TableState). next_reply table entry.command) (slice_get tables entry.tenant) else None
 
--- what this worker answers: the reply, where the entry's ticket is its own
+-- what this worker answers: the reply, if the entry's ticket is its own
 abbrev pub answer_to : ℕ → List TableState → List (Option Entry) → Option Entry → Option Reply
 answer_to worker openings log None = None
 answer_to worker openings log (Some entry) = if entry.ticket.worker == worker then reply_to openings log (Some entry) else None
 
--- the entry would be refused, whoever's it is, or there is no reply to it
+-- the entry would be refused, whoever announced it, or there is no reply to it
 abbrev pub IsRefused : List TableState → List (Option Entry) → Option Entry → Type 0
 IsRefused openings log entry = IfSome (reply_to openings log entry) (λ reply. is_refusal reply ≡ true)
 
@@ -61,7 +63,8 @@ abbrev pub IsNobodys : List TableState → Option Entry → Type 0
 IsNobodys openings None = Unit {0}
 IsNobodys openings (Some entry) = length openings ≤ entry.tenant
 
--- The opening tables stand for an empty log, and tables that take the effect of one more entry stand for one more place.
+-- The opening tables are those after an empty log, and tables that take the effect of one more
+-- entry are those after one more place.
 opened : (found : Option TableState) (tenant : ℕ) → found ≡ option_map (λ opening. state_from opening (own tenant [])) found
 opened None tenant = refl
 opened (Some opening) tenant = ap Some (sym (state_from-none opening))
@@ -95,7 +98,7 @@ pub EachStands-push : (openings : List TableState) (log : List (Option Entry)) (
 EachStands-push openings log entry old new stands takes tenant =
     takes tenant ∙ ap (option_map (λ state. with_command state (own_command tenant entry))) (stands tenant) ∙ taken log entry tenant (slice_get openings tenant)
 
--- There are as many tables as tenants' quotas, and a tenant's table answers its commands.
+-- There are as many tables as openings, and a tenant's table answers its commands.
 same_length : {X Y : Type 0} (xs : List X) (ys : List Y) → ((k : ℕ) → is_some (slice_get xs k) ≡ is_some (slice_get ys k)) → length xs ≡ length ys
 same_length [] [] same = refl
 same_length [] (y ∷ ys) same = absurd (true≢false (sym (same 0)))
@@ -120,7 +123,7 @@ pub reply_to-table : (openings : List TableState) (log : List (Option Entry)) (t
 reply_to-table openings log tables entry stands =
     answered (own entry.tenant log) entry.command (slice_get openings entry.tenant) ∙ sym (ap (option_map (λ table. next_reply table entry.command)) (stands entry.tenant))
 
--- A table has had no more changes than it had when it was opened, and than the log has places since.
+-- Since its opening a table has had at most as many changes as the log has places.
 few_changes : (list : List Command) (found : Option TableState) (state : TableState) → Some state ≡ option_map (λ opening. state_from opening list) found →
     (opening : TableState) × (found ≡ Some opening) × (state.last_unique ≤ opening.last_unique + length list)
 few_changes list None state is = absurd (none-some state (sym is))

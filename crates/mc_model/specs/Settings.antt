@@ -1,10 +1,11 @@
--- The settings of a server, this project's profile: how many workers and places, and each tenant's quotas.
+-- The settings of a server, this project's profile: how many workers and places, and each tenant's
+-- quotas.
 use Rattle.std.specs.Prelude.{ℕ, ◌≤◌, List, length, All}
 use Rattle.mc_model.specs.declared.settings.Limits.{Limits}
 use Rattle.mc_model.specs.declared.settings.TheConstants.{MAX_ITEMS, MAX_BYTES, MAX_PLACES}
 use Rattle.mc_model.specs.declared.id.TheConstants.{TENANTS, WORKERS}
 
--- what contracts see of settings
+-- settings as contracts see them
 pub record Configuration : Type 0 where
   pub workers : ℕ
   pub places : ℕ

@@ -1,6 +1,7 @@
--- A tenant's table with its quotas and the latest unique, and one step of it: what one more command is answered, and what it leaves.
--- A command that is accepted is a change, and a change gets the next unique, from 1 (this project's profile of the "unique 64-bit
--- value" of memcached's doc/protocol.txt).
+-- A tenant's table with its quotas and the latest unique, and the step of one more command: its
+-- reply, and the state that it leaves. A command that is accepted is a change, and a change gets
+-- the next unique, from 1 (this project's profile of the "unique 64-bit value" of memcached's
+-- doc/protocol.txt).
 use Rattle.std.specs.Prelude.{ℕ, ◌+◌, if◌then◌else◌, refl}
 use Rattle.std.specs.Coded.{Coded, code_by, coded×, coded_ℕ}
 use Rattle.std.specs.FinMap as map
@@ -10,7 +11,7 @@ use Rattle.mc_model.specs.declared.settings.Limits.{Limits}
 use Rattle.mc_model.specs.Effect.{Effect, effect, is_acceptance}
 use Rattle.mc_model.specs.Table.{Table, coded_table}
 
--- the quotas, what is held, and the unique of the latest change: as many changes as there were
+-- the quotas, what is held, and the unique of the latest change, which is the number of changes
 pub record TableState : Type 0 where
   pub limits : Limits
   pub table : Table
@@ -20,7 +21,7 @@ pub record TableState : Type 0 where
 abbrev pub empty_table : Limits → TableState
 empty_table limits = record { limits = limits; table = map.empty; last_unique = 0 }
 
--- what an effect leaves: its table, and one more change where its reply accepts it
+-- what an effect leaves: its table, and one more change if its reply is an acceptance
 abbrev pub left_by : TableState → Effect → TableState
 left_by state effect = record {
   limits = state.limits;
@@ -28,15 +29,15 @@ left_by state effect = record {
   last_unique = state.last_unique + (if is_acceptance effect.reply then 1 else 0);
 }
 
--- the effect of one more command, by the quotas, where a change gets the next unique
+-- the effect of one more command under the quotas, where a change gets the next unique
 abbrev pub next_effect : TableState → Command → Effect
 next_effect state command = effect state.limits state.table (state.last_unique + 1) command
 
--- what it is answered
+-- its reply
 abbrev pub next_reply : TableState → Command → Reply
 next_reply state command = (next_effect state command).reply
 
--- what it leaves
+-- the state that it leaves
 abbrev pub next_state : TableState → Command → TableState
 next_state state command = left_by state (next_effect state command)
 

@@ -1,4 +1,5 @@
--- A tenant's table: what it holds under each key. In memcached's doc/protocol.txt an item is "identified with the help of a key".
+-- A tenant's table: what it holds under each key. In memcached's doc/protocol.txt an item is
+-- "identified with the help of a key".
 use Rattle.std.specs.Prelude.{◌≡◌, ℕ, ◌+◌, ◌&&◌, Bool, true, List, length, nat_le, sum_by, refl}
 use Rattle.std.specs.Coded.{Coded, code_by, coded×, coded_ℕ, coded_list}
 use Rattle.std.specs.Cmp.{Equal-is, IsTotalOrder, eq_by_cmp_equiv}
@@ -35,15 +36,15 @@ tied_itself = (eq_by_cmp_equiv key_cmp_total).refl
 abbrev pub Table : Type 0
 Table = map.FinMap key_cmp Item
 
--- how many bytes an item counts for: those of its key and its data
+-- the bytes that an item counts for: those of its key and its data
 abbrev pub weight : Key × Item → ℕ
 weight held = length held.0 + length held.1.block
 
--- how many bytes the keys and the data have in sum
+-- the bytes of all keys and data in total
 abbrev pub use_of : Table → ℕ
 use_of table = sum_by weight (map.entries table)
 
--- how many items there are
+-- the number of items
 abbrev pub count_of : Table → ℕ
 count_of table = map.len table
 

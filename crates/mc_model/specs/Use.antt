@@ -1,4 +1,5 @@
--- What use and count become once an item goes under a key, or a key is taken out, and what quotas say of them.
+-- How use and count change when an item is put under a key or a key is removed, and what the quotas
+-- say of them.
 use Rattle.std.specs.Prelude.{◌≡◌, ℕ, suc, ◌+◌, ◌-◌, ◌≤◌, ◌&&◌, Bool, true, false, T, List, [], ◌∷◌, Option, Some, None, cond, is_some, length, sum_by, refl}
 use Rattle.std.proofs.Common.{ap, sym, subst, ◌∙◌, arith}
 use Rattle.std.proofs.lemmas.Bool.{and_from, and_parts, le-leb, leb-true}
@@ -13,7 +14,7 @@ use Rattle.mc_model.specs.declared.key.Key.{Key}
 use Rattle.mc_model.specs.declared.settings.Limits.{Limits}
 use Rattle.mc_model.specs.Table.{Table, count_of, is_tied, is_within, key_cmp, key_cmp_exact, key_cmp_total, tied_itself, tied_keys, use_of, weight}
 
--- what counts for a key under which this is, and in a table
+-- the weight of what is under a key, and the same in a table
 abbrev pub weight_of : Key → Option Item → ℕ
 weight_of key None = 0
 weight_of key (Some item) = weight (key, item)
@@ -25,7 +26,7 @@ second : (a b : Bool) → T (a && b) → T b
 second true b both = both
 second false b both = absurd both
 
--- a list with one more entry than it has, if its key were found, has no such key
+-- a put that makes the list longer shows that its key wasn't there
 not_found : (is_there : Bool) (n : ℕ) → suc (suc n) ≡ cond is_there (suc n) (suc n + 1) → is_there ≡ false
 not_found true n is = absurd (omega (arith, is))
 not_found false n is = refl
@@ -62,7 +63,7 @@ use-empty = ap (sum_by weight) (none (map.entries map.empty) (sym (len-entries m
     none [] is = refl
     none (entry ∷ held) is = absurd (omega (arith, is))
 
--- what was under a key is put back
+-- putting back what was under a key restores the table
 put_back : (is_it : Bool) (there here : Option Item) → (is_it ≡ true → there ≡ here) → there ≡ cond is_it here (cond is_it None there)
 put_back true there here same = same refl
 put_back false there here same = refl
@@ -99,7 +100,7 @@ within_parts limits table within = let parts = and_parts _ _ within in (leb-true
 pub within_from : (limits : Limits) (table : Table) → use_of table ≤ limits.bytes → count_of table ≤ limits.items → is_within limits table ≡ true
 within_from limits table bytes items = and_from _ _ (le-leb _ _ bytes) (le-leb _ _ items)
 
--- taking a key out leaves no more items
+-- removing a key leaves no more items
 fewer : (is_there : Bool) (n : ℕ) → cond is_there (n - 1) n ≤ n
 fewer true n = omega arith
 fewer false n = omega arith

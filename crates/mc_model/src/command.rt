@@ -3,18 +3,18 @@ ghost use Rattle.std.specs.Prelude.{◌≡◌, IfOk, IsOkUnless};
 
 use crate::{Data, Fault, Key, KeyList};
 
-/// What a storage command asks for.
+/// The kind of a storage command.
 #[derive(Clone, Copy, Debug, PartialEq, Eq)]
 pub enum Verb {
-    /// Stores the data, whatever the key held.
+    /// Stores the data, whether or not the key is held.
     Set,
-    /// Stores the data where the key isn't held.
+    /// Stores the data only if the key isn't held.
     Add,
-    /// Stores the data where the key is held.
+    /// Stores the data only if the key is held.
     Replace,
-    /// Puts the data after those of the key.
+    /// Appends the data to the key's data.
     Append,
-    /// Puts the data before those of the key.
+    /// Prepends the data to the key's data.
     Prepend,
 }
 
@@ -28,19 +28,19 @@ pub enum Command {
         flags: u32,
         block: Data,
     },
-    /// Stores data under a key whose item still has this unique: check and set.
+    /// Stores data under a key if its item still has this unique: check and set.
     Cas {
         key: Key,
         flags: u32,
         block: Data,
         unique: u64,
     },
-    /// Asks for the items of these keys; `uniques` says whether their uniques are shown.
+    /// Retrieves the items under these keys, with their uniques if `uniques` is set.
     Get {
         keys: KeyList,
         uniques: bool,
     },
-    /// Takes the key out.
+    /// Removes the key.
     Delete {
         key: Key,
     },
@@ -54,12 +54,12 @@ pub enum Command {
         key: Key,
         by: u64,
     },
-    /// Takes all keys out.
+    /// Removes all keys.
     Flush,
 }
 
 impl Command {
-    /// The same command in memory of its own.
+    /// Returns a copy of the command. Returns `Memory` if an allocation fails.
     pub fn try_clone(&self) -> Result<Command, Fault>
         ensures command { IfOk result (λ command. command ≡ self.now) }
         ensures memory { IsOkUnless result Fault.Memory }

@@ -1,4 +1,4 @@
-//! The order of bytes, taken eight at a time.
+//! The order of byte strings, compared eight bytes at a time for speed.
 ghost use Rattle.std.specs.Cmp.Lexicographic.{slice_cmp};
 ghost use Rattle.std.specs.Ordering.{nat_cmp};
 ghost use Rattle.std.specs.Prelude.{◌≡◌, ◌+◌, ◌≤◌, drop, length, take};
@@ -6,13 +6,13 @@ ghost use Rattle.std.specs.Slice.Scan.{big_endian};
 
 use std::cmp::Ordering;
 
-/// Which of the two comes first where bytes decide from the left, and the shorter comes first where no byte does.
+/// Compares two byte strings lexicographically, as `one.cmp(other)` does.
 pub(crate) fn compare(one: &[u8], other: &[u8]) -> Ordering
     ensures { result ≡ slice_cmp nat_cmp one.now other.now }
 {
     let whole = one.len().min(other.len()) / 8;
     for word in 0..whole {
-        // As numbers whose greatest byte is the first, eight bytes lie as they do from the left.
+        // Read as big-endian numbers, eight bytes compare as they do byte by byte.
         let left = read_eight(one, 8 * word);
         let right = read_eight(other, 8 * word);
         if left != right {
@@ -22,7 +22,7 @@ pub(crate) fn compare(one: &[u8], other: &[u8]) -> Ordering
     one[8 * whole..].cmp(&other[8 * whole..])
 }
 
-/// The number that the eight bytes from this place on spell, the first of them the greatest.
+/// Reads the eight bytes at `at` as a big-endian number.
 fn read_eight(bytes: &[u8], at: usize) -> u64
     requires { at + 8 ≤ length bytes.now }
     ensures { result ≡ big_endian 0 (take 8 (drop at bytes.now)) }

@@ -5,10 +5,11 @@ ghost use Rattle.mc_model.specs.declared.fault.Fault.TheVariants.{Memory};
 use std::alloc::{AllocError, AllocFailed};
 use thiserror::Error;
 
-/// How a call fails. A call's clauses name the variants that it can answer, and what each leaves.
+/// How a call fails. A call's clauses name the variants that it can return and the state each
+/// leaves.
 #[derive(Clone, Copy, Debug, PartialEq, Eq, Error)]
 pub enum Fault {
-    /// A growth was really refused.
+    /// An allocation failed.
     #[error("out of memory")]
     Memory,
     /// The log has no place left for the command.
@@ -17,16 +18,16 @@ pub enum Fault {
     /// The command's cell holds another value.
     #[error("cell taken")]
     Taken,
-    /// The input failed in this call.
+    /// The input failed during this call.
     #[error("input failed")]
     Input,
-    /// The output failed in this call.
+    /// The output failed during this call.
     #[error("output failed")]
     Output,
-    /// The event isn't enabled in the present state.
+    /// The event isn't enabled in the current state.
     #[error("event not enabled")]
     BadEvent,
-    /// A number of the settings is out of its range.
+    /// A setting is out of range.
     #[error("bad settings")]
     BadSettings,
 }

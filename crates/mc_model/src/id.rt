@@ -1,14 +1,14 @@
-//! The numbers by which tenants, workers and commands are told apart.
+//! The numbers that identify tenants, workers and commands.
 ghost use Rattle.std.specs.Option.{SomeIff};
 ghost use Rattle.std.specs.Prelude.{◌≡◌, ℕ, ◌<◌};
 ghost use Rattle.mc_model.specs.declared.id.TheConstants.{TENANTS, WORKERS};
 
 use std::marker::Model;
 
-/// How many tenants there can be.
+/// The largest number of tenants.
 pub const TENANTS: u8 = 64;
 
-/// How many workers there can be.
+/// The largest number of workers.
 pub const WORKERS: u8 = 16;
 
 /// A tenant's number, below `TENANTS`.
@@ -28,7 +28,7 @@ impl Model for TenantId {
 }
 
 impl TenantId {
-    /// The tenant of this number, if there can be one.
+    /// Returns the tenant with this number, or `None` if it isn't below `TENANTS`.
     pub fn new(number: u8) -> Option<Self>
         ensures { SomeIff result (number < TENANTS) number }
     {
@@ -39,7 +39,7 @@ impl TenantId {
         }
     }
 
-    /// The tenant's number.
+    /// Returns the tenant's number.
     pub fn number(self) -> u8
         ensures value { result ≡ self }
         ensures small { result < TENANTS }
@@ -66,7 +66,7 @@ impl Model for WorkerId {
 }
 
 impl WorkerId {
-    /// The worker of this number, if there can be one.
+    /// Returns the worker with this number, or `None` if it isn't below `WORKERS`.
     pub fn new(number: u8) -> Option<Self>
         ensures { SomeIff result (number < WORKERS) number }
     {
@@ -77,7 +77,7 @@ impl WorkerId {
         }
     }
 
-    /// The worker's number.
+    /// Returns the worker's number.
     pub fn number(self) -> u8
         ensures value { result ≡ self }
         ensures small { result < WORKERS }
@@ -87,7 +87,7 @@ impl WorkerId {
     }
 }
 
-/// The name of a command: it is the `number`th, from 0, that its worker announced.
+/// The name of a command: number `number`, from 0, of those that its worker announced.
 #[derive(Clone, Copy, Debug, PartialEq, Eq, PartialOrd, Ord, Hash)]
 pub struct Ticket {
     pub worker: WorkerId,

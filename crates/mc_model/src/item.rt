@@ -8,7 +8,7 @@ ghost use Rattle.mc_model.specs.declared.item.TheConstants.{DATA_BYTES};
 use crate::Fault;
 use std::marker::Model;
 
-/// How many bytes a data block may have.
+/// The largest number of bytes in a data block.
 pub const DATA_BYTES: usize = 1_048_576;
 
 /// A data block: any bytes, at most `DATA_BYTES` of them.
@@ -26,7 +26,7 @@ impl Model for Data {
 }
 
 impl Data {
-    /// The block of these bytes, or `None` where there are too many.
+    /// Returns the block of these bytes, or `None` if there are more than `DATA_BYTES`.
     pub fn new(bytes: Vec<u8>) -> Option<Data>
         ensures { SomeIff result (vec_len bytes ≤ DATA_BYTES) bytes.items }
     {
@@ -37,7 +37,7 @@ impl Data {
         }
     }
 
-    /// The block's bytes.
+    /// Returns the block's bytes.
     pub fn as_bytes(&self) -> &[u8]
         ensures value { result.now ≡ self.now }
         ensures few { length self.now ≤ DATA_BYTES }
@@ -45,7 +45,7 @@ impl Data {
         self.bytes.as_slice()
     }
 
-    /// The same block in memory of its own.
+    /// Returns a copy of the block. Returns `Memory` if the allocation fails.
     pub fn try_clone(&self) -> Result<Data, Fault>
         ensures block { IfOk result (λ block. block ≡ self.now) }
         ensures memory { IsOkUnless result Fault.Memory }
@@ -70,7 +70,7 @@ impl Eq for Data {
     ghost laws = { nat_list_eq_equiv };
 }
 
-/// An item of a table: the flags and the data that a client stored, and the unique of the change that stored them.
+/// An item of a table: the flags and data that a client stored, and the unique of that change.
 #[derive(Debug, PartialEq, Eq, Drop)]
 pub struct Item {
     pub flags: u32,

@@ -13,10 +13,10 @@ use std::alloc::Global;
 use std::cmp::Ordering;
 use std::marker::Model;
 
-/// How many bytes a key may have.
+/// The largest number of bytes in a key.
 pub const KEY_BYTES: usize = 250;
 
-/// A lawful key: 1 to `KEY_BYTES` bytes, none of them a control character or a space.
+/// A valid key: 1 to `KEY_BYTES` bytes, none of them a control character or a space.
 #[derive(Debug, Drop)]
 pub struct Key {
     bytes: Vec<u8>,
@@ -31,14 +31,15 @@ impl Model for Key {
 }
 
 impl Key {
-    /// Whether the bytes are a lawful key.
+    /// Returns whether the bytes are a valid key.
     pub fn is_lawful(bytes: &[u8]) -> bool
         ensures { result ≡ is_lawful_key bytes.now }
     {
         !bytes.is_empty() && bytes.len() <= KEY_BYTES && are_plain(bytes)
     }
 
-    /// The key of these bytes, or `None` where they are no lawful key. Only a lawful key needs memory.
+    /// Returns the key of these bytes, or `None` if they aren't a valid key. Returns `Memory` if
+    /// the allocation fails; only a valid key is allocated.
     pub fn new(alloc: Global, bytes: &[u8]) -> Result<Option<Key>, Fault>
         ensures key { IfOk result (λ key. key ≡ key_of bytes.now) }
         ensures memory { IsOkUnless result Fault.Memory }
@@ -52,12 +53,12 @@ impl Key {
         }))
     }
 
-    /// The key's bytes.
+    /// Returns the key's bytes.
     pub fn as_bytes(&self) -> &[u8]
         ensures value { result.now ≡ self.now }
         ensures lawful { IsTrue (is_lawful_key self.now) }
 
-        // What a lawful key is.
+        // What makes a key valid.
         ensures some { 0 < length self.now }
         ensures few { length self.now ≤ KEY_BYTES }
         ensures plain { All (λ byte. (32 < byte) × (byte ≢ 127)) self.now }
@@ -65,7 +66,7 @@ impl Key {
         self.bytes.as_slice()
     }
 
-    /// The same key in memory of its own.
+    /// Returns a copy of the key. Returns `Memory` if the allocation fails.
     pub fn try_clone(&self) -> Result<Key, Fault>
         ensures key { IfOk result (λ key. key ≡ self.now) }
         ensures memory { IsOkUnless result Fault.Memory }
@@ -76,7 +77,7 @@ impl Key {
     }
 }
 
-/// Whether no byte is a control character or a space.
+/// Returns whether no byte is a control character or a space.
 fn are_plain(bytes: &[u8]) -> bool
     ensures { result ≡ list_all is_key_byte bytes.now }
 {
@@ -107,7 +108,7 @@ impl PartialOrd for Key {
     }
 }
 
-/// In the order of their bytes.
+/// Keys are ordered as their bytes are.
 impl Ord for Key {
     ghost cmp = { slice_cmp nat_cmp };
 
@@ -122,7 +123,7 @@ impl Ord for Key {
     }
 }
 
-/// The keys of a retrieval in the line's order, at least one.
+/// The keys of a retrieval, at least one, in the line's order.
 #[derive(Debug, Drop)]
 pub struct KeyList {
     keys: Vec<Key>,
@@ -140,7 +141,7 @@ impl Model for KeyList {
 }
 
 impl KeyList {
-    /// The list of these keys, or `None` where there is none.
+    /// Returns the list of these keys, or `None` if there are none.
     pub fn new(keys: Vec<Key>) -> Option<KeyList>
         ensures { SomeIff result (0 < vec_len keys) keys.items }
     {
@@ -151,7 +152,7 @@ impl KeyList {
         }
     }
 
-    /// The keys as a slice, of at least one.
+    /// Returns the keys, of which there is at least one.
     pub fn as_slice(&self) -> &[Key]
         ensures value { result.now ≡ self.now }
         ensures some { 0 < length self.now }
@@ -159,7 +160,7 @@ impl KeyList {
         self.keys.as_slice()
     }
 
-    /// The same keys in memory of their own.
+    /// Returns a copy of the list. Returns `Memory` if an allocation fails.
     pub fn try_clone(&self) -> Result<KeyList, Fault>
         ensures keys { IfOk result (λ keys. keys ≡ self.now) }
         ensures memory { IsOkUnless result Fault.Memory }
@@ -171,7 +172,7 @@ impl KeyList {
         Ok(KeyList { keys })
     }
 
-    /// The keys, in the vector that they were given in.
+    /// Returns the keys, in the vector that they were given in.
     pub fn into_keys(self) -> Vec<Key>
         ensures value { result.items ≡ self }
         ensures some { 0 < vec_len result }

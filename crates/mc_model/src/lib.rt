@@ -1,7 +1,8 @@
-//! What all layers speak of: the lawful values of the protocol, and what commands mean on a tenant's table.
+//! What all layers share: the values of the protocol, and what commands mean on a tenant's table.
 //!
-//! The types hold lawful values alone. The definitions of `specs/` say what a command does to a table and what it
-//! answers, and what the log of all tenants does to their tables. What follows from them is stated in `mc_laws`.
+//! The types hold only valid values. The definitions in `specs/` say what a command does to a table
+//! and what its reply is, and what the log of all tenants does to their tables. What follows from
+//! them is stated in `mc_laws`.
 #![tactic(auto)]
 
 pub use command::{Command, Verb};

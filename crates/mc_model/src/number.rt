@@ -1,14 +1,15 @@
-//! Numbers in a line.
+//! Decimal numbers in a line.
 ghost use Rattle.std.specs.Option.{SomeIff};
 ghost use Rattle.std.specs.Prelude.{◌≡◌, ◌^◌, ◌<◌, ◌≤◌};
 ghost use Rattle.std.specs.Str.Parse.{AllDigits, IsNumeral, digits_value};
 ghost use Rattle.mc_model.specs.Number.{number_up_to};
 
-/// The number that the bytes spell in decimal digits, or `None` where they spell none of at most `limit`.
+/// Parses one or more decimal digits. Returns `None` if the bytes are anything else, or if the
+/// number is above `limit`.
 pub fn read_number(bytes: &[u8], limit: u64) -> Option<u64>
     ensures number { result ≡ number_up_to limit bytes.now }
 
-    // The same in the words of std's `parse`, which would take a leading plus too.
+    // The same in terms of std's `parse`, which would also accept a leading plus.
     ensures numeral { SomeIff result (IsNumeral 10 bytes.now × (digits_value 10 bytes.now ≤ limit)) (digits_value 10 bytes.now) }
 {
     if bytes.is_empty() {
@@ -18,7 +19,7 @@ pub fn read_number(bytes: &[u8], limit: u64) -> Option<u64>
     if value <= limit { Some(value) } else { None }
 }
 
-/// What the digits spell, or `None` where a byte is no digit or the value doesn't fit.
+/// Returns the value of the digits, or `None` if a byte isn't a digit or the value doesn't fit.
 fn value_of_digits(bytes: &[u8]) -> Option<u64>
     ensures { SomeIff result (AllDigits 10 bytes.now × (digits_value 10 bytes.now < 2 ^ 64)) (digits_value 10 bytes.now) }
 {

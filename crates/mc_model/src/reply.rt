@@ -4,7 +4,7 @@ ghost use Rattle.std.specs.Prelude.{◌≡◌};
 use crate::{Data, Key};
 use std::marker::Model;
 
-/// A refusal, by the text that a client reads.
+/// A refusal. Each variant is documented by the line that the client reads.
 #[derive(Clone, Copy, Debug, PartialEq, Eq)]
 pub enum WireNo {
     /// `ERROR`
@@ -31,7 +31,7 @@ pub enum WireNo {
     E11,
 }
 
-/// An item as a retrieval shows it; `unique` is there where it is shown.
+/// An item as a retrieval shows it; `unique` is `Some` if the retrieval shows uniques.
 #[derive(Debug, PartialEq, Eq, Drop)]
 pub struct Value {
     pub key: Key,
@@ -56,21 +56,21 @@ impl Model for ValueList {
 }
 
 impl ValueList {
-    /// The list of these values.
+    /// Returns the list of these values.
     pub fn new(values: Vec<Value>) -> ValueList
         ensures { result ≡ values.items }
     {
         ValueList { values }
     }
 
-    /// The values as a slice.
+    /// Returns the values as a slice.
     pub fn as_slice(&self) -> &[Value]
         ensures { result.now ≡ self.now }
     {
         self.values.as_slice()
     }
 
-    /// The values, in the vector that they were given in.
+    /// Returns the values, in the vector that they were given in.
     pub fn into_values(self) -> Vec<Value>
         ensures { result.items ≡ self }
     {
@@ -101,7 +101,7 @@ impl Eq for ValueList {
     ghost laws = { lists_equiv shown_laws.lawful.laws };
 }
 
-/// What a request is answered with.
+/// The reply to a request.
 #[derive(Debug, PartialEq, Eq, Drop)]
 pub enum Reply {
     /// `STORED`
@@ -116,9 +116,9 @@ pub enum Reply {
     Deleted,
     /// `OK`
     Ok,
-    /// The number that an arithmetic command leaves.
+    /// The number after an arithmetic command.
     Number(u64),
-    /// The items found, and `END`
+    /// The items found, then `END`.
     Values(ValueList),
     /// `VERSION 1.0.0`
     Version,

@@ -1,7 +1,7 @@
 //! What a connection asks for, and what a log keeps of it.
 use crate::{Command, Reply, TenantId, Ticket};
 
-/// A request as it was read. A quiet one is answered with nothing.
+/// A request as read from a connection. A quiet one gets no reply.
 #[derive(Debug, PartialEq, Eq, Drop)]
 pub enum Request {
     /// A command for the log.
@@ -10,11 +10,11 @@ pub enum Request {
     Local { reply: Reply, quiet: bool },
     /// The client ends the connection.
     Quit,
-    /// A line that is too long, after which nothing is read.
+    /// A line that is too long; nothing after it is read.
     TooLong,
 }
 
-/// A command in the log: whose it is, and the tenant on whose table it acts.
+/// A command in the log, with its ticket and the tenant on whose table it acts.
 #[derive(Debug, PartialEq, Eq, Drop)]
 pub struct Entry {
     pub ticket: Ticket,

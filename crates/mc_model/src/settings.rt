@@ -6,16 +6,17 @@ use crate::Fault;
 use crate::id::{TENANTS, WORKERS};
 use std::marker::Model;
 
-/// The greatest quota of items.
+/// The largest quota of items.
 pub const MAX_ITEMS: u64 = 1_048_576;
 
-/// The greatest quota of bytes.
+/// The largest quota of bytes.
 pub const MAX_BYTES: u64 = 1_073_741_824;
 
-/// The greatest number of places of a log.
+/// The largest number of places in a log.
 pub const MAX_PLACES: u64 = 1_048_576;
 
-/// A tenant's quotas: how many items its table may hold, and how many bytes their keys and data may have in sum.
+/// A tenant's quotas: how many items its table may hold, and how many bytes their keys and data may
+/// have in total.
 #[derive(Clone, Copy, Debug, PartialEq, Eq)]
 pub struct Limits {
     pub items: u64,
@@ -23,7 +24,7 @@ pub struct Limits {
 }
 
 impl Limits {
-    /// Whether both quotas are within their bounds: at least 1, at most `MAX_ITEMS` and `MAX_BYTES`.
+    /// Returns whether both quotas are at least 1 and at most `MAX_ITEMS` and `MAX_BYTES`.
     pub fn are_lawful(&self) -> bool
         ensures { IsTrue result ↔ AreLawfulLimits self.now }
     {
@@ -31,7 +32,7 @@ impl Limits {
     }
 }
 
-/// How many workers and places a server has, and the quotas of each of its tenants; each number is within its bounds.
+/// The number of workers and places of a server, and each tenant's quotas, all within their bounds.
 #[derive(Debug, Drop)]
 pub struct Settings {
     workers: u64,
@@ -50,7 +51,8 @@ impl Model for Settings {
 }
 
 impl Settings {
-    /// The settings of these numbers. Where one is out of its range: `BadSettings`. Needs no memory.
+    /// Returns the settings with these numbers. Returns `BadSettings` if one of them is out of
+    /// range. Allocates nothing.
     pub fn check(workers: u64, places: u64, tenants: Vec<Limits>) -> Result<Settings, Fault>
         ensures settings { IfOk result (λ settings. settings ≡ record { workers = workers; places = places; tenants = tenants.items }) }
         ensures lawful { IsOk result ↔ IsLawful (record { workers = workers; places = places; tenants = tenants.items }) }
@@ -70,7 +72,7 @@ impl Settings {
         }
     }
 
-    /// How many workers there are.
+    /// Returns the number of workers.
     pub fn workers(&self) -> u64
         ensures value { result ≡ self.now.workers }
         ensures lawful { IsLawful self.now }
@@ -78,7 +80,7 @@ impl Settings {
         self.workers
     }
 
-    /// How many places a log has.
+    /// Returns the number of places in a log.
     pub fn places(&self) -> u64
         ensures value { result ≡ self.now.places }
         ensures lawful { IsLawful self.now }
@@ -86,7 +88,7 @@ impl Settings {
         self.places
     }
 
-    /// The quotas of each tenant, by its number.
+    /// Returns the tenants' quotas, indexed by tenant number.
     pub fn tenants(&self) -> &[Limits]
         ensures value { result.now ≡ self.now.tenants }
         ensures lawful { IsLawful self.now }

@@ -1,44 +1,44 @@
-//! What the shared log shows of itself: the words that decide places, and what each worker knows of them. Contracts alone
-//! speak of these values; a log keeps them in words, and the workers in seats.
+//! The observable state of the shared log: the decided places, and what each worker knows of them.
+//! Only contracts mention these values; a log keeps them in words, and the workers in seats.
 use crate::Ticket;
 use std::collections::LinkedList;
 
-/// What a worker is at.
+/// A worker's phase.
 #[derive(Clone, Copy, Debug, PartialEq, Eq)]
 pub enum Phase {
-    /// It has no command that waits.
+    /// It has no pending command.
     Idle,
-    /// It has announced a command that it hasn't learned at a place.
+    /// It has announced a command that it hasn't yet learned at a place.
     Pending,
-    /// It is pending and has looked at whom to help at its next place.
+    /// It is pending and has looked up whom to help at its next place.
     Looked,
     /// It has stopped for good.
     Stopped,
 }
 
-/// How many workers a log has, and how many places.
+/// The number of workers and places of a log.
 #[derive(Clone, Copy, Debug, PartialEq, Eq)]
 pub struct LogSize {
     pub workers: u64,
     pub places: u64,
 }
 
-/// What is shown of a worker.
+/// A worker's observable state.
 pub struct WorkerState {
     pub phase: Phase,
-    /// How many commands it has announced.
+    /// The number of commands it has announced.
     pub announced: u64,
-    /// The tickets of the places that it has learned, in the order of the log.
+    /// The tickets of the places that it has learned, in log order.
     pub learned: LinkedList<Ticket>,
-    /// The first place that it found empty since it announced the command that waits.
+    /// The first place that it found empty since it announced its latest command.
     pub mark: Option<u64>,
-    /// The ticket that it has looked up for its next place; none where nobody there needs help.
+    /// The ticket that it looked up for its next place; `None` if nobody there needs help.
     pub look: Option<Ticket>,
-    /// How many proposals it has made for the command that it announced last.
+    /// The number of proposals it has made for its latest command.
     pub proposals: u64,
 }
 
-/// What is shown of a log and its workers.
+/// The observable state of a log and its workers.
 pub struct ShownState {
     /// The tickets of the decided places, which are the first places.
     pub decided: LinkedList<Ticket>,

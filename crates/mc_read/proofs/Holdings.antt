@@ -18,7 +18,7 @@ use Rattle.mc_read.specs.Texts.{first_of_none, first_of_text, first_request_at, 
 abbrev pub held_after : Request → List ℕ → Held
 held_after request left = cond (ends_stream request) Ended (Kept left)
 
--- an equivalence, joined to another and turned round
+-- an equivalence, joined to another and reversed
 iff_then : {P Q R : Type 0} → P ↔ Q → Q ↔ R → P ↔ R
 iff_then a b = (λ p. b.0 (a.0 p), λ r. a.1 (b.1 r))
 

@@ -1,4 +1,4 @@
--- Whatever is read as a command is lawful.
+-- Whatever is read as a command is valid.
 use Rattle.std.proofs.Common.{◌≡◌, ℕ, ◌≤◌, Bool, true, false, ◌&&◌, ◌||◌, cond, nat_le, List, [], ◌∷◌, length, take, drop, Option, Some, None, is_some, unwrap_or, option_map, inl, inr, refl, sym, subst, length-take, arith, codes}
 use Rattle.std.proofs.lemmas.Bool.{and_parts, leb-true}
 use Rattle.std.proofs.lemmas.List.Elements.{All-cons, All-nil}
@@ -35,7 +35,7 @@ abbrev IsLawfulStorage : Storage → Type 0
 IsLawfulStorage (Plain verb) = ⊤
 IsLawfulStorage (CheckAndSet unique) = unique ≤ UNIQUE
 
--- a line that asks for a lawful command, or for none
+-- a line that asks for a valid command, or for none
 abbrev AsksLawfully : Asked → Type 0
 AsksLawfully (LineOnly (Logged command quiet)) = IsLawfulCommand command
 AsksLawfully (LineOnly (Local reply quiet)) = ⊤

@@ -96,7 +96,7 @@ swallowed_held s inside refusal quiet left held is none same =
 pub swallowing_parts : (request other : Request) (left : ℕ) (bytes more : List ℕ) → Swallowing request left bytes ≡ Swallowing other left more → (request ≡ other) × (bytes ≡ more)
 swallowing_parts request other left bytes more same = (cc, cc)
 
--- so many fewer bytes are still to come
+-- `come` fewer bytes are still to come
 abbrev pub fewer : ℕ → Held → Held
 fewer come (Kept bytes) = Kept bytes
 fewer come (Swallowing request left bytes) = Swallowing request (left - come) bytes

@@ -11,12 +11,12 @@ pub all_ascii_digits_by_test : (bytes : List ℕ) → list_all is_ascii_digit by
 all_ascii_digits_by_test [] = refl
 all_ascii_digits_by_test (byte ∷ bytes) = ap (λ rest. is_ascii_digit byte && rest) (all_ascii_digits_by_test bytes)
 
--- a key that isn't given isn't lawful
+-- a key that isn't given isn't valid
 pub unlawful_from_none : (bytes : List ℕ) → key_of bytes ≡ None → is_lawful_key bytes ≡ false
 unlawful_from_none bytes none =
     false_from_ne_true _ (λ lawful. let given = sym (cond-true _ (Some bytes) None lawful) ∙ none in absurd (cc))
 
--- one word that isn't lawful refuses them all
+-- one word that isn't valid refuses them all
 pub unlawful_at : (words : List (Bor (List ℕ))) (i : ℕ) (word : Bor (List ℕ)) → i < length words → is_lawful_key (get_or words i word).now ≡ false → list_all is_lawful_key (map (λ w. w.now) words) ≡ false
 unlawful_at words i word below unlawful =
     list_all-map is_lawful_key (λ (w : Bor (List ℕ)). w.now) words ∙ list_all_at (λ (w : Bor (List ℕ)). is_lawful_key w.now) words i word below unlawful

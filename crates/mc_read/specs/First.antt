@@ -1,4 +1,4 @@
--- Which request stands at the front of a byte list, computed.
+-- The request at the front of a byte list, computed.
 use Rattle.std.specs.Prelude.{ℕ, ◌+◌, Bool, ◌==◌, nat_lt, nat_le, if◌then◌else◌, List, length, take, drop, Option, Some, None}
 use Rattle.std.specs.List.{after_first, before_first, position_or_len}
 use Rattle.mc_model.specs.declared.request.Request.{Request}
@@ -10,11 +10,11 @@ use Rattle.mc_read.specs.Text.{Lines, body_length, request_of}
 abbrev pub is_line_feed : ℕ → Bool
 is_line_feed byte = byte == 10
 
--- how many bytes stand before the first line feed, or in all
+-- the number of bytes before the first line feed, or of all bytes if there is none
 abbrev pub line_length : List ℕ → ℕ
 line_length bytes = position_or_len is_line_feed bytes
 
--- a request stands there, and this follows it
+-- this request is at the front, and this follows it
 abbrev pub found : Request → List ℕ → Option (Request × List ℕ)
 found request more = Some (request, more)
 
@@ -25,7 +25,7 @@ first_of_line asked body =
     then found (request_of asked (take (body_length asked) body)) (drop (body_length asked) body)
     else None
 
--- the first request and what follows it, where a whole request stands there
+-- the first request and what follows it, if there is a whole request at the front
 abbrev pub first_request : Lines → List ℕ → Option (Request × List ℕ)
 first_request lines bytes =
     if nat_lt LINE_BYTES (line_length bytes) then found TooLong (drop (LINE_BYTES + 1) bytes)

@@ -1,6 +1,7 @@
--- What a line asks for: one function of its words, in which the first check that fails decides. After memcached's
--- doc/protocol.txt, "Storage commands", "Retrieval command", "Deletion", "Increment/Decrement", "Other commands" and
--- "Error strings". The order of the checks and what a refusal takes with it are this project's profile.
+-- What a line asks for: one function of its words, in which the first check that fails decides.
+-- After memcached's doc/protocol.txt, "Storage commands", "Retrieval command", "Deletion",
+-- "Increment/Decrement", "Other commands" and "Error strings". The order of the checks and what a
+-- refusal takes with it are this project's profile.
 use Rattle.std.specs.Prelude.{ℕ, ◌≤◌, Bool, true, false, ◌&&◌, ◌||◌, nat_le, if◌then◌else◌, List, [], ◌∷◌, Option, Some, None, is_some, unwrap_or, option_map, codes}
 use Rattle.std.specs.List.{list_all}
 use Rattle.mc_model.specs.declared.command.Command.{Command}
@@ -29,15 +30,15 @@ use Rattle.mc_read.specs.Word.{is_exptime, is_noreply, is_word, is_zero, words}
 abbrev pub refused : WireNo → Bool → Request
 refused refusal quiet = Local (Refused refusal) quiet
 
--- no name that is known, or another number of words than its lines have
+-- an unknown name, or a number of words that no line of this name has
 abbrev pub no_command : Asked
 no_command = LineOnly (refused E1 false)
 
--- words that aren't as they must be, without a block
+-- words that are malformed, without a block
 abbrev pub malformed : Asked
 malformed = LineOnly (refused E2 false)
 
--- checks in their order, each with its refusal
+-- checks in order, each with its refusal
 abbrev pub Checks : Type 0
 Checks = List (Bool × WireNo)
 
@@ -46,7 +47,8 @@ abbrev pub first_failure : Checks → Option WireNo
 first_failure [] = None
 first_failure (check ∷ checks) = if check.0 then first_failure checks else Some check.1
 
--- whether a refusal of a line that says noreply is quiet: not where the line's format is refused
+-- whether a refusal of a line that says noreply is quiet: not if the line's name, format or delta
+-- is refused
 abbrev pub is_quiet_refusal : WireNo → Bool
 is_quiet_refusal E1 = false
 is_quiet_refusal E2 = false
@@ -54,7 +56,7 @@ is_quiet_refusal E9 = false
 is_quiet_refusal other = true
 
 -- Lines without a block.
--- a command that is quiet where its line says noreply, or the refusal
+-- a command that is quiet if its line says noreply, or the refusal
 abbrev pub asked_unless : Option WireNo → Command → Bool → Asked
 asked_unless None command noreply = LineOnly (Logged command noreply)
 asked_unless (Some refusal) command noreply = LineOnly (refused refusal (is_quiet_refusal refusal && noreply))
@@ -62,7 +64,7 @@ asked_unless (Some refusal) command noreply = LineOnly (refused refusal (is_quie
 abbrev pub asked_after : Checks → Command → Bool → Asked
 asked_after checks command noreply = asked_unless (first_failure checks) command noreply
 
--- one unlawful key refuses the line
+-- one invalid key refuses the line
 abbrev pub asked_of_retrieval : Bool → List (List ℕ) → Asked
 asked_of_retrieval uniques [] = no_command
 asked_of_retrieval uniques (key ∷ keys) =
@@ -82,7 +84,8 @@ abbrev pub changed : Change → Key → ℕ → Command
 changed change.Incr key by = Incr key by
 changed change.Decr key by = Decr key by
 
--- a key and a delta, which is open where it is no number; the word after these may have to be lawful
+-- a key and a delta, which is `None` if it isn't a number; the word after these may have to be
+-- valid
 abbrev pub asked_of_delta : Change → Bool → Key → Option ℕ → Bool → Asked
 asked_of_delta change is_lawful key delta noreply =
     asked_after ((is_lawful, E2) ∷ (is_lawful_key key, E2) ∷ (is_some delta, E9) ∷ []) (changed change key (unwrap_or delta 0)) noreply
@@ -112,8 +115,8 @@ asked_of_name request [] = LineOnly request
 asked_of_name request arguments = no_command
 
 -- Lines with a block.
--- the words of a storage line after its name, with a last word in the longer form; how the block is stored is open where
--- the unique of cas is no number, and so are the flags where they are none
+-- the words of a storage line after its name, with a last word in the longer form; how the block is
+-- stored is `None` if the unique of cas isn't a number, and so are the flags if they aren't one
 pub record StorageLine : Type 0 where
   pub storage : Option Storage
   pub key : List ℕ
@@ -122,7 +125,7 @@ pub record StorageLine : Type 0 where
   pub size : List ℕ
   pub last : Option (List ℕ)
 
--- the last word of the longer form
+-- the last word of the longer form, if there is one, is noreply
 abbrev pub ends_in_noreply : Option (List ℕ) → Bool
 ends_in_noreply None = true
 ends_in_noreply (Some word) = is_noreply word
@@ -133,7 +136,8 @@ ignores_exptime (Some (Plain Append)) = true
 ignores_exptime (Some (Plain Prepend)) = true
 ignores_exptime other = false
 
--- the checks of a storage line whose block has this length, but for the two bytes after the block
+-- the checks of a storage line whose block has this length, except for the two bytes after the
+-- block
 abbrev pub storage_checks : StorageLine → ℕ → Checks
 storage_checks line length =
     (ends_in_noreply line.last, E2)
@@ -145,7 +149,8 @@ storage_checks line length =
     ∷ (nat_le length DATA_BYTES, E6)
     ∷ []
 
--- what becomes of a block of this length; where no check failed, neither the storage nor the flags are open
+-- what becomes of a block of this length; if no check failed, neither the storage nor the flags are
+-- `None`
 abbrev pub asked_with : StorageLine → ℕ → Option WireNo → Asked
 asked_with line length None =
     StoredBlock (record {
@@ -176,7 +181,7 @@ asked_of_storage verb (key ∷ flags ∷ exptime ∷ size ∷ []) = asked_of_wor
 asked_of_storage verb (key ∷ flags ∷ exptime ∷ size ∷ last ∷ []) = asked_of_words (Some (Plain verb)) key flags exptime size (Some last)
 asked_of_storage verb arguments = no_command
 
--- cas with its unique, where that is a number
+-- cas with its unique, if that is a number
 abbrev pub check_and_set : List ℕ → Option Storage
 check_and_set unique = option_map CheckAndSet (number_up_to UNIQUE unique)
 
@@ -186,7 +191,7 @@ asked_of_cas (key ∷ flags ∷ exptime ∷ size ∷ unique ∷ last ∷ []) = a
 asked_of_cas arguments = no_command
 
 -- All lines.
--- the storage command of this name, but for cas
+-- the storage command with this name, except for cas
 abbrev pub verb_named : List ℕ → Option Verb
 verb_named name =
     if is_word name (codes "set") then Some Set
@@ -196,7 +201,7 @@ verb_named name =
     else if is_word name (codes "prepend") then Some Prepend
     else None
 
--- by a name that stores nothing, reads nothing and counts nothing
+-- what a line asks for whose name stores nothing, reads nothing and counts nothing
 abbrev pub asked_of_others : List ℕ → List (List ℕ) → Asked
 asked_of_others name arguments =
     if is_word name (codes "delete") then asked_of_delete arguments
@@ -205,7 +210,7 @@ asked_of_others name arguments =
     else if is_word name (codes "quit") then asked_of_name Quit arguments
     else no_command
 
--- by a name that stores nothing
+-- what a line asks for whose name stores nothing
 abbrev pub asked_without_block : List ℕ → List (List ℕ) → Asked
 asked_without_block name arguments =
     if is_word name (codes "get") then asked_of_retrieval false arguments
@@ -219,16 +224,16 @@ asked_by_verb (Some verb) name arguments = asked_of_storage verb arguments
 asked_by_verb None name arguments =
     if is_word name (codes "cas") then asked_of_cas arguments else asked_without_block name arguments
 
--- by the name of the command, byte for byte; a line without words names none
+-- what a line asks for, by the name of the command, byte for byte; a line without words has none
 abbrev pub asked_by : List (List ℕ) → Asked
 asked_by [] = no_command
 asked_by (name ∷ arguments) = asked_by_verb (verb_named name) name arguments
 
--- the line is without its line feed
+-- what a line asks for; the line comes without its line feed
 abbrev pub asked : List ℕ → Asked
 asked line = asked_by (words line)
 
--- a block has a length that a line can name, and is small enough where it is to be stored
+-- a block has a length that a line can name, and is small enough if it is to be stored
 abbrev pub HasLawfulBlock : Asked → Type 0
 HasLawfulBlock (LineOnly request) = Unit {0}
 HasLawfulBlock (RefusedBlock length refusal quiet) = length ≤ BLOCK_LENGTH

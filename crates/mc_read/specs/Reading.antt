@@ -1,5 +1,6 @@
--- What a byte list reads as: requests, and a rest in which no whole request stands. After memcached's doc/protocol.txt,
--- "Protocol": a connection is a stream of such texts, one after another.
+-- What a byte list reads as: requests, and a rest that has no whole request at its front. After
+-- memcached's doc/protocol.txt, "Protocol": a connection is a stream of such texts, one after
+-- another.
 use Rattle.std.specs.Prelude.{◌≡◌, ◌≢◌, ◌↔◌, ℕ, Bool, true, false, nat_lt, MatchBool, List, [], ◌∷◌, ◌++◌, length, drop}
 use Rattle.mc_model.specs.declared.request.Request.{Request}
 use Rattle.mc_model.specs.declared.request.Request.TheVariants.{Local, Logged, Quit, TooLong}
@@ -12,7 +13,7 @@ ends_stream (Local reply quiet) = false
 ends_stream Quit = true
 ends_stream TooLong = true
 
--- no request text is a beginning of the bytes
+-- no request text is a prefix of the bytes
 abbrev pub HasNoRequest : Lines → List ℕ → Type 0
 HasNoRequest lines bytes = (text more : List ℕ) (request : Request) → IsRequestText lines text request → bytes ≢ text ++ more
 
@@ -23,14 +24,15 @@ Reads lines bytes (request ∷ requests) rest =
     (text : List ℕ) × (more : List ℕ) × IsRequestText lines text request × (bytes ≡ text ++ more)
     × MatchBool (ends_stream request) ((requests ≡ []) × (more ≡ rest)) (Reads lines more requests rest)
 
--- What a reader holds: bytes; or a request that was refused, with so many bytes still to come of its block
--- and the two bytes after it, and the bytes that follow those; or nothing, after the end.
+-- What a reader holds: bytes; or a request that was refused, with the number of bytes still to come
+-- of its block and the two bytes after it, and the bytes that follow those; or nothing, after the
+-- end.
 pub data Held : Type 0 where
   Kept : List ℕ → Held
   Swallowing : Request → ℕ → List ℕ → Held
   Ended : Held
 
--- What contracts see of a reader.
+-- A reader as contracts see it.
 pub record ReaderView : Type 0 where
   pub held : Held
 
@@ -50,7 +52,7 @@ ReadsOn lines (Swallowing request left bytes) more requests =
     MatchBool (nat_lt (length more) left) (requests ≡ []) (GoesOn request (ReadsAs lines (bytes ++ drop left more)) requests)
 ReadsOn lines Ended more requests = requests ≡ []
 
--- whatever follows, what is held before reads as this request and then as what is held after
+-- whatever follows, what is held before reads as this request followed by what is held after
 abbrev pub IsNext : Lines → Held → Request → Held → Type 0
 IsNext lines before request after =
     (more : List ℕ) (requests : List Request) → ReadsOn lines before more requests ↔ GoesOn request (ReadsOn lines after more) requests
@@ -59,11 +61,12 @@ IsNext lines before request after =
 abbrev pub HasNone : Lines → Held → Type 0
 HasNone lines held = (requests : List Request) → ReadsOn lines held [] requests ↔ (requests ≡ [])
 
--- whatever follows, both read alike
+-- whatever follows, both read the same
 abbrev pub ReadAlike : Lines → Held → Held → Type 0
 ReadAlike lines before after = (more : List ℕ) (requests : List Request) → ReadsOn lines before more requests ↔ ReadsOn lines after more requests
 
--- whatever follows, what is held after a piece reads as what was held before it, followed by the piece
+-- whatever follows, what is held after a piece reads as what was held before it, followed by the
+-- piece
 abbrev pub IsFed : Lines → Held → List ℕ → Held → Type 0
 IsFed lines before piece after =
     (more : List ℕ) (requests : List Request) → ReadsOn lines after more requests ↔ ReadsOn lines before (piece ++ more) requests

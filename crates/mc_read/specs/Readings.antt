@@ -1,4 +1,5 @@
--- Readings: each byte list has one, and what is held reads on as it would have in one piece.
+-- Readings: each byte list has exactly one, and what is held reads on as it would have in one
+-- piece.
 use Rattle.std.proofs.Common.{◌≡◌, ℕ, zero, suc, ◌<◌, ◌≤◌, Bool, true, false, List, [], ◌∷◌, ◌++◌, length, Option, Some, None, refl, sym, ◌∙◌, ap, subst, ⊎_elim, append-nil, length-append, arith}
 use Rattle.std.specs.Bool.{MatchBool}
 use Rattle.mc_model.specs.declared.request.Request.{Request}
@@ -7,7 +8,7 @@ use Rattle.mc_read.specs.Reading.{Reads, ends_stream}
 use Rattle.mc_read.specs.Text.{IsRequestText, Lines}
 use Rattle.mc_read.specs.Texts.{first_of_text, none_of_first, some_parts, text_of_first}
 
--- a request is followed by what it leaves to read
+-- a request, followed by what it leaves to read
 abbrev Follows : Lines → Request → List ℕ → List Request → List ℕ → Type 0
 Follows lines request more requests rest = MatchBool (ends_stream request) ((requests ≡ []) × (more ≡ rest)) (Reads lines more requests rest)
 
@@ -15,14 +16,14 @@ abbrev pub HasReading : Lines → List ℕ → Type 0
 HasReading lines bytes = (requests : List Request) × (rest : List ℕ) × Reads lines bytes requests rest
 
 module _ (lines : Lines) where
-  -- no request text is a proper beginning of another
+  -- no request text is a proper prefix of another
   pub text_is_whole : (text more : List ℕ) (request other : Request) → IsRequestText lines text request → IsRequestText lines (text ++ more) other → (more ≡ []) × (request ≡ other)
   text_is_whole text more request other is longer =
       let both = sym (first_of_text lines text more request is) ∙ (ap (first_request lines) (sym (append-nil (text ++ more))) ∙ first_of_text lines (text ++ more) [] other longer) in
       let parts = some_parts request other more [] both in
       (parts.1, parts.0)
 
-  -- what the first request of a reading is
+  -- the first request of a reading
   pub reads_first : (bytes : List ℕ) (request : Request) (requests : List Request) (rest : List ℕ) → Reads lines bytes (request ∷ requests) rest → (more : List ℕ) × (first_request lines bytes ≡ found request more) × Follows lines request more requests rest
   reads_first bytes request requests rest reads =
       (reads.1, ap (first_request lines) reads.3 ∙ first_of_text lines reads.0 reads.1 request reads.2, reads.4)

@@ -1,6 +1,6 @@
--- What a client sends for a command. After memcached's doc/protocol.txt, "Storage commands", "Retrieval command",
--- "Deletion", "Increment/Decrement" and "Other commands". It is written with one space between two words, and with an
--- exptime of 0.
+-- What a client sends for a command, after memcached's doc/protocol.txt, "Storage commands",
+-- "Retrieval command", "Deletion", "Increment/Decrement" and "Other commands", with one space
+-- between two words and an exptime of 0.
 use Rattle.std.specs.Prelude.{ℕ, ◌^◌, ◌<◌, ◌≤◌, Bool, if◌then◌else◌, List, [], ◌∷◌, ◌++◌, length, codes, decimal, All, IsTrue}
 use Rattle.std.specs.List.{join_with_byte}
 use Rattle.mc_model.specs.declared.command.Command.{Command}
@@ -30,7 +30,8 @@ line_sent words = join_with_byte 32 words ++ codes "\r\n"
 abbrev pub block_sent : Data → List ℕ
 block_sent block = block ++ codes "\r\n"
 
--- what is sent for a command, which asks for no reply if it is to be quiet; a retrieval always asks for one
+-- what is sent for a command, which asks for no reply if it is to be quiet; a retrieval always asks
+-- for one
 abbrev pub sent : Command → Bool → List ℕ
 sent (Store verb key flags block) quiet =
     line_sent (verb_name verb ∷ key ∷ decimal flags ∷ codes "0" ∷ decimal (length block) ∷ noreply_if quiet) ++ block_sent block
@@ -42,7 +43,7 @@ sent (Incr key by) quiet = line_sent (codes "incr" ∷ key ∷ decimal by ∷ no
 sent (Decr key by) quiet = line_sent (codes "decr" ∷ key ∷ decimal by ∷ noreply_if quiet)
 sent Flush quiet = line_sent (codes "flush_all" ∷ noreply_if quiet)
 
--- a command whose keys are lawful, with numbers and data that a line can name
+-- a command whose keys are valid, with numbers and data that a line can name
 abbrev pub IsLawfulCommand : Command → Type 0
 IsLawfulCommand (Store verb key flags block) = IsTrue (is_lawful_key key) × (flags < 2 ^ 32) × (length block ≤ 1048576)
 IsLawfulCommand (Cas key flags block unique) = IsTrue (is_lawful_key key) × (flags < 2 ^ 32) × (length block ≤ 1048576) × (unique < 2 ^ 64)

@@ -1,4 +1,4 @@
--- What a reader's fields stand for, and what is true of them.
+-- What a reader's fields mean, and what is true of them.
 use Rattle.std.specs.Prelude.{◌≡◌, ℕ, ◌+◌, ◌<◌, ◌≤◌, Bool, if◌then◌else◌, List, [], length, take, drop, Option, Some, None}
 use Rattle.mc_model.specs.declared.item.Data.{Data}
 use Rattle.mc_model.specs.declared.item.TheConstants.{DATA_BYTES}
@@ -22,13 +22,13 @@ held_in (state.AwaitsBlock line header) bytes = Kept bytes
 held_in (state.SwallowsBlock refusal quiet left) bytes = Swallowing (refused refusal quiet) left bytes
 held_in state.Ended bytes = Ended
 
--- a line of this length stands at the front of the bytes
+-- a line of this length is at the front of the bytes
 pub record IsLineAt (bytes : List ℕ) (line : ℕ) : Type 0 where
   pub is_length : line_length bytes ≡ line
   pub ends : line < length bytes
   pub short : line ≤ LINE_BYTES
 
--- no line feed stands in the first bytes, which are no more than a line may have
+-- there is no line feed in the first `searched` bytes, which are no more than a line may have
 pub record IsSearched (searched : ℕ) (bytes : List ℕ) : Type 0 where
   pub in_vain : searched ≤ line_length bytes
   pub few : searched ≤ LINE_BYTES
@@ -40,22 +40,24 @@ IsStateOf lines (state.AwaitsBlock line header) bytes = IsLineAt bytes line × (
 IsStateOf lines (state.SwallowsBlock refusal quiet left) bytes = 0 < left → bytes ≡ []
 IsStateOf lines state.Ended bytes = bytes ≡ []
 
--- how many bytes are kept
+-- the number of bytes that are kept
 abbrev pub kept_length : Held → ℕ
 kept_length (Kept bytes) = length bytes
 kept_length (Swallowing request left bytes) = length bytes
 kept_length Ended = 0
 
--- no more is kept than a line with its line feed, and of a block and the two bytes after it all but one
+-- no more is kept than a line with its line feed, and a block and the two bytes after it except for
+-- one byte
 abbrev pub IsBounded : Held → Type 0
 IsBounded held = kept_length held ≤ LINE_BYTES + 1 + DATA_BYTES + 1
 
--- what holds before and after an answer of `next`
+-- what is true before and after `next` returns
 abbrev pub IsAnswer : Lines → Held → Option Request → Held → Type 0
 IsAnswer lines before (Some request) after = IsNext lines before request after
 IsAnswer lines before None after = HasNone lines before × ReadAlike lines before after × IsBounded after
 
--- the bytes end within a refused block or the two bytes after it, and so many of these are still to come
+-- the bytes end within a refused block or the two bytes after it, and `left` of these are still to
+-- come
 pub record EndsInRefusal (lines : Lines) (bytes : List ℕ) (request : Request) (left : ℕ) : Type 0 where
   pub line : ℕ
   pub size : ℕ
@@ -67,8 +69,8 @@ pub record EndsInRefusal (lines : Lines) (bytes : List ℕ) (request : Request) 
   pub is_left : length bytes + left ≡ line + 1 + size + 2
   pub some : 0 < left
 
--- a line, and after it a block of this size and two more bytes, were taken off the front: what is given is the block and
--- whether the two bytes end it well; or nothing was, for a part is still to come
+-- a line, a block of this size and two more bytes were removed from the front, and the block is
+-- returned with whether the two bytes end it well; or nothing was, because a part is still to come
 abbrev pub IsTaken : List ℕ → ℕ → ℕ → Option (Data × Bool) → List ℕ → Type 0
 IsTaken bytes line size None left = (length bytes < line + 1 + (size + 2)) × (left ≡ bytes)
 IsTaken bytes line size (Some given) left =

@@ -1,5 +1,6 @@
--- The text of a request, after memcached's doc/protocol.txt, "Protocol" and "Storage commands": a line, and after the
--- line of a storage command a body, which is a block and two bytes. How long a line may be is this project's profile.
+-- The text of a request, after memcached's doc/protocol.txt, "Protocol" and "Storage commands": a
+-- line, and after the line of a storage command a body, which is a block and two bytes. How long a
+-- line may be is this project's profile.
 use Rattle.std.specs.Prelude.{◌≡◌, ◌≢◌, ℕ, ◌+◌, ◌≤◌, ◌⊎◌, Bool, if◌then◌else◌, List, ◌∷◌, ◌++◌, length, take, drop, codes, All}
 use Rattle.mc_model.specs.declared.command.Command.{Command}
 use Rattle.mc_model.specs.declared.command.Command.TheVariants.{Cas, Store}
@@ -21,7 +22,7 @@ use Rattle.mc_read.specs.Word.{is_word}
 abbrev pub Lines : Type 0
 Lines = List ℕ → Asked
 
--- how many bytes a request has after its line: none, or a block and two more
+-- the number of bytes that a request has after its line: none, or a block and two more
 abbrev pub body_length : Asked → ℕ
 body_length (LineOnly request) = 0
 body_length (RefusedBlock length refusal quiet) = length + 2
@@ -32,7 +33,7 @@ abbrev pub storing : Storage → Key → ℕ → Data → Command
 storing (Plain verb) key flags block = Store verb key flags block
 storing (CheckAndSet unique) key flags block = Cas key flags block unique
 
--- a block is stored where it ends well
+-- a block is stored if it ends well
 abbrev pub stored_if : Bool → Header → Data → Request
 stored_if is_whole header block =
     if is_whole then Logged (storing header.storage header.key header.flags block) header.quiet else refused E3 header.quiet
@@ -51,7 +52,7 @@ request_of (LineOnly request) body = request
 request_of (RefusedBlock length refusal quiet) body = refused refusal quiet
 request_of (StoredBlock header) body = stored header body
 
--- no line feed stands in the bytes
+-- there is no line feed in the bytes
 abbrev pub IsUnbroken : List ℕ → Type 0
 IsUnbroken bytes = All (λ byte. byte ≢ 10) bytes
 
@@ -70,7 +71,7 @@ pub record IsLineText (lines : Lines) (text : List ℕ) (request : Request) : Ty
   pub in_text : text ≡ line ++ 10 ∷ body
   pub is_asked : request ≡ request_of (lines line) body
 
--- one byte more than a line may have, and no line feed among them
+-- one byte more than a line may have, with no line feed among them
 pub record IsTooLongText (text : List ℕ) (request : Request) : Type 0 where
   pub long : length text ≡ LINE_BYTES + 1
   pub unbroken : IsUnbroken text

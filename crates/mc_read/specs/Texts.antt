@@ -1,4 +1,4 @@
--- The computed first request is the one whose text stands at the front, and no other's does.
+-- The computed first request is the one whose text is at the front, and no other's is.
 use Rattle.std.proofs.Common.{◌≡◌, ℕ, ◌+◌, ◌<◌, ◌≤◌, Bool, true, false, cond, nat_le, nat_lt, not, ◌⊎◌, List, [], ◌∷◌, ◌++◌, length, get_or, take, drop, Option, Some, None, refl, sym, ◌∙◌, ap, inl, inr, ⊎_elim, append_assoc, length-append, length-take, arith}
 use Rattle.std.proofs.lemmas.Bool.{both_ways, cases_lt, cond-false, cond-true, eqb-true, le-leb, le-ltb, leb-true, lt-ltb, ltb-false, ltb-true, ne_eqb}
 use Rattle.std.proofs.lemmas.List.{drop_at, get_or-take, get_or_append_left, get_or_at, length-take-le, take-append-drop, take_at}
@@ -37,7 +37,7 @@ module _ (line rest : List ℕ) (unbroken : IsUnbroken line) where
       ∙ (ap (λ bytes. drop (length line + 1) bytes) (sym (append_assoc line (10 ∷ []) rest))
       ∙ drop_at (line ++ 10 ∷ []) rest (length line + 1) (length-append line (10 ∷ [])))
 
--- where no line feed stands in the first bytes, the line is longer
+-- if there is no line feed in the first bytes, the line is longer
 pub line_length-too_long : (text more : List ℕ) → length text ≡ LINE_BYTES + 1 → IsUnbroken text → LINE_BYTES < line_length (text ++ more)
 line_length-too_long text more long unbroken =
     ⊎_elim (λ within.
@@ -46,7 +46,7 @@ line_length-too_long text more long unbroken =
     let breaks = eqb-true _ 10 (sym (ap is_line_feed (get_or_append_left text more 0 _ here)) ∙ passes_at_first is_line_feed (text ++ more) 0 stands) in
     absurd (unbroken _ 0 here breaks)) (λ long. long) (cases_le (line_length (text ++ more)) LINE_BYTES)
 
--- what belongs to a line is the front of what stands after it
+-- what belongs to a line is a prefix of what comes after it
 first_of_line_at : (a : Asked) (body more : List ℕ) → length body ≡ body_length a → first_of_line a (body ++ more) ≡ found (request_of a body) more
 first_of_line_at a body more whole =
     let enough : body_length a ≤ length (body ++ more) = omega (arith, whole, length-append body more) in
@@ -66,7 +66,7 @@ before_first-unbroken bytes n within k d below line_feed =
     both_ways _ (fails_before_first is_line_feed bytes k d (omega (arith, short, within))) (ap is_line_feed byte)
 
 module _ (lines : Lines) where
-  -- what stands after a line of lawful length decides
+  -- what comes after a line of valid length decides
   pub first_request_at : (line rest : List ℕ) → IsUnbroken line → length line ≤ LINE_BYTES → first_request lines (line ++ 10 ∷ rest) ≡ first_of_line (lines line) rest
   first_request_at line rest unbroken short =
       let in_limit : line_length (line ++ 10 ∷ rest) ≤ LINE_BYTES = omega (arith, line_length_at line rest unbroken) in
@@ -146,7 +146,7 @@ module _ (lines : Lines) where
       none_is_some : None ≡ found request more → ⊥
       none_is_some no_request = cc
 
-  -- no request stands where the computation finds none, and the other way round
+  -- there is no request where the computation finds none, and conversely
   pub none_of_first : (bytes : List ℕ) → first_request lines bytes ≡ None → HasNoRequest lines bytes
   none_of_first bytes none text more request is split =
       let both = sym none ∙ (ap (first_request lines) split ∙ first_of_text text more request is) in absurd (cc)

@@ -1,11 +1,13 @@
--- The words of a line, and what a single word can be. After memcached's doc/protocol.txt, "Commands" and "Storage
--- commands"; that a line feed alone ends a line, and the spelling of an exptime, are this project's profile.
+-- The words of a line, and what a single word can be. After memcached's doc/protocol.txt,
+-- "Commands" and "Storage commands"; that a line feed alone ends a line, and the spelling of an
+-- exptime, are this project's profile.
 use Rattle.std.specs.Prelude.{ℕ, ◌-◌, Bool, ◌==◌, nat_eq, nat_lt, if◌then◌else◌, List, [], ◌∷◌, length, take, filter, slice_index, codes}
 use Rattle.std.specs.Cmp.Lexicographic.{pointwise}
 use Rattle.std.specs.List.{list_all, slice_split}
 use Rattle.mc_model.specs.Number.{is_numeral}
 
--- a line without the one carriage return that may stand at its end; std's `slice_index` is 0 where nothing stands
+-- a line without a carriage return at its end, of which at most one is removed; std's `slice_index`
+-- is 0 out of bounds
 abbrev pub without_return : List ℕ → List ℕ
 without_return line = if slice_index line (length line - 1) == 13 then take (length line - 1) line else line
 
@@ -19,7 +21,7 @@ spaced_words text = filter (λ piece. nat_lt 0 (length piece)) (slice_split is_s
 abbrev pub words : List ℕ → List (List ℕ)
 words line = spaced_words (without_return line)
 
--- byte for byte
+-- the word is this name, byte for byte
 abbrev pub is_word : List ℕ → List ℕ → Bool
 is_word word name = pointwise nat_eq word name
 

@@ -1,12 +1,13 @@
-//! Bytes that come at the end and are taken from the front.
+//! A queue of bytes: they are added at the end and taken from the front.
 ghost use Rattle.std.specs.Prelude.{◌≡◌, ℕ, ◌+◌, ◌≤◌, List, [], ◌++◌, drop, length, vec_len, IsOkUnless, OnOk, OnErr};
 
 use mc_model::Fault;
 use std::alloc::Global;
 use std::marker::Model;
 
-/// A queue of bytes in one vector. What was taken stays in front until it is half of the vector or more, so that
-/// moving the rest costs no more than the bytes that were taken. The vector has at most twice the bytes that are there.
+/// A queue of bytes in one vector. Bytes that were taken stay in front until they are half of the
+/// vector or more, so that moving the rest costs no more than the bytes that were taken. The
+/// vector's length is at most twice the bytes in the queue.
 #[derive(Debug, Drop)]
 pub struct Buffer {
     bytes: Vec<u8>,
@@ -22,7 +23,7 @@ impl Model for Buffer {
 }
 
 impl Buffer {
-    /// An empty buffer. Needs no memory.
+    /// Returns an empty buffer. Allocates nothing.
     pub fn new(alloc: Global) -> Buffer
         ensures { result ≡ [] }
     {
@@ -32,14 +33,14 @@ impl Buffer {
         }
     }
 
-    /// The bytes that are there.
+    /// Returns the bytes in the queue.
     pub fn as_slice(&self) -> &[u8]
         ensures { result.now ≡ self.now }
     {
         &self.bytes[self.taken..]
     }
 
-    /// Adds bytes at the end.
+    /// Appends bytes. Returns `Memory` if an allocation fails; the queue is unchanged then.
     pub fn extend(&mut self, piece: &[u8]) -> Result<(), Fault>
         ensures bytes { OnOk result (self.new ≡ self.old ++ piece.now) }
         ensures memory { IsOkUnless result Fault.Memory }
@@ -49,7 +50,7 @@ impl Buffer {
         Ok(())
     }
 
-    /// Takes bytes from the front.
+    /// Removes `count` bytes from the front.
     pub fn advance(&mut self, count: usize)
         requires { count ≤ length self.old }
         ensures { self.new ≡ drop count self.old }
@@ -63,7 +64,7 @@ impl Buffer {
         }
     }
 
-    /// Takes all bytes.
+    /// Removes all bytes.
     pub fn clear(&mut self)
         ensures { self.new ≡ [] }
     {

@@ -1,6 +1,7 @@
-//! What follows from the definitions of `specs/`: a byte stream reads one way, however it is cut, and its lines are those
-//! that memcached's doc/protocol.txt tells a client to send, within the profile's limits. A law is the contract of a
-//! function that does nothing: it holds for every byte list.
+//! What follows from the definitions of `specs/`: a byte stream reads one way, however it is cut,
+//! and its lines are those that memcached's doc/protocol.txt tells a client to send, within the
+//! profile's limits. A law is the contract of a function that does nothing: it holds for every byte
+//! list.
 ghost use Rattle.std.specs.Prelude.{◌≡◌, ◌≢◌, ℕ, ◌^◌, ◌-◌, ◌<◌, ◌≤◌, Bool, false, All, IsTrue, List, [], ◌∷◌, ◌++◌, length, codes, decimal};
 ghost use Rattle.mc_model.specs.declared.command.Command.{Command};
 ghost use Rattle.mc_model.specs.declared.command.Command.TheVariants.{Cas, Decr, Delete, Flush, Get, Incr, Store};
@@ -32,14 +33,14 @@ pub fn a_stream_reads_one_way()
         Reads asked bytes requests rest → Reads asked bytes others left → (requests ≡ others) × (rest ≡ left) }
 {}
 
-/// No request text is a proper beginning of another, and a text is that of one request.
+/// No request text is a proper prefix of another, and a text is that of one request.
 pub fn no_text_begins_another()
     ensures { (text more : List ℕ) (request other : Request) →
         IsRequestText asked text request → IsRequestText asked (text ++ more) other → (more ≡ []) × (request ≡ other) }
 {}
 
-/// The numbers of the profile: how many bytes a line may have, and the greatest length of a block that can be read, flags,
-/// unique and delta.
+/// The numbers of the profile: the largest number of bytes in a line, and the largest readable
+/// length of a block, flags, unique and delta.
 pub fn numbers_of_the_profile()
     ensures line { LINE_BYTES ≡ 65536 }
     ensures length { BLOCK_LENGTH ≡ 2147483645 }
@@ -48,9 +49,10 @@ pub fn numbers_of_the_profile()
     ensures delta { DELTA ≡ 2 ^ 64 - 1 }
 {}
 
-/// Each command can be sent: what a client sends for it, as memcached's doc/protocol.txt has it, is the text of that
-/// command, with `noreply` and without. The keys are lawful, and the numbers within the profile; a retrieval has as many
-/// keys as fit into a line of 65,536 bytes and its line feed.
+/// Each command can be sent: what a client sends for it according to memcached's doc/protocol.txt
+/// is the text of that command, with `noreply` and without. The keys are valid, and the numbers
+/// within the profile; a retrieval has as many keys as fit into a line of 65,536 bytes and its line
+/// feed.
 pub fn each_command_can_be_sent()
     ensures store { (verb : Verb) (key : Key) (flags : ℕ) (block : Data) (quiet : Bool) →
         IsTrue (is_lawful_key key) → flags < 2 ^ 32 → length block ≤ 1048576 →
@@ -70,8 +72,9 @@ pub fn each_command_can_be_sent()
     ensures flush { (quiet : Bool) → IsRequestText asked (sent Flush quiet) (Logged Flush quiet) }
 {}
 
-/// What is too long is refused. After 65,537 bytes of a line nothing more is read; data above 1,048,576 bytes are taken off
-/// the stream and refused; and a length above 2,147,483,645 can't be read, so that the line is refused alone.
+/// What is too long is refused. After 65,537 bytes of a line nothing more is read; data above
+/// 1,048,576 bytes are taken off the stream and refused; and a length above 2,147,483,645 can't be
+/// read, so that the line alone is refused.
 pub fn too_long_is_refused()
     ensures line { (text : List ℕ) → length text ≡ 65537 → IsUnbroken text → IsRequestText asked text TooLong }
     ensures data { (verb : Verb) (key : Key) (flags : ℕ) (block : List ℕ) (quiet : Bool) →
@@ -83,14 +86,14 @@ pub fn too_long_is_refused()
         IsRequestText asked (line_sent (verb_name verb ∷ key ∷ decimal flags ∷ codes "0" ∷ decimal size ∷ noreply_if quiet)) (Local (Refused E2) false) }
 {}
 
-/// Only lawful commands are read: the keys are lawful, and the numbers and the data within the profile. So each limit of
-/// the profile is exact, for up to it each command can be sent.
+/// Only valid commands are read: the keys are valid, and the numbers and the data within the
+/// profile. So each limit of the profile is exact, since up to it each command can be sent.
 pub fn only_lawful_commands_are_read()
     ensures { (text : List ℕ) (command : Command) (quiet : Bool) → IsRequestText asked text (Logged command quiet) → IsLawfulCommand command }
 {}
 
-/// No command expires: a line that becomes a command has an exptime of zero wherever it has one, but for `append` and
-/// `prepend`, which ignore it.
+/// No command expires: a line that becomes a command has an exptime of zero if it has one, except
+/// for `append` and `prepend`, which ignore it.
 pub fn no_command_expires()
     ensures storage { (line body key flags exptime : List ℕ) (more : List (List ℕ)) (verb : Verb) (command : Command) (quiet : Bool) →
         IsUnbroken line → words line ≡ verb_name verb ∷ key ∷ flags ∷ exptime ∷ more → verb ≢ Append → verb ≢ Prepend →

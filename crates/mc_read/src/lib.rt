@@ -1,7 +1,8 @@
-//! The command reader of memcached's text protocol: bytes in any pieces become requests.
+//! The command reader of memcached's text protocol: bytes in pieces of any size become requests.
 //!
-//! `specs/Text.antt` says what the text of a request is, `specs/Reading.antt` what a byte list reads as, and `laws` that
-//! each byte list has just one reading. A `Reader` gives the requests of that reading, however the stream is cut.
+//! `specs/Text.antt` says what the text of a request is, `specs/Reading.antt` what a byte list
+//! reads as, and `laws` that each byte list has exactly one reading. A `Reader` returns the
+//! requests of that reading, however the stream is cut.
 #![tactic(auto)]
 
 pub use reader::{Reader, ends_stream};

@@ -10,37 +10,37 @@ use crate::words::{is_word, words};
 use mc_model::{Command, Data, Fault, Key, Reply, Request, Verb, WireNo};
 use std::alloc::Global;
 
-/// How many bytes a line may have before its line feed.
+/// The largest number of bytes in a line, without its line feed.
 pub const LINE_BYTES: usize = 65_536;
 
-/// The greatest length of a block that a line can name.
+/// The largest length of a block that a line can name.
 pub const BLOCK_LENGTH: u64 = 2_147_483_645;
 
-/// The greatest flags.
+/// The largest flags.
 pub const FLAGS: u64 = 4_294_967_295;
 
-/// The greatest unique that a line can name.
+/// The largest unique that a line can name.
 pub const UNIQUE: u64 = 18_446_744_073_709_551_615;
 
-/// The greatest delta.
+/// The largest delta.
 pub const DELTA: u64 = 18_446_744_073_709_551_615;
 
 /// What a line asks for.
 #[derive(Debug, PartialEq, Eq, Drop)]
 pub enum Asked {
-    /// The line alone is this request.
+    /// The line by itself is this request.
     LineOnly(Request),
-    /// A block of this length belongs to the line, and is refused whatever it holds.
+    /// A block of this length follows the line, and is refused whatever it holds.
     RefusedBlock {
         length: u64,
         refusal: WireNo,
         quiet: bool,
     },
-    /// A block belongs to the line, and is to be stored.
+    /// A block follows the line, and is to be stored.
     StoredBlock(Header),
 }
 
-/// What a storage line says of its block, which may be stored.
+/// What a storage line says of its block, if it may be stored.
 #[derive(Debug, PartialEq, Eq, Drop)]
 pub struct Header {
     pub length: u64,
@@ -55,12 +55,12 @@ pub struct Header {
 pub enum Storage {
     /// As the verb says.
     Plain(Verb),
-    /// Only where the item has this unique: check and set.
+    /// Only if the item has this unique: check and set.
     CheckAndSet(u64),
 }
 
 impl Storage {
-    /// The command that stores a block so.
+    /// Returns the command that stores a block in this way.
     pub fn command(self, key: Key, flags: u32, block: Data) -> Command
         ensures { result ≡ storing self key flags block }
     {
@@ -81,7 +81,7 @@ impl Storage {
     }
 }
 
-/// A refusal, which is answered without the log.
+/// Returns a refusal, which is answered without the log.
 pub fn refused(refusal: WireNo, quiet: bool) -> Request
     ensures { result ≡ refused refusal quiet }
 {
@@ -91,28 +91,28 @@ pub fn refused(refusal: WireNo, quiet: bool) -> Request
     }
 }
 
-/// No name that is known, or another number of words than its lines have.
+/// Returns the refusal of an unknown name, or of a number of words that no line of this name has.
 pub fn no_command() -> Asked
     ensures { result ≡ no_command }
 {
     Asked::LineOnly(refused(WireNo::E1, false))
 }
 
-/// Words that aren't as they must be.
+/// Returns the refusal of malformed words.
 pub fn malformed() -> Asked
     ensures { result ≡ malformed }
 {
     Asked::LineOnly(refused(WireNo::E2, false))
 }
 
-/// Whether a refusal of a line that says `noreply` is quiet.
+/// Returns whether a refusal of a line that says `noreply` is quiet.
 pub fn is_quiet_refusal(refusal: WireNo) -> bool
     ensures { result ≡ is_quiet_refusal refusal }
 {
     !matches!(refusal, WireNo::E1 | WireNo::E2 | WireNo::E9)
 }
 
-/// The storage command of this name, but for `cas`.
+/// Returns the storage command with this name, except for `cas`.
 fn verb_named(name: &[u8]) -> Option<Verb>
     ensures { result ≡ verb_named name.now }
 {
@@ -131,14 +131,15 @@ fn verb_named(name: &[u8]) -> Option<Verb>
     }
 }
 
-/// Whether the name is that of a retrieval without uniques.
+/// Returns whether the name is that of a retrieval without uniques.
 fn is_get(name: &[u8]) -> bool
     ensures { result ≡ is_word name.now (codes "get") }
 {
     matches!(name, b"get")
 }
 
-/// What a line asks for; the line is without its line feed.
+/// Returns what a line asks for; the line comes without its line feed. Returns `Memory` if an
+/// allocation fails.
 pub fn ask(alloc: Global, line: &[u8]) -> Result<Asked, Fault>
     ensures asked { IfOk result (λ result. result ≡ asked line.now) }
     ensures lawful { IfOk result HasLawfulBlock }
@@ -148,7 +149,7 @@ pub fn ask(alloc: Global, line: &[u8]) -> Result<Asked, Fault>
     let Some((name, arguments)) = found.split_first() else {
         return Ok(no_command());
     };
-    // First, since most lines are of this name.
+    // First, since most lines have this name.
     if is_get(name) {
         ask_retrieval(alloc, false, arguments)
     } else if let Some(verb) = verb_named(name) {

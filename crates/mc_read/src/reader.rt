@@ -1,4 +1,4 @@
-//! The reader: what has come of the stream and isn't read yet.
+//! The reader: what has arrived of the stream and isn't read yet.
 ghost use Rattle.std.specs.Bool.{MatchBool, OnTrue};
 ghost use Rattle.std.specs.Prelude.{◌≡◌, ◌≢◌, ℕ, ◌+◌, ◌-◌, ◌<◌, ◌≤◌, if◌then◌else◌, List, [], ◌++◌, length, take, drop, IfOk, IfSome, IsOk, IsOkUnless, OnOk, OnErr};
 ghost use Rattle.mc_model.specs.declared.item.TheConstants.{DATA_BYTES};
@@ -19,22 +19,22 @@ use std::mem;
 /// How far the reader is with the request at the front of its bytes.
 #[derive(Debug, Drop)]
 enum State {
-    /// Its line is awaited; no line feed stands in the first `searched` bytes.
+    /// Its line is awaited; there is no line feed in the first `searched` bytes.
     AwaitsLine {
         searched: usize,
     },
-    /// Its line has come, `line` bytes long, and its block is awaited.
+    /// Its line has arrived, `line` bytes long, and its block is awaited.
     AwaitsBlock {
         line: usize,
         header: Header,
     },
-    /// Its block is refused; so many bytes of it and of the two after it are still to come.
+    /// Its block is refused; `left` bytes of it and of the two after it are still to come.
     SwallowsBlock {
         refusal: WireNo,
         quiet: bool,
         left: u64,
     },
-    /// Nothing is read any more.
+    /// Nothing more is read.
     Ended,
 }
 
@@ -48,7 +48,7 @@ enum Sought {
     Open,
 }
 
-/// Searches the bytes after the first `searched` for the end of the first line.
+/// Searches for the end of the first line, which isn't in the first `searched` bytes.
 #[tactic(auto, using(crate::proofs::Lines::line_length_le))]
 fn find_line(bytes: &[u8], searched: usize) -> Sought
     requires { IsSearched searched bytes.now }
@@ -62,14 +62,14 @@ fn find_line(bytes: &[u8], searched: usize) -> Sought
     }
 }
 
-/// Whether nothing is read after the request.
+/// Returns whether nothing is read after the request.
 pub fn ends_stream(request: &Request) -> bool
     ensures { result ≡ ends_stream request.now }
 {
     matches!(request, Request::Quit | Request::TooLong)
 }
 
-/// The request of a block that has come whole, with the two bytes after it.
+/// Returns the request of a block that has arrived whole, with the two bytes after it.
 fn stored(header: Header, block: Data, ends_well: bool) -> Request
     ensures { result ≡ stored_if ends_well header block }
 {
@@ -82,7 +82,8 @@ fn stored(header: Header, block: Data, ends_well: bool) -> Request
     }
 }
 
-/// Copies a block out of the bytes after its line, and says whether the two bytes after the block are as they must be.
+/// Copies a block out of the bytes after its line, and returns with it whether the two bytes after
+/// it are a line end. Returns `Memory` if the allocation fails.
 fn copy_block(alloc: Global, size: usize, body: &[u8]) -> Result<(Data, bool), Fault>
     requires small { size ≤ DATA_BYTES }
     requires whole { length body.now ≡ size + 2 }
@@ -97,8 +98,10 @@ fn copy_block(alloc: Global, size: usize, body: &[u8]) -> Result<(Data, bool), F
     }
 }
 
-/// Takes a line and its block off the front, where the block has come whole with the two bytes after it. Gives a copy of
-/// the block, and whether those two are as they must be. Inlined, since a reader fed byte by byte asks after each.
+/// Removes a line and its block from the front, if the block has arrived whole with the two bytes
+/// after it. Returns a copy of the block, and whether those two are a line end. Returns `Memory` if
+/// the allocation fails; nothing is removed then. Inlined, since a reader fed byte by byte calls it
+/// after each.
 #[inline(always)]
 fn take_block(
     alloc: Global,
@@ -123,8 +126,8 @@ fn take_block(
     Ok(Some(copied))
 }
 
-/// Takes a line and what has come of its refused block and of the two bytes after it off the front. Gives how many of
-/// these are still to come.
+/// Removes a line from the front, with what has arrived of its refused block and of the two bytes
+/// after it. Returns how many of these are still to come.
 fn swallow(buffer: &mut Buffer, line: usize, size: u64) -> u64
     requires line_end { line < length buffer.old }
     requires readable { size ≤ BLOCK_LENGTH }
@@ -138,8 +141,8 @@ fn swallow(buffer: &mut Buffer, line: usize, size: u64) -> u64
     size + 2 - swallowed
 }
 
-/// Takes a request of `count` bytes off the front, and gives the state in which the reader goes on. At the end of the
-/// stream nothing is kept.
+/// Removes a request of `count` bytes from the front, and returns the state in which the reader
+/// goes on. At the end of the stream nothing is kept.
 fn move_on(buffer: &mut Buffer, count: usize, request: &Request) -> State
     requires { count ≤ length buffer.old }
     ensures state { result ≡ state_after request.now }
@@ -154,8 +157,9 @@ fn move_on(buffer: &mut Buffer, count: usize, request: &Request) -> State
     }
 }
 
-/// Looks for a request at the front of the bytes, whose line has this length. Gives it, if it is whole, and the state in
-/// which the reader goes on.
+/// Reads a request at the front of the bytes whose line has this length. Returns it, if it is
+/// whole, and the state in which the reader goes on. Returns `Memory` if an allocation fails;
+/// nothing is removed then.
 fn read_line(
     alloc: Global,
     buffer: &mut Buffer,
@@ -207,8 +211,9 @@ fn read_line(
     }
 }
 
-/// Looks for a request at the front of the bytes, where `searched` of them hold no line feed. Gives it, if it is whole,
-/// and the state in which the reader goes on.
+/// Reads a request at the front of the bytes, the first `searched` of which hold no line feed.
+/// Returns it, if it is whole, and the state in which the reader goes on. Returns `Memory` if an
+/// allocation fails; nothing is removed then.
 fn next_line(
     alloc: Global,
     buffer: &mut Buffer,
@@ -241,8 +246,8 @@ fn next_line(
 
 /// Reads requests from a stream that comes in pieces of any size.
 ///
-/// What is kept is bounded: of a line no more than it may have, of a block that is refused nothing, and of a block that is
-/// to be stored no more than has come.
+/// What is kept once `next` has returned `None` is bounded: of a line no more than it may have, of
+/// a refused block nothing, and of a block that is to be stored no more than has arrived.
 #[derive(Debug, Drop)]
 pub struct Reader {
     alloc: Global,
@@ -263,7 +268,7 @@ impl Model for Reader {
 }
 
 impl Reader {
-    /// A reader at the beginning of a stream. Needs no memory.
+    /// Returns a reader at the beginning of a stream. Allocates nothing.
     pub fn new(alloc: Global) -> Reader
         ensures { result.held ≡ Kept [] }
     {
@@ -274,7 +279,7 @@ impl Reader {
         }
     }
 
-    /// Whether nothing is read any more.
+    /// Returns whether nothing more is read.
     pub fn has_ended(&self) -> bool
         ensures { MatchBool result (self.now.held ≡ Ended) (self.now.held ≢ Ended) }
     {
@@ -286,7 +291,8 @@ impl Reader {
         }
     }
 
-    /// Takes the next piece of the stream. After the end it is dropped.
+    /// Takes the next piece of the stream; after the end it is dropped. Returns `Memory` if an
+    /// allocation fails; the piece isn't taken then.
     pub fn feed(&mut self, piece: &[u8]) -> Result<(), Fault>
         ensures readings { OnOk result (IsFed asked self.old.held piece.now self.new.held) }
         ensures memory { IsOkUnless result Fault.Memory }
@@ -314,21 +320,23 @@ impl Reader {
         }
     }
 
-    /// The next request, or `None` where no whole request is held.
+    /// Returns the next request, or `None` if no whole request is held. Returns `Memory` if an
+    /// allocation fails; nothing changes then.
     pub fn next(&mut self) -> Result<Option<Request>, Fault>
-        // Whatever follows, what was held reads as the request and then as what is held now; without a request, as
-        // before, and no request stood in it.
+        // Whatever follows, what was held reads as the request and then as what is held now.
+        // Without a request it reads as before, and there was no request in it.
         ensures answer { IfOk result (λ next. IsAnswer asked self.old.held next self.new.held) }
         ensures end { IfOk result (λ next. IfSome next (λ request. OnTrue (ends_stream request) (self.new.held ≡ Ended))) }
         ensures ended { self.old.held ≡ Ended → result ≡ Ok None × (self.new.held ≡ Ended) }
 
-        // Of a refused block only the length is kept; until all of it has come, and then for its request, no memory is needed.
+        // Of a refused block only the length is kept; until all of it has arrived, and then for its
+        // request, no memory is needed.
         ensures refused { (bytes : List ℕ) (request : Request) (left : ℕ) →
             self.old.held ≡ Kept bytes → EndsInRefusal asked bytes request left → OnOk result (self.new.held ≡ Swallowing request left []) }
         ensures swallowing { (request : Request) (left : ℕ) → self.old.held ≡ Swallowing request left [] → 0 < left → result ≡ Ok None × (self.new.held ≡ self.old.held) }
         ensures swallowed { (request : Request) (bytes : List ℕ) → self.old.held ≡ Swallowing request 0 bytes → result ≡ Ok (Some request) × (self.new.held ≡ Kept bytes) }
 
-        // Nor is any needed where no line has ended yet, or where the line is too long.
+        // Nor is any needed if no line has ended yet, or if the line is too long.
         ensures unended { (bytes : List ℕ) → self.old.held ≡ Kept bytes → IsUnended bytes → result ≡ Ok None × (self.new.held ≡ self.old.held) }
         ensures too_long { (text more : List ℕ) (request : Request) → self.old.held ≡ Kept (text ++ more) → IsTooLongText text request →
             result ≡ Ok (Some request) × (self.new.held ≡ Ended) }

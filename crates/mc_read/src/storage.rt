@@ -11,10 +11,10 @@ use mc_model::item::DATA_BYTES;
 use mc_model::{Fault, Key, Verb, WireNo, read_number};
 use std::alloc::Global;
 
-/// The words of a storage line after its name. Flags that are no number are left open.
+/// The words of a storage line after its name. Flags that aren't a number are `None`.
 #[derive(Clone, Copy)]
 struct StorageLine<'a> {
-    /// How the block is stored; left open where the unique of `cas` can't be read.
+    /// How the block is stored; `None` if the unique of `cas` can't be read.
     storage: Option<Storage>,
     key: &'a [u8],
     flags: Option<u32>,
@@ -24,7 +24,7 @@ struct StorageLine<'a> {
     last: Option<&'a [u8]>,
 }
 
-/// The flags, where the word is a number that they can be.
+/// Returns the flags, if the word is a number in their range.
 fn read_flags(word: &[u8]) -> Option<u32>
     ensures { result ≡ number_up_to FLAGS word.now }
 {
@@ -34,7 +34,7 @@ fn read_flags(word: &[u8]) -> Option<u32>
     }
 }
 
-/// Whether the value of the exptime is ignored, for the item's own stays.
+/// Returns whether the value of the exptime is ignored, because the item keeps its own.
 fn ignores_exptime(storage: Option<Storage>) -> bool
     ensures { result ≡ ignores_exptime storage }
 {
@@ -44,7 +44,7 @@ fn ignores_exptime(storage: Option<Storage>) -> bool
 impl StorageLine<'_> {
     ghost use Rattle.mc_read.specs.Words.{storage_line};
 
-    /// The refusal of the first check that fails, for a block of this length.
+    /// Returns the refusal of the first check that fails, for a block of this length.
     fn refusal(&self, length: u64) -> Option<WireNo>
         ensures { result ≡ first_failure (storage_checks (storage_line self.now) length) }
     {
@@ -64,7 +64,7 @@ impl StorageLine<'_> {
         }
     }
 
-    /// What the line asks for.
+    /// Returns what the line asks for. Returns `Memory` if an allocation fails.
     fn ask(&self, alloc: Global) -> Result<Asked, Fault>
         ensures asked { IfOk result (λ asked. asked ≡ asked_of_block (storage_line self.now)) }
         ensures lawful { IfOk result HasLawfulBlock }
@@ -94,7 +94,8 @@ impl StorageLine<'_> {
     }
 }
 
-/// What a line of `set`, `add`, `replace`, `append` or `prepend` asks for, by the words after its name.
+/// Returns what a line of `set`, `add`, `replace`, `append` or `prepend` asks for, given the words
+/// after its name. Returns `Memory` if an allocation fails.
 pub fn ask_storage(alloc: Global, verb: Verb, arguments: &[&[u8]]) -> Result<Asked, Fault>
     ensures asked { IfOk result (λ asked. asked ≡ asked_of_storage verb (map (λ word. word.now) arguments.now)) }
     ensures lawful { IfOk result HasLawfulBlock }
@@ -116,7 +117,8 @@ pub fn ask_storage(alloc: Global, verb: Verb, arguments: &[&[u8]]) -> Result<Ask
     line.ask(alloc)
 }
 
-/// What a line of `cas` asks for, by the words after its name.
+/// Returns what a line of `cas` asks for, given the words after its name. Returns `Memory` if an
+/// allocation fails.
 pub fn ask_cas(alloc: Global, arguments: &[&[u8]]) -> Result<Asked, Fault>
     ensures asked { IfOk result (λ asked. asked ≡ asked_of_cas (map (λ word. word.now) arguments.now)) }
     ensures lawful { IfOk result HasLawfulBlock }

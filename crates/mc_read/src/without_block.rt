@@ -1,4 +1,5 @@
-//! Lines without a block: `get`, `gets`, `delete`, `incr`, `decr`, `flush_all`, and names with no words after them.
+//! Lines without a block: `get`, `gets`, `delete`, `incr`, `decr`, `flush_all`, and names with no
+//! words after them.
 ghost use Rattle.std.specs.List.{list_all};
 ghost use Rattle.std.specs.Prelude.{◌≡◌, [], ◌∷◌, false, IfOk, IfSome, IsOkUnless, codes, is_some, map};
 ghost use Rattle.mc_model.specs.declared.command.Command.TheVariants.{Delete, Flush};
@@ -15,14 +16,15 @@ use crate::words::{is_exptime, is_noreply, is_word, is_zero};
 use mc_model::{Command, Fault, Key, KeyList, Reply, Request, WireNo, read_number};
 use std::alloc::Global;
 
-/// The line alone is this command.
+/// Wraps the command of a line without a block.
 fn logged(command: Command, quiet: bool) -> Asked
     ensures { result ≡ LineOnly (Logged command quiet) }
 {
     Asked::LineOnly(Request::Logged { command, quiet })
 }
 
-/// The keys of a retrieval, or `None` where a word is no lawful key.
+/// Returns the keys of a retrieval, or `None` if a word isn't a valid key. Returns `Memory` if an
+/// allocation fails.
 fn read_keys(alloc: Global, words: &[&[u8]]) -> Result<Option<Vec<Key>>, Fault>
     ensures lawful { IfOk result (λ keys. is_some keys ≡ list_all is_lawful_key (map (λ word. word.now) words.now)) }
     ensures keys { IfOk result (λ keys. IfSome keys (λ keys. keys.items ≡ map (λ word. word.now) words.now)) }
@@ -38,7 +40,8 @@ fn read_keys(alloc: Global, words: &[&[u8]]) -> Result<Option<Vec<Key>>, Fault>
     Ok(Some(keys))
 }
 
-/// What a retrieval asks for, by the words after its name.
+/// Returns what a retrieval asks for, given the words after its name. Returns `Memory` if an
+/// allocation fails.
 pub fn ask_retrieval(alloc: Global, uniques: bool, arguments: &[&[u8]]) -> Result<Asked, Fault>
     ensures asked { IfOk result (λ asked. asked ≡ asked_of_retrieval uniques (map (λ word. word.now) arguments.now)) }
     ensures memory { IsOkUnless result Fault.Memory }
@@ -55,7 +58,7 @@ pub fn ask_retrieval(alloc: Global, uniques: bool, arguments: &[&[u8]]) -> Resul
     }
 }
 
-/// The deletion of a key, where the words after it are lawful.
+/// Returns the deletion of a key, if the words after the key are valid.
 fn delete(alloc: Global, key: &[u8], are_lawful: bool, quiet: bool) -> Result<Asked, Fault>
     ensures asked { IfOk result (λ asked. asked ≡ asked_after ((are_lawful, E2) ∷ (is_lawful_key key.now, E2) ∷ []) (Delete key.now) quiet) }
     ensures memory { IsOkUnless result Fault.Memory }
@@ -69,7 +72,7 @@ fn delete(alloc: Global, key: &[u8], are_lawful: bool, quiet: bool) -> Result<As
     }
 }
 
-/// What a deletion asks for, by the words after its name.
+/// Returns what a deletion asks for, given the words after its name.
 fn ask_delete(alloc: Global, arguments: &[&[u8]]) -> Result<Asked, Fault>
     ensures asked { IfOk result (λ asked. asked ≡ asked_of_delete (map (λ word. word.now) arguments.now)) }
     ensures memory { IsOkUnless result Fault.Memory }
@@ -85,7 +88,7 @@ fn ask_delete(alloc: Global, arguments: &[&[u8]]) -> Result<Asked, Fault>
     }
 }
 
-/// A change of the number under a key.
+/// A change to the number under a key.
 #[derive(Clone, Copy, Debug, PartialEq, Eq)]
 pub enum Change {
     /// Adds.
@@ -95,7 +98,7 @@ pub enum Change {
 }
 
 impl Change {
-    /// The command that changes a key's number by so much.
+    /// Returns the command that changes a key's number by this much.
     fn command(self, key: Key, by: u64) -> Command
         ensures { result ≡ changed self key by }
     {
@@ -105,7 +108,7 @@ impl Change {
         }
     }
 
-    /// The change of a key's number by a delta, where the word after these is lawful.
+    /// Returns the change of a key's number by a delta, if the word after these is valid.
     fn ask(
         self,
         alloc: Global,
@@ -130,7 +133,7 @@ impl Change {
     }
 }
 
-/// What a line of `incr` or `decr` asks for, by the words after its name.
+/// Returns what a line of `incr` or `decr` asks for, given the words after its name.
 fn ask_change(alloc: Global, change: Change, arguments: &[&[u8]]) -> Result<Asked, Fault>
     ensures asked { IfOk result (λ asked. asked ≡ asked_of_change change (map (λ word. word.now) arguments.now)) }
     ensures memory { IsOkUnless result Fault.Memory }
@@ -142,7 +145,7 @@ fn ask_change(alloc: Global, change: Change, arguments: &[&[u8]]) -> Result<Aske
     }
 }
 
-/// The emptying of the table, where the exptime is lawful.
+/// Returns a flush of the table, if the exptime is valid.
 fn flush(exptime: &[u8], quiet: bool) -> Asked
     ensures asked { result ≡ asked_after (exptime_checks exptime.now) Flush quiet }
     ensures lawful { HasLawfulBlock result }
@@ -156,7 +159,7 @@ fn flush(exptime: &[u8], quiet: bool) -> Asked
     }
 }
 
-/// What a line of `flush_all` asks for, by the words after its name.
+/// Returns what a line of `flush_all` asks for, given the words after its name.
 fn ask_flush(arguments: &[&[u8]]) -> Asked
     ensures asked { result ≡ asked_of_flush (map (λ word. word.now) arguments.now) }
     ensures lawful { HasLawfulBlock result }
@@ -171,7 +174,7 @@ fn ask_flush(arguments: &[&[u8]]) -> Asked
     }
 }
 
-/// What a name that has no arguments asks for; `arguments` are the words after it.
+/// Returns what a name without arguments asks for; `arguments` are the words after it.
 fn ask_name(request: Request, arguments: &[&[u8]]) -> Asked
     ensures { result ≡ asked_of_name request (map (λ word. word.now) arguments.now) }
 {
@@ -182,8 +185,9 @@ fn ask_name(request: Request, arguments: &[&[u8]]) -> Asked
     }
 }
 
-/// What a line asks for whose name stores nothing, reads nothing and counts nothing. Apart from the other names, since a function
-/// clears the room for what each of its calls answers.
+/// Returns what a line asks for whose name stores nothing, reads nothing and counts nothing. Kept
+/// apart from the other names, since a function clears the stack space for what each of its calls
+/// returns.
 fn ask_others(alloc: Global, name: &[u8], arguments: &[&[u8]]) -> Result<Asked, Fault>
     ensures asked { IfOk result (λ asked. asked ≡ asked_of_others name.now (map (λ word. word.now) arguments.now)) }
     ensures lawful { IfOk result HasLawfulBlock }
@@ -208,7 +212,8 @@ fn ask_others(alloc: Global, name: &[u8], arguments: &[&[u8]]) -> Result<Asked, 
     }
 }
 
-/// What a line asks for whose name stores nothing and isn't `get`, by the words after it.
+/// Returns what a line asks for whose name stores nothing and isn't `get`, given the words after
+/// it. Returns `Memory` if an allocation fails.
 pub fn ask_without_block(alloc: Global, name: &[u8], arguments: &[&[u8]]) -> Result<Asked, Fault>
     requires { is_word name.now (codes "get") ≡ false }
     ensures asked { IfOk result (λ asked. asked ≡ asked_without_block name.now (map (λ word. word.now) arguments.now)) }

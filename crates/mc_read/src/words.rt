@@ -9,7 +9,7 @@ use memchr::memchr;
 use smallvec::SmallVec;
 use std::alloc::Global;
 
-/// The line without the one carriage return that may stand at its end.
+/// Returns the line without a carriage return at its end, of which at most one is removed.
 fn without_return(line: &[u8]) -> &[u8]
     ensures { result.now ≡ without_return line.now }
 {
@@ -19,7 +19,8 @@ fn without_return(line: &[u8]) -> &[u8]
     }
 }
 
-/// What stands before the first space, and what stands after it: all and nothing where there is no space.
+/// Returns what comes before the first space and what comes after it; everything and nothing if
+/// there is no space.
 fn split_at_space(text: &[u8]) -> (&[u8], &[u8])
     ensures front { result.0.now ≡ before_first is_space text.now }
     ensures back { result.1.now ≡ after_first is_space text.now }
@@ -30,10 +31,11 @@ fn split_at_space(text: &[u8]) -> (&[u8], &[u8])
     }
 }
 
-/// How many words the longest line has that isn't a retrieval; one has as many as it will.
+/// The number of words in the longest line that isn't a retrieval; a retrieval has any number.
 pub const STORAGE_WORDS: usize = 7;
 
-/// The line's words, which runs of spaces separate. So many as a storage line has need no memory.
+/// Returns the line's words, separated by runs of spaces. As many as a storage line has need no
+/// allocation. Returns `Memory` if an allocation fails.
 pub fn words(alloc: Global, line: &[u8]) -> Result<SmallVec<&[u8], STORAGE_WORDS>, Fault>
     ensures words { IfOk result (λ found. map (λ word. word.now) found.items ≡ words line.now) }
     ensures memory { IsOkUnless result Fault.Memory }
@@ -50,21 +52,21 @@ pub fn words(alloc: Global, line: &[u8]) -> Result<SmallVec<&[u8], STORAGE_WORDS
     Ok(found)
 }
 
-/// Whether the word is this name, byte for byte.
+/// Returns whether the word is this name, byte for byte.
 pub fn is_word(word: &[u8], name: &[u8]) -> bool
     ensures { result ≡ is_word word.now name.now }
 {
     word == name
 }
 
-/// Whether the word asks for no reply.
+/// Returns whether the word asks for no reply.
 pub fn is_noreply(word: &[u8]) -> bool
     ensures { result ≡ is_noreply word.now }
 {
     is_word(word, b"noreply")
 }
 
-/// An exptime without its sign.
+/// Returns an exptime without its sign.
 fn without_minus(word: &[u8]) -> &[u8]
     ensures { result.now ≡ without_minus word.now }
 {
@@ -74,14 +76,14 @@ fn without_minus(word: &[u8]) -> &[u8]
     }
 }
 
-/// Whether each byte is a decimal digit.
+/// Returns whether each byte is a decimal digit.
 fn are_digits(bytes: &[u8]) -> bool
     ensures { result ≡ list_all is_ascii_digit bytes.now }
 {
     bytes.iter().all(|byte| byte.is_ascii_digit())
 }
 
-/// Whether the word is an exptime: an optional minus and one or more digits, of any count.
+/// Returns whether the word is an exptime: an optional minus and one or more digits, of any count.
 #[tactic(auto, using(crate::proofs::WordTests::all_ascii_digits_by_test))]
 pub fn is_exptime(word: &[u8]) -> bool
     ensures { result ≡ is_exptime word.now }
@@ -90,7 +92,7 @@ pub fn is_exptime(word: &[u8]) -> bool
     !digits.is_empty() && are_digits(digits)
 }
 
-/// Whether the digits of the exptime are all 0.
+/// Returns whether the digits of the exptime are all 0.
 pub fn is_zero(word: &[u8]) -> bool
     ensures { result ≡ is_zero word.now }
 {

@@ -1,4 +1,5 @@
--- What an entry that is nobody's does to a list of tables, and what they stand for after a sighting.
+-- What an entry that is nobody's does to a list of tables, and what they stand for after a
+-- sighting.
 use Rattle.std.proofs.Common.{◌≡◌, ℕ, ◌≤◌, List, [], ◌∷◌, ◌++◌, length, Option, Some, None, true, false, refl, sym, ap, ap₂, subst, ◌∙◌, arith, slice_get, ◌==◌, if◌then◌else◌}
 use Rattle.std.proofs.lemmas.Bool.Decides.{nat_tests}
 use Rattle.std.proofs.lemmas.Iterator.Adapters.{option_map_id}

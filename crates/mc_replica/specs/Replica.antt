@@ -1,4 +1,4 @@
--- What a replica is to contracts: this project's profile.
+-- Replicas as contracts see them: this project's profile.
 use Rattle.std.specs.Prelude.{◌≡◌, ℕ, ◌≤◌, false, List, [], ◌∷◌, ◌++◌, length, Option, Some, Result, IfSome, IsOk, IsOkUnless, OnErr, OnOk, refl, slice_get}
 use Rattle.std.specs.Coded.{Coded, code_by, coded×, coded_ℕ, coded_list}
 use Rattle.mc_model.specs.declared.request.Entry.{Entry}
@@ -10,17 +10,17 @@ use Rattle.mc_model.specs.Replay.{EachStands, HaveRoom, IsNobodys, IsRefused, Ta
 use Rattle.mc_model.specs.State.{TableState, coded_state}
 use Rattle.uc_cells.specs.Sighting.{Sighting, coded_sighting, entries}
 
--- the entry that was seen; one of another ticket counts as absent already
+-- the entry that was seen; an entry of another ticket already counts as absent
 abbrev pub entry_of : Sighting → Option Entry
 entry_of seen = seen.entry
 
--- at each place both histories have a sighting of one ticket in one row, if both reach it
+-- at each place that both histories reach, they have sightings of the same ticket in the same row
 abbrev pub SameCells : List Sighting → List Sighting → Type 0
 SameCells ones others = (place : ℕ) (one other : Sighting) → slice_get ones place ≡ Some one → slice_get others place ≡ Some other →
     (one.ticket ≡ other.ticket) × (one.row ≡ other.row)
 
--- whose it is, how many places its history may have, each tenant's table as it was opened, what was seen of the places, and each
--- tenant's table
+-- its worker, how many places its history may have, each tenant's table as it was opened, what was
+-- seen of the places, and each tenant's table
 pub record ReplicaState : Type 0 where
   pub worker : ℕ
   pub places : ℕ
@@ -35,16 +35,17 @@ coded_replica =
     (λ r. (r.worker, (r.places, (r.openings, (r.history, r.tables)))))
     (λ p. record { worker = p.0; places = p.1.0; openings = p.1.1.0; history = p.1.1.1.0; tables = p.1.1.1.1 }) (λ _. refl)
 
--- what is true of a replica's fields at all times, where its history has room for so many sightings
+-- what holds of a replica's fields at all times, if its history has capacity for `room` sightings
 pub record IsInOrder (places room : ℕ) (openings : List TableState) (history : List Sighting) (tables : List TableState) : Type 0 where
   pub few : length history ≤ places
   pub reserved : places ≤ room
   pub uniques : HaveRoom openings places
   pub stands : EachStands openings (entries history) tables
 
--- what the replay of one more place does, where this was seen there and the asker is answered. A table takes its own tenant's command
--- alone, and all others are equal to what they were. An entry that is nobody's changes no table, and counts as refused; what is refused
--- needs no memory, nor does what takes out, nor a retrieval that isn't the asker's own. Where memory runs out nothing changes.
+-- what the replay of one more place does, if this was seen there and the asker is answered. Each
+-- table takes its own tenant's command alone. An entry that is nobody's changes no table, and
+-- counts as refused; a refused command needs no memory, nor does one that only removes keys, nor a
+-- retrieval that isn't the asker's own. At `Memory` nothing changes.
 pub record Replays {A : Type 0} (asker : Option ℕ) (seen : Sighting) (old new : ReplicaState) (result : Result A Fault) : Type 0 where
   pub history : OnOk result (new.history ≡ old.history ++ seen ∷ [])
   pub tables : OnOk result (TakeEffect seen.entry old.tables new.tables)

@@ -7,9 +7,10 @@ ghost use Rattle.uc_cells.specs.Sighting.{entries};
 
 use crate::Replica;
 
-/// Two replicas whose histories have the same own commands of a tenant, and that opened it over the same table, have
-/// equal tables of it, whatever other tenants there are and whatever those did; and the replies to one and the same next entry
-/// of the tenant are equal. So replicas of one history that were opened over the same tables have equal tables.
+/// Two replicas whose histories have the same own commands of a tenant, and that opened the tenant
+/// over the same table, have equal tables of it, whatever other tenants there are and whatever
+/// those did; and the replies to one and the same next entry of the tenant are equal. So replicas
+/// of one history that were opened over the same tables have equal tables.
 pub fn replicas_agree(one: &Replica<'_>, other: &Replica<'_>)
     ensures tables { (tenant : ℕ) →
         own tenant (entries one.now.history) ≡ own tenant (entries other.now.history) →

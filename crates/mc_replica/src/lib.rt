@@ -1,4 +1,5 @@
-//! All tenants' tables as one worker keeps them: the log's history replayed, each entry on its own tenant's table.
+//! All tenants' tables as one worker keeps them: the log's history, with each entry replayed on its
+//! own tenant's table.
 #![tactic(auto)]
 
 pub use replica::Replica;

@@ -1,4 +1,5 @@
-//! A worker's replica of the shared log: what it has seen of the log's places, replayed on tables of its own.
+//! A worker's replica of the shared log: what it has seen of the log's places, replayed on its own
+//! tables.
 ghost use Rattle.std.specs.Prelude.{◌≡◌, ◌≢◌, ◌<◌, ◌≤◌, ◌↔◌, [], ◌∷◌, ◌++◌, length, Some, slice_get, IfOk, IfSome, OnOk, OnErr, IsOk, IsOkUnless, IsTrue};
 ghost use Rattle.std.specs.Option.{option_map};
 ghost use Rattle.mc_model.specs.History.{state_from};
@@ -15,16 +16,16 @@ use std::alloc::Global;
 use std::marker::Model;
 use uc_cells::Seen;
 
-/// The tables of all tenants, after what one worker has seen of the log.
+/// The tables of all tenants after what one worker has seen of the log.
 #[derive(Drop)]
 pub struct Replica<'a> {
     worker: WorkerId,
     places: u64,
     /// The quotas that each tenant's table was opened with.
     limits: Vec<Limits>,
-    /// Has room for all places from its opening on.
+    /// Has capacity for all places from its opening on.
     history: Vec<Seen<'a>>,
-    /// One table a tenant, by the tenants' numbers.
+    /// One table per tenant, indexed by tenant number.
     tables: Vec<Items>,
 }
 
@@ -43,8 +44,9 @@ impl<'a> Model for Replica<'a> {
 }
 
 impl<'a> Replica<'a> {
-    /// A replica of this worker that has seen nothing, with an empty table for each tenant's quotas. Room for a history of
-    /// so many places is reserved here, once. Where memory runs out: `Memory`.
+    /// Returns this worker's replica, which has seen nothing, with an empty table for each tenant's
+    /// quotas. The history's capacity, `places`, is reserved here, once. Returns `Memory` if an
+    /// allocation fails.
     pub fn open(
         alloc: Global,
         worker: WorkerId,
@@ -71,10 +73,11 @@ impl<'a> Replica<'a> {
         })
     }
 
-    /// Puts what was seen at the next place at the end of the history, and does what its entry says to its tenant's table. An
-    /// absent entry, or one whose tenant isn't among the tables, belongs to nobody and changes no table. The answer comes
-    /// where the entry is this worker's own; a command of another worker is applied without one. Where memory runs out:
-    /// `Memory`, and nothing changes; the history itself never needs any.
+    /// Appends what was seen at the next place to the history, and carries out its entry on its
+    /// tenant's table. An absent entry, or one whose tenant has no table, belongs to nobody and
+    /// changes no table. Returns the reply if the entry is this worker's own; a command of another
+    /// worker is applied without one. Returns `Memory` if an allocation fails; nothing changes
+    /// then. The history itself never allocates.
     pub fn replay(&mut self, seen: Seen<'a>) -> Result<Option<Reply>, Fault>
         requires { length self.old.history < self.old.places }
         ensures reply { IfOk result (λ reply.
@@ -85,9 +88,9 @@ impl<'a> Replica<'a> {
         self.replay_for(Some(worker), seen)
     }
 
-    /// Puts what was seen at the next place at the end of the history, and does what its entry says to its tenant's table, as
-    /// `replay` does, but answers nobody: so a retrieval needs no memory, however large its reply would be. Where memory runs
-    /// out: `Memory`, and nothing changes.
+    /// Appends what was seen at the next place and carries out its entry as `replay` does, without
+    /// a reply: so a retrieval needs no memory, however large its reply would be. Returns `Memory`
+    /// if an allocation fails; nothing changes then.
     pub fn advance(&mut self, seen: Seen<'a>) -> Result<(), Fault>
         requires { length self.old.history < self.old.places }
         ensures { Replays None seen.entry self.old self.new result }
@@ -96,7 +99,7 @@ impl<'a> Replica<'a> {
         Ok(())
     }
 
-    /// Replays the next place, and answers the asker where the entry is its own.
+    /// Replays the next place, and returns the reply if the entry is the asker's own.
     fn replay_for(
         &mut self,
         asker: Option<WorkerId>,
@@ -112,7 +115,7 @@ impl<'a> Replica<'a> {
         Ok(reply)
     }
 
-    /// What was seen at each place that was replayed.
+    /// Returns what was seen at each place that was replayed.
     pub fn history(&self) -> &[Seen<'a>]
         ensures history { result.now ≡ self.now.history }
         ensures few { length self.now.history ≤ self.now.places }
@@ -121,15 +124,15 @@ impl<'a> Replica<'a> {
         self.history.as_slice()
     }
 
-    /// How many places were replayed.
+    /// Returns the number of places that were replayed.
     pub fn len(&self) -> usize
         ensures { result ≡ length self.now.history }
     {
         self.history().len()
     }
 
-    /// Two histories of the same cells are equal, whichever threads saw them, and so are the tables that were opened over the same
-    /// tables. Needs no memory.
+    /// Establishes that two histories of the same cells are equal, whichever threads saw them, and
+    /// that so are their tables if they were opened over the same tables. Allocates nothing.
     pub fn agree(&mut self, other: &mut Replica<'_>)
         requires long { length self.old.history ≡ length other.old.history }
         requires cells { SameCells self.old.history other.old.history }
@@ -141,7 +144,7 @@ impl<'a> Replica<'a> {
         agree_all(self.history.as_mut_slice(), other.history.as_mut_slice());
     }
 
-    /// The tenant's table.
+    /// Returns the tenant's table.
     pub fn table(&self, tenant: TenantId) -> &Items
         requires { tenant < length self.now.tables }
         ensures table { slice_get self.now.tables tenant ≡ Some result.now }
@@ -150,21 +153,21 @@ impl<'a> Replica<'a> {
         &self.tables[usize::from(tenant.number())]
     }
 
-    /// Whether the tenant is among the tables.
+    /// Returns whether the tenant has a table.
     pub fn has_tenant(&self, tenant: TenantId) -> bool
         ensures { IsTrue result ↔ (tenant < length self.now.tables) }
     {
         usize::from(tenant.number()) < self.tables.len()
     }
 
-    /// Whether there is a place that wasn't replayed.
+    /// Returns whether there is a place that wasn't replayed.
     pub fn has_place(&self) -> bool
         ensures { IsTrue result ↔ (length self.now.history < self.now.places) }
     {
         (self.history.len() as u64) < self.places
     }
 
-    /// Whose replica this is.
+    /// Returns the worker whose replica this is.
     pub fn worker(&self) -> WorkerId
         ensures { result ≡ self.now.worker }
     {
@@ -172,14 +175,14 @@ impl<'a> Replica<'a> {
         *worker
     }
 
-    /// The quotas that each tenant's table was opened with, by the tenants' numbers.
+    /// Returns the quotas that each tenant's table was opened with, indexed by tenant number.
     pub fn limits(&self) -> &[Limits]
         ensures { self.now.openings ≡ empty_tables result.now }
     {
         self.limits.as_slice()
     }
 
-    /// How many places its history may have.
+    /// Returns the number of places that its history may have.
     pub fn places(&self) -> u64
         ensures { result ≡ self.now.places }
     {
@@ -188,7 +191,7 @@ impl<'a> Replica<'a> {
     }
 }
 
-/// Sightings of the same cells are equal, place by place.
+/// Establishes that sightings of the same cells are equal, place by place.
 fn agree_all(ones: &mut [Seen<'_>], others: &mut [Seen<'_>])
     requires long { length ones.old ≡ length others.old }
     requires cells { SameCells ones.old others.old }

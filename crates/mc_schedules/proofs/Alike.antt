@@ -1,4 +1,5 @@
--- A list does one thing, but for want of memory: its events are told by what stands, and each leads one way.
+-- A list does one thing, unless it runs out of memory: the state determines its events, and each
+-- leads one way.
 use Rattle.std.proofs.Common.{◌≡◌, inl, inr, ℕ, zero, suc, List, [], ◌∷◌, ◌++◌, Some, None, refl, sym, ap, ap₂, subst, ◌∙◌, unwrap_or}
 use Rattle.std.proofs.lemmas.Option.{none-some, same_Some}
 use Rattle.mc_model.specs.declared.fault.Fault.{Fault}
@@ -15,7 +16,8 @@ use Rattle.mc_schedules.specs.declared.schedule.Item.{Item}
 use Rattle.mc_schedules.specs.Doing.{Acts, Doing, DoesAll, Ending, Finishes, RanOut, Takes, Then}
 use Rattle.mc_schedules.proofs.Joined.{AreRuns, acting_runs, reached-on, taking_runs}
 
--- from a core that some run has led to, one and the other do the same where neither wants memory
+-- from a core that some run has led to, one and the other do the same where neither runs out of
+-- memory
 abbrev pub AreAlike : Doing → Doing → Type 0
 AreAlike one two = (old new other : CoreState) (given other_given : List Given) (end other_end : Ending) → IsReachedCore old →
     one old new given end → two old other other_given other_end → ¬ RanOut end → ¬ RanOut other_end →
@@ -25,7 +27,7 @@ AreAlike one two = (old new other : CoreState) (given other_given : List Given) 
 not_out : ¬ RanOut None
 not_out out = none-some (out.0, Memory) out.1
 
--- an event that leads on meets no fault but want of memory
+-- an event that leads on meets no fault but `Memory`
 only_memory : (old new : CoreState) (event : Event) (line : ℕ) (given other_given : List Given) (other : CoreState) (met : ℕ × Fault) →
     IsReachedCore old →
     Takes line event old new given None → Takes line event old other other_given (Some met) → RanOut (Some met)
@@ -91,7 +93,7 @@ acting_alike line (action.Submit number tenant command) old new other given othe
     (taking_runs line event) (taking_alike line event) (finishing_alike does.0 also.0 line number) in
     alike old new other given other_given end other_end reached does.1 also.1 stays other_stays
 
--- A list has one outcome, but for want of memory.
+-- A list has one outcome, unless it runs out of memory.
 pub all_alike : (items : List Item) → AreAlike (DoesAll items) (DoesAll items)
 all_alike [] old new other given other_given end other_end reached does also stays other_stays =
     (does.0 ∙ sym also.0, does.1 ∙ sym also.1, does.2 ∙ sym also.2)

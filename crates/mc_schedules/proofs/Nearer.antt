@@ -1,4 +1,4 @@
--- Each event that a worker needs lessens how many it can need.
+-- Each event that a worker needs decreases how many it can need.
 use Rattle.std.proofs.Common.{◌≡◌, ◌≢◌, ℕ, ◌+◌, ◌-◌, ◌*◌, ◌<◌, ◌≤◌, Bool, true, false, not, ◌&&◌, [], ◌∷◌, length, length-append, ltb, Option, Some, None, is_some, if◌then◌else◌, slice_get, unwrap_or, refl, sym, ap, ap₂, subst, ◌∙◌, arith}
 use Rattle.std.proofs.lemmas.Bool.{false≢true}
 use Rattle.std.proofs.lemmas.Bool.Decides.{nat_tests}
@@ -80,7 +80,7 @@ after_learning places replayed learned phase false worker is same more room =
 
 module _ (core new : CoreState) (number : ℕ) (worker : WorkerState) (replay : ReplayState)
     (shown : IsWorker core.shown number worker) (replays : slice_get core.replays number ≡ Some replay) where
-  -- one event lessens how many it can need
+  -- one event decreases how many it can need
   abbrev Lessens : Type 0
   Lessens = most_needed new number < most_needed core number
 
@@ -173,7 +173,8 @@ is_read : (mark : Option ℕ) (room : Bool) → (not (is_some mark) && room) ≡
 is_read None room is = (refl, is)
 is_read (Some place) room is = absurd (false≢true is)
 
--- Each event that a worker needs, taken from a core that some run has led to, lessens how many events it can need.
+-- Each event that a worker needs, taken from a core that some run has led to, decreases how many
+-- events it can need.
 pub nearer : (core new : CoreState) (number : ℕ) (event : Event) (reply : Option Reply) →
     IsReachedCore core → needed core number ≡ Some event → CoreStep core event new reply → most_needed new number < most_needed core number
 nearer core new number event reply reached needs step = by_phase its.worker.phase refl its.event_is

@@ -1,5 +1,5 @@
--- What is done so far, seen from its end: whatever the rest does from here, the whole does from the start, with the replies so far
--- before the rest's.
+-- What is done so far, seen from its end: whatever the rest does from here, the whole does from the
+-- start, with the replies so far before the rest's.
 use Rattle.std.proofs.Common.{◌≡◌, inl, inr, ℕ, suc, List, [], ◌∷◌, ◌++◌, Some, None, Result, Ok, Err, refl, sym, ap, subst, ◌∙◌}
 use Rattle.std.proofs.lemmas.List.{append-nil, append_assoc}
 use Rattle.mc_model.specs.declared.fault.Fault.{Fault}
@@ -10,7 +10,7 @@ use Rattle.mc_schedules.specs.declared.schedule.Item.{Item}
 use Rattle.mc_schedules.specs.Doing.{Acts, Did, DoesAll, Ending, Finishes, Takes}
 use Rattle.mc_schedules.specs.Needed.{needed}
 
--- Of a worker's events: so many are taken that however it finishes from here, it finishes from the start.
+-- Some of a worker's events are taken: however it finishes from here, it finishes from the start.
 abbrev pub Finishing : ℕ → ℕ → CoreState → CoreState → List Given → List Given → Type 0
 Finishing line number start now before after = (given : List Given) × (after ≡ before ++ given)
     × ((events : ℕ) (new : CoreState) (later : List Given) (end : Ending) → Finishes events line number now new later end →
@@ -50,7 +50,8 @@ module _ (line number : ℕ) (start now : CoreState) (before after : List Given)
       let all = so_far.2 0 now [] None (none, (refl, refl, refl)) in
       (all.0, (so_far.0 ++ [], all.1, so_far.1 ∙ ap (λ (them : List Given). before ++ them) (sym (append-nil so_far.0))))
 
--- Of the lines: those before the rest are done, so that whatever the rest does from here, they all do from the start.
+-- Of the lines: those before the rest are done, so that whatever the rest does from here, they all
+-- do from the start.
 abbrev pub Doings : List Item → List Item → CoreState → CoreState → List Given → List Given → Type 0
 Doings all rest start now before after = (given : List Given) × (after ≡ before ++ given)
     × ((new : CoreState) (later : List Given) (end : Ending) → DoesAll rest now new later end → DoesAll all start new (given ++ later) end)

@@ -1,4 +1,5 @@
--- Worked lists, tried on the definitions: what they read as, what a worker needs, and what is printed.
+-- Worked lists, tried on the definitions: what they read as, what a worker needs, and what is
+-- printed.
 use Rattle.std.specs.Prelude.{◌≡◌, [], ◌∷◌, Some, None, codes, refl}
 use Rattle.std.specs.Fmt.{digits}
 use Rattle.mc_model.specs.declared.fault.Fault.TheVariants.{BadEvent, LogFull}
@@ -10,7 +11,7 @@ use Rattle.mc_schedules.specs.Schedule.{BadLine, reading}
 use Rattle.uc_core.specs.declared.event.Event.TheVariants.{Look, Propose, Read, Replay}
 use Rattle.uc_core.specs.declared.machine.Progress.{Progress}
 
--- a line of no form, one out of its place, and a list without tenants
+-- a line of no known form, one out of its place, and a list without tenants
 no_form : reading (codes "core 1 4\ntenant 4 100\njump 0\n") ≡ BadLine 3
 no_form = refl
 

@@ -14,7 +14,7 @@ use Rattle.mc_schedules.specs.Report.{worker_line, workers_text}
 abbrev pub text_of : CoreState → ℕ → List ℕ
 text_of core number = option_map_or (worker_line number) (progress_by core number) []
 
--- what is printed of the first so many workers
+-- what is printed of the first `number` workers
 abbrev pub first_text : CoreState → ℕ → List ℕ
 first_text core number = flat_map (λ (one : ℕ × WorkerState). text_of core one.0) (take number (enumerate_from 0 core.shown.workers))
 
@@ -33,7 +33,7 @@ module _ (core : CoreState) (number : ℕ) where
       let at = ap (λ (one : ℕ × WorkerState). one.0) (get_or-enumerate_from 0 core.shown.workers number (0, nobody) below) in
       omega (arith, at)
 
-  -- the next worker's line stands behind those of the workers before it
+  -- the next worker's line comes after those of the workers before it
   pub one_more : (start : List ℕ) → number < length core.shown.workers
       → (start ++ first_text core number) ++ text_of core number ≡ start ++ first_text core (number + 1)
   one_more start below =

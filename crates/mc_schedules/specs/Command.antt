@@ -1,5 +1,5 @@
--- The commands of an event list: one function of the words of each. They are memcached's, in one line each, with the data as
--- a word; this form is this project's profile.
+-- The commands of an event list: one function of the words of each. They are memcached's, one line
+-- each, with the data as a word; this form is this project's profile.
 use Rattle.std.specs.Prelude.{ℕ, Bool, true, false, ◌&&◌, nat_lt, nat_le, if◌then◌else◌, List, [], ◌∷◌, length, Option, Some, None, option_map, codes}
 use Rattle.std.specs.List.{list_all}
 use Rattle.mc_model.specs.declared.command.Command.{Command}
@@ -14,18 +14,19 @@ use Rattle.mc_model.specs.Number.{number_up_to}
 use Rattle.mc_read.specs.Word.{is_word}
 use Rattle.mc_schedules.specs.declared.command.TheConstants.{FLAGS, NUMBER}
 
--- a visible byte of ASCII
+-- a byte of visible ASCII
 abbrev pub is_data_byte : ℕ → Bool
 is_data_byte byte = nat_lt 32 byte && nat_lt byte 127
 
--- the data that a word stands for: a point for none, and visible bytes for themselves; as many as a block may have
+-- the data that a word stands for: a dot for none, visible bytes for themselves, at most as many as
+-- a block may have
 abbrev pub data_of : List ℕ → Option Data
 data_of word =
     if is_word word (codes ".") then Some []
     else if nat_le (length word) DATA_BYTES && list_all is_data_byte word then Some word
     else None
 
--- a storage command, where each of its words can be read
+-- a storage command, if each of its words can be read
 abbrev pub storing : Verb → Option Key → Option ℕ → Option Data → Option Command
 storing verb (Some key) (Some flags) (Some block) = Some (Store verb key flags block)
 storing verb key flags block = None
@@ -68,7 +69,7 @@ abbrev pub flush_of : List (List ℕ) → Option Command
 flush_of [] = Some Flush
 flush_of arguments = None
 
--- by the name of the command, byte for byte
+-- a command, by its name, byte for byte
 abbrev pub command_of : List (List ℕ) → Option Command
 command_of [] = None
 command_of (name ∷ arguments) =

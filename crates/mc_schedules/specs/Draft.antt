@@ -7,12 +7,12 @@ abbrev pub option_list : {X : Type 0} → Option X → List X
 option_list None = []
 option_list (Some value) = value ∷ []
 
--- what the core line, the tenant lines and the other lines among them say
+-- the draft holds what the core line, the tenant lines and the other lines among these say
 pub record IsDraftOf (draft : Draft) (before : List Statement) : Type 0 where
   pub core : option_list draft.core ≡ cores before
   pub tenants : draft.tenants.items ≡ tenants before
   pub items : draft.items.items ≡ items before
 
--- one more line has come, which is in its place
+-- the next draft has one more line, if the line is in its place
 abbrev pub IsNext : Draft → Statement → Draft → Type 0
 IsNext draft one next = (before : List Statement) → IsDraftOf draft before → is_in_place before one.1 ≡ true → IsDraftOf next (before ++ one ∷ [])

@@ -16,7 +16,7 @@ use Rattle.mc_schedules.specs.Command.{command_of}
 abbrev pub is_line_feed : ℕ → Bool
 is_line_feed byte = byte == 10
 
--- what line feeds separate; behind a last line feed stands a line of no bytes, which says nothing
+-- what line feeds separate; after a last line feed there is a line of no bytes, which says nothing
 abbrev pub lines : List ℕ → List (List ℕ)
 lines bytes = slice_split is_line_feed bytes
 
@@ -33,7 +33,7 @@ abbrev pub both : Option ℕ → Option ℕ → Option (ℕ × ℕ)
 both (Some one) (Some other) = Some (one, other)
 both one other = None
 
--- two numbers of any size that 64 bits hold
+-- two numbers of at most 64 bits
 abbrev pub pair_of : List (List ℕ) → Option (ℕ × ℕ)
 pair_of (one ∷ other ∷ []) = both (number_up_to NUMBER one) (number_up_to NUMBER other)
 pair_of arguments = None
@@ -59,7 +59,7 @@ event one = ToDo (action.Event one)
 abbrev pub step_of : (ℕ → Event) → List (List ℕ) → Option Said
 step_of step arguments = option_map (λ worker. event (step worker)) (worker_of arguments)
 
--- by its first word, byte for byte; none where the line is of no form
+-- what a line says, by its first word, byte for byte; `None` if it has no known form
 abbrev pub said_by : List (List ℕ) → Option Said
 said_by [] = Some Nothing
 said_by (name ∷ arguments) =

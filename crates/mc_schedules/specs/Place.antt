@@ -1,4 +1,4 @@
--- Which lines may follow which: first the core line, then 1 to 64 tenant lines, then what is to be done.
+-- Which lines may follow which: first the core line, then 1 to 64 tenant lines, then the actions.
 use Rattle.std.specs.Prelude.{ℕ, Bool, true, false, ◌&&◌, not, nat_lt, if◌then◌else◌, List, [], ◌∷◌, ◌++◌, length, map, Option, Some, None, filter_map}
 use Rattle.std.specs.List.{enumerate_from}
 use Rattle.mc_model.specs.declared.settings.Limits.{Limits}
@@ -8,7 +8,7 @@ use Rattle.mc_schedules.specs.declared.schedule.Item.{Item}
 use Rattle.mc_model.specs.declared.id.TheConstants.{TENANTS}
 use Rattle.mc_schedules.specs.Line.{lines, said}
 
--- a line's number, from 1, and what it says; none where it is of no form
+-- a line's number, from 1, and what it says; `None` if it has no known form
 abbrev pub Statement : Type 0
 Statement = ℕ × Option Said
 
@@ -18,7 +18,7 @@ statement line = (line.0, said line.1)
 abbrev pub statements : List (List ℕ) → List Statement
 statements lines = map statement (enumerate_from 1 lines)
 
--- how many workers and places a core line names
+-- the number of workers and places that a core line names
 abbrev pub core_said : Option Said → Option (ℕ × ℕ)
 core_said (Some (Core workers places)) = Some (workers, places)
 core_said other = None
@@ -28,7 +28,7 @@ abbrev pub tenant_said : Option Said → Option Limits
 tenant_said (Some (Tenant limits)) = Some limits
 tenant_said other = None
 
--- what a line asks to be done
+-- what a line asks for
 abbrev pub item_said : ℕ → Option Said → Option Item
 item_said line (Some (ToDo action)) = Some (record { line = line; action = action })
 item_said line other = None
@@ -45,8 +45,8 @@ items statements = filter_map (λ (one : Statement). item_said one.0 one.1) stat
 abbrev pub is_there : {X : Type 0} → List X → Bool
 is_there list = nat_lt 0 (length list)
 
--- whether a line may say this after those lines: a core line where there is none before, a tenant line after it, before all
--- that is to be done and as one of the first 64, and what is to be done after a tenant line
+-- whether a line may say this after these lines: a core line if there is none before, a tenant line
+-- after it, before all actions and as one of the first 64, and an action after a tenant line
 abbrev pub is_in_place : List Statement → Option Said → Bool
 is_in_place before None = false
 is_in_place before (Some Nothing) = true

@@ -14,12 +14,12 @@ use Rattle.uc_core.specs.Showing.{progress_by}
 use Rattle.uc_core.specs.declared.machine.Progress.{Progress}
 use Rattle.mc_schedules.specs.Doing.{Ending}
 
--- a digit of base 16, a small letter from 10 on
+-- a hexadecimal digit, in small letters from 10 on
 abbrev pub hexadecimal : ℕ → ℕ
 hexadecimal digit = if nat_lt digit 10 then 48 + digit else 87 + digit
 
--- a byte as it is printed: line ends and backslashes by a backslash and a sign, each other byte outside visible ASCII and the space by
--- its two hexadecimal digits
+-- a byte as it is printed: line ends and backslashes as a backslash and a character, each other
+-- byte outside visible ASCII and the space as its two hexadecimal digits
 abbrev pub escaped : ℕ → List ℕ
 escaped byte =
     if byte == 13 then codes "\\r"
@@ -33,11 +33,11 @@ abbrev pub reply_line : Given → List ℕ
 reply_line (worker, place, reply) =
     codes "reply " ++ decimal worker ++ codes " " ++ decimal place ++ codes " " ++ flat_map escaped (text reply) ++ codes "\n"
 
--- the replies in the order in which they were given, but for a quiet report
+-- the replies in the order in which they were given, unless the report is quiet
 abbrev pub replies_text : Bool → List Given → List ℕ
 replies_text quiet given = if quiet then [] else flat_map reply_line given
 
--- the fault that ended the run, if one did, by the line whose event met it
+-- the fault that ended the run, if any, with the line whose event met it
 abbrev pub ending_text : Ending → List ℕ
 ending_text None = []
 ending_text (Some met) = codes "fault " ++ decimal met.0 ++ codes " " ++ fault_text met.1 ++ codes "\n"
@@ -55,13 +55,13 @@ phase_text Pending = codes "pending"
 phase_text Looked = codes "looked"
 phase_text Stopped = codes "stopped"
 
--- how far a worker is
+-- the progress of a worker
 abbrev pub worker_line : ℕ → Progress → List ℕ
 worker_line number worker =
     codes "worker " ++ decimal number ++ codes " " ++ phase_text worker.phase ++ codes " learned " ++ decimal worker.learned
     ++ codes " replayed " ++ decimal worker.replayed ++ codes " proposals " ++ decimal worker.proposals ++ codes "\n"
 
--- each worker, by its number
+-- each worker, in the order of their numbers
 abbrev pub workers_text : CoreState → List ℕ
 workers_text core =
     flat_map (λ (one : ℕ × WorkerState). option_map_or (worker_line one.0) (progress_by core one.0) []) (enumerate_from 0 core.shown.workers)

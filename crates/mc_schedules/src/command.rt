@@ -1,4 +1,4 @@
-//! The commands of an event list, by their words.
+//! The commands of an event list, read from their words.
 ghost use Rattle.std.specs.List.{list_all};
 ghost use Rattle.std.specs.Prelude.{◌≡◌, IfOk, IfSome, IsOkUnless, is_some, map};
 ghost use Rattle.mc_model.specs.Key.{is_lawful_key};
@@ -10,13 +10,13 @@ use mc_model::item::DATA_BYTES;
 use mc_model::{Command, Data, Fault, Key, KeyList, Verb, read_number};
 use std::alloc::Global;
 
-/// The greatest flags.
+/// The largest flags.
 pub const FLAGS: u64 = 4_294_967_295;
 
-/// The greatest number that 64 bits hold.
+/// The largest number that 64 bits hold.
 pub const NUMBER: u64 = 18_446_744_073_709_551_615;
 
-/// The flags, where the word is a number that they can be.
+/// Returns the flags, if the word is a number in their range.
 fn read_flags(word: &[u8]) -> Option<u32>
     ensures { result ≡ number_up_to FLAGS word.now }
 {
@@ -26,14 +26,15 @@ fn read_flags(word: &[u8]) -> Option<u32>
     }
 }
 
-/// Whether each byte is visible and of ASCII.
+/// Returns whether each byte is visible ASCII.
 fn are_data(word: &[u8]) -> bool
     ensures { result ≡ list_all is_data_byte word.now }
 {
     word.iter().all(|byte| *byte > 32 && *byte < 127)
 }
 
-/// The data that the word stands for, or `None` where it stands for none.
+/// Returns the data that the word stands for, if it stands for any. Returns `Memory` if the
+/// allocation fails.
 fn read_data(alloc: Global, word: &[u8]) -> Result<Option<Data>, Fault>
     ensures block { IfOk result (λ block. block ≡ data_of word.now) }
     ensures memory { IsOkUnless result Fault.Memory }
@@ -47,7 +48,7 @@ fn read_data(alloc: Global, word: &[u8]) -> Result<Option<Data>, Fault>
     Ok(Data::new(Vec::from_slice(alloc, word)?))
 }
 
-/// The storage command of a key, flags and data.
+/// Returns the storage command of a key, flags and data, or `None` if a word can't be read.
 fn read_storage(alloc: Global, verb: Verb, arguments: &[&[u8]]) -> Result<Option<Command>, Fault>
     ensures command { IfOk result (λ command. command ≡ storage_of verb (map (λ word. word.now) arguments.now)) }
     ensures memory { IsOkUnless result Fault.Memory }
@@ -68,7 +69,7 @@ fn read_storage(alloc: Global, verb: Verb, arguments: &[&[u8]]) -> Result<Option
     }
 }
 
-/// The check and set of a key, flags, a unique and data.
+/// Returns the check and set of a key, flags, a unique and data, or `None` if a word can't be read.
 fn read_cas(alloc: Global, arguments: &[&[u8]]) -> Result<Option<Command>, Fault>
     ensures command { IfOk result (λ command. command ≡ cas_of (map (λ word. word.now) arguments.now)) }
     ensures memory { IsOkUnless result Fault.Memory }
@@ -89,7 +90,8 @@ fn read_cas(alloc: Global, arguments: &[&[u8]]) -> Result<Option<Command>, Fault
     }
 }
 
-/// The keys of a retrieval, or `None` where a word is no lawful key.
+/// Returns the keys of a retrieval, or `None` if a word isn't a valid key. Returns `Memory` if an
+/// allocation fails.
 fn read_keys(alloc: Global, words: &[&[u8]]) -> Result<Option<Vec<Key>>, Fault>
     ensures lawful { IfOk result (λ keys. is_some keys ≡ list_all is_lawful_key (map (λ word. word.now) words.now)) }
     ensures keys { IfOk result (λ keys. IfSome keys (λ keys. keys.items ≡ map (λ word. word.now) words.now)) }
@@ -105,7 +107,7 @@ fn read_keys(alloc: Global, words: &[&[u8]]) -> Result<Option<Vec<Key>>, Fault>
     Ok(Some(keys))
 }
 
-/// The retrieval of one or more keys.
+/// Returns the retrieval of one or more keys, or `None` if a word can't be read.
 fn read_retrieval(
     alloc: Global,
     uniques: bool,
@@ -123,7 +125,7 @@ fn read_retrieval(
     }
 }
 
-/// The deletion of a key.
+/// Returns the deletion of a key, or `None` if it can't be read.
 fn read_deletion(alloc: Global, arguments: &[&[u8]]) -> Result<Option<Command>, Fault>
     ensures command { IfOk result (λ command. command ≡ deletion_of (map (λ word. word.now) arguments.now)) }
     ensures memory { IsOkUnless result Fault.Memory }
@@ -137,7 +139,8 @@ fn read_deletion(alloc: Global, arguments: &[&[u8]]) -> Result<Option<Command>, 
     }
 }
 
-/// The key of a change, and by how much its number changes.
+/// Returns the key of a change, and by how much its number changes, or `None` if a word can't be
+/// read.
 fn read_change(alloc: Global, arguments: &[&[u8]]) -> Result<Option<(Key, u64)>, Fault>
     ensures change { IfOk result (λ change. change ≡ change_of (map (λ word. word.now) arguments.now)) }
     ensures memory { IsOkUnless result Fault.Memory }
@@ -152,7 +155,7 @@ fn read_change(alloc: Global, arguments: &[&[u8]]) -> Result<Option<(Key, u64)>,
     }
 }
 
-/// The emptying of the table, which has no words after its name.
+/// Returns the flush of the table, or `None` if there are words after its name.
 fn read_flush(arguments: &[&[u8]]) -> Option<Command>
     ensures { result ≡ flush_of (map (λ word. word.now) arguments.now) }
 {
@@ -163,7 +166,8 @@ fn read_flush(arguments: &[&[u8]]) -> Option<Command>
     }
 }
 
-/// The command that the words say, or `None` where they say none.
+/// Returns the command that the words say, or `None` if they say none. Returns `Memory` if an
+/// allocation fails.
 pub fn read_command(alloc: Global, found: &[&[u8]]) -> Result<Option<Command>, Fault>
     ensures command { IfOk result (λ command. command ≡ command_of (map (λ word. word.now) found.now)) }
     ensures memory { IsOkUnless result Fault.Memory }

@@ -13,14 +13,14 @@ use std::alloc::Global;
 /// What the lines so far say.
 #[derive(Debug, Drop)]
 pub struct Draft {
-    /// How many workers and places there are, where the core line has come.
+    /// The number of workers and places, once the core line has been read.
     core: Option<(u64, u64)>,
     tenants: Vec<Limits>,
     items: Vec<Item>,
 }
 
 impl Draft {
-    /// Before the first line. Needs no memory.
+    /// Returns the draft before the first line. Allocates nothing.
     pub fn new(alloc: Global) -> Draft
         ensures { IsDraftOf result [] }
     {
@@ -31,7 +31,7 @@ impl Draft {
         }
     }
 
-    /// Whether a line that says this may follow.
+    /// Returns whether a line that says this may follow.
     pub fn has_place_for(&self, said: &Said) -> bool
         ensures { (before : List Statement) → IsDraftOf self.now before → result ≡ is_in_place before (Some said.now) }
     {
@@ -47,7 +47,8 @@ impl Draft {
         }
     }
 
-    /// Adds what the next line says, which is in its place.
+    /// Adds what the next line says, which must be in its place. Returns `Memory` if an allocation
+    /// fails.
     pub fn add(&mut self, line: u64, said: Said) -> Result<(), Fault>
         ensures draft { OnOk result (IsNext self.old (line, Some said) self.new) }
         ensures memory { IsOkUnless result Fault.Memory }
@@ -61,7 +62,7 @@ impl Draft {
         Ok(())
     }
 
-    /// What all lines read as.
+    /// Returns what all lines read as.
     pub fn finish(self) -> Reading
         ensures { (before : List Statement) → IsDraftOf self before → read_as result ≡ listed (cores before) (tenants before) (items before) }
     {

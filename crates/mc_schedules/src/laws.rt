@@ -1,5 +1,5 @@
-//! What the definitions of `specs/` say of numbers, and what is true of all that lists do. A law is the contract of a function that does
-//! nothing.
+//! The numbers in the definitions of `specs/`, and what is true of all that event lists do. A law
+//! is the contract of a function that does nothing.
 ghost use Rattle.std.specs.Prelude.{◌≡◌, ◌<◌, ◌≤◌, ◌+◌, ◌-◌, ◌*◌, ◌^◌, ℕ, List, Option, Some};
 ghost use Rattle.mc_model.specs.declared.id.TheConstants.{TENANTS};
 ghost use Rattle.mc_model.specs.declared.reply.Reply.{Reply};
@@ -14,8 +14,9 @@ ghost use Rattle.uc_core.specs.Run.{Given, IsReachedCore, Runs};
 ghost use Rattle.uc_core.specs.Step.{CoreStep};
 ghost use Rattle.uc_core.specs.declared.event.Event.{Event};
 
-/// The numbers of event lists: how many bytes a list may have and how many tenants, the greatest number by which a worker or
-/// a tenant can be named, the greatest flags, and the greatest number in all other places.
+/// The numbers of event lists: the largest number of bytes and of tenants of a list, the largest
+/// number by which a worker or a tenant can be named, the largest flags, and the largest number in
+/// all other places.
 pub fn numbers_of_event_lists()
     ensures input { INPUT_BYTES ≡ 1048576 }
     ensures tenants { TENANTS ≡ 64 }
@@ -24,18 +25,18 @@ pub fn numbers_of_event_lists()
     ensures number { NUMBER ≡ 2 ^ 64 - 1 }
 {}
 
-/// What is true of all that lists do.
+/// What is true of all that event lists do.
 pub fn runs_of_event_lists()
     // What a list does is a run of the core, so that all that is true of every run is true of it.
     ensures are_runs { (items : List Item) (old new : CoreState) (given : List Given) (end : Ending) → DoesAll items old new given end →
         (events : List Event) × Runs old events new given }
 
-    // Each event that a worker needs lessens how many it can need, so a submit ends.
+    // Each event that a worker needs decreases the number that it can need, so a submit ends.
     ensures nearer { (core next : CoreState) (number : ℕ) (event : Event) (reply : Option Reply) → IsReachedCore core →
         needed core number ≡ Some event → CoreStep core event next reply → most_needed next number < most_needed core number }
     ensures few { (core : CoreState) (number : ℕ) → most_needed core number ≤ 3 * core.places + 2 }
 
-    // A list has one outcome, but for want of memory.
+    // A list has one outcome, unless it runs out of memory.
     ensures one { (items : List Item) (old new other : CoreState) (given other_given : List Given) (end other_end : Ending) → IsReachedCore old →
         DoesAll items old new given end → DoesAll items old other other_given other_end → ¬ RanOut end → ¬ RanOut other_end →
         (new ≡ other) × (given ≡ other_given) × (end ≡ other_end) }

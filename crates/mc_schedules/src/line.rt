@@ -1,4 +1,4 @@
-//! What a line of an event list says, by its words.
+//! What a line of an event list says, read from its words.
 ghost use Rattle.std.specs.Prelude.{◌≡◌, IfOk, IsOkUnless, map};
 ghost use Rattle.mc_schedules.specs.Line.{event, named, order_of, pair_of, said, said_by, worker_of};
 
@@ -9,7 +9,7 @@ use mc_model::{Command, Fault, Limits, read_number};
 use std::alloc::Global;
 use uc_core::Event;
 
-/// The greatest number by which a worker or a tenant can be named.
+/// The largest number by which a worker or a tenant can be named.
 pub const NAMED: u64 = 255;
 
 /// What a line says.
@@ -17,15 +17,15 @@ pub const NAMED: u64 = 255;
 pub enum Said {
     /// A line without words, or a comment.
     Nothing,
-    /// How many workers and places there are.
+    /// The number of workers and of places.
     Core(u64, u64),
     /// The quotas of the next tenant.
     Tenant(Limits),
-    /// What is to be done.
+    /// An action.
     ToDo(Action),
 }
 
-/// The number of a worker or a tenant, which may not exist.
+/// Returns the number of a worker or a tenant, which may not exist.
 fn read_name(word: &[u8]) -> Option<u8>
     ensures { result ≡ named word.now }
 {
@@ -35,7 +35,7 @@ fn read_name(word: &[u8]) -> Option<u8>
     }
 }
 
-/// Two numbers.
+/// Returns two numbers, if the words are two numbers.
 fn read_pair(arguments: &[&[u8]]) -> Option<(u64, u64)>
     ensures { result ≡ pair_of (map (λ word. word.now) arguments.now) }
 {
@@ -48,7 +48,7 @@ fn read_pair(arguments: &[&[u8]]) -> Option<(u64, u64)>
     }
 }
 
-/// A worker.
+/// Returns a worker's number, if the words are one.
 fn read_worker(arguments: &[&[u8]]) -> Option<u8>
     ensures { result ≡ worker_of (map (λ word. word.now) arguments.now) }
 {
@@ -58,7 +58,7 @@ fn read_worker(arguments: &[&[u8]]) -> Option<u8>
     }
 }
 
-/// A worker, a tenant and a command.
+/// Returns a worker, a tenant and a command, if the words are these.
 fn read_order(alloc: Global, arguments: &[&[u8]]) -> Result<Option<(u8, u8, Command)>, Fault>
     ensures order { IfOk result (λ order. order ≡ order_of (map (λ word. word.now) arguments.now)) }
     ensures memory { IsOkUnless result Fault.Memory }
@@ -73,14 +73,15 @@ fn read_order(alloc: Global, arguments: &[&[u8]]) -> Result<Option<(u8, u8, Comm
     }
 }
 
-/// An event that is to happen.
+/// Wraps an event as what a line says.
 fn event(happens: Event) -> Said
     ensures { result ≡ event happens }
 {
     Said::ToDo(Action::Event(happens))
 }
 
-/// What the words say, or `None` where they are of no form.
+/// Returns what the words say, or `None` if they have no known form. Returns `Memory` if an
+/// allocation fails.
 fn say(alloc: Global, found: &[&[u8]]) -> Result<Option<Said>, Fault>
     ensures said { IfOk result (λ says. says ≡ said_by (map (λ word. word.now) found.now)) }
     ensures memory { IsOkUnless result Fault.Memory }
@@ -115,7 +116,8 @@ fn say(alloc: Global, found: &[&[u8]]) -> Result<Option<Said>, Fault>
     }
 }
 
-/// What the line says, or `None` where it is of no form; the line is without its line feed.
+/// Returns what the line says, or `None` if it has no known form; the line comes without its line
+/// feed. Returns `Memory` if an allocation fails.
 pub fn read_line(alloc: Global, line: &[u8]) -> Result<Option<Said>, Fault>
     ensures said { IfOk result (λ says. says ≡ said line.now) }
     ensures memory { IsOkUnless result Fault.Memory }

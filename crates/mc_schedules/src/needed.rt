@@ -6,7 +6,8 @@ ghost use Rattle.uc_core.specs.Run.{IsReachedCore};
 use mc_model::{Phase, WorkerId};
 use uc_core::{Core, Event, Progress};
 
-/// The event that the worker of this number needs next, if there is such a worker and it needs anything.
+/// Returns the event that the worker with this number needs next, if there is such a worker and it
+/// needs anything.
 pub fn needed(core: &Core, number: u8) -> Option<Event>
     ensures event { result ≡ needed core.now number }
 
@@ -24,7 +25,7 @@ pub fn needed(core: &Core, number: u8) -> Option<Event>
     }
 }
 
-/// The same for a worker that is so far, of a log of so many places.
+/// Returns the same for a worker with this progress, of a log with this many places.
 fn needed_at(places: u64, number: u8, worker: &Progress) -> Option<Event>
     ensures { result ≡ needed_at places number worker.now worker.now.phase }
 {

@@ -19,7 +19,7 @@ enum Cell {
     LookAt(u8),
 }
 
-/// What was seen of a worker last.
+/// What was last seen of a worker.
 #[derive(Drop)]
 struct Seen {
     learned: u64,
@@ -27,24 +27,28 @@ struct Seen {
     is_stopped: bool,
 }
 
-/// The lines so far, and what was seen last.
+/// The lines so far, and what was last seen.
 #[derive(Drop)]
 struct Picture {
     text: Vec<u8>,
-    /// The line that is being made.
+    /// The line that is being written.
     row: String,
     workers: Vec<Seen>,
-    /// How many places were decided.
+    /// The number of places that were decided.
     decided: usize,
-    /// Memory ran out, so that lines are missing.
+    /// Memory ran out, so lines are missing.
     is_starved: bool,
 }
 
-/// As `run_items`, with a picture of the run and an empty line behind it: a line for each event, with the number of the line that asks
-/// for it, a column for each worker, and beside a proposal that decides a place, the place and its ticket. A worker's column says what
-/// it does, of a look whose command it found, and `|` while another works; it ends where the worker stops. A star stands where the
-/// worker learned that its own command is in the log. Up to 6 workers fit into 100 columns. `Memory` where there is none for the
-/// picture, too.
+/// Runs the items as `run_items` does, and draws the run, with an empty line after the picture.
+///
+/// The picture has a line for each event, with the number of the line that asks for it, a column
+/// for each worker, and next to a proposal that decides a place, the place and its ticket. A
+/// worker's column says what it does, for a look also whose command it found, and `|` while another
+/// works; it ends where the worker stops. A star marks where the worker learned that its own
+/// command is in the log. Up to 6 workers fit into 100 columns.
+///
+/// Returns `Memory` if the core can't be made, or if memory runs out for the picture.
 pub fn draw_items(
     alloc: Global,
     settings: &Settings,
@@ -63,7 +67,7 @@ pub fn draw_items(
 }
 
 impl Picture {
-    /// The line above all events.
+    /// Returns a picture with the line above all events.
     fn new(alloc: Global, count: u64) -> Result<Picture, Fault>
         ensures { IsOkUnless result Fault.Memory }
     {
@@ -106,7 +110,7 @@ impl Picture {
         self.end_line(core)
     }
 
-    /// Notes what the event's worker is at now, and answers what its column says.
+    /// Notes the state of the event's worker, and returns what its column says.
     fn note(&mut self, event: &Event, core: &Core) -> Cell {
         let Some(progress) = WorkerId::new(event.actor()).and_then(|worker| core.progress(worker))
         else {
@@ -139,7 +143,7 @@ impl Picture {
         })
     }
 
-    /// Ends a line with the place that was decided, if one was.
+    /// Ends a line with the place that was decided, if any.
     fn end_line(&mut self, core: &Core) -> Result<(), AllocError> {
         if let Some(ticket) = core.decided().get(self.decided) {
             let (worker, number) = (ticket.worker.number(), ticket.number);

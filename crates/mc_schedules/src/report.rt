@@ -1,4 +1,4 @@
-//! What is printed of a run.
+//! The report that is printed of a run.
 ghost use Rattle.std.specs.Prelude.{◌≡◌, ◌++◌, ◌<◌, List, ℕ, [], codes, decimal, flat_map, IfOk, IsOkUnless, OnOk};
 ghost use Rattle.std.specs.Option.{option_map_or};
 ghost use Rattle.mc_schedules.specs.Report.{ending_text, escaped, hexadecimal, log_text, phase_text, reply_line, ticket_text, worker_line, workers_text};
@@ -13,7 +13,8 @@ use uc_core::{Core, Progress};
 impl Outcome {
     ghost use Rattle.mc_schedules.specs.Report.{report};
 
-    /// The lines that tell the run: its replies, unless they are left out, the fault that ended it, the log, and the workers.
+    /// Returns the report of the run: its replies, unless `quiet`, the fault that ended it, the
+    /// log, and the workers. Returns `Memory` if an allocation fails.
     pub fn report(&self, alloc: Global, quiet: bool) -> Result<Vec<u8>, Fault>
         ensures text { IfOk result (λ text. text.items ≡ report quiet self.now.core self.now.replies.items self.now.fault) }
         ensures memory { IsOkUnless result Fault.Memory }
@@ -29,7 +30,7 @@ impl Outcome {
     }
 }
 
-/// A line for each reply.
+/// Appends a line for each reply.
 fn append_replies(
     alloc: Global,
     replies: &[(WorkerId, u64, Reply)],
@@ -47,7 +48,7 @@ fn append_replies(
     Ok(())
 }
 
-/// The line of a reply of this text.
+/// Appends the line of a reply with this text.
 fn append_reply(
     alloc: Global,
     worker: WorkerId,
@@ -63,7 +64,7 @@ fn append_reply(
     out.extend_from_slice(b"\n")
 }
 
-/// Bytes as they are printed.
+/// Appends bytes as they are printed.
 fn append_all_escaped(bytes: &[u8], out: &mut Vec<u8>) -> Result<(), AllocError>
     ensures text { OnOk result (out.new.items ≡ out.old.items ++ flat_map escaped bytes.now) }
 {
@@ -73,7 +74,7 @@ fn append_all_escaped(bytes: &[u8], out: &mut Vec<u8>) -> Result<(), AllocError>
     Ok(())
 }
 
-/// A byte as it is printed.
+/// Appends a byte as it is printed.
 fn append_escaped(byte: u8, out: &mut Vec<u8>) -> Result<(), AllocError>
     ensures text { OnOk result (out.new.items ≡ out.old.items ++ escaped byte) }
 {
@@ -90,7 +91,7 @@ fn append_escaped(byte: u8, out: &mut Vec<u8>) -> Result<(), AllocError>
     }
 }
 
-/// A digit of base 16.
+/// Returns a hexadecimal digit.
 fn hexadecimal(digit: u8) -> u8
     requires { digit < 16 }
     ensures { result ≡ hexadecimal digit }
@@ -102,7 +103,7 @@ fn hexadecimal(digit: u8) -> u8
     }
 }
 
-/// The line of the fault that ended the run, if one did.
+/// Appends the line of the fault that ended the run, if any.
 fn append_ending(
     alloc: Global,
     fault: Option<(u64, Fault)>,
@@ -119,7 +120,7 @@ fn append_ending(
     Ok(())
 }
 
-/// The line of the log.
+/// Appends the line of the log.
 fn append_log(alloc: Global, decided: &[Ticket], out: &mut Vec<u8>) -> Result<(), AllocError>
     ensures text { OnOk result (out.new.items ≡ out.old.items ++ log_text decided.now) }
 {
@@ -128,7 +129,7 @@ fn append_log(alloc: Global, decided: &[Ticket], out: &mut Vec<u8>) -> Result<()
     out.extend_from_slice(b"\n")
 }
 
-/// Tickets, each behind a space.
+/// Appends tickets, each after a space.
 fn append_tickets(alloc: Global, tickets: &[Ticket], out: &mut Vec<u8>) -> Result<(), AllocError>
     ensures text { OnOk result (out.new.items ≡ out.old.items ++ flat_map ticket_text tickets.now) }
 {
@@ -138,7 +139,7 @@ fn append_tickets(alloc: Global, tickets: &[Ticket], out: &mut Vec<u8>) -> Resul
     Ok(())
 }
 
-/// A ticket behind a space.
+/// Appends a ticket after a space.
 fn append_ticket(alloc: Global, ticket: Ticket, out: &mut Vec<u8>) -> Result<(), AllocError>
     ensures text { OnOk result (out.new.items ≡ out.old.items ++ ticket_text ticket) }
 {
@@ -146,7 +147,7 @@ fn append_ticket(alloc: Global, ticket: Ticket, out: &mut Vec<u8>) -> Result<(),
     out.extend_from_slice(text.as_bytes())
 }
 
-/// A line for each worker, by its number.
+/// Appends a line for each worker, in the order of their numbers.
 #[tactic(auto, using(crate::proofs::Workers::one_more, crate::proofs::Workers::no_more))]
 fn append_workers(alloc: Global, core: &Core, out: &mut Vec<u8>) -> Result<(), AllocError>
     ensures text { OnOk result (out.new.items ≡ out.old.items ++ workers_text core.now) }
@@ -158,7 +159,7 @@ fn append_workers(alloc: Global, core: &Core, out: &mut Vec<u8>) -> Result<(), A
     Ok(())
 }
 
-/// The line of a worker, where the core has it.
+/// Appends the line of a worker, if the core has it.
 fn append_worker(
     alloc: Global,
     core: &Core,
@@ -173,7 +174,7 @@ fn append_worker(
     }
 }
 
-/// How far the worker of this number is.
+/// Appends the progress of the worker with this number.
 fn append_progress(
     alloc: Global,
     number: u8,
@@ -192,7 +193,7 @@ fn append_progress(
     out.extend_from_slice(line.as_bytes())
 }
 
-/// What a worker is at, in a word.
+/// Returns a worker's phase in a word.
 fn phase_text(phase: Phase) -> &'static str
     ensures { result.now ≡ phase_text phase }
 {

@@ -1,4 +1,4 @@
-//! The run of an event list.
+//! Runs of event lists.
 ghost use Rattle.std.specs.Prelude.{◌≡◌, ℕ, ◌++◌, List, IfOk, IsOkUnless};
 ghost use Rattle.mc_schedules.specs.Doing.{Acts, Did, DoesAll, Finishes, Takes};
 ghost use Rattle.uc_core.specs.Core.{new_core};
@@ -11,18 +11,19 @@ use mc_model::{Fault, Reply, Settings, WorkerId};
 use std::alloc::Global;
 use uc_core::{Core, Event};
 
-/// What a run of an event list left and gave.
+/// What a run of an event list left, and the replies it gave.
 #[derive(Debug, Drop)]
 pub struct Outcome {
     /// The core as the run left it.
     pub core: Core,
-    /// The replies in their order, each with its worker and the place of its command in the log.
+    /// The replies in order, each with its worker and the place of its command in the log.
     pub replies: Vec<(WorkerId, u64, Reply)>,
-    /// What ended the run before its last event, if anything did: the number of the event's line, and the fault that it met.
+    /// What ended the run before its last event, if anything: the number of the event's line, and
+    /// the fault that it met.
     pub fault: Option<(u64, Fault)>,
 }
 
-/// Takes an event of a line, and shows it to the watcher.
+/// Takes an event of a line, and shows it to the watcher. Returns the fault that it meets.
 fn take<W: Watch>(
     core: &mut Core,
     line: u64,
@@ -40,7 +41,7 @@ fn take<W: Watch>(
     Ok(())
 }
 
-/// Takes what a worker needs, event by event, until it needs nothing more.
+/// Takes what a worker needs, event by event, until it needs nothing more. Returns the first fault.
 fn finish<W: Watch>(
     core: &mut Core,
     line: u64,
@@ -56,7 +57,7 @@ fn finish<W: Watch>(
     Ok(())
 }
 
-/// Does what a line asks for.
+/// Does what a line asks for. Returns the first fault.
 fn act<W: Watch>(
     core: &mut Core,
     line: u64,
@@ -76,7 +77,8 @@ fn act<W: Watch>(
     }
 }
 
-/// Does what the lines ask for, in their order, and gives what ended that before its last event, if anything did.
+/// Does what the lines ask for, in order, and returns what ended this before its last event, if
+/// anything.
 fn do_all<W: Watch>(
     core: &mut Core,
     items: Vec<Item>,
@@ -93,8 +95,9 @@ fn do_all<W: Watch>(
     None
 }
 
-/// Does what the items of an event list ask for, one after another, in a core of these settings. The first event that meets a
-/// fault ends the run. `Memory` where not even the core could be made; an event that meets it ends the run as any fault does.
+/// Does what the items of an event list ask for, one after another, in a core of these settings.
+/// The first event that meets a fault ends the run. Returns `Memory` if the core can't be made; an
+/// event that meets `Memory` ends the run as any fault does.
 pub fn run_items<W: Watch>(
     alloc: Global,
     settings: &Settings,

@@ -1,4 +1,4 @@
-//! Event lists: settings, and what is to be done in them, line by line.
+//! Event lists: settings and actions, line by line.
 ghost use Rattle.std.specs.Prelude.{◌≡◌, map, IfOk, IsOkUnless};
 ghost use Rattle.mc_schedules.specs.Schedule.{read_as, read_lines, reading};
 
@@ -9,20 +9,20 @@ use mc_model::{Command, Fault, Limits};
 use std::alloc::Global;
 use uc_core::Event;
 
-/// How many bytes an event list may have.
+/// The largest number of bytes in an event list.
 pub const INPUT_BYTES: usize = 1_048_576;
 
-/// What a line asks to be done.
+/// What a line asks for.
 #[derive(Debug, PartialEq, Eq, Drop)]
 pub enum Action {
     /// One event.
     Event(Event),
-    /// All events that a worker needs to announce a command of a tenant, to have it decided, and to replay all that it
-    /// has learned.
+    /// All events that a worker needs to announce a command of a tenant, to have it decided, and to
+    /// replay all that it has learned.
     Submit(u8, u8, Command),
 }
 
-/// What is to be done, and the number of the line that says so.
+/// An action, and the number of the line that asks for it.
 #[derive(Debug, PartialEq, Eq, Drop)]
 pub struct Item {
     /// The number of the line, from 1.
@@ -30,7 +30,8 @@ pub struct Item {
     pub action: Action,
 }
 
-/// An event list. The numbers of its settings may be out of range: `Settings::check` tells.
+/// An event list. The numbers of its settings may be out of range; `Settings::check` says whether
+/// they are.
 #[derive(Debug, PartialEq, Eq, Drop)]
 pub struct Schedule {
     pub workers: u64,
@@ -42,13 +43,15 @@ pub struct Schedule {
 /// What a byte string reads as.
 #[derive(Debug, PartialEq, Eq, Drop)]
 pub enum Reading {
-    /// The number of the first bad line, from 1; 0 where the input is too long, or ends before its first tenant line.
+    /// The number of the first bad line, from 1; 0 if the input is too long, or ends before its
+    /// first tenant line.
     Bad(u64),
     /// An event list.
     Schedule(Schedule),
 }
 
-/// What the lines read as, each without its line feed.
+/// Returns what the lines read as, each without its line feed. Returns `Memory` if an allocation
+/// fails.
 fn read_lines(alloc: Global, lines: &[&[u8]]) -> Result<Reading, Fault>
     ensures reading { IfOk result (λ read. read_as read ≡ read_lines (map (λ line. line.now) lines.now)) }
     ensures memory { IsOkUnless result Fault.Memory }
@@ -65,7 +68,8 @@ fn read_lines(alloc: Global, lines: &[&[u8]]) -> Result<Reading, Fault>
     Ok(draft.finish())
 }
 
-/// What the bytes read as: an event list, or the number of the first bad line.
+/// Returns what the bytes read as: an event list, or the number of the first bad line. Returns
+/// `Memory` if an allocation fails.
 pub fn read_schedule(alloc: Global, bytes: &[u8]) -> Result<Reading, Fault>
     ensures reading { IfOk result (λ read. read_as read ≡ reading bytes.now) }
     ensures memory { IsOkUnless result Fault.Memory }

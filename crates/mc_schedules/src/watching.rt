@@ -1,13 +1,13 @@
-//! Who watches a run.
+//! Watchers of a run.
 use uc_core::{Core, Event};
 
 /// Sees each event of a run.
 pub trait Watch {
-    /// An event of a line was taken, and this is what the core is at then.
+    /// Called after each event of a line, with the core as it is then.
     fn see(&mut self, line: u64, event: &Event, core: &Core);
 }
 
-/// Looks away.
+/// A watcher that ignores all events.
 #[derive(Clone, Copy, Debug, PartialEq, Eq)]
 pub struct Unwatched;
 

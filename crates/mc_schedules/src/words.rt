@@ -6,14 +6,15 @@ ghost use Rattle.mc_read.specs.Word.{is_word, spaced_words};
 use mc_model::Fault;
 use std::alloc::{AllocError, Global};
 
-/// The pieces of the text that the byte separates, of which there is at least one.
+/// Returns the pieces of the text that the byte separates, at least one. Returns `AllocError` if
+/// the allocation fails.
 pub fn pieces(alloc: Global, text: &[u8], byte: u8) -> Result<Vec<&[u8]>, AllocError>
     ensures { IfOk result (λ found. map (λ piece. piece.now) found.items ≡ slice_split (λ one. one == byte) text.now) }
 {
     text.split(|one| *one == byte).collect(alloc)
 }
 
-/// The line's words, which runs of spaces separate.
+/// Returns the line's words, separated by runs of spaces. Returns `Memory` if an allocation fails.
 pub fn words(alloc: Global, line: &[u8]) -> Result<Vec<&[u8]>, Fault>
     ensures words { IfOk result (λ found. map (λ word. word.now) found.items ≡ spaced_words line.now) }
     ensures memory { IsOkUnless result Fault.Memory }
@@ -28,7 +29,7 @@ pub fn words(alloc: Global, line: &[u8]) -> Result<Vec<&[u8]>, Fault>
     Ok(found)
 }
 
-/// Whether the word is this name, byte for byte.
+/// Returns whether the word is this name, byte for byte.
 pub fn is_word(word: &[u8], name: &[u8]) -> bool
     ensures { result ≡ is_word word.now name.now }
 {

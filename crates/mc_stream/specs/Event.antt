@@ -1,14 +1,15 @@
--- What one pull or push did, and what a list of such events adds up to; this project's profile. The latest event stands first.
+-- What one pull or push did, and what a list of such events adds up to; this project's profile. The
+-- latest event comes first.
 use Rattle.std.specs.Prelude.{ℕ, ◌+◌, Bool, true, false, List, [], ◌∷◌, ◌++◌}
 
--- bytes went over, or none could now, or the end was found, or it failed
+-- bytes were moved, or none could be now, or the end was found, or it failed
 pub data Event : Type 0 where
   Moves : List ℕ → Event
   Waits : Event
   Ends : Event
   Fails : Event
 
--- all bytes that went over, in their order
+-- all bytes that were moved, in order
 abbrev pub moved : List Event → List ℕ
 moved [] = []
 moved (Moves bytes ∷ earlier) = moved earlier ++ bytes
@@ -16,7 +17,7 @@ moved (Waits ∷ earlier) = moved earlier
 moved (Ends ∷ earlier) = moved earlier
 moved (Fails ∷ earlier) = moved earlier
 
--- how often it failed
+-- the number of failures
 abbrev pub failures : List Event → ℕ
 failures [] = 0
 failures (Moves bytes ∷ earlier) = failures earlier
@@ -24,7 +25,7 @@ failures (Waits ∷ earlier) = failures earlier
 failures (Ends ∷ earlier) = failures earlier
 failures (Fails ∷ earlier) = failures earlier + 1
 
--- how often nothing could go over
+-- the number of times that nothing could be moved
 abbrev pub waits : List Event → ℕ
 waits [] = 0
 waits (Moves bytes ∷ earlier) = waits earlier
@@ -32,7 +33,7 @@ waits (Waits ∷ earlier) = waits earlier + 1
 waits (Ends ∷ earlier) = waits earlier
 waits (Fails ∷ earlier) = waits earlier
 
--- how often the end was found
+-- the number of times that the end was found
 abbrev pub ends : List Event → ℕ
 ends [] = 0
 ends (Moves bytes ∷ earlier) = ends earlier
@@ -40,7 +41,7 @@ ends (Waits ∷ earlier) = ends earlier
 ends (Ends ∷ earlier) = ends earlier + 1
 ends (Fails ∷ earlier) = ends earlier
 
--- the bytes of the last event, or none where it moved none
+-- the bytes of the last event, or none if it moved none
 abbrev pub last_moved : List Event → List ℕ
 last_moved [] = []
 last_moved (Moves bytes ∷ earlier) = bytes
@@ -56,7 +57,7 @@ has_ended (Waits ∷ earlier) = false
 has_ended (Ends ∷ earlier) = true
 has_ended (Fails ∷ earlier) = false
 
--- at the last event nothing could go over
+-- at the last event nothing could be moved
 abbrev pub had_to_wait : List Event → Bool
 had_to_wait [] = false
 had_to_wait (Moves bytes ∷ earlier) = false

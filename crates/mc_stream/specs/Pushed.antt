@@ -1,4 +1,4 @@
--- How what an output took adds up, one part after another: lemmas on `Pushing.antt`.
+-- How the bytes that an output took add up, one part after another: lemmas on `Pushing.antt`.
 use Rattle.std.proofs.Common.{◌≡◌, ℕ, ◌+◌, inl, inr, ⊎_elim, Result, Ok, Err, OnOk, OnErr, MatchResult, List, ◌++◌, take, drop, sym, ap, ◌∙◌, append_assoc}
 use Rattle.std.proofs.Math.Seq.{take-add}
 use Rattle.std.proofs.lemmas.List.{take-append-drop}
@@ -6,7 +6,7 @@ use Rattle.mc_stream.specs.Event.{moved}
 use Rattle.mc_stream.specs.Pushing.{FailsOnce, IsAllOrStopped, IsStopped, IsUnfailed, Pushes, PushesAtOnce, PushesFront, PushesOrFails}
 use Rattle.mc_stream.specs.Stream.{Outflow}
 
--- what was sent and the piece that was taken is what is sent then
+-- what was sent, followed by the piece that was taken, is what is sent afterwards
 pub sent_more : (before now after queue slice : List ℕ) (sent count : ℕ) → slice ≡ drop sent queue →
     now ≡ before ++ take sent queue → after ≡ now ++ take count slice → after ≡ before ++ take (sent + count) queue
 sent_more before now after queue slice sent count is_rest is_now is_after =
@@ -15,12 +15,12 @@ sent_more before now after queue slice sent count is_rest is_now is_after =
     ∙ (append_assoc before (take sent queue) (take count slice)
     ∙ ap (λ more. before ++ more) (ap (λ rest. take sent queue ++ take count rest) is_rest ∙ sym (take-add sent count queue))))
 
--- what was pushed where nothing more was taken is a front
+-- if nothing more was taken, what was pushed is a prefix
 pub front_sent : (before after : Outflow) (now queue : List ℕ) (sent : ℕ) → now ≡ moved before.events ++ take sent queue → moved after.events ≡ now → PushesFront queue before after
 front_sent before after now queue sent is_now is_after =
     (drop sent queue, record { front = take sent queue; split = sym (take-append-drop sent queue); went = is_after ∙ is_now })
 
--- the first bytes were pushed, and of the second a front
+-- the first bytes were pushed, and a prefix of the second
 pub front_more : (first second : List ℕ) (before now after : Outflow) → Pushes before now first → PushesFront second now after → PushesFront (first ++ second) before after
 front_more first second before now after is_now (rest, moves) = (
   rest,
@@ -31,7 +31,7 @@ front_more first second before now after is_now (rest, moves) = (
   },
 )
 
--- a front of the first bytes was pushed, and nothing of the second
+-- a prefix of the first bytes was pushed, and nothing of the second
 pub front_only : (first second : List ℕ) (before after : Outflow) → PushesFront first before after → PushesFront (first ++ second) before after
 front_only first second before after (rest, moves) = (
   rest ++ second,
@@ -50,7 +50,7 @@ same_stop unsent before now after same stops =
     (λ stopped. inr (⊎_elim (λ full. inl (full.0, full.1 ∙ same)) (λ failed. inr (failed ∙ ap (λ n. n + 1) same)) stopped))
     stops
 
--- the first bytes were taken, and of the second as many as the output took
+-- the first bytes were taken, and as many of the second as the output took
 pub at_once_more : (first second : List ℕ) (before now after : Outflow) → Pushes before now first → IsUnfailed before now → PushesAtOnce second now after → PushesAtOnce (first ++ second) before after
 unfolding front_more
 at_once_more first second before now after is_now same (rest, moves, stops) =
@@ -67,13 +67,13 @@ pub at_once_sent : (before after : Outflow) (now queue : List ℕ) (sent : ℕ) 
 at_once_sent before after now queue sent is_now is_after stopped =
     let front = front_sent before after now queue sent is_now is_after in (front.0, front.1, inr stopped)
 
--- what a push of all bytes says
+-- what the clauses of a push of all bytes say together
 pub told : {E : Type 0} (result : Result (Unit {0}) E) (bytes : List ℕ) (before after : Outflow) → OnOk result (Pushes before after bytes) → OnErr result (PushesFront bytes before after)
     → MatchResult result (λ _. IsUnfailed before after) (λ _. FailsOnce before after) → PushesOrFails bytes before after
 told (Ok done) bytes before after all front failures = inl (all, failures)
 told (Err fault) bytes before after all front failures = inr (front, failures)
 
--- the first bytes were pushed, and the second told
+-- the first bytes were pushed, and of the second what their push says
 pub tells_more : (first second : List ℕ) (before now after : Outflow) → Pushes before now first → IsUnfailed before now → PushesOrFails second now after → PushesOrFails (first ++ second) before after
 tells_more first second before now after is_now same tells =
     ⊎_elim
@@ -81,6 +81,6 @@ tells_more first second before now after is_now same tells =
     (λ part. inr (front_more first second before now after is_now part.0, part.1 ∙ ap (λ n. n + 1) same))
     tells
 
--- the output failed in the first bytes
+-- the output failed within the first bytes
 pub tells_front : (first second : List ℕ) (before after : Outflow) → PushesFront first before after → FailsOnce before after → PushesOrFails (first ++ second) before after
 tells_front first second before after front failed = inr (front_only first second before after front, failed)

@@ -1,29 +1,30 @@
--- What an output took of the bytes that it was given, in one push after another; this project's profile.
+-- What an output took of the bytes that it was given, one push after another; this project's
+-- profile.
 use Rattle.std.specs.Prelude.{◌≡◌, true, ◌+◌, ◌⊎◌, List, [], ◌++◌, ℕ}
 use Rattle.mc_stream.specs.Event.{failures, had_to_wait, moved, waits}
 use Rattle.mc_stream.specs.Stream.{Outflow}
 use Rattle.mc_stream.specs.declared.pushing.Stop.{Stop}
 use Rattle.mc_stream.specs.declared.pushing.Stop.TheVariants.{All, Full, Failed}
 
--- these bytes were pushed from the one to the other
+-- these bytes were pushed between the two states
 abbrev pub Pushes : Outflow → Outflow → List ℕ → Type 0
 Pushes before after bytes = moved after.events ≡ moved before.events ++ bytes
 
--- the output hasn't failed from the one to the other
+-- the output didn't fail between the two states
 abbrev pub IsUnfailed : Outflow → Outflow → Type 0
 IsUnfailed before after = failures after.events ≡ failures before.events
 
--- the output failed once from the one to the other
+-- the output failed once between the two states
 abbrev pub FailsOnce : Outflow → Outflow → Type 0
 FailsOnce before after = failures after.events ≡ failures before.events + 1
 
--- a front of what was queued is pushed, and the rest is queued then
+-- a prefix of what was queued is pushed, and the rest is still queued
 pub record Unqueues (before after : List ℕ) (output_before output : Outflow) : Type 0 where
   pub front : List ℕ
   pub split : before ≡ front ++ after
   pub went : Pushes output_before output front
 
--- a front of the bytes is pushed
+-- a prefix of the bytes is pushed
 abbrev pub PushesFront : List ℕ → Outflow → Outflow → Type 0
 PushesFront bytes before after = (rest : List ℕ) × Unqueues bytes rest before after
 
@@ -31,7 +32,7 @@ PushesFront bytes before after = (rest : List ℕ) × Unqueues bytes rest before
 abbrev pub IsStopped : Outflow → Outflow → Type 0
 IsStopped before after = (had_to_wait after.events ≡ true) × IsUnfailed before after ⊎ FailsOnce before after
 
--- nothing is left unsent, or the output was full then, or it failed
+-- nothing is left unsent, or the output was full or failed
 abbrev pub IsAllOrStopped : List ℕ → Outflow → Outflow → Type 0
 IsAllOrStopped unsent before after = (unsent ≡ []) × IsUnfailed before after ⊎ IsStopped before after
 
@@ -39,11 +40,11 @@ IsAllOrStopped unsent before after = (unsent ≡ []) × IsUnfailed before after 
 abbrev pub PushesAtOnce : List ℕ → Outflow → Outflow → Type 0
 PushesAtOnce bytes before after = (rest : List ℕ) × Unqueues bytes rest before after × IsAllOrStopped rest before after
 
--- the bytes are pushed, or a front of them where the output failed once
+-- the bytes are pushed, or a prefix of them if the output failed once
 abbrev pub PushesOrFails : List ℕ → Outflow → Outflow → Type 0
 PushesOrFails bytes before after = Pushes before after bytes × IsUnfailed before after ⊎ PushesFront bytes before after × FailsOnce before after
 
--- why no more was pushed than so many bytes of those that were there
+-- why a push of `there` bytes stopped after `count` of them
 abbrev pub StopsAs : Stop → ℕ → ℕ → Outflow → Outflow → Type 0
 StopsAs All count there before after = (count ≡ there) × IsUnfailed before after × (waits after.events ≡ waits before.events)
 StopsAs Full count there before after = IsUnfailed before after × (had_to_wait after.events ≡ true) × (waits after.events ≡ waits before.events + 1)

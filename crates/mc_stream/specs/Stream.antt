@@ -1,4 +1,5 @@
--- What a pull gives and a push takes, and what an input and an output tell of themselves; this project's profile.
+-- What a pull gives and a push takes, and what an input and an output report of themselves; this
+-- project's profile.
 use Rattle.std.specs.Prelude.{ℕ, ◌≤◌, List, [], take, Option}
 use Rattle.mc_stream.specs.Event.{Event, Moves, Waits, Ends, Fails}
 use Rattle.mc_stream.specs.declared.stream.Pull.{Pull}
@@ -20,35 +21,36 @@ pull_event Empty buffer = Waits
 pull_event Ended buffer = Ends
 pull_event InputFailed buffer = Fails
 
--- where bytes are given, it is at least one, and no more than there is room for
+-- if bytes are given, there is at least one, and no more than there is room for
 abbrev pub GivesAtMost : ℕ → Pull → Type 0
 GivesAtMost room (Bytes count) = (1 ≤ count) × (count ≤ room)
 GivesAtMost room Empty = Unit {0}
 GivesAtMost room Ended = Unit {0}
 GivesAtMost room InputFailed = Unit {0}
 
--- what a push did with the bytes, of which it takes the first
+-- what a push did with the bytes, of which it takes a prefix
 abbrev pub push_event : Push → List ℕ → Event
 push_event (Taken count) bytes = Moves (take count bytes)
 push_event Full bytes = Waits
 push_event OutputFailed bytes = Fails
 
--- where bytes are taken, it is at least one, and no more than there are
+-- if bytes are taken, there is at least one, and no more than there are
 abbrev pub TakesAtMost : ℕ → Push → Type 0
 TakesAtMost there (Taken count) = (1 ≤ count) × (count ≤ there)
 TakesAtMost there Full = Unit {0}
 TakesAtMost there OutputFailed = Unit {0}
 
--- What an input tells: what each pull did, and the bytes that are still to come where it knows them.
+-- What an input reports: what each pull did, and the bytes that are still to come, if they are
+-- known.
 pub record Inflow : Type 0 where
   pub events : List Event
   pub left : Option (List ℕ)
 
--- what an output tells: what each push did
+-- what an output reports: what each push did
 pub record Outflow : Type 0 where
   pub events : List Event
 
--- what an input and an output tell, beside each other
+-- what an input and an output report, as one record
 pub record Streams : Type 0 where
   pub input : Inflow
   pub output : Outflow

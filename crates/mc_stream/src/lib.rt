@@ -1,7 +1,8 @@
-//! Where bytes come from and where they go: the traits `Input` and `Output`, over memory and over std's readers and writers.
+//! Where bytes come from and where they go: the traits `Input` and `Output`, over memory and over
+//! std's readers and writers.
 //!
-//! By a ghost member, `tells`, each tells what every pull or push did, and an input what is left, so that a loop over any two
-//! streams can be proved once.
+//! By a ghost member, `tells`, each reports what every pull or push did, and an input also what is
+//! left, so that a loop over any two streams can be proved once.
 #![tactic(auto)]
 
 pub use memory::{InputStep, MemoryInput, MemoryOutput, OutputStep};

@@ -12,7 +12,7 @@ use std::marker::Model;
 /// What a pull from memory does.
 #[derive(Clone, Copy, Debug, PartialEq, Eq)]
 pub enum InputStep {
-    /// Gives at most so many bytes, and at least one where one is left.
+    /// Gives at most this many bytes, and at least one if any is left.
     Give(usize),
     /// Gives nothing.
     Empty,
@@ -23,7 +23,7 @@ pub enum InputStep {
 /// What a push to memory does.
 #[derive(Clone, Copy, Debug, PartialEq, Eq)]
 pub enum OutputStep {
-    /// Takes at most so many bytes, and at least one.
+    /// Takes at most this many bytes, and at least one.
     Take(usize),
     /// Takes nothing.
     Full,
@@ -31,7 +31,7 @@ pub enum OutputStep {
     Fail,
 }
 
-/// Gives bytes that it holds: each pull does a step, and after the last step gives all that it can.
+/// An input over bytes in memory: each pull takes a step, and after the last step gives all it can.
 #[derive(Drop)]
 pub struct MemoryInput {
     bytes: Vec<u8>,
@@ -57,7 +57,7 @@ impl Model for MemoryInput {
 }
 
 impl MemoryInput {
-    /// An input that holds these bytes, and goes by these steps first.
+    /// Returns an input that holds these bytes and takes these steps first.
     pub fn new(bytes: Vec<u8>, steps: Vec<InputStep>) -> MemoryInput
         ensures { result ≡ record { rest = bytes.items; steps = steps.items; events = [] } }
     {
@@ -70,7 +70,7 @@ impl MemoryInput {
         }
     }
 
-    /// Uses a step, where one is left.
+    /// Takes the next step, if one is left.
     fn next_step(&mut self) -> Option<InputStep>
         ensures left { MatchOption result (self.old.steps ≡ []) (λ step. self.old.steps ≡ step ∷ self.new.steps) }
         ensures new { MatchOption result (self.new ≡ self.old) (λ step.
@@ -84,7 +84,7 @@ impl MemoryInput {
         Some(step)
     }
 
-    /// Gives at most so many bytes of those that are left.
+    /// Gives at most `most` of the bytes that are left.
     fn give(&mut self, most: usize, buffer: &mut [u8]) -> Pull
         requires room { 0 < length buffer.old }
         requires some { 0 < most }
@@ -111,7 +111,7 @@ impl Input for MemoryInput {
     ghost tells = { given_of };
 
     fn pull(&mut self, buffer: &mut [u8]) -> Pull
-        // As of each input.
+        // As for every input.
         requires { 0 < length buffer.old }
         ensures count { GivesAtMost (length buffer.new) result }
         ensures event { self.new.events ≡ pull_event result buffer.new ∷ self.old.events }
@@ -137,8 +137,8 @@ impl Input for MemoryInput {
     }
 }
 
-/// Keeps the bytes that it takes: each push does a step, and after the last step takes everything. Where memory runs out for
-/// them, it fails.
+/// An output that keeps the bytes it takes: each push takes a step, and after the last step takes
+/// everything. It fails if it can't allocate memory for them.
 #[derive(Drop)]
 pub struct MemoryOutput {
     bytes: Vec<u8>,
@@ -160,7 +160,7 @@ impl Model for MemoryOutput {
 }
 
 impl MemoryOutput {
-    /// An output that has no bytes yet, and goes by these steps first.
+    /// Returns an output that has no bytes yet and takes these steps first.
     pub fn new(alloc: Global, steps: Vec<OutputStep>) -> MemoryOutput
         ensures { result ≡ record { steps = steps.items; events = [] } }
     {
@@ -172,21 +172,21 @@ impl MemoryOutput {
         }
     }
 
-    /// The bytes that were taken.
+    /// Returns the bytes that were taken.
     pub fn as_bytes(&self) -> &[u8]
         ensures { result.now ≡ moved self.now.events }
     {
         self.bytes.as_slice()
     }
 
-    /// The bytes that were taken, in a vector.
+    /// Returns the bytes that were taken, in a vector.
     pub fn into_bytes(self) -> Vec<u8>
         ensures { result.items ≡ moved self.events }
     {
         self.bytes
     }
 
-    /// Uses a step, where one is left.
+    /// Takes the next step, if one is left.
     fn next_step(&mut self) -> Option<OutputStep>
         ensures left { MatchOption result (self.old.steps ≡ []) (λ step. self.old.steps ≡ step ∷ self.new.steps) }
         ensures new { MatchOption result (self.new ≡ self.old) (λ step.
@@ -205,12 +205,12 @@ impl Output for MemoryOutput {
     ghost tells = { kept_of };
 
     fn push(&mut self, bytes: &[u8]) -> Push
-        // As of each output.
+        // As for every output.
         requires { 0 < length bytes.now }
         ensures count { TakesAtMost (length bytes.now) result }
         ensures event { self.new.events ≡ push_event result bytes.now ∷ self.old.events }
 
-        // What this one takes, where there is memory for it.
+        // What this one takes, if there is memory for it.
         ensures answer { (result ≡ push_by self.old.steps (length bytes.now)) ⊎ (result ≡ Push.Failed) }
         ensures steps { self.new.steps ≡ drop 1 self.old.steps }
     {

@@ -1,4 +1,4 @@
-//! Bytes to an output that may take them in pieces.
+//! Pushing bytes to an output that may take them in pieces.
 ghost use Rattle.std.specs.Bool.{OnFalse, OnTrue};
 ghost use Rattle.std.specs.Prelude.{◌≤◌, length, take};
 ghost use Rattle.mc_stream.specs.Event.{waits};
@@ -17,7 +17,8 @@ pub enum Stop {
     Failed,
 }
 
-/// Pushes bytes until all are taken, or the output is full or fails. Gives how many were taken, and why no more.
+/// Pushes bytes until all are taken, or the output is full or fails. Returns how many were taken,
+/// and why it stopped.
 pub fn push_front<O: Output>(bytes: &[u8], output: &mut O) -> (usize, Stop)
     ensures within { result.0 ≤ length bytes.now }
     ensures pushed { Pushes (O.tells output.old) (O.tells output.new) (take result.0 bytes.now) }
@@ -34,7 +35,8 @@ pub fn push_front<O: Output>(bytes: &[u8], output: &mut O) -> (usize, Stop)
     (sent, Stop::All)
 }
 
-/// Pushes bytes until all are taken, or the output is full or fails. Says whether all were taken.
+/// Pushes bytes until all are taken, or the output is full or fails. Returns whether all were
+/// taken.
 pub fn push_while_taken<O: Output>(bytes: &[u8], output: &mut O) -> bool
     ensures pushed { PushesAtOnce bytes.now (O.tells output.old) (O.tells output.new) }
     ensures all { OnTrue result (Pushes (O.tells output.old) (O.tells output.new) bytes.now) }

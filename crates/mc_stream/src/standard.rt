@@ -1,8 +1,9 @@
-//! Inputs and outputs over std's readers and writers, as the standard streams and sockets.
+//! Inputs and outputs over std's readers and writers, such as the standard streams and sockets.
 //!
-//! What they tell is on a tape, which no memory holds: what `read`, `write` and `flush` answered is told by `pull_of` and
-//! `push_of`, and put on the tape there. That these answers are handed on, and that a write is flushed, stands in the bodies of
-//! `pull` and `push`; the clauses `rest` and `written` tie their bytes to a stream that tells its own.
+//! What they report is on a tape, which takes no memory: `pull_of` and `push_of` say what an answer
+//! of `read`, `write` and `flush` means, and that is put on the tape. That these answers are passed
+//! on, and that a write is flushed, is in the bodies of `pull` and `push`; the clauses `rest` and
+//! `written` tie their bytes to a stream that reports its own.
 ghost use Rattle.std.specs.IoError.{error_kind};
 ghost use Rattle.std.specs.Prelude.{◌≡◌, ◌∷◌, ◌<◌, ◌≤◌, [], IfOk, length};
 ghost use Rattle.mc_stream.specs.Standard.{WritesTaken, asks_again, pull_of, push_of, read_of, reader_of, writer_of, written_of};
@@ -13,14 +14,14 @@ use crate::tape::Tape;
 use std::io;
 use std::io::{ErrorKind, Read, Write};
 
-/// Whether the call did nothing and may be made again.
+/// Returns whether the call did nothing and may be made again.
 fn asks_again(error: &io::Error) -> bool
     ensures { result ≡ asks_again (error_kind error.now) }
 {
     matches!(error.kind(), ErrorKind::Interrupted | ErrorKind::WouldBlock)
 }
 
-/// What a pull answers where a read into a buffer with room answered this.
+/// Returns what a pull answers if a read into a buffer with room answered this.
 fn pull_of(given: &io::Result<usize>) -> Pull
     ensures { result ≡ pull_of given.now }
 {
@@ -37,14 +38,15 @@ fn pull_of(given: &io::Result<usize>) -> Pull
     }
 }
 
-/// What a push answers where a write answered this, and the flush after a write that took bytes that.
+/// Returns what a push answers if a write answered `written` and the flush after it `flushed`. Only
+/// a write that took bytes is flushed.
 fn push_of(written: &io::Result<usize>, flushed: &io::Result<()>) -> Push
     ensures { result ≡ push_of written.now flushed.now }
 {
     match (written, flushed) {
         (Ok(0), _) => Push::Failed,
         (Ok(count), Ok(())) => Push::Taken(*count),
-        // Not `Full`, also where it was interrupted: the bytes would be pushed again.
+        // Not `Full`, even if the flush was interrupted: the bytes would be pushed again.
         (Ok(_), Err(_)) => Push::Failed,
         (Err(error), _) => {
             if asks_again(error) {
@@ -56,7 +58,7 @@ fn push_of(written: &io::Result<usize>, flushed: &io::Result<()>) -> Push
     }
 }
 
-/// An input over a reader, which knows what is left where the reader does.
+/// An input over a reader. It knows what is left if the reader does.
 #[derive(Drop)]
 pub struct ReadInput<R> {
     reader: R,
@@ -64,7 +66,7 @@ pub struct ReadInput<R> {
 }
 
 impl<R: Read> ReadInput<R> {
-    /// The input over this reader.
+    /// Returns the input over this reader.
     pub fn new(reader: R) -> ReadInput<R>
         ensures reader { reader_of result ≡ reader }
         ensures tells { read_of R.remaining result ≡ record { events = []; left = R.remaining reader } }
@@ -72,7 +74,7 @@ impl<R: Read> ReadInput<R> {
         ReadInput::resume(reader, Tape::new())
     }
 
-    /// The input over this reader, whose pulls go on the tape that an earlier input left.
+    /// Returns the input over this reader, whose pulls go on the tape that an earlier input left.
     pub fn resume(reader: R, tape: Tape) -> ReadInput<R>
         ensures reader { reader_of result ≡ reader }
         ensures tells { read_of R.remaining result ≡ record { events = tape.events; left = R.remaining reader } }
@@ -80,7 +82,7 @@ impl<R: Read> ReadInput<R> {
         ReadInput { reader, tape }
     }
 
-    /// The tape, for an input that goes on where this one ends.
+    /// Returns the tape, for an input that goes on where this one ends.
     pub fn into_tape(self) -> Tape
     where
         R: Drop,
@@ -114,7 +116,7 @@ impl<R: Read> Input for ReadInput<R> {
     }
 }
 
-/// An output over a writer. What was taken is flushed in the same push.
+/// An output over a writer. What a push takes is flushed in the same push.
 #[derive(Drop)]
 pub struct WriteOutput<W> {
     writer: W,
@@ -122,7 +124,7 @@ pub struct WriteOutput<W> {
 }
 
 impl<W> WriteOutput<W> {
-    /// The output over this writer.
+    /// Returns the output over this writer.
     pub fn new(writer: W) -> WriteOutput<W>
         ensures writer { writer_of result ≡ writer }
         ensures tells { written_of result ≡ record { events = [] } }
@@ -130,7 +132,8 @@ impl<W> WriteOutput<W> {
         WriteOutput::resume(writer, Tape::new())
     }
 
-    /// The output over this writer, whose pushes go on the tape that an earlier output left.
+    /// Returns the output over this writer, whose pushes go on the tape that an earlier output
+    /// left.
     pub fn resume(writer: W, tape: Tape) -> WriteOutput<W>
         ensures writer { writer_of result ≡ writer }
         ensures tells { written_of result ≡ record { events = tape.events } }
@@ -138,7 +141,7 @@ impl<W> WriteOutput<W> {
         WriteOutput { writer, tape }
     }
 
-    /// The tape, for an output that goes on where this one ends.
+    /// Returns the tape, for an output that goes on where this one ends.
     pub fn into_tape(self) -> Tape
     where
         W: Drop,
@@ -164,12 +167,12 @@ impl<W: Write> Output for WriteOutput<W> {
     ghost tells = { written_of };
 
     fn push(&mut self, bytes: &[u8]) -> Push
-        // As of each output.
+        // As for every output.
         requires { 0 < length bytes.now }
         ensures count { TakesAtMost (length bytes.now) result }
         ensures event { (written_of self.new).events ≡ push_event result bytes.now ∷ (written_of self.old).events }
 
-        // Where the writer tells its bytes.
+        // If the writer reports its bytes.
         ensures written { WritesTaken (W.contents (writer_of self.old)) (W.contents (writer_of self.new)) result bytes.now }
     {
         let written = self.writer.write(bytes);

@@ -1,4 +1,4 @@
-//! What gives bytes and what takes them.
+//! The traits of what gives bytes and what takes them.
 ghost use Rattle.std.specs.Io.KnownBytes.{Consumes, IsAtEnd};
 ghost use Rattle.std.specs.Prelude.{◌≡◌, ◌∷◌, ◌<◌, length};
 ghost use Rattle.mc_stream.specs.Stream.{GivesAtMost, Inflow, Outflow, TakesAtMost, pull_event, pulled_by, push_event};
@@ -6,9 +6,9 @@ ghost use Rattle.mc_stream.specs.Stream.{GivesAtMost, Inflow, Outflow, TakesAtMo
 /// What a pull gave.
 #[derive(Clone, Copy, Debug, PartialEq, Eq)]
 pub enum Pull {
-    /// So many bytes now stand at the front of the buffer.
+    /// This many bytes are now at the front of the buffer.
     Bytes(usize),
-    /// Nothing is there now.
+    /// There are no bytes now.
     Empty,
     /// The input has ended.
     Ended,
@@ -19,20 +19,20 @@ pub enum Pull {
 /// What a push took.
 #[derive(Clone, Copy, Debug, PartialEq, Eq)]
 pub enum Push {
-    /// So many bytes from the front were taken.
+    /// This many bytes from the front were taken.
     Taken(usize),
-    /// Nothing can be taken now.
+    /// No bytes can be taken now.
     Full,
     /// The output failed.
     Failed,
 }
 
-/// Gives bytes, in pieces.
+/// An input: gives bytes, in pieces.
 pub trait Input {
-    /// What it tells of itself.
+    /// What it reports of itself.
     ghost tells: { Self → Inflow };
 
-    /// Puts bytes at the front of the buffer. What stands after them is open.
+    /// Puts bytes at the front of the buffer. The bytes after them are unspecified.
     fn pull(&mut self, buffer: &mut [u8]) -> Pull
         requires { 0 < length buffer.old }
         ensures count { GivesAtMost (length buffer.new) result }
@@ -41,9 +41,9 @@ pub trait Input {
         ensures no_more { result ≡ Pull.Ended → IsAtEnd (tells self.new).left };
 }
 
-/// Takes bytes, in pieces.
+/// An output: takes bytes, in pieces.
 pub trait Output {
-    /// What it tells of itself.
+    /// What it reports of itself.
     ghost tells: { Self → Outflow };
 
     /// Takes bytes from the front.

@@ -1,12 +1,13 @@
-//! What pulls and pushes did, for clauses alone.
+//! What pulls and pushes did, for clauses only.
 ghost use Rattle.mc_stream.specs.Event.{Ends, Event, Fails, Moves, Waits};
 ghost use Rattle.std.specs.Borrow.{ftrue};
 ghost use Rattle.std.specs.Prelude.{◌≡◌, List, [], ◌∷◌};
 
 use std::marker::Model;
 
-/// What every pull of an input or every push of an output did, the latest first. It takes no memory, and its methods do nothing at run time.
-/// Only the inputs and outputs of this crate write on it.
+/// What every pull of an input or every push of an output did, the latest first. It takes no
+/// memory, and its methods do nothing at run time. Only the inputs and outputs of this crate write
+/// on it.
 #[derive(Drop)]
 pub struct Tape {
     pub ghost events: { List Event },
@@ -17,29 +18,29 @@ impl Model for Tape {
 }
 
 impl Tape {
-    /// Nothing was done yet.
+    /// Returns an empty tape: nothing was done yet.
     pub fn new() -> Tape
         ensures { result ≡ record { events = [] } }
     {
         Tape {}
     }
 
-    /// These bytes went over.
+    /// Records that these bytes were moved.
     pub(crate) fn moves(&mut self, _bytes: &[u8])
         ensures { self.new ≡ record { events = Moves _bytes.now ∷ self.old.events } }
     {}
 
-    /// Nothing could go over.
+    /// Records that nothing could be moved.
     pub(crate) fn waits(&mut self)
         ensures { self.new ≡ record { events = Waits ∷ self.old.events } }
     {}
 
-    /// The end was found.
+    /// Records that the end was found.
     pub(crate) fn ends(&mut self)
         ensures { self.new ≡ record { events = Ends ∷ self.old.events } }
     {}
 
-    /// It failed.
+    /// Records a failure.
     pub(crate) fn fails(&mut self)
         ensures { self.new ≡ record { events = Fails ∷ self.old.events } }
     {}

@@ -4,7 +4,7 @@ use Rattle.std.proofs.lemmas.List.Folds.{length-flat_map-take}
 use Rattle.mc_model.specs.declared.reply.Value.{Value}
 use Rattle.mc_write.specs.Text.{value_line, value_text}
 
--- a line with its block behind it
+-- a line with its block after it
 length-behind_line : (line block end : List ℕ) → length (line ++ end ++ block ++ end) ≡ length line + length (end ++ block ++ end)
 length-behind_line line block end =
     omega (arith, length-append (line ++ end ++ block) end, length-append (line ++ end) block, length-append line end, length-append (end ++ block) end, length-append end block)

@@ -1,4 +1,4 @@
--- The names of faults, by which a program tells them; this project's profile.
+-- The names of faults, by which programs report them; this project's profile.
 use Rattle.std.specs.Prelude.{List, ℕ, codes}
 use Rattle.mc_model.specs.declared.fault.Fault.{Fault}
 use Rattle.mc_model.specs.declared.fault.Fault.TheVariants.{Memory, LogFull, Taken, Input, Output, BadEvent, BadSettings}

@@ -1,4 +1,5 @@
-//! Text: what a client reads for each reply, appended to a queue of bytes, and the names of faults.
+//! The text that a client reads for each reply, appended to a queue of bytes, and the names of
+//! faults.
 #![tactic(auto)]
 
 ghost use Rattle.std.specs.Io.{StartsWith};
@@ -11,13 +12,14 @@ use itoa::Buffer;
 use mc_model::{Fault, Reply, Value, WireNo};
 use std::alloc::AllocError;
 
-/// Appends a reply's text. Where memory runs out: `Memory`, and the old bytes stay as they were.
+/// Appends a reply's text. Returns `Memory` if an allocation fails; the vector's bytes are
+/// unchanged then.
 pub fn write_reply(reply: &Reply, out: &mut Vec<u8>) -> Result<(), Fault>
     ensures text { OnOk result (out.new.items ≡ out.old.items ++ text reply.now) }
     ensures kept { OnErr result (out.new.items ≡ out.old.items) }
     ensures memory { IsOkUnless result Fault.Memory }
 
-    // Where the vector has room for the text, it succeeds.
+    // It succeeds if the vector has capacity for the text.
     ensures room { vec_len out.old + length (text reply.now) ≤ vec_capacity out.old → IsOk result }
 {
     let start = out.len();
@@ -28,7 +30,7 @@ pub fn write_reply(reply: &Reply, out: &mut Vec<u8>) -> Result<(), Fault>
     Ok(written?)
 }
 
-/// The text of a refusal, for a caller that has no memory to write it to. Takes none.
+/// Returns the text of a refusal, without allocating, for a caller that is out of memory.
 pub fn refusal_text(refusal: WireNo) -> &'static [u8]
     ensures { result.now ≡ text (Refused refusal) }
 {
@@ -47,7 +49,7 @@ pub fn refusal_text(refusal: WireNo) -> &'static [u8]
     }
 }
 
-/// A text may be written in part where memory runs out.
+/// Appends a reply's text, which may be written in part if an allocation fails.
 fn append_reply(reply: &Reply, out: &mut Vec<u8>) -> Result<(), AllocError>
     ensures text { OnOk result (out.new.items ≡ out.old.items ++ text reply.now) }
     ensures begun { StartsWith out.new.items out.old.items }
@@ -87,7 +89,7 @@ fn append_values(values: &[Value], out: &mut Vec<u8>) -> Result<(), AllocError>
     Ok(())
 }
 
-/// The line of an item, without its end.
+/// Appends the line of an item, without its end.
 fn append_line(value: &Value, out: &mut Vec<u8>) -> Result<(), AllocError>
     ensures text { OnOk result (out.new.items ≡ out.old.items ++ value_line value.now) }
     ensures begun { StartsWith out.new.items out.old.items }
@@ -104,7 +106,7 @@ fn append_line(value: &Value, out: &mut Vec<u8>) -> Result<(), AllocError>
     Ok(())
 }
 
-/// The end of an item's line, and its data.
+/// Appends the end of an item's line, and its data.
 fn append_block(block: &[u8], out: &mut Vec<u8>) -> Result<(), AllocError>
     ensures text { OnOk result (out.new.items ≡ out.old.items ++ (codes "\r\n" ++ block.now ++ codes "\r\n")) }
     ensures begun { StartsWith out.new.items out.old.items }
@@ -116,7 +118,8 @@ fn append_block(block: &[u8], out: &mut Vec<u8>) -> Result<(), AllocError>
     append_line_end(out)
 }
 
-/// A carriage return and a line feed, each by itself: two pushes cost less than a copy of two bytes.
+/// Appends a carriage return and a line feed, one by one: two pushes cost less than a copy of two
+/// bytes.
 fn append_line_end(out: &mut Vec<u8>) -> Result<(), AllocError>
     ensures text { OnOk result (out.new.items ≡ out.old.items ++ codes "\r\n") }
     ensures begun { StartsWith out.new.items out.old.items }
@@ -128,7 +131,7 @@ fn append_line_end(out: &mut Vec<u8>) -> Result<(), AllocError>
     Ok(())
 }
 
-/// A space, and the number in decimal digits.
+/// Appends a space and the number in decimal digits.
 fn append_number(number: u64, out: &mut Vec<u8>) -> Result<(), AllocError>
     ensures text { OnOk result (out.new.items ≡ out.old.items ++ (codes " " ++ decimal number)) }
     ensures begun { StartsWith out.new.items out.old.items }
@@ -139,7 +142,7 @@ fn append_number(number: u64, out: &mut Vec<u8>) -> Result<(), AllocError>
     append_digits(number, out)
 }
 
-/// The number in decimal digits. One of a single digit, as most flags are, is pushed without a search for its digits.
+/// Appends the number in decimal digits. A single digit, as most flags are, is pushed directly.
 fn append_digits(number: u64, out: &mut Vec<u8>) -> Result<(), AllocError>
     ensures text { OnOk result (out.new.items ≡ out.old.items ++ decimal number) }
     ensures begun { StartsWith out.new.items out.old.items }
@@ -154,7 +157,7 @@ fn append_digits(number: u64, out: &mut Vec<u8>) -> Result<(), AllocError>
     out.extend_from_slice(digits.format(number).as_bytes())
 }
 
-/// The name of a fault, by which a program tells it.
+/// Returns the name by which programs report the fault.
 pub fn fault_text(fault: Fault) -> &'static [u8]
     ensures { result.now ≡ fault_text fault }
 {

@@ -86,6 +86,6 @@ passes : (test : Bool) → false ≡ not test → test ≡ true
 passes true fails = refl
 passes false fails = absurd (cc)
 
--- two contents of a cell are the same where `!=` doesn't tell them apart
+-- two contents of a cell are the same if `!=` finds no difference
 pub same_unless : (one other : Option Entry) → false ≡ not (option_eq entries.eq-value.it one other) → one ≡ other
 same_unless one other fails = same_content one other (passes _ fails)

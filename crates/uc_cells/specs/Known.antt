@@ -4,7 +4,7 @@ use Rattle.mc_model.specs.declared.id.Ticket.{Ticket}
 use Rattle.mc_model.specs.declared.request.Entry.{Entry}
 use Rattle.uc_cells.specs.Cells.{place_in_row}
 
--- what contracts see of a row: the names of its cells
+-- a row as contracts see it: the names of its cells
 abbrev pub RowCells : Type 0
 RowCells = List ℕ
 
@@ -14,6 +14,6 @@ pub record IsKnown (ticket : Ticket) (known : Option RowCells) (cell : ℕ) (fou
   pub is_there : slice_get row (place_in_row ticket.number) ≡ Some cell
   pub knows_value : found ≡ Some value
 
--- the same where the value isn't at hand: it is known all the same
+-- the same if the value isn't at hand, though it is known
 abbrev pub IsSealed : Ticket → Option RowCells → ℕ → Option (Option Entry) → Type 0
 IsSealed ticket known cell found = (value : Option Entry) × IsKnown ticket known cell found value

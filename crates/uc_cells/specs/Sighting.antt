@@ -1,5 +1,6 @@
--- What was seen of a command's cell. In Herlihy's universal construction (Wait-Free Synchronization, TOPLAS 1991) a command's contents
--- are written before it is announced, and read by whoever replays it; that each has a cell which is set once is this project's profile.
+-- What was seen of a command's cell. In Herlihy's universal construction (Wait-Free
+-- Synchronization, TOPLAS 1991) a command's contents are written before it is announced, and read
+-- by whoever replays it; that each has a cell which is set once is this project's profile.
 use Rattle.std.specs.Prelude.{ℕ, List, map, Option, refl}
 use Rattle.std.specs.Coded.{Coded, code_by, coded×, coded_ℕ, coded_option}
 use Rattle.std.specs.Option.{option_and_then}
@@ -9,7 +10,7 @@ use Rattle.mc_model.specs.declared.id.Ticket.{Ticket}
 use Rattle.mc_model.specs.declared.request.Entry.{Entry}
 use Rattle.mc_model.specs.Log.{entry_for}
 
--- the ticket, the entry that counts for it, and the name of the row of cells in which its cell stands
+-- the ticket, the entry that counts for it, and the name of the row that has its cell
 pub record Sighting : Type 0 where
   pub ticket : Ticket
   pub entry : Option Entry

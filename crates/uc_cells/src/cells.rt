@@ -13,10 +13,10 @@ use once_cell::race::OnceBox;
 use std::alloc::Global;
 use std::marker::Model;
 
-/// How many cells stand in a row. A row takes memory from its first cell's use on.
+/// The number of cells in a row. A row is allocated when the first of its cells is used.
 pub const ROW_CELLS: u64 = 1_024;
 
-/// A cell for each ticket of so many workers and places.
+/// One cell for each ticket whose worker is below `workers` and number below `places`.
 #[derive(Drop)]
 pub struct Cells {
     rows: Vec<OnceBox<Row>>,
@@ -39,7 +39,8 @@ impl Model for Cells {
 }
 
 impl Cells {
-    /// An empty cell for each ticket whose worker is below `workers` and number below `places`. Where memory runs out: `Memory`.
+    /// Returns an empty cell for each ticket whose worker is below `workers` and number below
+    /// `places`. Returns `Memory` if an allocation fails.
     pub fn open(alloc: Global, workers: u8, places: u64) -> Result<Cells, Fault>
         requires { places ≤ MAX_PLACES }
         ensures workers { IfOk result (λ cells. cells.workers ≡ workers) }
@@ -58,36 +59,37 @@ impl Cells {
         })
     }
 
-    /// How many workers have cells.
+    /// Returns the number of workers that have cells.
     pub fn workers(&self) -> u8
         ensures { result ≡ self.now.workers }
     {
         self.workers
     }
 
-    /// How many cells each worker has.
+    /// Returns the number of cells that each worker has.
     pub fn places(&self) -> u64
         ensures { result ≡ self.now.places }
     {
         self.places
     }
 
-    /// Puts an entry into its ticket's cell, and sees it there. Where the cell holds another value: `Taken`; where memory runs out:
-    /// `Memory`, and nothing was written to the cell. The entry is dropped then. To put an equal entry again isn't taken.
+    /// Puts an entry into its ticket's cell, and returns the sighting of it. Returns `Taken` if the
+    /// cell holds another value, and `Memory` if an allocation fails; nothing was written to the
+    /// cell then. At either fault the entry is dropped. Putting an equal entry again isn't `Taken`.
     pub fn put(&self, alloc: Global, entry: Entry) -> Result<Seen<'_>, Fault>
         requires { HasCell self.now entry.ticket }
         ensures put { IfOk result (λ seen. seen ≡ sighting entry.ticket (Some entry) (row_at self.now entry.ticket)) }
         ensures faults { IfErr result (λ fault. (fault ≡ Fault.Memory) ⊎ (fault ≡ Fault.Taken)) }
     {
         let ticket = entry.ticket;
-        // Its parts, since a ticket that is held across a `?` gets no proof.
+        // Taken apart, since a ticket that is held across a `?` gets no proof.
         let Ticket { worker, number } = ticket;
         let place = self.row(ticket);
         let mut row = place.note();
         let cells = place.get_or_try_init_as(move || Row::open(alloc), &mut row)?;
         let own = cells.cell(number);
         let mut cell = own.note();
-        // The box is made before the cell is set, so that at `Memory` nothing was written.
+        // The box is made before the cell is set, so that `Memory` means that nothing was written.
         let boxed = Box::new(alloc, Some(entry))?;
         let refused = own.set_as(boxed, &mut cell).err();
         let Some(value) = own.get_as(&mut cell) else {
@@ -104,14 +106,15 @@ impl Cells {
         }
     }
 
-    /// The value of the ticket's cell. An empty cell is filled as absent, for good.
+    /// Returns the value of the ticket's cell. An empty cell is set as absent, for good. Returns
+    /// `Memory` if an allocation fails.
     pub fn see(&self, alloc: Global, ticket: Ticket) -> Result<Seen<'_>, Fault>
         requires { HasCell self.now ticket }
         ensures ticket { IfOk result (λ seen. seen.ticket ≡ ticket) }
         ensures row { IfOk result (λ seen. seen.row ≡ row_at self.now ticket) }
         ensures memory { IsOkUnless result Fault.Memory }
     {
-        // Its parts, since a ticket that is held across a `?` gets no proof.
+        // Taken apart, since a ticket that is held across a `?` gets no proof.
         let Ticket { worker, number } = ticket;
         let place = self.row(ticket);
         let mut row = place.note();
@@ -127,7 +130,7 @@ impl Cells {
         })
     }
 
-    /// Shows again what was seen of these cells. It takes no memory.
+    /// Returns again what was seen of one of these cells. Allocates nothing.
     pub fn see_again(&self, known: &mut Sealed) -> Seen<'_>
         requires has { HasCell self.now known.old.ticket }
         requires row { known.old.row ≡ row_at self.now known.old.ticket }
@@ -152,7 +155,7 @@ impl Cells {
         }
     }
 
-    /// Where the row of the ticket's cell stands.
+    /// Returns where the row of the ticket's cell is kept.
     fn row(&self, ticket: Ticket) -> &OnceBox<Row>
         requires { HasCell self.now ticket }
         ensures { cell_name result.now ≡ row_at self.now ticket }
@@ -162,7 +165,7 @@ impl Cells {
     }
 }
 
-/// How many rows the cells of one worker take.
+/// Returns the number of rows that the cells of one worker take.
 fn rows_of_each(places: u64) -> usize
     ensures { result ≡ rows_each places }
 {

@@ -8,7 +8,8 @@ use crate::{Cells, Seen};
 use mc_model::{Entry, Fault, Ticket};
 use std::alloc::Global;
 
-/// Each ticket that has a cell has one of its own: where two tickets' cells stand at one place of one row, they are one ticket.
+/// Each ticket that has a cell has its own: if two tickets' cells are at the same place of the same
+/// row, the tickets are equal.
 pub fn each_ticket_has_its_own_cell(cells: &Cells)
     ensures { (one : Ticket) (other : Ticket) → HasCell cells.now one → HasCell cells.now other →
         row_place cells.now one ≡ row_place cells.now other → place_in_row one.number ≡ place_in_row other.number →
@@ -17,8 +18,8 @@ pub fn each_ticket_has_its_own_cell(cells: &Cells)
     let _ = cells;
 }
 
-/// What was put is what is seen: no sighting of the cell misses it. Where the cell holds another value: `Taken`; where memory runs out:
-/// `Memory`.
+/// What was put is what is seen: no sighting of the cell misses it. Returns `Taken` if the cell
+/// holds another value, and `Memory` if an allocation fails.
 pub fn what_was_put_is_seen(cells: &Cells, alloc: Global, entry: Entry) -> Result<Seen<'_>, Fault>
     requires { HasCell cells.now entry.ticket }
     ensures put { IfOk result (λ seen. seen ≡ sighting entry.ticket (Some entry) (row_at cells.now entry.ticket)) }

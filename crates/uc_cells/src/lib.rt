@@ -1,4 +1,4 @@
-//! Cells for the contents of commands: one for each ticket, set once, and never changed then.
+//! Cells for the contents of commands: one for each ticket, set once and never changed after that.
 #![tactic(auto)]
 
 pub use cells::Cells;

@@ -9,10 +9,10 @@ use once_cell::race::OnceBox;
 use std::alloc::{AllocError, Global};
 use std::marker::Model;
 
-/// A cell: what it holds once it is set, an entry or that there is none.
+/// A cell: once it is set, it holds an entry, or that there is none.
 pub(crate) type Cell = OnceBox<Option<Entry>>;
 
-/// `ROW_CELLS` cells, whoever made the row. Contracts see their names.
+/// A row of `ROW_CELLS` cells, whoever made it. Contracts see the cells' names.
 #[derive(Drop)]
 pub(crate) struct Row {
     cells: Vec<Cell>,
@@ -31,7 +31,7 @@ impl Model for Row {
 }
 
 impl Row {
-    /// A row of empty cells.
+    /// Returns a row of empty cells.
     pub(crate) fn open(alloc: Global) -> Result<Box<Row>, AllocError> {
         let mut cells = Vec::with_capacity(alloc, ROW_CELLS as usize)?;
         for _cell in 0..ROW_CELLS {
@@ -40,7 +40,7 @@ impl Row {
         Ok(Box::new(alloc, Row { cells })?)
     }
 
-    /// The cell of the ticket of this number, if this is its row.
+    /// Returns the cell of the ticket with this number, if this is its row.
     pub(crate) fn cell(&self, number: u64) -> &Cell
         ensures { slice_get self.now (place_in_row number) ≡ Some (cell_name result.now) }
     {

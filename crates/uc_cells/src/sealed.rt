@@ -1,4 +1,4 @@
-//! What was seen of a cell, kept without the cells.
+//! What was seen of a cell, kept without a borrow of the cells.
 ghost use Rattle.std.specs.Prelude.{◌≡◌};
 
 use crate::row::Row;
@@ -6,7 +6,8 @@ use mc_model::{Entry, Ticket};
 use once_cell::race::Note;
 use std::marker::Model;
 
-/// A sighting that doesn't borrow the cells, which show it again without memory: see `Cells::see_again`. It takes the bytes of a ticket.
+/// A sighting that doesn't borrow the cells; `Cells::see_again` returns it again without memory. It
+/// is the size of a ticket.
 #[derive(Drop)]
 pub struct Sealed {
     pub(crate) ticket: Ticket,
@@ -28,7 +29,7 @@ impl Model for Sealed {
 }
 
 impl Sealed {
-    /// The ticket whose cell it is.
+    /// Returns the ticket whose cell it is.
     pub fn ticket(&self) -> Ticket
         ensures { result ≡ self.now.ticket }
     {

@@ -8,7 +8,8 @@ use mc_model::{Entry, Ticket};
 use once_cell::race::Note;
 use std::marker::Model;
 
-/// The value of a ticket's cell, which no other call will ever find different. It outlives the thread that made it.
+/// The value of a ticket's cell, which no other call will ever find different. It outlives the
+/// thread that made it.
 #[derive(Drop)]
 pub struct Seen<'a> {
     pub(crate) ticket: Ticket,
@@ -31,14 +32,14 @@ impl<'a> Model for Seen<'a> {
 }
 
 impl<'a> Seen<'a> {
-    /// The ticket whose cell it is.
+    /// Returns the ticket whose cell it is.
     pub fn ticket(&self) -> Ticket
         ensures { result ≡ self.now.ticket }
     {
         self.ticket
     }
 
-    /// The entry that the cell holds, if it holds one of its own ticket.
+    /// Returns the entry that the cell holds, if it holds one of its own ticket.
     pub fn entry(&self) -> Option<&'a Entry>
         ensures entry { option_copied result ≡ self.now.entry }
         ensures own { IfSome result (λ entry. entry.now.ticket ≡ self.now.ticket) }
@@ -51,7 +52,7 @@ impl<'a> Seen<'a> {
         }
     }
 
-    /// The same without the borrow of the cells.
+    /// Returns the sighting without its borrow of the cells.
     pub fn seal(self) -> Sealed
         ensures { result ≡ self.entry }
     {
@@ -64,7 +65,8 @@ impl<'a> Seen<'a> {
         Sealed { ticket, row, cell }
     }
 
-    /// Two sightings of one cell are equal, whichever threads made them. Needs no memory.
+    /// Establishes that two sightings of one cell are equal, whichever threads made them. Allocates
+    /// nothing.
     pub fn agree(&mut self, other: &mut Seen<'_>)
         requires row { self.old.row ≡ other.old.row }
         requires ticket { self.old.ticket ≡ other.old.ticket }

@@ -1,4 +1,5 @@
--- What the core's law says of the log, of the workers' replicas and of their tables: the theorem's clauses on the state of the core.
+-- What the core's law says of the log, of the workers' replicas and of their tables: the theorem's
+-- clauses on the state of the core.
 use Rattle.std.proofs.Common.{◌≡◌, ℕ, suc, ◌<◌, List, map, take, Option, Some, None, slice_get, ⊎_elim, refl, sym, ap, ap₂, subst, ◌∙◌, arith, take-take, ◌&&◌, if◌then◌else◌, eq-eqb}
 use Rattle.std.proofs.lemmas.Bool.{cases_order}
 use Rattle.std.proofs.lemmas.List.{take-map}

@@ -1,4 +1,5 @@
--- An event changes its own worker alone, and a worker that has stopped takes none, so it stays as it is.
+-- An event changes its own worker alone, and a worker that has stopped takes none, so it stays as
+-- it is.
 use Rattle.std.proofs.Common.{◌≡◌, ◌≢◌, ℕ, zero, suc, List, [], ◌∷◌, Option, Some, None, slice_get, ⊎_elim, refl, sym, ap, ◌∙◌}
 use Rattle.std.proofs.lemmas.Option.{none-some, same_Some, slice_get_within}
 use Rattle.mc_model.specs.declared.reply.Reply.{Reply}

@@ -1,5 +1,6 @@
--- A run answers each command of its own that a worker replays: by induction from the run's front, of the places from those that the worker
--- has replayed before the run up to those that it has replayed after it.
+-- A run answers each command of its own that a worker replays: by induction from the run's front,
+-- of the places from those that the worker has replayed before the run up to those that it has
+-- replayed after it.
 use Rattle.std.proofs.Common.{◌≡◌, ◌≢◌, ℕ, ◌+◌, ◌<◌, ◌≤◌, List, [], ◌∷◌, ◌++◌, length, take, Option, Some, None, if◌then◌else◌, slice_get, slice_set, option_map, ⊎_elim, refl, sym, ap, ap₂, subst, ◌∙◌, arith, eq-eqb}
 use Rattle.std.proofs.lemmas.Bool.{cases_eq, cases_lt}
 use Rattle.std.proofs.lemmas.Option.{slice_get-map, slice_get_within}
@@ -26,7 +27,8 @@ use Rattle.uc_core.proofs.Lookups.{at_further, at_longer, there}
 use Rattle.uc_core.proofs.Runs.{of_run, stands_on}
 use Rattle.uc_core.proofs.StateLaws.{learned_few}
 
--- the worker's own ticket stands at a place of the list that it has replayed later and not before: it was answered
+-- the worker's own ticket stands at a place of the list that it has replayed later and not before:
+-- it was answered
 abbrev AreAnswered : CoreState → CoreState → List Ticket → List Given → Type 0
 AreAnswered old new tickets given = (number place : ℕ) (ticket : Ticket) → replayed_by old number ≤ place → place < replayed_by new number →
     slice_get tickets place ≡ Some ticket → ticket.worker ≡ number → HasReply given number place

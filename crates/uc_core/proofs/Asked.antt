@@ -1,4 +1,5 @@
--- What the events of a run say of the core that it leads to: by induction from the run's front, one event after another.
+-- What the events of a run say of the core that it leads to: by induction from the run's front, one
+-- event after another.
 use Rattle.std.proofs.Common.{◌≡◌, ◌≢◌, ℕ, ◌+◌, ◌≤◌, ◌==◌, Bool, cond, if◌then◌else◌, List, [], ◌∷◌, ◌++◌, length, length-set, map, replicate, Option, Some, None, slice_get, slice_set, option_map, ⊎_elim, refl, sym, ap, ◌∙◌, arith, eq-eqb, ne_eqb, append-nil, append_assoc}
 use Rattle.std.proofs.lemmas.Bool.{cases_eq}
 use Rattle.std.proofs.lemmas.List.{length-map, length-replicate, map-append}
@@ -65,7 +66,7 @@ is_of_settings settings events core given run =
           ∙ nothing_made settings.tenants events;
     }
 
--- the announcements: each worker's list of entries is told by its announcements
+-- the announcements: each worker's list of entries is determined by its announcements
 abbrev told : Entry → ℕ × Command
 told entry = (entry.tenant, entry.command)
 

@@ -1,4 +1,5 @@
--- What is true of the core in every state that events lead to: its parts keep to their laws before any event, and one event keeps them so.
+-- What is true of the core in every state that events lead to: its parts keep to their laws before
+-- any event, and one event keeps them so.
 use Rattle.std.proofs.Common.{◌≡◌, ℕ, ◌+◌, ◌<◌, ◌≤◌, List, [], ◌∷◌, length, replicate, Option, Some, None, slice_get, slice_set, ⊎_elim, refl, sym, ap, subst, ◌∙◌, arith, le_refl, length-set}
 use Rattle.std.proofs.lemmas.List.{length-map, length-replicate}
 use Rattle.std.proofs.lemmas.Option.{none-some, same_Some, slice_get_within}
@@ -31,7 +32,8 @@ use Rattle.uc_core.proofs.Replays.{replay_more, replay_stays}
 use Rattle.uc_core.proofs.StateLaws.{IsSound, announced_after, announced_is, learned_few}
 use Rattle.uc_core.proofs.StateLaws as state_laws
 
--- events lead to what the log shows, which is sound, and every worker has its entries and its replay, which keep to their laws
+-- events lead to what the log shows, which is sound, and every worker has its entries and its
+-- replay, which keep to their laws
 pub record CoreLaw (core : CoreState) : Type 0 where
   pub reached : IsReached (size_of core) core.shown
   pub sound : IsSound (size_of core) core.shown
@@ -40,7 +42,8 @@ pub record CoreLaw (core : CoreState) : Type 0 where
   pub entries : AreEntries core
   pub replays : AreReplays core
 
--- a core that another grows into: its quotas are the other's, and the other's places and log go on from its own
+-- a core that another grows into: its quotas are the other's, and the other's places and log go on
+-- from its own
 pub record Grows (old new : CoreState) : Type 0 where
   pub openings : new.openings ≡ old.openings
   pub decided : BeginsWith new.shown.decided old.shown.decided
@@ -49,7 +52,8 @@ pub record Grows (old new : CoreState) : Type 0 where
 pub Grows-itself : (core : CoreState) → Grows core core
 Grows-itself core = record { openings = refl; decided = begins_self core.shown.decided; log = begins_self (log_of core) }
 
--- what follows from the law: each decided ticket has its entry, and a worker has learned no more than the places of the log
+-- what follows from the law: each decided ticket has its entry, and a worker has learned no more
+-- than the places of the log
 module _ (core : CoreState) (law : CoreLaw core) where
   pub stands_with_entry : (place : ℕ) (ticket : Ticket) → slice_get core.shown.decided place ≡ Some ticket → HasEntry core ticket
   stands_with_entry place ticket at = has_entry core ticket law.listed law.entries (law.sound.announced place ticket at)

@@ -1,5 +1,5 @@
--- A worked run of the core, tried on the definitions themselves, and what the theorem's words say of small logs: what they hold of, and
--- what they don't.
+-- A worked run of the core, tried on the definitions themselves, and what the theorem's words say
+-- of small logs: what they hold of, and what they don't.
 use Rattle.std.proofs.Common.{◌≡◌, ℕ, zero, suc, ◌+◌, ◌<◌, List, [], ◌∷◌, length, Option, Some, None, false, inl, inr, refl, ap, arith, slice_get}
 use Rattle.std.proofs.lemmas.Option.{same_Some}
 use Rattle.mc_model.specs.declared.command.Command.{Command}
@@ -75,8 +75,9 @@ module _ (limits others : Limits) where
   retrieval_takes_effect (suc zero) = refl
   retrieval_takes_effect (suc (suc tenant)) = refl
 
-  -- Worker 0 announces a flush of tenant 0. Worker 1 announces a get of tenant 1, helps worker 0 first, and replays both places: it
-  -- answers its own alone. Then worker 0 learns its place by a read, replays it, is answered, and stops.
+  -- Worker 0 announces a flush of tenant 0. Worker 1 announces a get of tenant 1, helps worker 0
+  -- first, and replays both places: it answers its own alone. Then worker 0 learns its place by a
+  -- read, replays it, is answered, and stops.
   abbrev waiting : WorkerState
   waiting = announce new_worker
 
@@ -210,8 +211,9 @@ module _ (limits others : Limits) where
   first_of_tenant_1 : Answered last answers 1 0 (Values [])
   first_of_tenant_1 = record { at = 0; worker = 1; place = 1; entry = retrieval; told = refl; found = refl; whose = refl; number = refl }
 
-  -- Another log agrees with this one for its tenant 1 and tenant 0 here up to the first command, whatever that tenant commands later and
-  -- whoever announced it; up to the second command they don't agree.
+  -- Another log agrees with this one for its tenant 1 and tenant 0 here up to the first command,
+  -- whatever that tenant commands later and whoever announced it; up to the second command they
+  -- don't agree.
   abbrev flush_again : ℕ → Entry
   flush_again number = record { ticket = ticket_of 0 number; tenant = 1; command = Flush }
 

@@ -1,4 +1,5 @@
--- The entries that workers have announced, and the log that they make: each announced ticket has its entry, and an announcement adds one.
+-- The entries that workers have announced, and the log that they make: each announced ticket has
+-- its entry, and an announcement adds one.
 use Rattle.std.proofs.Common.{◌≡◌, ◌≢◌, ℕ, ◌+◌, ◌<◌, List, [], ◌∷◌, ◌++◌, length, map, Option, Some, None, slice_get, slice_set, ⊎_elim, refl, sym, ap, subst, ◌∙◌, arith, length-append}
 use Rattle.std.proofs.lemmas.Bool.{cases_eq}
 use Rattle.std.proofs.lemmas.List.{map-append}

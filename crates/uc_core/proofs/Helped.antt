@@ -1,5 +1,6 @@
--- A ticket that is helped from a place on stays so at every step. Said by counts here: of a worker more than k tickets stand in a front
--- of the log where its ticket k stands there. That's true of any ticket that is announced, whatever its worker is at.
+-- A ticket that is helped from a place on stays so at every step. Said by counts here: of a worker
+-- more than k tickets stand in a front of the log where its ticket k stands there. That's true of
+-- any ticket that is announced, whatever its worker is at.
 use Rattle.std.proofs.Common.{◌≡◌, ◌≢◌, ◌⊎◌, ℕ, ◌+◌, ◌-◌, ◌%◌, ◌<◌, ◌≤◌, Bool, true, false, if◌then◌else◌, ltb, ltb-false, List, [], ◌∷◌, ◌++◌, length, length-append, take, take_all, sym, refl, ap, ◌∙◌, subst, inl, inr, ⊎_elim, arith, le_refl, lt_of_lt_of_le, unwrap_or, Option, Some, None}
 use Rattle.std.proofs.Math.Decide.{dec_le}
 use Rattle.std.proofs.lemmas.List.{take-append-le}
@@ -21,7 +22,8 @@ use Rattle.uc_core.proofs.Tickets.{count_begins, count_known, count_own, stands}
 abbrev pub Finds : ℕ → ℕ → WorkerState → Type 0
 Finds number command worker = (worker.look ≡ Some (ticket_of number command)) ⊎ (command < count number worker.learned)
 
--- the worker's command of this number is announced and is helped from the place on, before which it doesn't stand
+-- the worker's command of this number is announced and is helped from the place on, before which it
+-- doesn't stand
 pub record Helps (size : LogSize) (state : ShownState) (number command from : ℕ) : Type 0 where
   pub announced : command < announced_by state number
   pub here : from ≤ length state.decided
@@ -48,7 +50,8 @@ not_looked true phase other = λ same. cc
 not_looked false phase other = other
 
 module _ (size : LogSize) (state : ShownState) (number command from : ℕ) (helps : Helps size state number command from) where
-  -- it is helped after one worker's event where each new place whose turn is its worker's has it there or before, and that worker's look finds it
+  -- it is helped after one worker's event where each new place whose turn is its worker's has it
+  -- there or before, and that worker's look finds it
   helps_after : (decided : List Ticket) (mover : ℕ) (old new : WorkerState) → IsWorker state mover old → old.announced ≤ new.announced →
       BeginsWith decided state.decided →
       ((place : ℕ) → from < place → length state.decided ≤ place → place < length decided → place % size.workers ≡ number →
@@ -91,7 +94,8 @@ module _ (size : LogSize) (state : ShownState) (number command from : ℕ) (help
   helps_read mover worker (Some ticket) is other = helps_worker mover worker (read mover (Some ticket) worker) is (le_refl worker.announced)
       (λ at. absurd (not_looked (is_latest mover worker ticket) worker.phase other at))
 
-  -- a look for that worker finds the first ticket that isn't learned, which is the command or a later one
+  -- a look for that worker finds the first ticket that isn't learned, which is the command or a
+  -- later one
   look_finds : (first announced : ℕ) (below : Bool) → ltb first announced ≡ below → command < announced → command ≤ first →
       ((if below then Some (ticket_of number first) else None) ≡ Some (ticket_of number command)) ⊎ (command < first)
   look_finds first announced true is before least = by_first (dec_le first command)
@@ -111,7 +115,8 @@ module _ (size : LogSize) (state : ShownState) (number command from : ℕ) (help
       (let first = count number worker.learned in let announced = announced_by state number in
       look_finds first announced (ltb first announced) refl helps.announced (omega arith)))
 
-  -- the ticket that decides the next place, whose turn is that worker's, is the command unless that stands before
+  -- the ticket that decides the next place, whose turn is that worker's, is the command unless that
+  -- stands before
   helps_decide : (mover : ℕ) (worker : WorkerState) → IsSound size state → IsWorker state mover worker → worker.phase ≡ Looked → next state worker ≡ None →
       Helps size (after state (state.decided ++ proposal mover worker ∷ []) mover (propose mover None worker)) number command from
   helps_decide mover worker sound is at empty =

@@ -1,4 +1,5 @@
--- An event that meets no fault leads on, and an event that takes a worker to its next place learns it.
+-- An event that meets no fault leads on, and an event that takes a worker to its next place learns
+-- it.
 use Rattle.std.proofs.Common.{◌≡◌, ℕ, zero, suc, ◌+◌, ◌<◌, List, [], ◌∷◌, ◌++◌, length, length-append, Option, Some, None, slice_get, slice_set, option_map, refl, sym, ap, ◌∙◌, arith}
 use Rattle.std.proofs.lemmas.Option.{none-some, same_Some, slice_get_within}
 use Rattle.mc_model.specs.declared.fault.Fault.TheVariants.{BadEvent, LogFull}

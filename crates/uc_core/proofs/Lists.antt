@@ -1,4 +1,5 @@
--- Lists that grow at their end, and lists of which one place is set: what stands where, read by `slice_get`.
+-- Lists that grow at their end, and lists of which one place is set: what stands where, read by
+-- `slice_get`.
 use Rattle.std.proofs.Common.{◌≡◌, ◌≢◌, ◌⊎◌, ℕ, zero, suc, ◌<◌, ◌≤◌, List, [], ◌∷◌, ◌++◌, length, length-append, take, replicate, sym, refl, ap, ◌∙◌, inl, inr, ⊎_elim, arith, append_assoc, append-nil, slice_get, slice_set, Some, None}
 use Rattle.std.proofs.lemmas.Option.{none-some, same_Some}
 use Rattle.mc_model.specs.Helping.{BeginsWith}
@@ -44,7 +45,8 @@ module _ {X : Type 0} where
   at_pushed (z ∷ list) x y (suc place) at =
       ⊎_elim inl (λ (new : (place ≡ length list) × (x ≡ y)). inr (ap suc new.0, new.1)) (at_pushed list x y place at)
 
-  -- a list begins with another: with what stands next too, and where nothing stands next they are equal
+  -- a list begins with another: with what stands next too, and where nothing stands next they are
+  -- equal
   pub begins_self : (list : List X) → BeginsWith list list
   begins_self list = ([], sym (append-nil list))
 

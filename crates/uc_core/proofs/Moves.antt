@@ -1,5 +1,5 @@
--- What a step of the shown log leaves as it was: no decided place changes, and no worker unlearns a place. Only an announcement raises
--- what a worker has announced.
+-- What a step of the shown log leaves as it was: no decided place changes, and no worker unlearns a
+-- place. Only an announcement raises what a worker has announced.
 use Rattle.std.proofs.Common.{◌≡◌, ◌≢◌, ℕ, ◌≤◌, List, [], ◌∷◌, ◌++◌, length, Option, Some, None, slice_get, ⊎_elim, refl, sym, ap, subst, ◌∙◌, arith, le_refl, length-append, length-set}
 use Rattle.std.proofs.lemmas.Bool.{cases_eq}
 use Rattle.std.specs.Option.{option_map_or}

@@ -1,4 +1,5 @@
--- An event that leads on meets no fault, and it leads to one state alone, with one reply or with none.
+-- An event that leads on meets no fault, and it leads to one state alone, with one reply or with
+-- none.
 use Rattle.std.proofs.Common.{◌≡◌, ◌≢◌, ◌⊎◌, ℕ, ◌+◌, ◌<◌, List, length, Option, Some, None, ◌≤◌, Bool, true, false, ◌||◌, not, ltb, is_some, slice_get, slice_set, ⊎_elim, refl, sym, ap, ap₂, ◌∙◌, arith}
 use Rattle.std.proofs.lemmas.Bool.Decides.{nat_tests}
 use Rattle.std.proofs.lemmas.Option.{same_Some, slice_get_within}
@@ -24,7 +25,7 @@ use Rattle.uc_core.specs.declared.event.Event.TheVariants.{Announce, Look, Propo
 use Rattle.uc_core.proofs.CoreLaws.{CoreLaw}
 use Rattle.uc_core.proofs.Lookups.{same_by_places, there}
 
--- a condition that is met tells no fault, where those after it tell none
+-- a condition that is met yields no fault if those after it yield none
 granted : (condition : Bool) (fault : Fault) (others : Option Fault) → condition ≡ true → others ≡ None → needs condition fault others ≡ None
 granted condition fault others is none = ap (λ (b : Bool). needs b fault others) is ∙ none
 
@@ -45,7 +46,7 @@ has_mark (Some x) apart = refl
 is_below : (n m : ℕ) → n < m → ltb n m ≡ true
 is_below n m below = grind (arith, nat_tests)
 
--- an event's fault is told by its worker and by what that worker has replayed
+-- an event's fault is determined by its worker and by what that worker has replayed
 module _ (core : CoreState) (law : CoreLaw core) where
   told : (event : Event) (worker : WorkerState) → IsWorker core.shown (actor event) worker →
       ((replay : ReplayState) → slice_get core.replays (actor event) ≡ Some replay → refusal_by core event worker replay ≡ None) →
@@ -76,7 +77,8 @@ module _ (core : CoreState) (law : CoreLaw core) where
   steps_are_enabled (Stop number) new reply step =
       told (Stop number) step.0.0 step.0.1 (λ replay at. granted _ _ _ (not_stopped _ step.0.2) refl)
 
--- and the other way round: where its conditions hold of its worker it has no fault, and where there is no place left it is told so
+-- and conversely: if its conditions hold of its worker it has no fault, and an announcement that
+-- has no place left has the fault `LogFull`
 denied : (condition : Bool) (fault : Fault) (others : Option Fault) → condition ≡ false → needs condition fault others ≡ Some fault
 denied condition fault others is = ap (λ (b : Bool). needs b fault others) is
 
@@ -134,7 +136,7 @@ only_shown : (old new other : CoreState) (event : ShownEvent) →
 only_shown old new other event one two new_is other_is =
     new_is ∙ ap (λ (it : ShownState). record old { shown = it }) (shown_one (size_of old) old.shown event new.shown other.shown one two) ∙ sym other_is
 
--- a replay: the tables that take one entry's effect are told place by place
+-- a replay: the tables that take one entry's effect are determined place by place
 module _ (old new other : CoreState) (number : ℕ) (reply other_reply : Option Reply)
     (one : CoreStep old (Replay number) new reply) (two : CoreStep old (Replay number) other other_reply) where
   same_replay : one.3 ≡ two.3

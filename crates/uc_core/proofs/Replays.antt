@@ -1,5 +1,5 @@
--- What a worker has replayed: its tables stand for a front of the log. They do so still once the log goes on, and one place further once
--- they take the effect of the next place's entry.
+-- What a worker has replayed: its tables stand for a front of the log. They do so still once the
+-- log goes on, and one place further once they take the effect of the next place's entry.
 use Rattle.std.proofs.Common.{◌≡◌, ℕ, ◌+◌, ◌<◌, ◌≤◌, List, length, take, Option, sym, ap, subst, ◌∙◌, arith}
 use Rattle.std.proofs.lemmas.List.{take-append-le}
 use Rattle.mc_model.specs.declared.request.Entry.{Entry}
@@ -14,7 +14,8 @@ use Rattle.uc_core.specs.Step.{entry_at}
 use Rattle.uc_core.proofs.Entries.{log-at}
 use Rattle.uc_core.proofs.Lookups.{take-more_at}
 
--- a worker has replayed no more than it has learned, and its tables stand for those places of the log
+-- a worker has replayed no more than it has learned, and its tables stand for those places of the
+-- log
 pub record ReplayLaw (core : CoreState) (worker : WorkerState) (replay : ReplayState) : Type 0 where
   pub few : replay.replayed ≤ length worker.learned
   pub stands : EachStands (empty_tables core.openings) (take replay.replayed (log_of core)) replay.tables

@@ -12,8 +12,8 @@ use Rattle.mc_model.specs.Shown.{announce, look, new_log, new_worker, propose, p
 abbrev size : LogSize
 size = record { workers = 2; places = 8 }
 
--- Worker 0 announces a command and stops for good. Worker 1 announces one, finds the first place empty, helps worker 0 there, since it
--- is that one's turn, and then has its own turn.
+-- Worker 0 announces a command and stops for good. Worker 1 announces one, finds the first place
+-- empty, helps worker 0 there, since it is that one's turn, and then has its own turn.
 abbrev waiting : WorkerState
 waiting = announce new_worker
 

@@ -1,4 +1,5 @@
--- A run keeps the core's law, the core grows along it, and each reply that it gives is the answer by the log.
+-- A run keeps the core's law, the core grows along it, and each reply that it gives is the answer
+-- by the log.
 use Rattle.std.proofs.Common.{◌≡◌, ℕ, zero, suc, ◌<◌, ◌≤◌, ◌==◌, Bool, true, false, List, [], ◌∷◌, ◌++◌, length, take, Option, Some, None, if◌then◌else◌, slice_get, option_map, refl, sym, ap, subst, ◌∙◌, arith, eqb-true}
 use Rattle.std.proofs.lemmas.Option.{none-some, slice_get-map, same_Some, slice_get_within}
 use Rattle.std.specs.Option.{option_and_then, option_map_or}

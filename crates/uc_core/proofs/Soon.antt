@@ -1,4 +1,5 @@
--- A run of the core is a run of what the log shows, so what is decided soon there is decided soon here.
+-- A run of the core is a run of what the log shows, so what is decided soon there is decided soon
+-- here.
 use Rattle.std.proofs.Common.{◌≡◌, ◌∙◌, List, [], ◌∷◌, length, length-set, Option, None, ap, subst}
 use Rattle.mc_model.specs.declared.reply.Reply.{Reply}
 use Rattle.mc_model.specs.declared.shown.LogSize.{LogSize}

@@ -1,5 +1,6 @@
--- What every step of the shown log keeps, without a word on helping: the decided places are a legal list of announced tickets that is
--- no longer than the log, each worker knows a beginning of it, and its phase says how many of its commands stand there.
+-- What every step of the shown log keeps, without a word on helping: the decided places are a legal
+-- list of announced tickets that is no longer than the log, each worker knows a beginning of it,
+-- and its phase says how many of its commands stand there.
 use Rattle.std.proofs.Common.{◌≡◌, ◌≢◌, ◌⊎◌, ℕ, ◌+◌, ◌-◌, ◌<◌, ◌≤◌, ◌==◌, ◌&&◌, Bool, true, false, if◌then◌else◌, true≢false, List, [], ◌∷◌, ◌++◌, length, length-append, length-set, take, take_all, ltb, ltb-true, sym, refl, ap, ◌∙◌, subst, inl, inr, ⊎_elim, arith, eq-eqb, eqb-true, le_refl, lt_of_lt_of_le, slice_get, slice_set, unwrap_or, Option, Some, None}
 use Rattle.std.proofs.Math.Decide.{ℕ_discrete, dec_le}
 use Rattle.std.proofs.Math.Logic.{dite}
@@ -73,7 +74,8 @@ module _ (size : LogSize) where
     looks = λ ticket at found. let was = sound.looks ticket at found in (lt_of_lt_of_le was.0 (up ticket.worker), was.1);
   }
 
-  -- one worker's event keeps all that is known of a state, where it is known of the new log and of that worker
+  -- one worker's event keeps all that is known of a state, where it is known of the new log and of
+  -- that worker
   pub after_sound : (state : ShownState) (decided : List Ticket) (number : ℕ) (old new : WorkerState) → IsSound size state → IsWorker state number old →
       old.announced ≤ new.announced → BeginsWith decided state.decided → length decided ≤ size.places → IsLegal decided →
       ((place : ℕ) (ticket : Ticket) → slice_get decided place ≡ Some ticket → ticket.number < announced_by (after state decided number new) ticket.worker) →
@@ -98,7 +100,8 @@ module _ (size : LogSize) where
       after_sound state state.decided number old new sound is more (begins_self state.decided) sound.few sound.legal
       (λ place ticket at. lt_of_lt_of_le (sound.announced place ticket at) (rises state state.decided number old new is more ticket.worker)) own
 
--- a worker is idle or pending, and so many of its commands stand in what it has learned
+-- a worker is idle or pending, and all its commands but the pending one stand in what it has
+-- learned
 abbrev pub Rests : Phase → ℕ → ℕ → Type 0
 Rests phase tickets announced = ((phase ≡ Idle) × (tickets ≡ announced)) ⊎ ((phase ≡ Pending) × (tickets + 1 ≡ announced))
 
@@ -148,7 +151,8 @@ rests_on number worker phase ticket legal below rests = by_latest (is_latest num
     more : ℕ
     more = count number (worker.learned ++ ticket ∷ [])
 
-    -- its own ticket that isn't its latest can't come next: there is no such one where it is idle, and that is the latest where it is pending
+    -- its own ticket that isn't its latest can't come next: there is no such one where it is idle,
+    -- and that is the latest where it is pending
     idle_still : count number worker.learned ≡ worker.announced → more ≡ worker.announced
     idle_still all = dite (ℕ_discrete ticket.worker number)
         (λ own. let number_is = own_number own in let few = below own in absurd (omega arith))

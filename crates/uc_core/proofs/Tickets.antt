@@ -1,4 +1,5 @@
--- How many of a worker's tickets stand in a list, in its fronts and in longer lists, and legal lists that grow.
+-- How many of a worker's tickets stand in a list, in its fronts and in longer lists, and legal
+-- lists that grow.
 use Rattle.std.proofs.Common.{◌≡◌, ◌≢◌, ℕ, zero, suc, ◌+◌, ◌<◌, ◌≤◌, ◌==◌, Bool, cond, List, [], ◌∷◌, ◌++◌, length, take, take_all, sym, refl, ap, ◌∙◌, subst, ⊎_elim, arith, eq-eqb, ne_eqb, slice_get, Option, Some, None}
 use Rattle.std.proofs.lemmas.List.{take-append-le}
 use Rattle.std.proofs.lemmas.List.Sums.{sum_by_push, sum_by-append, sum_by-take-le}

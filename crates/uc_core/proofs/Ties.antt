@@ -49,7 +49,8 @@ entries-set entries number entry old new mine at is =
     ∙ ap (slice_set (lists_of entries) number) (is ∙ sym (ap longer found))
     ∙ ap (λ n. slice_set (lists_of entries) n (longer (slice_get (lists_of entries) n))) (sym mine)
 
--- what a proposal leaves of the decided places: those that there were, and the proposal behind them where its place was empty
+-- what a proposal leaves of the decided places: those that there were, and the proposal after them
+-- where its place was empty
 decided-more : (proposed : Ticket) (decided : List Ticket) (found : Option Ticket) →
     (more : List Ticket) × (decided_with proposed decided found ≡ decided ++ more)
 decided-more proposed decided None = (proposed ∷ [], refl)
@@ -192,7 +193,7 @@ module _ (s : Inside) (number : ℕ) (old new : Worker) (core : IsCore s) (at : 
           (workers-shown later.items s.workers.items number new _ shows
           ∙ ap (λ (them : List WorkerState). slice_set them number (propose number (slice_get s.decided.items old.learned) shown)) others-show)
 
-      -- the next place is the one behind all that it shows as learned
+      -- the next place is the one after all that it shows as learned
       behind : (core_of (changed s later s.entries number new)).shown
           ≡ record {
             decided = decided_with (proposal number shown) s.decided.items (slice_get s.decided.items (length shown.learned));

@@ -1,5 +1,5 @@
--- Turns: within as many places as there are workers each worker's turn comes. So a command that is announced stands in the log once so
--- many places more are decided.
+-- Turns: within as many places as there are workers each worker's turn comes. So a command that is
+-- announced stands in the log once that many places and one more are decided.
 use Rattle.std.proofs.Common.{◌≡◌, ◌≢◌, ℕ, suc, ◌+◌, ◌*◌, ◌/◌, ◌%◌, ◌<◌, ◌≤◌, List, [], ◌∷◌, length, take_all, sym, ap, ◌∙◌, subst, ⊎_elim, arith, le_refl, div-add-mod', suc-mul, mod-lt}
 use Rattle.std.proofs.Math.Decide.{dec_le}
 use Rattle.std.proofs.lemmas.Nat.{mod-mul-add}
@@ -78,7 +78,8 @@ helps_on size (event ∷ events) old new number command from sound run helps =
     helps_on size events run.0 new number command from (keeps size old run.0 event sound run.1) run.2
     (helps_keeps size old run.0 event number command from sound run.1 helps)
 
--- what is helped from a place on stands among the next places, one more of them than there are workers, once so many are decided
+-- what is helped after a place stands among the next places, one more than there are workers, once
+-- these are decided
 stands_soon : (size : LogSize) (state : ShownState) (number command from : ℕ) → IsSound size state → number < size.workers →
     Helps size state number command from → from + size.workers + 1 ≤ length state.decided →
     StandsBefore (from + size.workers + 1) (ticket_of number command) state.decided

@@ -1,5 +1,6 @@
--- A worker that waits for a command is helped from its mark on, and has proposed at most once at each place since. So it has proposed at
--- most as often as there are workers while it waits, and at most once more when it has learned its command.
+-- A worker that waits for a command is helped from its mark on, and has proposed at most once at
+-- each place since. So it has proposed at most as often as there are workers while it waits, and at
+-- most once more when it has learned its command.
 use Rattle.std.proofs.Common.{◌≡◌, ◌≢◌, ◌⊎◌, ℕ, ◌+◌, ◌-◌, ◌<◌, ◌≤◌, List, [], ◌∷◌, ◌++◌, length, length-append, take, take_all, sym, refl, ap, ◌∙◌, subst, inl, inr, ⊎_elim, arith, le_refl, unwrap_or, Option, Some, None}
 use Rattle.std.proofs.Math.Decide.{dec_le}
 use Rattle.std.proofs.lemmas.Option.{none-some, same_Some, slice_get_within}
@@ -59,7 +60,8 @@ module _ (size : LogSize) where
   still_waiting old new number worker helpful is stay still = let waiting = helpful.waits number worker is still in
       (waiting.0, λ mark at. let marked = waiting.1 mark at in (stay number (worker.announced - 1) mark marked.0, marked.1))
 
-  -- one worker's event keeps what is known, where whatever was helped is helped and it is known of that worker
+  -- one worker's event keeps what is known, where whatever was helped is helped and it is known of
+  -- that worker
   after_helpful : (state : ShownState) (decided : List Ticket) (number : ℕ) (new : WorkerState) → IsHelpful size state →
       StayHelped size state (after state decided number new) → (Waits number new → IsWaiting size (after state decided number new) number new) →
       new.proposals ≤ size.workers + 1 → IsHelpful size (after state decided number new)
@@ -117,7 +119,8 @@ module _ (size : LogSize) where
         (λ mark is. let marked = waiting.1 mark is in let room = marked.1 in (stay number (worker.announced - 1) mark marked.0, omega arith)),
       )
 
-  -- the events that learn: a read, which may take the mark, and a proposal, of which there is one more
+  -- the events that learn: a read, which may take the mark, and a proposal, of which there is one
+  -- more
   reads_helpful : (state : ShownState) (number : ℕ) (worker : WorkerState) → IsSound size state → IsHelpful size state → IsWorker state number worker →
       (worker.phase ≡ Idle) ⊎ (worker.phase ≡ Pending) → StayHelped size state (with_worker state number (read number (next state worker) worker)) →
       IsHelpful size (with_worker state number (read number (next state worker) worker))

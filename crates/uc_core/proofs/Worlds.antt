@@ -1,4 +1,5 @@
--- Two runs: a reply to the command number j of a tenant is told by the tenant's commands up to that one and by its quotas alone.
+-- Two runs: a reply to the command number j of a tenant is determined by the tenant's commands up
+-- to that one and by its quotas alone.
 use Rattle.std.proofs.Common.{◌≡◌, ℕ, suc, ◌+◌, List, [], ◌∷◌, ◌++◌, length, take, drop, Option, Some, None, slice_get, sym, ap, ◌∙◌, eq-eqb, if◌then◌else◌, length-append}
 use Rattle.std.proofs.lemmas.List.{append_assoc, same_from_push, take_at}
 use Rattle.std.proofs.lemmas.List.Elements.{filter_map-append}
@@ -29,7 +30,7 @@ own_upto log place tenant j entry at whose number =
     ∙ sym (append_assoc before (entry.command ∷ []) rest) in
     ap (take (j + 1)) parts ∙ take_at (before ++ entry.command ∷ []) rest (j + 1) (length-append before (entry.command ∷ []) ∙ ap (λ n. n + 1) number)
 
--- what was answered: the tenant's quotas, its commands so far and its command tell the reply
+-- what was answered: the tenant's quotas, its commands so far and its command determine the reply
 record IsTold (core : CoreState) (tenant j : ℕ) (reply : Reply) : Type 0 where
   opening : Limits
   commands : List Command

@@ -1,5 +1,6 @@
--- What the settings and the events of a run say of the core that it leads to, by the list of the events alone: how large the core is, what
--- was announced under each ticket, how much each worker has replayed, and how often it has proposed.
+-- What the settings and the events of a run say of the core that it leads to, by the list of events
+-- alone: how large the core is, what was announced under each ticket, how much each worker has
+-- replayed, and how often it has proposed.
 use Rattle.std.specs.Prelude.{◌≡◌, ℕ, ◌+◌, ◌≤◌, ◌==◌, Bool, false, if◌then◌else◌, List, length, Option, Some, None, slice_get}
 use Rattle.std.specs.List.{count_by, filter_map, fold}
 use Rattle.mc_model.specs.declared.command.Command.{Command}
@@ -11,7 +12,7 @@ use Rattle.uc_core.specs.Run.{Given, IsRun, replayed_by}
 use Rattle.uc_core.specs.declared.event.Event.{Event}
 use Rattle.uc_core.specs.declared.event.Event.TheVariants.{Announce, Look, Propose, Read, Replay, Stop}
 
--- what an event says of a core is true of every run
+-- what the settings and the events say of a core is true of every run
 abbrev pub ByEvents : (Configuration → List Event → CoreState → Type 0) → Type 0
 ByEvents Holds = (settings : Configuration) (events : List Event) (core : CoreState) (given : List Given) →
     IsRun settings events core given → Holds settings events core
@@ -22,7 +23,7 @@ pub record IsOfSettings (settings : Configuration) (core : CoreState) : Type 0 w
   pub places : core.places ≡ settings.places
   pub tenants : core.openings ≡ settings.tenants
 
--- the tenant and the command, where the event is an announcement of this worker
+-- the tenant and the command, if the event is an announcement by this worker
 abbrev pub announcement_of : ℕ → Event → Option (ℕ × Command)
 announcement_of number (Announce worker tenant command) = if worker == number then Some (tenant, command) else None
 announcement_of number (Read worker) = None
@@ -35,8 +36,8 @@ announcement_of number (Stop worker) = None
 abbrev pub announcements : ℕ → List Event → List (ℕ × Command)
 announcements number events = filter_map (announcement_of number) events
 
--- A worker has announced as many commands as the run has announcements of it, and under its ticket number k stand the tenant and the
--- command of the one number k.
+-- A worker has announced as many commands as the run has announcements of it, and under its ticket
+-- number k are the tenant and the command of announcement number k.
 pub record AnnouncementsStand (events : List Event) (core : CoreState) : Type 0 where
   pub many : (number : ℕ) → announced_by core.shown number ≡ length (announcements number events)
   pub each : (number k tenant : ℕ) (command : Command) → slice_get (announcements number events) k ≡ Some (tenant, command) →
@@ -54,7 +55,7 @@ is_replay_of number (Stop worker) = false
 abbrev pub ReplaysCount : List Event → CoreState → Type 0
 ReplaysCount events core = (number : ℕ) → replayed_by core number ≡ count_by (is_replay_of number) events
 
--- one more event, where a worker has made so many proposals since its latest announcement
+-- the number of a worker's proposals since its latest announcement, after one more event
 abbrev pub proposals_with : ℕ → ℕ → Event → ℕ
 proposals_with number many (Announce worker tenant command) = if worker == number then 0 else many
 proposals_with number many (Read worker) = many
@@ -63,10 +64,11 @@ proposals_with number many (Propose worker) = if worker == number then many + 1 
 proposals_with number many (Replay worker) = many
 proposals_with number many (Stop worker) = many
 
--- how many proposals of a worker stand after its latest announcement
+-- the number of a worker's proposals since its latest announcement
 abbrev pub proposals_of : ℕ → List Event → ℕ
 proposals_of number events = fold (proposals_with number) 0 events
 
--- whatever the other workers do, a worker proposes at most once more than there are workers before it can announce again
+-- whatever the other workers do, a worker makes at most one proposal more than there are workers
+-- before it can announce again
 abbrev pub FewProposals : Configuration → List Event → Type 0
 FewProposals settings events = (number : ℕ) → proposals_of number events ≤ settings.workers + 1

@@ -1,5 +1,6 @@
--- The state of the core: what the log shows, and with it what each worker has announced and replayed. The log is Herlihy's universal
--- construction (Wait-Free Synchronization, TOPLAS 1991); tenants and their quotas are this project's profile.
+-- The state of the core: what the log shows, and with it what each worker has announced and
+-- replayed. The log is Herlihy's universal construction (Wait-Free Synchronization, TOPLAS 1991);
+-- tenants and their quotas are this project's profile.
 use Rattle.std.specs.Prelude.{ℕ, List, [], length, map, replicate, Option, slice_get, refl}
 use Rattle.std.specs.Coded.{Coded, code_by, coded×, coded_ℕ, coded_list}
 use Rattle.std.specs.Option.{option_and_then}
@@ -20,7 +21,8 @@ pub record ReplayState : Type 0 where
   pub replayed : ℕ
   pub tables : List TableState
 
--- the number of places and each tenant's quotas; what the log shows; what each worker announced, in order, and what it has replayed
+-- the number of places and each tenant's quotas; what the log shows; what each worker announced, in
+-- order, and what it has replayed
 pub record CoreState : Type 0 where
   pub places : ℕ
   pub openings : List Limits

@@ -19,7 +19,7 @@ core_of s = record {
   replays = map replay_of s.workers.items;
 }
 
--- each worker is in order, there is room for all places, and some run leads to this state
+-- each worker is in order, there is capacity for all places, and some run leads to this state
 pub record IsCore (s : Inside) : Type 0 where
   pub tenants : length s.openings.items ≤ TENANTS
   pub few : length s.workers.items ≤ WORKERS

@@ -1,5 +1,6 @@
--- The theorem of this project, clause by clause, as statements about a core and the replies that were given on the way to it. The laws
--- of the crate say that they are true of every run, whatever its events.
+-- The theorem of this project, clause by clause, as statements about a core and the replies that
+-- were given on the way to it. The laws of the crate say that they are true of every run, whatever
+-- its events.
 use Rattle.std.specs.Prelude.{◌≡◌, ◌≢◌, ◌⊎◌, ℕ, ◌+◌, ◌<◌, ◌≤◌, List, length, map, take, Option, Some, None, slice_get}
 use Rattle.mc_model.specs.declared.command.Command.{Command}
 use Rattle.mc_model.specs.declared.fault.Fault.TheVariants.{LogFull}
@@ -21,16 +22,18 @@ use Rattle.uc_core.specs.Step.{CoreStep, actor, refusal}
 use Rattle.uc_core.specs.declared.event.Event.{Event}
 use Rattle.uc_core.specs.declared.event.Event.TheVariants.{Announce, Look, Propose, Read, Replay, Stop}
 
--- it is true of every run, whatever the settings and the events: of the core that it leads to, and of the replies that it gives
+-- true of every run, whatever the settings and the events: of the core that it leads to, and of the
+-- replies that it gives
 abbrev pub OfEveryRun : (CoreState → List Given → Type 0) → Type 0
 OfEveryRun Holds = (settings : Configuration) (events : List Event) (core : CoreState) (given : List Given) → IsRun settings events core given → Holds core given
 
--- "each announced command stands at most once in the log": no ticket stands at two places,
+-- "each announced command stands at most once in the log": no ticket stands at two places
 abbrev pub StandsOnce : CoreState → Type 0
 StandsOnce core = (ticket : Ticket) (one other : ℕ) →
     slice_get core.shown.decided one ≡ Some ticket → slice_get core.shown.decided other ≡ Some ticket → one ≡ other
 
--- each worker's commands stand in the order in which it announced them, and nothing stands there that wasn't announced
+-- each worker's commands stand in the order in which it announced them, and nothing stands there
+-- that wasn't announced
 pub record LogIsSound (core : CoreState) : Type 0 where
   pub once : StandsOnce core
   pub legal : IsLegal core.shown.decided
@@ -42,24 +45,27 @@ abbrev pub replica_of : CoreState → WorkerState → ReplayState → List Sight
 replica_of core worker replay =
     take replay.replayed (map (λ (ticket : Ticket). let seen : Sighting = record { ticket = ticket; entry = entry_under core ticket } in seen) worker.learned)
 
--- a worker of this number is shown so and has replayed so
+-- the worker with this number has this shown state and has replayed so
 abbrev pub HasReplica : CoreState → ℕ → WorkerState → ReplayState → Type 0
 HasReplica core number worker replay = IsWorker core.shown number worker × (slice_get core.replays number ≡ Some replay)
 
--- "all replicas agree on every replayed prefix": of two workers, the one that has replayed no more has replayed the same tickets and
--- entries as the other at those places; where both have replayed as many, their tables are equal
+-- "all replicas agree on every replayed prefix": of two workers, the one that has replayed no more
+-- than the other has replayed the same tickets and entries at those places; if both have replayed
+-- as many, their tables are equal
 pub record ReplicasAgree (core : CoreState) : Type 0 where
   pub prefixes : (one other : ℕ) (v w : WorkerState) (r s : ReplayState) → HasReplica core one v r → HasReplica core other w s →
       r.replayed ≤ s.replayed → replica_of core v r ≡ take r.replayed (replica_of core w s)
   pub tables : (one other : ℕ) (v w : WorkerState) (r s : ReplayState) → HasReplica core one v r → HasReplica core other w s →
       r.replayed ≡ s.replayed → r.tables ≡ s.tables
 
--- each worker has replayed no more than it has learned, and each of its tables stands for its tenant's commands that it has replayed
+-- each worker has replayed no more than it has learned, and each of its tables stands for its
+-- tenant's commands that it has replayed
 abbrev pub TablesStand : CoreState → Type 0
 TablesStand core = (number : ℕ) (worker : WorkerState) (replay : ReplayState) → HasReplica core number worker replay →
     (replay.replayed ≤ length worker.learned) × EachStands (empty_tables core.openings) (entries (replica_of core worker replay)) replay.tables
 
--- the reply to a worker's own command at a place is the answer after only its tenant's commands at the places before
+-- the reply to a worker's own command at a place is the answer after only its tenant's commands at
+-- the places before
 pub record IsAnswer (core : CoreState) (worker place : ℕ) (reply : Reply) : Type 0 where
   pub entry : Entry
   pub opening : Limits
@@ -69,7 +75,8 @@ pub record IsAnswer (core : CoreState) (worker place : ℕ) (reply : Reply) : Ty
   pub limits : slice_get core.openings entry.tenant ≡ Some opening
   pub replied : reply ≡ answer opening (own entry.tenant (take place (log_of core))) entry.command
 
--- "each replied command's reply is the bytes that memcached's commands give on a table holding only its tenant's commands in log order"
+-- "each replied command's reply is the bytes that memcached's commands give on a table holding only
+-- its tenant's commands in log order"
 abbrev pub RepliesAreAnswers : CoreState → List Given → Type 0
 RepliesAreAnswers core given = (k worker place : ℕ) (reply : Reply) → slice_get given k ≡ Some (worker, place, reply) → IsAnswer core worker place reply
 
@@ -82,8 +89,9 @@ abbrev pub OwnAreAnswered : CoreState → List Given → Type 0
 OwnAreAnswered core given = (number place : ℕ) (worker : WorkerState) (replay : ReplayState) (ticket : Ticket) → HasReplica core number worker replay →
     place < replay.replayed → slice_get core.shown.decided place ≡ Some ticket → ticket.worker ≡ number → HasReply given number place
 
--- a command that is announced while d places of a log of n workers are decided stands among the first d + n + 1 places, once so many
--- are decided, whatever happens in between and whichever workers stop
+-- a command that is announced while d places of a log of n workers are decided stands among the
+-- first d + n + 1 places once that many are decided, whatever happens in between and whichever
+-- workers stop
 abbrev pub IsDecidedSoon : CoreState → Type 0
 IsDecidedSoon old = (number tenant : ℕ) (command : Command) (announced new : CoreState) (events : List Event) (given : List Given) →
     CoreStep old (Announce number tenant command) announced None → Runs announced events new given →
@@ -101,18 +109,20 @@ pub record Answered (core : CoreState) (given : List Given) (tenant j : ℕ) (re
   pub whose : entry.tenant ≡ tenant
   pub number : length (own tenant (take place (log_of core))) ≡ j
 
--- two runs' logs agree for a tenant of each up to its command number j: both tables were opened with the same quotas, and the tenants'
--- commands up to that one are the same
+-- two runs' logs agree for a tenant of each up to its command number j: both tables were opened
+-- with the same quotas, and the tenants' commands up to that one are the same
 pub record LogsAgree (one other : CoreState) (tenant other_tenant j : ℕ) : Type 0 where
   pub limits : slice_get one.openings tenant ≡ slice_get other.openings other_tenant
   pub commands : take (j + 1) (own tenant (log_of one)) ≡ take (j + 1) (own other_tenant (log_of other))
 
--- "runs whose logs agree for a tenant give equal replies": to each of the tenant's commands up to which they agree
+-- "runs whose logs agree for a tenant give equal replies": to each of the tenant's commands up to
+-- which they agree
 abbrev pub AnswerAlike : CoreState → List Given → CoreState → List Given → Type 0
 AnswerAlike one given other other_given = (tenant other_tenant j : ℕ) (reply other_reply : Reply) → LogsAgree one other tenant other_tenant j →
     Answered one given tenant j reply → Answered other other_given other_tenant j other_reply → reply ≡ other_reply
 
--- "whichever workers stop for good": after a worker has stopped no event is its own, and what is shown of it and what it has replayed stay
+-- "whichever workers stop for good": a worker that has stopped takes no more events, and its shown
+-- state and what it has replayed stay as they are
 abbrev pub StopsForGood : CoreState → Type 0
 StopsForGood old = (number : ℕ) (stopped new : CoreState) (reply : Option Reply) (events : List Event) (given : List Given) →
     CoreStep old (Stop number) stopped reply → Runs stopped events new given →
@@ -120,7 +130,7 @@ StopsForGood old = (number : ℕ) (stopped new : CoreState) (reply : Option Repl
     × (slice_get new.shown.workers number ≡ slice_get stopped.shown.workers number)
     × (slice_get new.replays number ≡ slice_get old.replays number)
 
--- an event that leads on from the core meets no fault there
+-- an event leads on from the core only if it meets no fault there
 abbrev pub StepsAreEnabled : CoreState → Type 0
 StepsAreEnabled core = (event : Event) (new : CoreState) (reply : Option Reply) → CoreStep core event new reply → refusal core event ≡ None
 
@@ -133,8 +143,8 @@ StepsAreOne core = (event : Event) (new other : CoreState) (reply other_reply : 
 abbrev pub StepsLeadOn : CoreState → Type 0
 StepsLeadOn core = (event : Event) → refusal core event ≡ None → (new : CoreState) × (reply : Option Reply) × CoreStep core event new reply
 
--- No worker waits for another: what it may do rests on what is shown of itself, and on whether it has places left. One that finds none left
--- is told so.
+-- No worker waits for another: what it may do depends on its own shown state, and on whether it has
+-- places left. An announcement that finds none left is reported `LogFull`.
 pub record NobodyWaits (core : CoreState) (number : ℕ) (worker : WorkerState) (replay : ReplayState) : Type 0 where
   pub announces : (tenant : ℕ) (command : Command) → worker.phase ≡ Idle → tenant < length core.openings → HasRoom (size_of core) worker →
       refusal core (Announce number tenant command) ≡ None
@@ -146,22 +156,23 @@ pub record NobodyWaits (core : CoreState) (number : ℕ) (worker : WorkerState) 
   pub full : (tenant : ℕ) (command : Command) → worker.phase ≡ Idle → tenant < length core.openings → core.places ≤ length worker.learned →
       refusal core (Announce number tenant command) ≡ Some LogFull
 
--- so of every worker
+-- this holds for every worker
 abbrev pub WorkersAreFree : CoreState → Type 0
 WorkersAreFree core = (number : ℕ) (worker : WorkerState) (replay : ReplayState) → HasReplica core number worker replay →
     NobodyWaits core number worker replay
 
--- an event leaves what is shown of every other worker, and what it has replayed
+-- an event leaves the shown state of every other worker, and what that worker has replayed, as they
+-- are
 abbrev pub StepsAreAlone : CoreState → Type 0
 StepsAreAlone core = (event : Event) (new : CoreState) (reply : Option Reply) (other : ℕ) →
     CoreStep core event new reply → other ≢ actor event →
     (slice_get new.shown.workers other ≡ slice_get core.shown.workers other) × (slice_get new.replays other ≡ slice_get core.replays other)
 
--- a worker has learned so many places
+-- a worker has learned this many places
 abbrev pub HasLearnedUpTo : CoreState → ℕ → ℕ → Type 0
 HasLearnedUpTo core number many = (worker : WorkerState) × IsWorker core.shown number worker × (length worker.learned ≡ many)
 
--- a read of a place that is decided learns it, and a proposal learns its place
+-- a read of a decided place learns it, and a proposal learns its place
 pub record StepsLearn (core : CoreState) : Type 0 where
   pub reads : (number many : ℕ) (new : CoreState) (reply : Option Reply) →
       CoreStep core (Read number) new reply → HasLearnedUpTo core number many →

@@ -1,4 +1,4 @@
--- What the core keeps of a worker: what it shows, and what is true of it at all times.
+-- What the core keeps of a worker: what is shown of it, and what is true of it at all times.
 use Rattle.std.specs.Prelude.{◌≡◌, ◌==◌, ◌&&◌, Bool, ℕ, ◌+◌, ◌<◌, ◌≤◌, List, [], length, take, Some, slice_get}
 use Rattle.std.specs.Global.{Vec}
 use Rattle.mc_model.specs.declared.id.Ticket.{Ticket}
@@ -13,7 +13,7 @@ use Rattle.mc_model.specs.State.{TableState}
 use Rattle.uc_core.specs.Core.{ReplayState}
 use Rattle.uc_core.specs.declared.worker.Worker.{Worker}
 
--- what is shown of a worker, where these places are decided
+-- what is shown of a worker if these places are decided
 abbrev pub shown_worker : List Ticket → Worker → WorkerState
 shown_worker decided worker = record {
   phase = worker.phase;
@@ -27,16 +27,19 @@ shown_worker decided worker = record {
 abbrev pub replay_of : Worker → ReplayState
 replay_of worker = record { replayed = worker.replayed; tables = worker.tables.items }
 
--- the ticket is the one that the worker of this number announced last, where it has announced so many
+-- the ticket is the one that the worker with this number announced last, if it has announced this
+-- many
 abbrev pub is_latest_of : ℕ → ℕ → Ticket → Bool
 is_latest_of number announced ticket = ticket.worker == number && ticket.number + 1 == announced
 
--- these are how many tickets of each worker stand in the list, by the workers' numbers
+-- these are the numbers of tickets of each worker in the list, indexed by worker number
 abbrev pub AreCounts : List Ticket → List ℕ → Type 0
 AreCounts tickets counts = (number many : ℕ) → slice_get counts number ≡ Some many → many ≡ count number tickets
 
--- Of a log with so many workers and places, and these places decided: what a worker has learned is decided, and it counts the tickets of
--- each worker there. One that has looked has a place left, and no number of a worker is above what it has learned by more than one.
+-- In a log with these decided places: what a worker has learned is decided, and it counts the
+-- tickets of each worker there; one that has looked has a place left; it has announced at most one
+-- command more than it has learned places, and proposed at most once for each; and each of its
+-- tables has had at most as many changes as it has replayed places.
 pub record IsInOrder (workers places : ℕ) (decided : List Ticket) (worker : Worker) : Type 0 where
   pub learned : worker.learned ≤ length decided
   pub announced : worker.announced ≤ worker.learned + 1

@@ -1,4 +1,4 @@
--- A run of the core: any finite list of events, of any workers in any order.
+-- Runs of the core: any finite list of events, of any workers in any order.
 use Rattle.std.specs.Prelude.{◌≡◌, ℕ, List, [], ◌∷◌, ◌++◌, length, Option, Some, true, Result, Ok, Err, slice_get}
 use Rattle.std.specs.Option.{option_map, option_map_or, option_to_list, unwrap_or}
 use Rattle.mc_model.specs.declared.fault.Fault.{Fault}
@@ -18,7 +18,7 @@ Given = ℕ × ℕ × Reply
 abbrev pub replayed_by : CoreState → ℕ → ℕ
 replayed_by core number = option_map_or (λ (replay : ReplayState). replay.replayed) (slice_get core.replays number) 0
 
--- what an event gives: its reply, if it has one, under its worker and the place that the worker replays
+-- what an event gives: its reply, if any, with its worker and the place that the worker replays
 abbrev pub given_by : CoreState → Event → Option Reply → List Given
 given_by core event reply = option_to_list (option_map (λ (it : Reply). (actor event, replayed_by core (actor event), it)) reply)
 
@@ -29,13 +29,13 @@ Runs old (event ∷ events) new given =
     (next : CoreState) × (reply : Option Reply) × (later : List Given)
     × CoreStep old event next reply × Runs next events new later × (given ≡ given_by old event reply ++ later)
 
--- how many events of a run were done, where it ended so
+-- how many events of a run were taken, if it ended with this result
 abbrev pub done : List Event → Result (Unit {0}) RunFault → ℕ
 done events (Ok nothing) = length events
 done events (Err fault) = fault.at
 
--- the fault of a run's event: that of its first condition that fails, or want of memory where all are met, which an announcement or a
--- replay alone can meet
+-- the fault of a run's event: that of its first condition that fails, or `Memory` if all are met,
+-- which only an announcement or a replay can meet
 abbrev pub IsFaultOf : CoreState → Event → Fault → Type 0
 IsFaultOf core event fault = (fault ≡ unwrap_or (refusal core event) Memory) × (is_quiet event ≡ true → refusal core event ≡ Some fault)
 

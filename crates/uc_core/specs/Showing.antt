@@ -17,7 +17,7 @@ progress_of worker replay = record {
   proposals = worker.proposals;
 }
 
--- how far the worker of this number is, if there is one
+-- the progress of the worker with this number, if there is one
 abbrev pub progress_by : CoreState → ℕ → Option Progress
 progress_by core number =
     option_and_then (λ (worker : WorkerState). option_map (progress_of worker) (slice_get core.replays number)) (slice_get core.shown.workers number)

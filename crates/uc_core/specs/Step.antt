@@ -1,5 +1,5 @@
--- One event of the core: where it is enabled, which fault it meets where it isn't, and what it makes. The conditions of an event are
--- tried in their order; faults are this project's profile.
+-- One event of the core: when it is enabled, which fault it meets if it isn't, and what it makes.
+-- The conditions of an event are checked in their order; faults are this project's profile.
 use Rattle.std.specs.Prelude.{◌≡◌, ◌≢◌, ℕ, ◌+◌, ◌<◌, ◌||◌, Bool, true, false, not, List, [], ◌∷◌, ◌++◌, length, ltb, is_some, Option, Some, None, slice_get, slice_set}
 use Rattle.std.specs.Option.{option_and_then, option_map_or}
 use Rattle.mc_model.specs.declared.command.Command.{Command}
@@ -18,7 +18,7 @@ use Rattle.uc_core.specs.Core.{CoreState, ReplayState, entry_under, size_of}
 use Rattle.uc_core.specs.declared.event.Event.{Event}
 use Rattle.uc_core.specs.declared.event.Event.TheVariants.{Announce, Look, Propose, Read, Replay, Stop}
 
--- which worker takes the event
+-- the worker that takes the event
 abbrev pub actor : Event → ℕ
 actor (Announce worker tenant command) = worker
 actor (Read worker) = worker
@@ -51,7 +51,7 @@ is_stopped Pending = false
 is_stopped Looked = false
 is_stopped Stopped = true
 
--- a condition with the fault of its failing, and the conditions after it
+-- a condition with the fault if it fails, and the conditions after it
 abbrev pub needs : Bool → Fault → Option Fault → Option Fault
 needs true fault others = others
 needs false fault others = Some fault
@@ -59,7 +59,7 @@ needs false fault others = Some fault
 abbrev pub has_room : CoreState → WorkerState → Bool
 has_room core worker = ltb (length worker.learned) core.places
 
--- the fault of an event's first condition that fails, where its worker exists
+-- the fault of an event's first condition that fails, if its worker exists
 abbrev pub refusal_by : CoreState → Event → WorkerState → ReplayState → Option Fault
 refusal_by core (Announce number tenant command) worker replay =
     needs (is_idle worker.phase) BadEvent (needs (ltb tenant (length core.openings)) BadEvent (needs (has_room core worker) LogFull None))
@@ -73,11 +73,11 @@ abbrev pub refusal_of : CoreState → Event → Option WorkerState → Option Re
 refusal_of core event (Some worker) (Some replay) = refusal_by core event worker replay
 refusal_of core event worker replay = Some BadEvent
 
--- the fault that an event meets, if it meets one; a worker that doesn't exist can't do anything
+-- the fault that an event meets, if any; a worker that doesn't exist can't do anything
 abbrev pub refusal : CoreState → Event → Option Fault
 refusal core event = refusal_of core event (slice_get core.shown.workers (actor event)) (slice_get core.replays (actor event))
 
--- a worker's list with one more entry at its end
+-- a worker's list with one more entry at the end
 abbrev pub with_entry : List (List Entry) → Entry → List (List Entry)
 with_entry entries entry =
     slice_set entries entry.ticket.worker (option_map_or (λ (announced : List Entry). announced ++ entry ∷ []) (slice_get entries entry.ticket.worker) (entry ∷ []))
@@ -90,8 +90,9 @@ announced_entry core number tenant command = record { ticket = ticket_of number 
 abbrev pub entry_at : CoreState → ℕ → Option Entry
 entry_at core place = option_and_then (entry_under core) (slice_get core.shown.decided place)
 
--- An event leads from a state to the next, with a reply or none. All but the replay are the shown log's event of the same name; an
--- announcement keeps its entry; a replay does to the worker's tables what the next place's entry says, and answers the worker's own.
+-- An event leads from one state to the next, with a reply or none. Every event but the replay is
+-- the shown log's event of the same name; an announcement also keeps its entry; a replay does to
+-- the worker's tables what the next place's entry says, and answers the worker's own.
 abbrev pub CoreStep : CoreState → Event → CoreState → Option Reply → Type 0
 CoreStep old (Announce number tenant command) new reply =
     (tenant < length old.openings)
@@ -112,7 +113,7 @@ CoreStep old (Replay number) new reply =
     × (new ≡ record old { replays = slice_set old.replays number (record { replayed = replay.replayed + 1; tables = tables }) })
     × (reply ≡ reply_from number replay.tables (entry_at old replay.replayed))
 
--- the same of what is shown alone
+-- the same for what is shown alone
 abbrev pub StepShows : CoreState → Event → CoreState → Type 0
 StepShows old (Announce number tenant command) new = Step (size_of old) old.shown (announces number) new.shown
 StepShows old (Read number) new = Step (size_of old) old.shown (reads number) new.shown

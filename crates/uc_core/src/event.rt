@@ -1,20 +1,20 @@
-//! What can happen to the core, and how a run of it ends early.
+//! The events of the core, and how a run of it ends early.
 use mc_model::{Command, Fault};
 use thiserror::Error;
 
-/// One step of one worker. The first number is the worker's; a worker or tenant that doesn't exist makes an event that
-/// isn't enabled.
+/// One step of one worker. The first number is the worker's; an event with a worker or tenant that
+/// doesn't exist isn't enabled.
 #[derive(Debug, PartialEq, Eq, Drop)]
 pub enum Event {
     /// The worker announces a command of a tenant.
     Announce(u8, u8, Command),
     /// The worker learns what stands at its next place, or finds it empty.
     Read(u8),
-    /// The worker looks at whom to help at its next place.
+    /// The worker looks up whom to help at its next place.
     Look(u8),
-    /// The worker proposes at its next place, and learns what stands there then.
+    /// The worker proposes at its next place, and learns what then stands there.
     Propose(u8),
-    /// The worker replays the next place that it has learned on its own tables.
+    /// The worker replays, on its own tables, the next place that it has learned.
     Replay(u8),
     /// The worker stops for good.
     Stop(u8),
@@ -24,7 +24,7 @@ impl Event {
     ghost use Rattle.std.specs.Prelude.{◌≡◌, true, IfOk, IsOk, IsOkUnless};
     ghost use Rattle.uc_core.specs.Step.{actor, is_quiet};
 
-    /// The number of the worker that takes the event.
+    /// Returns the number of the worker that takes the event.
     pub fn actor(&self) -> u8
         ensures { result ≡ actor self.now }
     {
@@ -38,12 +38,12 @@ impl Event {
         }
     }
 
-    /// The same event in memory of its own.
+    /// Returns a copy of the event. Returns `Memory` if an allocation fails.
     pub fn try_clone(&self) -> Result<Event, Fault>
         ensures event { IfOk result (λ event. event ≡ self.now) }
         ensures memory { IsOkUnless result Fault.Memory }
 
-        // All but an announcement and a replay need no memory.
+        // No event but an announcement or a replay needs memory.
         ensures quiet { is_quiet self.now ≡ true → IsOk result }
     {
         Ok(match self {
@@ -63,8 +63,8 @@ impl Event {
 #[derive(Clone, Copy, Debug, PartialEq, Eq, Error)]
 #[error("event {at}: {fault}")]
 pub struct RunFault {
-    /// Which event met the fault, from 0.
+    /// The index of the event that met the fault.
     pub at: usize,
-    /// What it met.
+    /// The fault that it met.
     pub fault: Fault,
 }

@@ -1,6 +1,6 @@
-//! The shared log as a pure machine: every worker's steps as events, taken one at a time. It is Herlihy's universal construction
-//! (Wait-Free Synchronization, TOPLAS 1991) with memcached's commands, and the theorem of this project stands here as `laws`
-//! and `two_worlds`.
+//! The shared log as a state machine: every worker's steps as events, taken one at a time. It is
+//! Herlihy's universal construction (Wait-Free Synchronization, TOPLAS 1991) with memcached's
+//! commands. The theorem of this project is stated here, in `laws` and `two_worlds`.
 #![tactic(auto)]
 
 pub use event::{Event, RunFault};

@@ -14,33 +14,34 @@ use mc_model::{Entry, Fault, Limits, Phase, Settings, TenantId, Ticket, WorkerId
 use std::alloc::Global;
 use std::marker::Model;
 
-/// What is shown of a worker: what it is at, and how far it is.
+/// A worker's observable state: its phase and progress.
 #[derive(Clone, Copy, Debug, PartialEq, Eq)]
 pub struct Progress {
     pub phase: Phase,
-    /// How many commands it has announced.
+    /// The number of commands that it has announced.
     pub announced: u64,
-    /// How many places it has learned.
+    /// The number of places that it has learned.
     pub learned: u64,
-    /// How many places it has replayed.
+    /// The number of places that it has replayed.
     pub replayed: u64,
-    /// The first place that it found empty since it announced the command that waits.
+    /// The first place that it found empty since it announced its latest command.
     pub mark: Option<u64>,
-    /// The ticket that it has looked up for its next place.
+    /// The ticket that it looked up for its next place.
     pub look: Option<Ticket>,
-    /// How many proposals it has made for the command that it announced last.
+    /// The number of proposals it has made for its latest command.
     pub proposals: u64,
 }
 
-/// A log of all tenants' commands that several workers share, every worker's steps being taken one at a time.
+/// A log of all tenants' commands that several workers share, with the workers' steps taken one at
+/// a time.
 #[derive(Debug, Drop)]
 pub struct Core {
     pub(crate) places: u64,
     /// The quotas that each tenant's tables are opened with.
     pub(crate) openings: Vec<Limits>,
-    /// The tickets of the decided places. Has room for all places from the opening on.
+    /// The tickets of the decided places. Has capacity for all places from the opening on.
     pub(crate) decided: Vec<Ticket>,
-    /// What each worker announced, in order.
+    /// What each worker has announced, in order.
     pub(crate) entries: Vec<Vec<Entry>>,
     pub(crate) workers: Vec<Worker>,
 }
@@ -62,8 +63,8 @@ impl Model for Core {
 impl Core {
     ghost use Rattle.uc_core.specs.Showing.{progress_by, table_by};
 
-    /// The core before any event, of these settings. Room for all places is reserved here, once. Where memory runs out:
-    /// `Memory`.
+    /// Returns the core before any event, with these settings. Capacity for all places is reserved
+    /// here, once. Returns `Memory` if an allocation fails.
     pub fn new(alloc: Global, settings: &Settings) -> Result<Core, Fault>
         ensures state { IfOk result (λ core. core ≡ new_core settings.now) }
         ensures memory { IsOkUnless result Fault.Memory }
@@ -82,7 +83,7 @@ impl Core {
         })
     }
 
-    /// How many workers there are.
+    /// Returns the number of workers.
     pub fn workers(&self) -> usize
         ensures count { result ≡ length self.now.shown.workers }
         ensures few { result ≤ WORKERS }
@@ -90,7 +91,7 @@ impl Core {
         self.workers.len()
     }
 
-    /// How many places the log has.
+    /// Returns the number of places in the log.
     pub fn places(&self) -> u64
         ensures places { result ≡ self.now.places }
 
@@ -101,28 +102,28 @@ impl Core {
         *places
     }
 
-    /// The quotas that each tenant's tables were opened with, by the tenants' numbers.
+    /// Returns the quotas that each tenant's tables were opened with, indexed by tenant number.
     pub fn openings(&self) -> &[Limits]
         ensures { result.now ≡ self.now.openings }
     {
         self.openings.as_slice()
     }
 
-    /// The tickets of the decided places, in the order of the log.
+    /// Returns the tickets of the decided places, in log order.
     pub fn decided(&self) -> &[Ticket]
         ensures { result.now ≡ self.now.shown.decided }
     {
         self.decided.as_slice()
     }
 
-    /// What was announced under a ticket, if it was announced.
+    /// Returns the entry that was announced under a ticket, if any.
     pub fn entry(&self, ticket: Ticket) -> Option<&Entry>
         ensures { option_copied result ≡ entry_under self.now ticket }
     {
         announced_under(&self.entries, ticket)
     }
 
-    /// How far the worker is, if there is one of this number.
+    /// Returns the worker's progress, if there is a worker with this number.
     pub fn progress(&self, worker: WorkerId) -> Option<Progress>
         ensures { result ≡ progress_by self.now worker }
     {
@@ -138,7 +139,8 @@ impl Core {
         })
     }
 
-    /// The tenant's table as the worker has replayed it, if there are such a worker and tenant.
+    /// Returns the tenant's table as the worker has replayed it, if there are such a worker and
+    /// tenant.
     pub fn table(&self, worker: WorkerId, tenant: TenantId) -> Option<&Items>
         ensures { option_copied result ≡ table_by self.now worker tenant }
     {
@@ -147,7 +149,7 @@ impl Core {
     }
 }
 
-/// The entry that was announced under the ticket, among what each worker announced.
+/// Returns the entry that was announced under the ticket, among what each worker announced.
 pub(crate) fn announced_under(entries: &[Vec<Entry>], ticket: Ticket) -> Option<&Entry>
     ensures { option_copied result ≡ option_and_then (λ (announced : Vec Entry). slice_get announced.items ticket.number) (slice_get entries.now ticket.worker) }
 {
@@ -155,7 +157,7 @@ pub(crate) fn announced_under(entries: &[Vec<Entry>], ticket: Ticket) -> Option<
     announced.get(ticket.number as usize)
 }
 
-/// So many workers before any event.
+/// Returns `count` workers before any event. Returns `Memory` if an allocation fails.
 fn new_workers(alloc: Global, count: usize, openings: &[Limits]) -> Result<Vec<Worker>, Fault>
     ensures fresh { IfOk result (λ workers. AreFresh count openings.now workers.items) }
     ensures count { IfOk result (λ workers. length workers.items ≡ count) }
@@ -168,7 +170,7 @@ fn new_workers(alloc: Global, count: usize, openings: &[Limits]) -> Result<Vec<W
     Ok(workers)
 }
 
-/// So many empty lists of entries.
+/// Returns `count` empty lists of entries. Returns `Memory` if an allocation fails.
 fn no_entries(alloc: Global, count: usize) -> Result<Vec<Vec<Entry>>, Fault>
     ensures none { IfOk result (λ entries. AreEmpty entries.items) }
     ensures count { IfOk result (λ entries. length entries.items ≡ count) }

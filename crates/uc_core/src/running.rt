@@ -1,4 +1,4 @@
-//! A run of the core: events one after another, and the replies that they give.
+//! Runs of the core: events one after another, and the replies that they give.
 ghost use Rattle.std.specs.Prelude.{◌≡◌, ◌<◌, ◌++◌, List, Option, length, take, drop, None, Some, slice_get, IfErr, OnOk, OnErr};
 ghost use Rattle.mc_model.specs.Helping.{BeginsWith};
 ghost use Rattle.mc_model.specs.Legal.{IsLegal};
@@ -13,9 +13,10 @@ use crate::machine::Core;
 use mc_model::{Fault, Reply, WorkerId};
 
 impl Core {
-    /// Takes the events in their order. Each reply goes to the end of `replies`, with its worker and the place of its
-    /// command in the log. The run ends before the first event that meets a fault, which changes nothing.
-    /// It meets `Memory` at an announcement or a replay alone.
+    /// Takes the events in order. Each reply is appended to `replies`, with its worker and the
+    /// place of its command in the log. Returns the fault and the index of the first event that
+    /// meets one; the run ends before that event, which changes nothing. Only an announcement or a
+    /// replay meets `Memory`.
     pub fn run(
         &mut self,
         events: &[Event],
@@ -40,8 +41,9 @@ impl Core {
         Ok(())
     }
 
-    /// Takes one event of a run. Where all its conditions are met, room for a reply is made before a replay, which alone
-    /// may give one, and an announcement's command is copied.
+    /// Takes one event of a run. If all its conditions are met, capacity for a reply is reserved
+    /// before a replay, the only event that may give one, and an announcement's command is copied.
+    /// At a fault nothing changes.
     fn run_one(
         &mut self,
         event: &Event,
@@ -66,7 +68,7 @@ impl Core {
         Ok(())
     }
 
-    /// How many places a worker has replayed, and 0 where there is no such worker.
+    /// Returns the number of places that a worker has replayed, or 0 if there is no such worker.
     fn replayed_by(&self, number: u8) -> u64
         ensures { result ≡ replayed_by self.now number }
     {
@@ -76,7 +78,7 @@ impl Core {
         }
     }
 
-    /// The worker that takes the event, where the event is enabled.
+    /// Returns the worker that takes the event, which must be enabled.
     fn id_of(&self, event: &Event) -> WorkerId
         requires { refusal self.now event.now ≡ None }
         ensures { result ≡ actor event.now }

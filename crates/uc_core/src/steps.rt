@@ -1,4 +1,4 @@
-//! One event of the core: where it is enabled, and what it makes.
+//! One event of the core: when it is enabled, and what it makes.
 ghost use Rattle.std.specs.Prelude.{◌≡◌, ◌<◌, ◌≤◌, true, false, length, None, Some, IfOk, IfErr, OnOk, OnErr, IsOk, IsOkUnless};
 ghost use Rattle.mc_model.specs.declared.fault.Fault.{Fault};
 ghost use Rattle.uc_core.specs.Kept.{replay_of, shown_worker};
@@ -11,14 +11,15 @@ use crate::worker::Worker;
 use mc_model::{Command, Entry, Fault, Phase, Reply, TenantId, Ticket, WorkerId};
 
 impl Core {
-    /// Takes one event, and gives the reply where it answers a command. An event that isn't enabled meets the fault of its
-    /// first condition that fails; where memory runs out: `Memory`. At a fault nothing changes.
+    /// Takes one event, and returns the reply if it answers a command. Returns the fault of the
+    /// first condition that fails if the event isn't enabled, and `Memory` if an allocation fails;
+    /// nothing changes then.
     pub fn step(&mut self, event: Event) -> Result<Option<Reply>, Fault>
         ensures step { IfOk result (λ reply. CoreStep self.old event self.new reply) }
         ensures refused { (fault : Fault) → refusal self.old event ≡ Some fault → result ≡ Err fault }
         ensures memory { refusal self.old event ≡ None → IsOkUnless result Fault.Memory }
 
-        // All but an announcement and a replay need no memory.
+        // No event but an announcement or a replay needs memory.
         ensures quiet { is_quiet event ≡ true → refusal self.old event ≡ None → IsOk result }
         ensures shown { OnOk result (StepShows self.old event self.new) }
         ensures unchanged { OnErr result (self.new ≡ self.old) }
@@ -27,7 +28,8 @@ impl Core {
         self.take(event)
     }
 
-    /// Whether the event is enabled; else the fault of its first condition that fails.
+    /// Returns `Ok` if the event is enabled, and otherwise the fault of its first condition that
+    /// fails.
     pub fn check(&self, event: &Event) -> Result<(), Fault>
         ensures enabled { OnOk result (refusal self.now event.now ≡ None) }
         ensures fault { IfErr result (λ fault. refusal self.now event.now ≡ Some fault) }
@@ -38,7 +40,7 @@ impl Core {
         self.check_for(worker, event)
     }
 
-    /// The same for the event's worker.
+    /// Does the same for the event's worker.
     fn check_for(&self, worker: &Worker, event: &Event) -> Result<(), Fault>
         requires { worker.now.learned ≤ length self.now.shown.decided }
         ensures enabled { OnOk result (refusal_by self.now event.now (shown_worker self.now.shown.decided worker.now) (replay_of worker.now) ≡ None) }
@@ -91,7 +93,7 @@ impl Core {
         Ok(None)
     }
 
-    /// The worker announces the tenant's command under its next ticket.
+    /// Announces the tenant's command under the worker's next ticket.
     fn announce(&mut self, number: u8, tenant: u8, command: Command) -> Result<(), Fault>
         requires { refusal self.old (Announce number tenant command) ≡ None }
         ensures step { OnOk result (CoreStep self.old (Announce number tenant command) self.new None) }
@@ -114,7 +116,7 @@ impl Core {
         Ok(())
     }
 
-    /// The worker reads its next place.
+    /// Reads the worker's next place.
     fn read(&mut self, number: u8)
         requires { refusal self.old (Read number) ≡ None }
         ensures { CoreStep self.old (Read number) self.new None }
@@ -124,7 +126,7 @@ impl Core {
         worker.read(id, &self.decided);
     }
 
-    /// The worker looks at the one whose turn it is at its next place.
+    /// Looks at the worker whose turn it is at this worker's next place.
     fn look(&mut self, number: u8)
         requires { refusal self.old (Look number) ≡ None }
         ensures { CoreStep self.old (Look number) self.new None }
@@ -137,7 +139,7 @@ impl Core {
         worker.look(helped, announced);
     }
 
-    /// The worker proposes at its next place.
+    /// Proposes at the worker's next place.
     fn propose(&mut self, number: u8)
         requires { refusal self.old (Propose number) ≡ None }
         ensures { CoreStep self.old (Propose number) self.new None }
@@ -147,7 +149,7 @@ impl Core {
         worker.propose(id, &mut self.decided);
     }
 
-    /// The worker replays its next place.
+    /// Replays the worker's next place.
     fn replay(&mut self, number: u8) -> Result<Option<Reply>, Fault>
         requires { refusal self.old (Replay number) ≡ None }
         ensures step { IfOk result (λ reply. CoreStep self.old (Replay number) self.new reply) }
@@ -162,7 +164,7 @@ impl Core {
         Ok(reply)
     }
 
-    /// The worker stops for good.
+    /// Stops the worker for good.
     fn stop(&mut self, number: u8)
         requires { refusal self.old (Stop number) ≡ None }
         ensures { CoreStep self.old (Stop number) self.new None }
@@ -171,7 +173,7 @@ impl Core {
     }
 }
 
-/// A condition, with the fault of its failing.
+/// Returns the fault unless the condition holds.
 fn needs(condition: bool, fault: Fault) -> Result<(), Fault>
     ensures met { OnOk result (condition ≡ true) }
     ensures fault { IfErr result (λ it. (condition ≡ false) × (it ≡ fault)) }

@@ -1,9 +1,10 @@
 //! The theorem, for every run of the core: the contracts say it, and the bodies are empty.
 //!
-//! For every interleaving of announcing, reading, looking, proposing and replaying steps, whichever workers stop for good, each
-//! announced command stands at most once in the log, all replicas agree on every replayed prefix, and each replayed command's
-//! reply is what memcached's commands give on a table holding only its tenant's commands in log order, so runs whose logs agree
-//! for a tenant give equal replies.
+//! For every interleaving of announcing, reading, looking, proposing and replaying steps, whichever
+//! workers stop for good, each announced command stands at most once in the log, all replicas agree
+//! on every replayed prefix, and each replayed command's reply is what memcached's commands give on
+//! a table holding only its tenant's commands in log order, so runs whose logs agree for a tenant
+//! give equal replies.
 ghost use Rattle.mc_model.specs.Helping.{HelpingLaw, IsSoonDecided, LogLaw};
 ghost use Rattle.mc_model.specs.Lawful.{IsReached};
 ghost use Rattle.mc_model.specs.declared.shown.LogSize as size;
@@ -35,18 +36,19 @@ pub fn laws()
     // A worker that stops has stopped for good.
     ensures stopped { OfEveryRun (λ core given. StopsForGood core) }
 
-    // Whatever the log shows, events of the shown log alone lead there.
+    // Whatever the log shows is reachable by events of the shown log alone.
     ensures shown { OfEveryRun (λ core given. IsReached (size_of core) core.shown) }
 {}
 
-/// What is true of any two runs, of any workers, places and other tenants: where their logs agree for a tenant of each, all
-/// replies to that tenant's commands are equal in both.
+/// What is true of any two runs, of any workers, places and other tenants: if their logs agree for
+/// a tenant of each, all replies to that tenant's commands are equal in both.
 pub fn two_worlds()
     ensures { OfEveryRun (λ core given. OfEveryRun (λ other other_given. AnswerAlike core given other other_given)) }
 {}
 
-/// What is true of every event: in any state that a run leads to it leads on only where it meets no fault, and in any state it leads on
-/// wherever it meets none, one way, and changes its own worker alone.
+/// What is true of every event. In any state that a run leads to it leads on only if it meets no
+/// fault. In any state it leads on if it meets none, to one state alone, and changes its own worker
+/// alone.
 pub fn events_lead_one_way()
     // An event that leads on meets no fault.
     ensures enabled { OfEveryRun (λ core given. StepsAreEnabled core) }
@@ -67,22 +69,24 @@ pub fn events_lead_one_way()
     ensures learns { (core : CoreState) → StepsLearn core }
 {}
 
-/// What the settings and the events of a run say of the core that it leads to, by the list of the events alone.
+/// What the settings and the events of a run say of the core that it leads to, by the list of
+/// events alone.
 pub fn runs_do_what_is_asked()
     // The core has the workers, the places and the tenants' quotas of its settings.
     ensures settings { ByEvents (λ settings events core. IsOfSettings settings core) }
 
-    // Under a worker's ticket number k stand the tenant and the command of its announcement number k, for good.
+    // Under a worker's ticket number k are, for good, the tenant and the command of its
+    // announcement number k.
     ensures announced { ByEvents (λ settings events core. AnnouncementsStand events core) }
 
-    // A worker has replayed as many places as it was to replay.
+    // A worker has replayed as many places as the run has replays of it.
     ensures replayed { ByEvents (λ settings events core. ReplaysCount events core) }
 
-    // For one command a worker proposes at most once more than there are workers.
+    // For one command a worker makes at most one proposal more than there are workers.
     ensures proposed { ByEvents (λ settings events core. FewProposals settings events) }
 {}
 
-/// What is true of the shown log in every state that events lead to, and how soon a command is decided there.
+/// What is true of the shown log in every reachable state, and how soon a command is decided there.
 pub fn shown_states()
     ensures lawful { (n : size.LogSize) (s : state.ShownState) → IsReached n s → LogLaw n s }
     ensures helping { (n : size.LogSize) (s : state.ShownState) → IsReached n s → HelpingLaw n s }

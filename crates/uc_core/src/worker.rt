@@ -17,25 +17,26 @@ use std::alloc::Global;
 #[derive(Debug, Drop)]
 pub(crate) struct Worker {
     pub(crate) phase: Phase,
-    /// How many commands it has announced.
+    /// The number of commands that it has announced.
     pub(crate) announced: u64,
-    /// How many of the decided places it has learned.
+    /// The number of decided places that it has learned.
     pub(crate) learned: usize,
-    /// How many of those it has replayed.
+    /// The number of learned places that it has replayed.
     pub(crate) replayed: usize,
     pub(crate) mark: Option<u64>,
     pub(crate) look: Option<Ticket>,
     pub(crate) proposals: u64,
-    /// How many tickets of each worker it has learned, by the workers' numbers.
+    /// The number of tickets of each worker that it has learned, indexed by worker number.
     counts: Vec<u64>,
-    /// One table a tenant, by the tenants' numbers.
+    /// One table per tenant, indexed by tenant number.
     pub(crate) tables: Vec<Items>,
 }
 
 impl Worker {
     ghost use Rattle.uc_core.specs.Kept.{AreCounts, IsFresh, IsInOrder, is_latest_of, shown_worker, replay_of};
 
-    /// A worker before any event, of a log with so many workers.
+    /// Returns a worker before any event, of a log with `workers` workers. Returns `Memory` if an
+    /// allocation fails.
     pub(crate) fn new(alloc: Global, workers: usize, openings: &[Limits]) -> Result<Worker, Fault>
         ensures fresh { IfOk result (λ worker. IsFresh workers openings.now worker) }
         ensures memory { IsOkUnless result Fault.Memory }
@@ -53,7 +54,7 @@ impl Worker {
         })
     }
 
-    /// It announces one more command.
+    /// Announces one more command.
     pub(crate) fn announce(&mut self)
         requires { self.old.announced < 2 ^ 64 - 1 }
         ensures shown { (decided : List Ticket) → shown_worker decided self.new ≡ announce (shown_worker decided self.old) }
@@ -67,7 +68,8 @@ impl Worker {
         self.proposals = 0;
     }
 
-    /// It learns the ticket of its next place, and is at `phase` where that isn't the ticket of its latest command.
+    /// Learns the ticket of the next place. The phase is then idle if this is the ticket of the
+    /// worker's latest command, and `phase` otherwise.
     fn learn(&mut self, number: WorkerId, phase: Phase, ticket: Ticket)
         requires few { self.old.learned < 2 ^ 64 - 1 }
         requires counts { (many : ℕ) → slice_get self.old.counts.items ticket.worker ≡ Some many → many ≤ self.old.learned }
@@ -85,7 +87,7 @@ impl Worker {
         }
     }
 
-    /// It reads its next place: it learns what stands there, or an empty place can become its mark.
+    /// Reads the next place: learns what stands there, or may take an empty place as its mark.
     pub(crate) fn read(&mut self, number: WorkerId, decided: &[Ticket])
         requires few { length decided.now < 2 ^ 64 - 1 }
         requires learned { self.old.learned ≤ length decided.now }
@@ -104,7 +106,8 @@ impl Worker {
         self.learn(number, self.phase, *ticket);
     }
 
-    /// It looks at the worker to help, who has announced so many commands: it finds the first of them that it hasn't learned.
+    /// Looks at the worker to help, which has announced `announced` commands: finds the first of
+    /// them that it hasn't learned.
     pub(crate) fn look(&mut self, helped: WorkerId, announced: u64)
         requires { helped < vec_len self.old.counts }
         ensures shown { (decided : List Ticket) → AreCounts (take self.old.learned decided) self.old.counts.items →
@@ -125,7 +128,8 @@ impl Worker {
         };
     }
 
-    /// It proposes what it found, or its own command, at its next place, and learns what stands there then.
+    /// Proposes what it found, or its own command, at its next place, and learns what then stands
+    /// there.
     pub(crate) fn propose(&mut self, number: WorkerId, decided: &mut Vec<Ticket>)
         requires learned { self.old.learned ≤ vec_len decided.old }
         requires room { self.old.learned ≡ vec_len decided.old → vec_len decided.old < vec_capacity decided.old }
@@ -145,7 +149,7 @@ impl Worker {
         self.proposals += 1;
     }
 
-    /// What it proposes: the ticket that it found, or its own latest.
+    /// Returns what it proposes: the ticket that it found, or its own latest.
     fn proposal(&self, number: WorkerId) -> Ticket
         ensures { (decided : List Ticket) → result ≡ proposal number (shown_worker decided self.now) }
     {
@@ -158,8 +162,8 @@ impl Worker {
         }
     }
 
-    /// It replays its next place, where this is the entry that stands there. Where memory runs out: `Memory`, and nothing
-    /// changes.
+    /// Replays the next place, if this is the entry that stands there, and returns the reply if it
+    /// is the worker's own. Returns `Memory` if an allocation fails; nothing changes then.
     pub(crate) fn replay(
         &mut self,
         number: WorkerId,
@@ -180,7 +184,7 @@ impl Worker {
         Ok(reply)
     }
 
-    /// It stops for good.
+    /// Stops for good.
     pub(crate) fn stop(&mut self)
         ensures shown { (decided : List Ticket) → shown_worker decided self.new ≡ stop (shown_worker decided self.old) }
         ensures order { (workers places : ℕ) (decided : List Ticket) → IsInOrder workers places decided self.old → IsInOrder workers places decided self.new }
@@ -190,7 +194,8 @@ impl Worker {
     }
 }
 
-/// The proposal stands at the place, where the place is empty and the next. What stands there then is the answer.
+/// Decides the place by the proposal, if the place is empty and the next. Returns what then stands
+/// there.
 fn decide(decided: &mut Vec<Ticket>, place: usize, proposal: Ticket) -> Ticket
     requires place { place ≤ vec_len decided.old }
     requires room { place ≡ vec_len decided.old → vec_len decided.old < vec_capacity decided.old }

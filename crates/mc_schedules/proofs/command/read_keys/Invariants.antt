@@ -3,7 +3,7 @@ use Rattle.std.specs.List.{list_all}
 use Rattle.mc_model.specs.Key.{is_lawful_key}
 use Rattle.mc_schedules.proofs.command.read_keys.Given as goal
 
--- the keys are the words so far, which are all lawful
+-- the keys are the words so far, which are all valid
 abbrev pub invariant-loop-word : goal.invariant-loop-word
 invariant-loop-word l = record {
   keys : l.keys.items ≡ map (λ word. word.now) (take l.word-index l.words);

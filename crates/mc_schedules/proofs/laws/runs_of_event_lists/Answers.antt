@@ -1,5 +1,5 @@
--- What lists do is one run after another (`Joined`), each event of which leads one way (`Alike`), and the events of a submit come to an
--- end (`Nearer`).
+-- What lists do is one run after another (`Joined`), each event of which leads one way (`Alike`),
+-- and the events of a submit come to an end (`Nearer`).
 use Rattle.mc_schedules.proofs.Alike.{all_alike}
 use Rattle.mc_schedules.proofs.Joined.{all_run}
 use Rattle.mc_schedules.proofs.Nearer.{nearer}

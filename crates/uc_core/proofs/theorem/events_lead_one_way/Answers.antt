@@ -1,5 +1,5 @@
--- A step's conditions are those that its event's faults are told by, and what it makes is told by the state before it (`OneWay`, `Leads`,
--- `Alone`).
+-- A step's conditions are those that its event's faults are determined by, and what it makes is
+-- determined by the state before it (`OneWay`, `Leads`, `Alone`).
 use Rattle.uc_core.proofs.Alone.{steps_are_alone}
 use Rattle.uc_core.proofs.Leads.{steps_lead_on, steps_learn}
 use Rattle.uc_core.proofs.OneWay.{steps_are_enabled, steps_are_one, workers_are_free}
