@@ -1,5 +1,5 @@
 # `make run` and `make test` do all set-up on a machine that has the kit (`rt` on the PATH).
-.PHONY: help run serve schedule build install uninstall test edits network clients attack memory model manual bench picture kit
+.PHONY: help run serve schedule build install uninstall test edits network clients attack memory model manual bench picture documents kit
 
 help:
 	@echo 'make run      proves, builds and runs mc_stdin on its first run, and prints what it prints'
@@ -18,6 +18,7 @@ help:
 	@echo 'make manual   checks the manual pages against the programs as built, and tries installing into temporary folders'
 	@echo 'make bench    measures the built programs; the figures of docs/BENCHMARKS.md come from it'
 	@echo 'make picture  draws docs/house.svg anew from crates.txt'
+	@echo 'make documents writes docs/PROMISES.md, and the numbers in docs/DEFINITIONS.md, anew from the sources'
 
 run: kit
 	@tools/prove.sh mc_stdin >&2
@@ -99,6 +100,10 @@ bench: kit
 
 picture:
 	@tools/picture.py
+
+documents:
+	@python3 tools/promises.py
+	@python3 tools/reading.py --write
 
 # A clear word where the kit is missing, in place of the shell's.
 kit:

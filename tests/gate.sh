@@ -1,7 +1,7 @@
 #!/usr/bin/env bash
 # The gate: the kit's own (every proof from nothing, the edits of must-fail/, the tests, the programs on their stored runs), and
 # then the built programs on their worked rows, wfmc over sockets, orders of what its clients saw, a round of the attack, and whether the
-# picture of the crates and the numbers of their definitions are up to date. The last line is 'N passed, M failed', of all together.
+# picture of the crates and the documents that are written from the sources are up to date. The last line is 'N passed, M failed', of all together.
 set -euo pipefail
 cd "$(dirname "$0")/.."
 
@@ -36,8 +36,9 @@ count python3 tests/orders.py --self-test
 count python3 tests/orders.py 20
 echo "a round of the attack on wfmc"
 count python3 tests/attack.py --seed 77 --round 3
-echo "the picture of the crates, and the numbers of their definitions"
+echo "the picture of the crates, and the documents that are written from the sources"
 count passes tools/picture.py --check
+count passes python3 tools/promises.py --check
 count passes python3 tools/reading.py --check
 
 awk '{ passed += $1; failed += $3; if ($0 !~ /^[0-9]+ passed, [0-9]+ failed$/) { print; failed++ } }

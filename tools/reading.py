@@ -1,97 +1,40 @@
 #!/usr/bin/env python3
 """Which definitions a call's promises stand on: reading.py [CRATE::FUNCTION...], by default the calls that carry the headline.
 
-For each call in turn: how many definitions its clauses reach through specs/ that no call before it does, with their lines, file by file.
-Comments, blank lines and imports don't count, nor definitions of the kit. docs/DEFINITIONS.md shows what this prints.
+For each call, named as in docs/PROMISES.md: how many definitions its clauses reach through specs/ that no call before it does, with their lines,
+file by file. Comments, blank lines and imports don't count, nor definitions of the kit.
 
-reading.py --sizes prints how many lines specs/ of each crate has, as that document's last table has them, and reading.py --check fails where
-one of its two tables says something else.
+reading.py --write brings the two tables of docs/DEFINITIONS.md up to date, which have these numbers and how long specs/ of each crate is;
+reading.py --check fails where they aren't.
 """
 
-import pathlib
 import re
 import sys
 from collections import defaultdict
 
-ROOT = pathlib.Path(__file__).resolve().parent.parent
-CRATES = ROOT / "crates"
+from specifications import CRATES, ROOT, Definitions, anchor_of, public_items
+
+DOCUMENT = ROOT / "docs/DEFINITIONS.md"
 HEADLINE = (
-    "uc_worker::submit",
-    "uc_worker::meet",
-    "mc_conn::turn",
+    "uc_worker::Worker::submit",
+    "uc_worker::Worker::meet",
+    "mc_conn::Conn::turn",
     "mc_net::serve",
     "uc_core::laws",
     "uc_core::two_worlds",
     "uc_core::runs_do_what_is_asked",
     "uc_places::calls_lie_on_one_run",
 )
-IMPORT = re.compile(r"^ *(?:ghost )?use Rattle\.(\w+)\.specs\.([\w.]+?)\.\{([^}]*)\}", re.MULTILINE)
-DEFINITION = re.compile(r"^(?:  )?(?:(?:abbrev|unfoldable) pub|(?:pub )?(?:record|data)) (\w+)|^(?:pub )?(\w+) *(?:\{[^}]*\} *)?:")
-WORD = re.compile(r"\w+")
-
-
-def imports_of(text):
-    """For each imported name, where it is defined."""
-    found = {}
-    for crate, module, names in IMPORT.findall(text):
-        for name in filter(None, map(str.strip, names.split(","))):
-            original, _, shown = name.partition(" as ")
-            found[shown or original] = (crate, module, original)
-    return found
-
-
-class Definitions:
-    """All that stands in specs/, by crate, module and name."""
-
-    def __init__(self):
-        self.lines, self.imports = defaultdict(list), {}
-        for file in sorted(CRATES.glob("*/specs/**/*.antt")):
-            crate, module = file.relative_to(CRATES).parts[0], ".".join(file.relative_to(CRATES).parts[2:])[: -len(".antt")]
-            text, name = file.read_text(encoding="utf-8"), None
-            self.imports[crate, module] = imports_of(text)
-            for line in text.splitlines():
-                if not line.strip() or line.lstrip().startswith("--") or line.startswith(("use ", "pub mod ")):
-                    continue
-                begun = DEFINITION.match(line)
-                name = (begun[1] or begun[2]) if begun else name
-                self.lines[crate, module, name].append(line)
-
-    def find(self, crate, module, name):
-        """Where a name of this module is defined, if it is in specs/."""
-        while (crate, module) in self.imports:
-            if (crate, module, name) in self.lines:
-                return crate, module, name
-            if name not in self.imports[crate, module]:
-                return None
-            crate, module, name = self.imports[crate, module][name]
-        return None
-
-    def reached_from(self, first):
-        reached, left = set(), list(first)
-        while left:
-            one = left.pop()
-            if one and one not in reached:
-                reached.add(one)
-                left += (self.find(*one[:2], word) for word in WORD.findall("\n".join(self.lines[one])))
-        return reached
-
-    def of_call(self, call):
-        """The definitions that the clauses of a public function name."""
-        crate, name = call.split("::")
-        for file in sorted((CRATES / crate / "src").glob("**/*.rt")):
-            text = file.read_text(encoding="utf-8")
-            begun = re.search(rf"^ *pub fn {name}\b.*?^ *\{{", text, re.MULTILINE | re.DOTALL)
-            if begun:
-                imports = imports_of(text)
-                return [self.find(*imports[word]) for word in WORD.findall(begun[0]) if word in imports]
-        sys.exit(f"{call} is no public function")
 
 
 def reached_by(calls):
     """For each call in turn: the definitions that it reaches and none before it does, by crate, module and name, with their lines."""
     definitions, known = Definitions(), set()
+    items = {f"{item.crate}::{item.name}": item for item in public_items()}
     for call in calls:
-        reached = definitions.reached_from(definitions.of_call(call)) - known
+        if call not in items:
+            sys.exit(f"{call} is no public function")
+        reached = definitions.reached_from(definitions.cited_by(items[call])) - known
         known |= reached
         yield call, {one: len(definitions.lines[one]) for one in sorted(reached)}
 
@@ -114,29 +57,30 @@ def sizes():
     return found
 
 
-def rows_of(document, heading):
-    """The cells of the first table below a heading."""
-    below = document.split(f"\n{heading}\n", 1)[1]
-    table = re.search(r"^\|[-|]+\|\n((?:\|.*\|\n)+)", below, re.MULTILINE)[1]
-    return [[cell.strip() for cell in row.strip("|").split("|")] for row in table.splitlines()]
-
-
-def check():
-    document = (ROOT / "docs/DEFINITIONS.md").read_text(encoding="utf-8")
-    said = [[int(cell) for cell in row[-2:]] for row in rows_of(document, "## From the headline down")]
-    if said != [[len(reached), sum(reached.values())] for _, reached in reached_by(HEADLINE)]:
-        sys.exit("docs/DEFINITIONS.md has other numbers of what the headline's calls stand on than tools/reading.py prints")
-    said = {row[0].strip("`"): [int(cell.replace(",", "")) for cell in row[1:]] for row in rows_of(document, "## How long they are")}
-    found = sizes()
-    if said != {**found, "together": [sum(column) for column in zip(*found.values())]}:
-        sys.exit("docs/DEFINITIONS.md has other numbers of lines than tools/reading.py --sizes prints")
-
-
-def print_sizes():
+def size_rows():
     found = sizes()
     for crate, numbers in found.items():
-        print(f"| `{crate}` | " + " | ".join(str(number) for number in numbers) + " |")
-    print("| together | " + " | ".join(f"{sum(column):,}" for column in zip(*found.values())) + " |")
+        yield f"| `{crate}` | " + " | ".join(str(number) for number in numbers) + " |"
+    yield "| together | " + " | ".join(f"{sum(column):,}" for column in zip(*found.values())) + " |"
+
+
+def with_numbers(document, row, definitions, lines):
+    """The document with these numbers at the end of the row that begins so."""
+    document, times = re.subn(rf"^({re.escape(row)} \|.*) \| \d+ \| \d+ \|$", rf"\1 | {definitions} | {lines} |", document, flags=re.MULTILINE)
+    if times != 1:
+        sys.exit(f"docs/DEFINITIONS.md has {times} rows that begin {row}")
+    return document
+
+
+def updated(document):
+    """The document with the numbers of today in its tables."""
+    together = {}
+    for call, reached in reached_by(HEADLINE):
+        together |= reached
+        document = with_numbers(document, f"| [`{call}`](PROMISES.md#{anchor_of(call)})", len(reached), sum(reached.values()))
+    document = with_numbers(document, "| all of them", len(together), sum(together.values()))
+    table = "\n".join(size_rows())
+    return re.sub(r"(?m)^\| `mc_\w+` \| \d+ \|[^\x00]*?^\| together \|.*$", lambda _: table, document)
 
 
 def print_calls(calls):
@@ -153,10 +97,12 @@ def print_calls(calls):
 
 
 def main():
-    if sys.argv[1:] == ["--check"]:
-        check()
-    elif sys.argv[1:] == ["--sizes"]:
-        print_sizes()
+    document = DOCUMENT.read_text(encoding="utf-8")
+    if sys.argv[1:] == ["--write"]:
+        DOCUMENT.write_text(updated(document), encoding="utf-8")
+    elif sys.argv[1:] == ["--check"]:
+        if updated(document) != document:
+            sys.exit("docs/DEFINITIONS.md has other numbers than the sources: make documents")
     else:
         print_calls(sys.argv[1:] or HEADLINE)
 
