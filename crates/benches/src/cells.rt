@@ -1,5 +1,6 @@
-//! The cells: a put of an entry and four sightings of it, beside a push of an entry to a plain vector and four reads of it. Timed it prints
-//! the nanoseconds of each pass; else how many entries were counted.
+//! The cells: a put of an entry and four sightings of it, compared with a push of an entry to a
+//! plain vector and four reads of it. With `timed` it prints the nanoseconds of each pass,
+//! otherwise how many entries were counted.
 use mc_model::{Command, Entry, Key, KeyList, TenantId, Ticket, WorkerId};
 use std::alloc::{AllocError, Global};
 use std::io;
@@ -10,13 +11,13 @@ use uc_cells::Cells;
 /// How many entries are written and read in a pass.
 const ENTRIES: u64 = 50_000;
 
-/// How often all is done for its time.
+/// How many passes there are.
 const PASSES: usize = 7;
 
 /// How often an entry is read.
 const READS: usize = 4;
 
-/// A `get a` of the first tenant under this ticket.
+/// Returns a `get a` of the first tenant under this ticket.
 fn entry_of(alloc: Global, ticket: Ticket) -> Option<Entry> {
     let key = Key::new(alloc, b"a").ok()??;
     let mut keys = Vec::new(alloc);
@@ -32,7 +33,7 @@ fn entry_of(alloc: Global, ticket: Ticket) -> Option<Entry> {
     })
 }
 
-/// The entries of the first worker's tickets.
+/// Returns the entries of the first worker's tickets.
 fn entries(alloc: Global) -> Option<Vec<Entry>> {
     let mut made = Vec::new(alloc);
     for number in 0..ENTRIES {
@@ -42,7 +43,7 @@ fn entries(alloc: Global) -> Option<Vec<Entry>> {
     Some(made)
 }
 
-/// Puts each entry into its cell and sees it four times; how many entries were seen.
+/// Puts each entry into its cell and sees it four times. Returns how many entries were seen.
 fn put_and_see(alloc: Global, cells: &Cells, entries: Vec<Entry>) -> Option<u64> {
     let mut count = 0u64;
     for entry in entries {
@@ -61,7 +62,7 @@ fn put_and_see(alloc: Global, cells: &Cells, entries: Vec<Entry>) -> Option<u64>
     Some(count)
 }
 
-/// Pushes each entry and reads it four times; how many entries were read.
+/// Pushes each entry and reads it four times. Returns how many entries were read.
 fn push_and_read(log: &mut Vec<Entry>, entries: Vec<Entry>) -> Option<u64> {
     let mut count = 0u64;
     for entry in entries {
@@ -79,7 +80,7 @@ fn push_and_read(log: &mut Vec<Entry>, entries: Vec<Entry>) -> Option<u64> {
     Some(count)
 }
 
-/// Does a pass and prints a line on it.
+/// Does a pass and prints a line about it.
 fn report(rt: &(impl AllocGlobal + Clock + Print), timed: bool) -> io::Result<()> {
     let alloc = rt.alloc();
     let ours = entries(alloc).ok_or(AllocError)?;

@@ -1,6 +1,7 @@
-//! Measures the reader, the cells, the shared words or submits, as the first word says, each by itself and without the programs. With `--time`
-//! behind it the figures are printed that depend on the machine; submits take further words. Without a word each of the four is run, and what
-//! it counted is printed.
+//! Measures the reader, the cells, the shared words or submits, as the first word says, each by
+//! itself and without the programs. With `--time` after it, what depends on the machine is printed
+//! too; submits take further words. Without a word each of the four is run, and what it counted is
+//! printed.
 #![tactic(auto)]
 
 mod cells;
@@ -13,7 +14,7 @@ use std::rt::Clock;
 use std::thread::Threads;
 use std::{env, io};
 
-/// Whether the words ask for times. No other word may stand there.
+/// Returns whether the words ask for times. Returns `InvalidInput` for any other word.
 fn is_timed(words: &[String]) -> io::Result<bool> {
     match words {
         [] => Ok(false),

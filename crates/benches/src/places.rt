@@ -1,5 +1,6 @@
-//! The shared words: the opening of the greatest log, reads one after another, and submits by one thread, two and four. Prints what was
-//! counted, and timed also what depends on the machine: nanoseconds, memory, and how the threads met.
+//! The shared words: the opening of the greatest log, reads one after another, and submits by one,
+//! two and four threads. Prints what was counted, and if timed also what depends on the machine:
+//! nanoseconds, memory, and how the threads' steps interleaved.
 ghost use Rattle.std.specs.Prelude.{◌≡◌, ◌<◌, ◌≤◌, ℕ, slice_get, Some, IfSome};
 ghost use Rattle.mc_model.specs.declared.id.TheConstants.{WORKERS};
 ghost use Rattle.uc_places.specs.Calls.{IsSeatOf};
@@ -21,7 +22,7 @@ const MOST_PLACES: u64 = 1_048_576;
 /// How many places the log of a pass has, and how many commands all workers announce together.
 const PLACES: u64 = 65_536;
 
-/// A step that takes so long was interrupted.
+/// A step that takes this long was interrupted.
 const STOPPED_NANOSECONDS: u64 = 10_000;
 
 /// The kinds of steps.
@@ -40,7 +41,7 @@ enum Kind {
     Stopped,
 }
 
-/// Something of each kind of step.
+/// A number for each kind of step.
 #[derive(Clone, Copy, Default)]
 struct Each {
     announce: u64,
@@ -53,7 +54,7 @@ struct Each {
 }
 
 impl Each {
-    /// Adds to what it has of the kind.
+    /// Adds to the number of the kind.
     fn add(&mut self, kind: Kind, more: u64) {
         let old = match kind {
             Kind::Announce => &mut self.announce,
@@ -67,7 +68,7 @@ impl Each {
         *old = old.saturating_add(more);
     }
 
-    /// Of each kind what both have together.
+    /// Returns the sums of both, kind by kind.
     fn plus(&self, other: &Each) -> Each {
         Each {
             announce: self.announce.saturating_add(other.announce),
@@ -81,12 +82,12 @@ impl Each {
     }
 }
 
-/// Takes note of a worker's steps.
+/// Watches a worker's steps.
 trait Watch {
-    /// A step begins.
+    /// Is called before a step.
     fn begin(&mut self);
 
-    /// A step of this kind has ended.
+    /// Is called after a step of this kind.
     fn end(&mut self, kind: Kind);
 }
 
@@ -121,7 +122,7 @@ impl<'a, R: Clock> Watch for Stopwatch<'a, R> {
     fn end(&mut self, kind: Kind) {
         let time = now(self.clock).saturating_sub(self.start);
         let nanoseconds = u64::try_from(time.as_nanos()).unwrap_or(u64::MAX);
-        // The system gave the processor to others: that says nothing of the step.
+        // The system gave the processor to others, which says nothing about the step.
         let kind = if nanoseconds < STOPPED_NANOSECONDS {
             kind
         } else {
@@ -132,12 +133,12 @@ impl<'a, R: Clock> Watch for Stopwatch<'a, R> {
     }
 }
 
-/// What the clock shows; zero where it can't be read.
+/// Returns what the clock shows, or zero if it can't be read.
 fn now(clock: &impl Clock) -> Duration {
     clock.monotonic().unwrap_or(Duration::ZERO)
 }
 
-/// Announces a command and goes on until it is decided; none where there is no room.
+/// Announces a command and goes on until it is decided. Returns `None` if there is no room.
 fn submit<W: Watch>(places: &Places, idle: Idle, watch: &mut W) -> Option<Idle>
     requires { IsSeatOf places.now idle.desk }
     ensures { IfSome result (λ next. IsSeatOf places.now next.desk) }
@@ -178,7 +179,7 @@ fn submit<W: Watch>(places: &Places, idle: Idle, watch: &mut W) -> Option<Idle>
     None
 }
 
-/// Announces so many commands, each once the one before is decided.
+/// Announces this many commands, each once the one before it is decided.
 fn submit_all<W: Watch>(places: &Places, mut idle: Idle, commands: u64, watch: &mut W)
     requires { IsSeatOf places.now idle.desk }
 {
@@ -192,7 +193,8 @@ fn submit_all<W: Watch>(places: &Places, mut idle: Idle, commands: u64, watch: &
     }
 }
 
-/// What one worker's steps were, and their nanoseconds, which are zero where they are only counted.
+/// Returns what one worker's steps were, and their nanoseconds, which are zero if the steps are
+/// only counted.
 fn work<R: Clock>(rt: &R, places: &Places, idle: Idle, commands: u64, timed: bool) -> (Each, Each)
     requires { IsSeatOf places.now idle.desk }
 {
@@ -219,14 +221,16 @@ fn work<R: Clock>(rt: &R, places: &Places, idle: Idle, commands: u64, timed: boo
 struct Run {
     /// How many places were decided in the end.
     decided: usize,
-    /// From before the first thread's start to after the last one's end.
+    /// From before the first thread's start until after the last one's end.
     nanoseconds: u128,
     steps: Each,
-    /// The time of all workers' steps of each kind, a reading of the clock in each; zero where the steps were only counted.
+    /// The time of all workers' steps of each kind, each with one reading of the clock; zero if the
+    /// steps were only counted.
     step_nanoseconds: Each,
 }
 
-/// So many workers, each in a thread of its own, announce all commands of a new log. With `timed` each step is timed.
+/// Has `workers` workers, each in its own thread, announce all commands of a new log. With `timed`
+/// each step is timed.
 fn run_threads<R: Threads + Clock + Sync>(
     rt: &R,
     alloc: Global,
@@ -261,7 +265,7 @@ fn run_threads<R: Threads + Clock + Sync>(
     Ok(run)
 }
 
-/// The seats of worker 0 and worker 1.
+/// Returns the seats of worker 0 and worker 1.
 fn both_seats(places: &Places, mut seats: Vec<Idle>) -> Option<(Idle, Idle)>
     requires { (worker : ℕ) (seat : _) → slice_get seats.items worker ≡ Some seat → IsSeatOf places.now seat.desk }
     ensures { IfSome result (λ pair. IsSeatOf places.now pair.0.desk × IsSeatOf places.now pair.1.desk) }
@@ -271,7 +275,7 @@ fn both_seats(places: &Places, mut seats: Vec<Idle>) -> Option<(Idle, Idle)>
     Some((first, second))
 }
 
-/// Reads so many places, while they are decided.
+/// Reads up to this many places, as long as they are decided.
 fn read_idle(places: &Places, mut idle: Idle, most: u64) -> Idle
     requires { IsSeatOf places.now idle.desk }
     ensures { IsSeatOf places.now result.desk }
@@ -284,7 +288,7 @@ fn read_idle(places: &Places, mut idle: Idle, most: u64) -> Idle
     idle
 }
 
-/// Reads so often; none where the worker's own command is found.
+/// Reads up to this many times. Returns `None` if the worker's own command is found.
 fn read_pending(places: &Places, mut pending: Pending, times: u64) -> Option<Pending>
     requires { IsSeatOf places.now pending.desk }
     ensures { IfSome result (λ next. IsSeatOf places.now next.desk) }
@@ -301,13 +305,15 @@ fn read_pending(places: &Places, mut pending: Pending, times: u64) -> Option<Pen
     Some(pending)
 }
 
-/// What the clock shows before and after each part of a worker's reads, and how many places it has learned in the end.
+/// What the clock shows before and after each part of a worker's reads, and how many places the
+/// worker has learned in the end.
 struct Reads {
     times: [Duration; 5],
     learned: usize,
 }
 
-/// A worker reads places that another has decided, half of them idle and half of them pending, and then an empty place again and again.
+/// Has a worker read places that another has decided, half of them while idle and half of them
+/// while pending, and then an empty place again and again.
 fn read_parts<R: Clock>(rt: &R, places: &Places, first: Idle, second: Idle) -> Option<Reads>
     requires { IsSeatOf places.now first.desk × IsSeatOf places.now second.desk }
 {
@@ -338,7 +344,8 @@ fn read_parts<R: Clock>(rt: &R, places: &Places, first: Idle, second: Idle) -> O
     })
 }
 
-/// The line of the process's status that begins so, in kB; 0 where the system tells none.
+/// Returns the line of the process's status that begins like this, in kB, or 0 if the system
+/// reports none.
 fn status_of<R: Files + AllocGlobal>(rt: &R, head: &str) -> io::Result<u64> {
     let status = fs::read_to_string(rt, "/proc/self/status")?;
     let line = status.lines().find(|line| line.starts_with(head));
@@ -346,7 +353,7 @@ fn status_of<R: Files + AllocGlobal>(rt: &R, head: &str) -> io::Result<u64> {
     Ok(number.and_then(|number| number.parse().ok()).unwrap_or(0))
 }
 
-/// Opens the greatest log and lets it go.
+/// Opens the greatest log and drops it.
 fn report_open(rt: &(impl AllocGlobal + Clock + Files + Print), timed: bool) -> io::Result<()> {
     let before = if timed { status_of(rt, "VmRSS:")? } else { 0 };
     let start = Instant::now(rt)?;
@@ -365,7 +372,7 @@ fn report_open(rt: &(impl AllocGlobal + Clock + Files + Print), timed: bool) -> 
     Ok(())
 }
 
-/// Times reads by one worker of what another has decided.
+/// Times one worker's reads of what another has decided.
 fn report_reads(rt: &(impl AllocGlobal + Clock + Print), timed: bool) -> io::Result<()> {
     let (places, seats) = open(rt.alloc(), 2, PLACES).map_err(|_| AllocError)?;
     let (first, second) = both_seats(&places, seats).ok_or(AllocError)?;
@@ -380,7 +387,7 @@ fn report_reads(rt: &(impl AllocGlobal + Clock + Print), timed: bool) -> io::Res
     Ok(())
 }
 
-/// Prints what there is of each kind.
+/// Prints the numbers of each kind.
 fn print_each(rt: &impl Print, what: &str, each: &Each) -> io::Result<()> {
     let Each {
         announce,
@@ -395,7 +402,8 @@ fn print_each(rt: &impl Print, what: &str, each: &Each) -> io::Result<()> {
     println!(rt; "{propose} propose, {nothing} nothing, {stopped} stopped")
 }
 
-/// So many workers announce all commands of a log, first with their steps counted, then with each step timed.
+/// Has this many workers announce all commands of a log, first with their steps counted, then with
+/// each step timed.
 fn report_threads<R: AllocGlobal + Clock + Print + Threads + Sync>(
     rt: &R,
     workers: u8,

@@ -1,5 +1,6 @@
-//! The reader alone: fed byte by byte streams of one request each, and in pieces streams of many requests, beside a scan of the
-//! same bytes for line feeds. Prints the bytes of each stream and how many requests (of a scan, line feeds) came, and timed the
+//! The reader alone: fed byte by byte with streams of one request each, and in pieces with streams
+//! of many requests, compared with a scan of the same bytes for line feeds. Prints the bytes of
+//! each stream and how many requests (for a scan, line feeds) were counted, and if timed the
 //! nanoseconds of the fastest of some passes.
 ghost use Rattle.std.specs.Prelude.{◌<◌};
 
@@ -11,13 +12,13 @@ use std::io;
 use std::rt::Clock;
 use std::time::{Duration, Instant};
 
-/// How often a stream is read for its time.
+/// How many passes over a stream are timed.
 const PASSES: usize = 7;
 
 /// How many bytes a piece of a long stream has.
 const PIECE_BYTES: usize = 16_384;
 
-/// How many bytes a stream of many requests has, about.
+/// About how many bytes a stream of many requests has.
 const STREAM_BYTES: usize = 4_194_304;
 
 /// What is done with a stream.
@@ -31,7 +32,7 @@ enum Task {
     Scan,
 }
 
-/// How many requests come of the stream, fed in pieces of this size.
+/// Returns how many requests the stream gives, fed in pieces of this size.
 fn count_requests(alloc: Global, stream: &[u8], size: usize) -> Result<u64, Fault>
     requires { 0 < size }
 {
@@ -49,7 +50,7 @@ fn count_requests(alloc: Global, stream: &[u8], size: usize) -> Result<u64, Faul
     Ok(count)
 }
 
-/// What the task counts in the stream; memory is all that can fail.
+/// Returns what the task counts in the stream. Fails only if memory runs out.
 fn run(alloc: Global, task: Task, stream: &[u8]) -> io::Result<u64> {
     let counted = match task {
         Task::ReadBytes => count_requests(alloc, stream, 1),
@@ -59,7 +60,8 @@ fn run(alloc: Global, task: Task, stream: &[u8]) -> io::Result<u64> {
     Ok(counted.map_err(|_| AllocError)?)
 }
 
-/// The time of the fastest pass. Each pass has to count as much as the first, so that the compiler can leave none out.
+/// Returns the time of the fastest pass. A pass is taken only if it counts as much as the first, so
+/// that the compiler can leave none out.
 fn fastest_pass(
     rt: &(impl AllocGlobal + Clock),
     task: Task,
@@ -78,7 +80,7 @@ fn fastest_pass(
     Ok(fastest)
 }
 
-/// Does the task and prints a line on it.
+/// Does the task and prints a line about it.
 fn report(
     rt: &(impl AllocGlobal + Clock + Print),
     name: &str,

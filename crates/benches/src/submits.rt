@@ -1,5 +1,6 @@
-//! Submits: workers of a shared log, each in a thread of its own, submit gets and sets; or the same commands are applied to plain tables, or
-//! are made alone. Prints what was answered, and timed also what depends on the machine: nanoseconds, and the steps.
+//! Submits: workers of a shared log, each in its own thread, submit gets and sets; or the same
+//! commands are applied to plain tables, or are only made. Prints what was answered, and if timed
+//! also what depends on the machine: nanoseconds, and the steps.
 ghost use Rattle.std.specs.Prelude.{◌≡◌, ℕ, Some, slice_get};
 ghost use Rattle.uc_log.specs.Passes.{IsNew};
 
@@ -16,10 +17,11 @@ use std::{io, mem};
 use uc_log::{Log, Pass};
 use uc_worker::{Gate, Open, Step, Worker};
 
-/// Into how many parts a worker's commands are cut, each timed by itself.
+/// Into how many parts a worker's commands are divided, each timed by itself.
 const PARTS: usize = 10;
 
-/// What is done with the commands: they are made alone, applied to plain tables, or submitted to a log.
+/// What is done with the commands: they are only made, applied to plain tables, or submitted to a
+/// log.
 #[derive(Clone, Copy)]
 enum Task {
     Make,
@@ -32,23 +34,23 @@ enum Task {
 struct Load {
     task: Task,
     timed: bool,
-    /// How many workers submit, each in a thread of its own.
+    /// How many workers submit, each in its own thread.
     workers: u64,
     /// How many workers of the log do nothing.
     idle: u64,
     tenants: u64,
-    /// How many keys all tenants have together. Each is set before the commands that are measured.
+    /// How many keys all tenants have in total. Each is set before the commands that are measured.
     keys: u64,
     /// How many places the log has.
     places: u64,
-    /// How many commands all workers have together.
+    /// How many commands all workers submit in total.
     commands: u64,
     /// How many of a hundred commands are sets. The others are gets.
     sets: u64,
 }
 
 impl Load {
-    /// Without a word: two workers submit.
+    /// Returns what is measured without a word: two workers submit.
     fn new() -> Load {
         Load {
             task: Task::Submit,
@@ -63,7 +65,7 @@ impl Load {
         }
     }
 
-    /// Does what a word of the command line says; none where it says nothing.
+    /// Does what a word of the command line says. Returns `None` if it says nothing.
     fn hear(&mut self, word: &str) -> Option<()> {
         let Some((name, number)) = word.split_once('=') else {
             match word {
@@ -100,7 +102,8 @@ impl Load {
         Settings::check(workers, self.places, quotas)
     }
 
-    /// A set of the key of this number, or a get of it. The keys are dealt out to the tenants.
+    /// Returns a set of the key of this number, or a get of it. The keys are dealt out to the
+    /// tenants.
     fn ask(&self, alloc: Global, number: u64, is_set: bool) -> Result<Ask, Fault> {
         let tenant = u8::try_from(number % self.tenants.max(1)).map_err(|_| Fault::BadSettings)?;
         let tenant = TenantId::new(tenant).ok_or(Fault::BadSettings)?;
@@ -113,7 +116,7 @@ impl Load {
         Ok(Ask { tenant, command })
     }
 
-    /// The commands of one worker, in parts.
+    /// Returns the commands of one worker, in parts.
     fn parts(&self, alloc: Global, worker: u64) -> Result<Vec<Vec<Ask>>, Fault> {
         let each = self.commands / self.workers.max(1) / PARTS as u64;
         let mut number = worker << 32;
@@ -132,21 +135,22 @@ impl Load {
     }
 }
 
-/// A number in no order for each number, the same in each run: two rounds of shifts and products, as in SplitMix64.
+/// Returns a number without any order for each number, the same in each run: two rounds of shifts
+/// and products, as in SplitMix64.
 fn scrambled(number: u64) -> u64 {
     let mixed = number.wrapping_mul(0x9E37_79B9_7F4A_7C15);
     let mixed = (mixed ^ (mixed >> 30)).wrapping_mul(0xBF58_476D_1CE4_E5B9);
     mixed ^ (mixed >> 27)
 }
 
-/// A command, and for which tenant.
+/// A command, and the tenant that it is for.
 #[derive(Drop)]
 struct Ask {
     tenant: TenantId,
     command: Command,
 }
 
-/// The command that a client writes so.
+/// Returns the command that a client writes as this text.
 fn command_of(alloc: Global, text: &str) -> Result<Command, Fault> {
     let mut reader = Reader::new(alloc);
     reader.feed(text.as_bytes())?;
@@ -180,7 +184,7 @@ struct Work {
     times: [u64; PARTS + 1],
 }
 
-/// What the clock shows, in nanoseconds; zero where it can't be read.
+/// Returns what the clock shows, in nanoseconds, or zero if it can't be read.
 fn now(clock: &impl Clock) -> u64 {
     let time = clock.monotonic().unwrap_or(Duration::ZERO);
     u64::try_from(time.as_nanos()).unwrap_or(u64::MAX)
@@ -188,11 +192,11 @@ fn now(clock: &impl Clock) -> u64 {
 
 /// What answers commands.
 trait Server {
-    /// The reply to a command, and how many proposals were made for it.
+    /// Returns the reply to a command, and how many proposals were made for it.
     fn serve(&mut self, ask: Ask, steps: &mut Steps) -> Result<(Reply, u64), Fault>;
 }
 
-/// Nothing is done with a command.
+/// Does nothing with a command.
 impl Server for () {
     fn serve(&mut self, ask: Ask, _steps: &mut Steps) -> Result<(Reply, u64), Fault> {
         mem::forget(ask);
@@ -200,7 +204,7 @@ impl Server for () {
     }
 }
 
-/// Tables without a log. The memory of a command is left, as a log keeps it.
+/// Tables without a log. The memory of a command is leaked, as a log keeps it.
 impl Server for Vec<Items> {
     fn serve(&mut self, ask: Ask, _steps: &mut Steps) -> Result<(Reply, u64), Fault> {
         let place = usize::from(ask.tenant.number());
@@ -266,7 +270,8 @@ fn serve_all<R: Clock, S: Server>(
 /// A client with its commands.
 type Job<'a> = (Client<'a>, Vec<Vec<Ask>>);
 
-/// The jobs of the last of these passes. The first client has set each key, and all have caught up.
+/// Returns the jobs of the last of these passes. The first client has set each key, and all have
+/// caught up.
 fn jobs_of<'a>(
     alloc: Global,
     log: &'a Log,
@@ -291,7 +296,8 @@ fn jobs_of<'a>(
     Ok(jobs)
 }
 
-/// The workers of a new log submit the commands. What they leave is the operating system's, so that its end costs nothing.
+/// Has the workers of a new log submit the commands. What they leave is leaked, so that freeing it
+/// costs nothing.
 fn submit<R: Clock + Threads + Sync>(
     rt: &R,
     alloc: Global,
@@ -310,7 +316,7 @@ fn submit<R: Clock + Threads + Sync>(
     works.into_iter().collect(alloc)?
 }
 
-/// The first worker's commands are given to a server without a log.
+/// Gives the first worker's commands to a server without a log.
 fn serve_alone<R: Clock, S: Server + Drop>(
     rt: &R,
     alloc: Global,
@@ -324,7 +330,7 @@ fn serve_alone<R: Clock, S: Server + Drop>(
     Ok(vec![in alloc; work]?)
 }
 
-/// Does what the load says.
+/// Does what the load says, and returns each worker's work.
 fn perform<R: Clock + Threads + Sync>(
     rt: &R,
     alloc: Global,
@@ -340,7 +346,8 @@ fn perform<R: Clock + Threads + Sync>(
     }
 }
 
-/// Does what these words of the command line ask for, and prints a line for each worker; timed two.
+/// Does what these words of the command line ask for, and prints a line for each worker; two if
+/// timed.
 pub(crate) fn run<R: AllocGlobal + Clock + Print + Threads + Sync>(
     rt: &R,
     words: &[String],

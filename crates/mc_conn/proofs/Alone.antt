@@ -12,7 +12,7 @@ use Rattle.uc_worker.specs.Worker.{seat_of}
 use Rattle.mc_conn.specs.Onward.{own_sighting}
 use Rattle.mc_conn.specs.Owed.{IsPlaced, IsTurnedAway, Mark}
 
--- where all tickets are one worker's, a front has as many of them as it has places
+-- if all tickets are one worker's, a prefix has as many of them as it has places
 module _ (tickets : List Ticket) (worker : ℕ) (own : (place : ℕ) (ticket : Ticket) → slice_get tickets place ≡ Some ticket → ticket.worker ≡ worker) where
   count_all : (place : ℕ) → place ≤ length tickets → count worker (take place tickets) ≡ place
   count_all zero few = none_before tickets

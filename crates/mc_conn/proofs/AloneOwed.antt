@@ -28,12 +28,12 @@ use Rattle.mc_conn.proofs.Alone.{placed_in_order, turned_away_last}
 not_less : (n m : ℕ) → m ≤ n → nat_lt n m ≡ false
 not_less n m few = grind (arith, nat_tests, few)
 
--- what is so of a reply and of the commands applied with a command, where a place is left for it
+-- the reply to a command and the commands applied with it, if a place is left for it
 with_room : (limits : Limits) (base : List Command) (places : ℕ) (applied : List Command) (command : Command) → length applied < places →
     (logged_reply limits base places applied command ≡ answer limits (base ++ applied) command) × (applied_with places applied command ≡ applied ++ command ∷ [])
 with_room limits base places applied command room = let is = lt-ltb _ _ room in (rw is refl, rw is refl)
 
--- and where none is
+-- and if none is
 without_room : (limits : Limits) (base : List Command) (places : ℕ) (applied : List Command) (command : Command) → places ≤ length applied →
     (logged_reply limits base places applied command ≡ Refused E10) × (applied_with places applied command ≡ applied)
 without_room limits base places applied command full = let is = not_less (length applied) places full in (rw is refl, rw is refl)

@@ -1,4 +1,4 @@
--- A fault behind parts that went well, and where it comes from.
+-- A fault after parts that went well, and where it comes from.
 use Rattle.std.proofs.Common.{◌≡◌, ℕ, ◌+◌, List, [], ◌∷◌, ◌++◌, length, take, drop, slice_get, Some, sym, refl, ap, ◌∙◌, subst, inl, inr, ⊎_elim, arith, append_assoc, append-nil, length-append}
 use Rattle.std.proofs.lemmas.List.{take-append-drop}
 use Rattle.std.specs.Io.KnownBytes.{Consumes}
@@ -31,7 +31,7 @@ counts_later CellTaken first second third one two = (two.0 ∙ one.0, two.1 ∙ 
 counts_later InputFailed first second third one two = (two.0 ∙ ap (λ n. n + 1) one.0, two.1 ∙ one.1)
 counts_later OutputFailed first second third one two = (two.0 ∙ one.0, two.1 ∙ ap (λ n. n + 1) one.1)
 
--- a fault behind a part that went well
+-- a fault after a part that went well
 unfoldable pub breaks_later : (fault : Fault) (a b c : Scene) → Takes a b → Breaks b c fault → Breaks a c fault
 unfolding taken_trans
 breaks_later fault a b c one two = record {

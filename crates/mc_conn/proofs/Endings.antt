@@ -61,12 +61,12 @@ and_left : (over empty : Bool) → empty ≡ true → (over && empty) ≡ false 
 and_left true empty is none = let no : true ≡ false = sym is ∙ none in cc
 and_left false empty is none = refl
 
--- where all is sent before a pull, no request has ended the stream
+-- if all is sent before a pull, no request has ended the stream
 pub still_on : (queue : List ℕ) (over empty : Bool) (Full : Type 0) → empty ≡ (length queue == 0) → (over && empty) ≡ false → (queue ≡ []) ⊎ Full → (queue ≡ []) × (over ≡ false) ⊎ Full
 still_on queue over empty Full is going left =
     ⊎_elim (λ (none : queue ≡ []). inl (none, and_left over empty (is ∙ ap (λ bytes. length bytes == 0) none) going)) inr left
 
--- a pull behind a push
+-- a pull after a push
 pulls_late : (a between z : Scene) → Takes a between → HoldsNone (holding_of between.conn) →
     (queue_of between.conn ≡ []) × (between.conn.is_over ≡ false) ⊎ (waits between.streams.output.events ≡ waits a.streams.output.events + 1) →
     (event : Event) → z.streams.input.events ≡ event ∷ between.streams.input.events → length (last_moved z.streams.input.events) ≤ PULL_BYTES →
@@ -95,7 +95,7 @@ pulls_once a between z first before none left event pull short same = record {
   late = pulls_late a between z first none left event pull short same;
 }
 
--- more is sent behind the last pull
+-- more is sent after the last pull
 late_more : (a n z : Scene) → PullsLate a n → z.streams.input ≡ n.streams.input → (more : List ℕ) → Pushes n.streams.output z.streams.output more →
     waits n.streams.output.events ≤ waits z.streams.output.events → PullsLate a z
 late_more a n z late same more went waited =
@@ -117,7 +117,7 @@ late_more a n z late same more went waited =
     ))
     late
 
--- a last pull behind what was done before
+-- a last pull after what was done before
 late_behind : (a m n between : Scene) → Takes a m → PullsAfter m between n → PullsLate a n
 late_behind a m n between one pulled = inr (
   between,
@@ -150,7 +150,7 @@ pulls_within a m n z one before pulls after more went waited = record {
   late = late_within a m n z one before pulls.late after more went waited;
 }
 
--- turns behind turns
+-- turns after turns
 pub late_later : (a b c : Scene) → Takes a b → PullsLate a b → PullsLate b c → (more : List ℕ) → Pushes b.streams.output c.streams.output more →
     waits b.streams.output.events ≤ waits c.streams.output.events → PullsLate a c
 late_later a b c one first second more went waited =
@@ -159,7 +159,7 @@ late_later a b c one first second more went waited =
     (λ (pulled : (between : Scene) × PullsAfter b between c). late_behind a b c pulled.0 one pulled.1)
     second
 
--- what is told at a fault is sent behind the last pull
+-- what the client is told at a fault is sent after the last pull
 untold_pushes : (before after : Outflow) → after ≡ before → (more : List ℕ) × Pushes before after more × (waits before.events ≤ waits after.events)
 untold_pushes before after same = (
   [],
@@ -286,14 +286,14 @@ module _ (a m n z : Scene) (before pulled last : Bool) (one : Does a m before) (
   pub turns : (state : State) → StateIs z.conn ((before || pulled) || last) state → Turns a z state
   turns state is = record { takes = all.takes; state_is = state_of state is; held = held_behind }
 
--- what closing tells of a fault is what is told of its cause
+-- what closing reports of a fault is what is reported of its cause
 told_of : (cause : ConnFault) (fault : Fault) (queue : List ℕ) (before after : Outflow) → fault ≡ fault_of cause → TellsOf fault queue before after → IsTold cause queue before after
 told_of OutOfMemory fault queue before after is tells = tells.0 is
 told_of CellTaken fault queue before after is tells = tells.1 (λ memory. let no : Taken ≡ Memory = sym is ∙ memory in cc)
 told_of InputFailed fault queue before after is tells = tells.1 (λ memory. let no : Input ≡ Memory = sym is ∙ memory in cc)
 told_of OutputFailed fault queue before after is tells = tells.1 (λ memory. let no : Output ≡ Memory = sym is ∙ memory in cc)
 
--- a fault that was told, behind which the connection is closed
+-- a fault that was reported to the client, after which the connection is closed
 module _ (before : Scene) (old new : Conn) (worker : Worker) (input : Inflow) (between after : Outflow) (fault : Fault) (same : (new.role ≡ old.role) × (queue_of new ≡ queue_of old))
     (breaks : Breaks before (scene old worker (both input between)) fault) (tells : TellsOf fault (queue_of old) between after) where
   closed : Breaks before (scene new worker (both input between)) fault
@@ -336,7 +336,7 @@ module _ (before : Scene) (old new : Conn) (worker : Worker) (input : Inflow) (b
     late = late_told breaks.cause before old new worker input between after (queue_of old) pulls.late (told_of breaks.cause fault (queue_of old) between after breaks.is tells);
   }
 
--- a fault behind turns that went well
+-- a fault after turns that went well
 pub stops_later : (fault : Fault) (a b c : Scene) → Takes a b → Stops b c fault → Stops a c fault
 unfolding breaks_later
 stops_later fault a b c one two = record {

@@ -1,4 +1,4 @@
--- Lists that grow, and what was sent beside what is queued.
+-- Lists that grow, and what was sent followed by what is queued.
 use Rattle.std.proofs.Common.{◌≡◌, ℕ, zero, suc, List, [], ◌∷◌, ◌++◌, take, slice_get, Some, sym, refl, ap, ◌∙◌, append_assoc}
 use Rattle.std.proofs.lemmas.Option.{none-some}
 

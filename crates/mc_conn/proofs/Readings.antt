@@ -119,7 +119,7 @@ module _ (lines : Lines) where
   looked_from before after (Some request) answer = read_next lines before after request answer
   looked_from before after None answer = read_alike lines before after answer.1
 
-  -- the reader is asked where no request waits
+  -- the reader is asked when no request is waiting
   pub read_looked : (waiting found : Option Request) (before after : Held) → is_some waiting ≡ false → IsAnswer lines before found after → IsRead (record { lines = lines; waiting = waiting; held = before }) [] [] (record { lines = lines; waiting = found; held = after })
   read_looked None found before after none answer = looked_from before after found answer
   read_looked (Some request) found before after none answer = let e : true ≡ false = none in cc

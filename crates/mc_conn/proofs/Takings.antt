@@ -78,7 +78,7 @@ over_trans first second third one two begun ended =
 unfailed_trans : (first second third : Streams) → NeitherFails first second → NeitherFails second third → NeitherFails first third
 unfailed_trans first second third one two = (two.0 ∙ one.0, two.1 ∙ one.1)
 
--- what was taken where no request was
+-- what was taken if no request was
 unfoldable pub taken_none : (old new : Conn) (worker : Worker) (before after : Streams) (came sent : List ℕ) → moved after.input.events ≡ moved before.input.events ++ came →
     Consumes before.input.left after.input.left came → Pushes before.output after.output sent → new.role ≡ old.role → sent ++ queue_of new ≡ queue_of old →
     waits before.output.events ≤ waits after.output.events → Taken (scene old worker before) (scene new worker after) (mark_of worker)
@@ -97,7 +97,7 @@ taken_none old new worker before after came sent pulled consumed pushed role byt
   waited = waited;
 }
 
--- and where nothing came or was sent
+-- and if nothing came or was sent
 unfoldable pub taken_still : (old new : Conn) (worker : Worker) (streams : Streams) → new.role ≡ old.role → queue_of new ≡ queue_of old →
     Taken (scene old worker streams) (scene new worker streams) (mark_of worker)
 taken_still old new worker streams role queue =

@@ -1,6 +1,7 @@
--- The bytes that a client is owed where one worker serves it on a log of its own: a function of its requests, in which nothing is left to
--- the run. After memcached's doc/protocol.txt, "Commands" and "Storage commands": each request is answered, but for those that say
--- noreply. How many commands a log takes is this project's profile.
+-- The bytes that a client is owed if one worker serves it on a log of its own: a function of its
+-- requests, in which nothing depends on the run. After memcached's doc/protocol.txt, "Commands" and
+-- "Storage commands": each request is answered, but for those that say noreply. How many commands a
+-- log takes is this project's profile.
 use Rattle.std.specs.Prelude.{◌≡◌, ℕ, nat_lt, if◌then◌else◌, List, [], ◌∷◌, ◌++◌, length}
 use Rattle.mc_model.specs.declared.command.Command.{Command}
 use Rattle.mc_model.specs.declared.reply.Reply.{Reply}
@@ -15,17 +16,17 @@ use Rattle.uc_worker.specs.declared.worker.Worker.{Worker}
 use Rattle.uc_worker.specs.Worker.{openings_of, seat_of}
 use Rattle.mc_conn.specs.Owed.{Mark, answered}
 
--- The reply to a command under these quotas, in a log with so many places that was opened over the table after the commands of the base,
--- where these others were applied in it before.
+-- The reply to a command under these quotas, in a log with this many places that was opened over
+-- the table after the commands of the base, once these others were applied in it.
 abbrev pub logged_reply : Limits → List Command → ℕ → List Command → Command → Reply
 logged_reply limits base places applied command =
     if nat_lt (length applied) places then answer limits (base ++ applied) command else Refused E10
 
--- the commands that were applied with this one
+-- the commands that are applied once this one has come: it is among them if a place was left
 abbrev pub applied_with : ℕ → List Command → Command → List Command
 applied_with places applied command = if nat_lt (length applied) places then applied ++ command ∷ [] else applied
 
--- what is owed for requests then
+-- what is owed for requests from then on
 abbrev pub owed_after : Limits → List Command → ℕ → List Command → List Request → List ℕ
 owed_after limits base places applied [] = []
 owed_after limits base places applied (Logged command quiet ∷ requests) =
@@ -38,7 +39,8 @@ owed_after limits base places applied (TooLong ∷ requests) = text (Refused E5)
 abbrev pub owed : Limits → ℕ → List Request → List ℕ
 owed limits places requests = owed_after limits [] places [] requests
 
--- the one worker of a log with so many places, which was opened over its one tenant's table after the commands of the base, under these quotas
+-- the one worker of a log with this many places, which was opened over its one tenant's table after
+-- the commands of the base, under these quotas
 pub record IsAloneOver (limits : Limits) (base : List Command) (places : ℕ) (worker : Worker) : Type 0 where
   pub workers : (seat_of worker).size.workers ≡ 1
   pub long : (seat_of worker).size.places ≡ places

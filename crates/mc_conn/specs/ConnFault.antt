@@ -17,14 +17,14 @@ pub data ConnFault : Type 0 where
   InputFailed : ConnFault
   OutputFailed : ConnFault
 
--- the fault that a call answers then
+-- the fault that a call returns for it
 abbrev pub fault_of : ConnFault → Fault
 fault_of OutOfMemory = Memory
 fault_of CellTaken = Taken
 fault_of InputFailed = Input
 fault_of OutputFailed = Output
 
--- the input fails once, or the output, as the fault says; else neither
+-- the input or the output fails once if that is the fault, and otherwise neither does
 abbrev pub CountsFailures : ConnFault → Streams → Streams → Type 0
 CountsFailures OutOfMemory before after = NeitherFails before after
 CountsFailures CellTaken before after = NeitherFails before after
@@ -38,7 +38,7 @@ abbrev pub TellsStarved : List ℕ → Outflow → Outflow → Type 0
 TellsStarved queue before after =
     PushesAtOnce (queue ++ text (Refused E11)) before after × (waits before.events ≤ waits after.events)
 
--- what is told of a fault: that memory ran out, and nothing of any other
+-- what the client is told of a fault: that memory ran out, and nothing of any other
 abbrev pub IsTold : ConnFault → List ℕ → Outflow → Outflow → Type 0
 IsTold OutOfMemory queue before after = TellsStarved queue before after
 IsTold CellTaken queue before after = after ≡ before

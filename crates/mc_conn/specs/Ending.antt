@@ -1,4 +1,4 @@
--- How a turn ends: the state that it answers, and what a fault leaves; this project's profile.
+-- How a turn ends: the state that it returns, and what a fault leaves; this project's profile.
 use Rattle.std.specs.Prelude.{◌≡◌, ◌≢◌, ◌⊎◌, ℕ, ◌+◌, ◌<◌, ◌≤◌, true, false, List, [], ◌∷◌, ◌++◌, length, None, Some, slice_get}
 use Rattle.mc_model.specs.declared.fault.Fault.{Fault}
 use Rattle.mc_model.specs.declared.request.Request.{Request}
@@ -18,30 +18,34 @@ use Rattle.mc_conn.specs.Onward.{own_sighting}
 use Rattle.mc_conn.specs.Owed.{Demand, Logs, Mark, Says, demand_of}
 use Rattle.mc_conn.specs.Turn.{Scene, Taken, Takes, amount, holding_of, queue_of, scene}
 
--- the input has ended or a request has ended the stream, no whole request is held, and nothing is queued
+-- the input has ended or a request has ended the stream, no whole request is held, and nothing is
+-- queued
 abbrev pub IsDone : Conn → Type 0
 IsDone conn = ((conn.has_ended ≡ true) ⊎ (conn.is_over ≡ true)) × HoldsNone (holding_of conn) × (queue_of conn ≡ [])
 
--- why nothing can be done now: the input had nothing; or the output took no more, and the input has ended or too much is queued
+-- why nothing can be done now: the input had nothing; or the output took no more, and the input has
+-- ended or too much is queued
 abbrev pub IsStuck : Scene → Scene → Type 0
 IsStuck before after =
     (waits after.streams.input.events ≡ waits before.streams.input.events + 1)
     ⊎ (waits before.streams.output.events < waits after.streams.output.events)
     × ((after.conn.has_ended ≡ true) ⊎ (QUEUE_BYTES < length (queue_of after.conn)))
 
--- what the state that a turn answers says
+-- what the state that a turn returns means
 abbrev pub IsState : {before after : Scene} → Takes before after → State → Type 0
 IsState {before} {after} takes Closed = IsDone after.conn
 IsState {before} {after} takes Idle = ¬ (IsDone after.conn) × (amount takes ≡ 0) × IsStuck before after
 IsState {before} {after} takes Busy = ¬ (IsDone after.conn) × (0 < amount takes)
 
--- a whole request is still held only where more was sent and queued than may be queued when a request is taken
+-- a whole request is still held only if more was sent and queued than may be queued when a request
+-- is taken
 abbrev pub HoldsOnlyBehind : {before after : Scene} → Takes before after → Type 0
 HoldsOnlyBehind {before} {after} takes =
     HoldsNone (holding_of after.conn) ⊎ (after.conn.waiting ≢ None) × (QUEUE_BYTES < length takes.taken.sent + length (queue_of after.conn))
 
--- What was done before the last pull, and that pull: all requests that had come whole were taken, all that is owed for them was sent, and
--- none of them had ended the stream; or else the output took no more. What was sent later on.
+-- What was done before the last pull, that pull, and what was sent after it. Before it all requests
+-- that had come whole were taken; and all that is owed for them was sent and none of them had ended
+-- the stream, or else the output took no more.
 pub record PullsAfter (before between after : Scene) : Type 0 where
   pub first : Takes before between
   pub taken : HoldsNone (holding_of between.conn)
@@ -53,7 +57,8 @@ pub record PullsAfter (before between after : Scene) : Type 0 where
   pub pushed : Pushes between.streams.output after.streams.output later
   pub waited : waits between.streams.output.events ≤ waits after.streams.output.events
 
--- nothing was pulled, or at the last pull all replies so far had been sent, if the output took them
+-- nothing was pulled, or all replies so far had been sent before the last pull, if the output took
+-- them
 abbrev pub PullsLate : Scene → Scene → Type 0
 PullsLate before after = (after.streams.input ≡ before.streams.input) ⊎ (between : Scene) × PullsAfter before between after
 
@@ -61,7 +66,7 @@ PullsLate before after = (after.streams.input ≡ before.streams.input) ⊎ (bet
 abbrev pub PullsOnce : Inflow → Inflow → Type 0
 PullsOnce before after = (after ≡ before) ⊎ (event : Event) × (after.events ≡ event ∷ before.events) × (length (last_moved after.events) ≤ PULL_BYTES)
 
--- a call pulls once at most, and what it pulled before the last pull was answered first
+-- a call pulls at most once, and what had come before that pull was answered first
 pub record Pulls (before after : Scene) : Type 0 where
   pub once : PullsOnce before.streams.input after.streams.input
   pub late : PullsLate before after
@@ -72,19 +77,20 @@ pub record Turns (before after : Scene) (state : State) : Type 0 where
   pub state_is : IsState takes state
   pub held : HoldsOnlyBehind takes
 
--- the command that was to be logged, if one was, was announced behind the mark, or wasn't; no other was
+-- the command to be logged, if there is one, was announced after the mark or wasn't; no other was
 abbrev pub MayStandBehind : Worker → Mark → Demand → Type 0
 MayStandBehind worker mark (Logs tenant command quiet) =
     (length (announced_of worker) ≡ mark.number)
     ⊎ (length (announced_of worker) ≡ mark.number + 1) × (slice_get (announced_of worker) mark.number ≡ Some (own_sighting worker mark.number tenant command))
 MayStandBehind worker mark (Says said) = length (announced_of worker) ≡ mark.number
 
--- one request met the fault, whose command may be announced behind the mark; or none did
+-- one request met the fault, and its command may be announced after the mark; or none did
 abbrev pub Meets : Worker → Role → Mark → List Request → Type 0
 Meets worker role mark [] = length (announced_of worker) ≡ mark.number
 Meets worker role mark (request ∷ others) = (others ≡ []) × MayStandBehind worker mark (demand_of role request)
 
--- A fault: what was taken goes up to a mark, and was read first; one more request may have met it.
+-- A fault: what was taken goes up to a mark, and is the beginning of what was read; one more
+-- request may have met the fault.
 pub record Breaks (before after : Scene) (fault : Fault) : Type 0 where
   pub cause : ConnFault
   pub is : fault ≡ fault_of cause
@@ -96,14 +102,16 @@ pub record Breaks (before after : Scene) (fault : Fault) : Type 0 where
   pub meets : Meets after.worker before.conn.role to met
   pub failures : CountsFailures cause before.streams after.streams
 
--- what a fault leaves: up to it the connection was served, then it is told, and closed for good
+-- what a fault leaves: the connection was served up to it, then the client is told of it, and the
+-- connection is closed for good
 pub record Stops (before after : Scene) (fault : Fault) : Type 0 where
   pub told_from : Outflow
   pub breaks : Breaks before (scene after.conn after.worker (both after.streams.input told_from)) fault
   pub told : IsTold breaks.cause (queue_of after.conn) told_from after.streams.output
   pub shut : after.conn.is_closed ≡ true
 
--- turns up to the end: all that came and was held is taken, and all that was queued and is owed is sent
+-- turns up to the end: all that came and was held is taken, and all that was queued and is owed is
+-- sent
 pub record Serves (before after : Scene) : Type 0 where
   pub takes : Takes before after
   pub done : IsDone after.conn

@@ -1,5 +1,6 @@
--- What a connection reads as: the request that waits in it, if one does, and then what its reader holds. After memcached's
--- doc/protocol.txt, "Protocol": a connection is a stream of request texts, one after another.
+-- What a connection reads as: the request that waits in it, if there is one, and then what its
+-- reader holds. After memcached's doc/protocol.txt, "Protocol": a connection is a stream of request
+-- texts, one after another.
 use Rattle.std.specs.Prelude.{◌≡◌, ◌↔◌, ℕ, List, [], ◌++◌, Option, Some, None}
 use Rattle.mc_model.specs.declared.request.Request.{Request}
 use Rattle.mc_read.specs.Line.{asked}
@@ -12,7 +13,8 @@ use Rattle.mc_conn.specs.declared.conn.Role.TheVariants.{Tenant}
 abbrev pub lines_of : Role → Lines
 lines_of (Tenant tenant) = asked
 
--- what each line asks for, a request that was read and not taken yet, and what the reader holds behind it
+-- what each line asks for, a request that was read and not taken yet, and what the reader holds
+-- after it
 pub record Holding : Type 0 where
   pub lines : Lines
   pub waiting : Option Request
@@ -22,12 +24,12 @@ pub record Holding : Type 0 where
 abbrev pub nothing_held : Role → Holding
 nothing_held role = record { lines = lines_of role; waiting = None; held = Kept [] }
 
--- the requests are the one that waits, and others of which P holds
+-- the requests are the one that waits, if there is one, and then others of which P holds
 abbrev pub Waits : Option Request → (List Request → Type 0) → List Request → Type 0
 Waits None P = P
 Waits (Some request) P = GoesOn request P
 
--- the requests that what is held, followed by more bytes, reads as
+-- what is held, followed by more bytes, reads as these requests
 abbrev pub HoldsOn : Holding → List ℕ → List Request → Type 0
 HoldsOn holding more = Waits holding.waiting (ReadsOn holding.lines holding.held more)
 
@@ -35,7 +37,8 @@ HoldsOn holding more = Waits holding.waiting (ReadsOn holding.lines holding.held
 abbrev pub Follow : List Request → (List Request → Type 0) → List Request → Type 0
 Follow requests P all = (others : List Request) × (all ≡ requests ++ others) × P others
 
--- whatever follows, what was held before and the bytes that came read as the requests, and then as what is held after
+-- whatever follows, what was held before and the bytes that came read as the requests, and then as
+-- what is held after
 abbrev pub IsRead : Holding → List ℕ → List Request → Holding → Type 0
 IsRead before came requests after = (more : List ℕ) (all : List Request) → HoldsOn before (came ++ more) all ↔ Follow requests (HoldsOn after more) all
 

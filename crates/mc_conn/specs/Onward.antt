@@ -7,7 +7,7 @@ use Rattle.uc_cells.specs.Sighting.{Sighting}
 use Rattle.uc_worker.specs.declared.worker.Worker.{Worker}
 use Rattle.uc_worker.specs.Worker.{seat_of, sighting_of}
 
--- the entry of the worker's command of this number, where it is the tenant's and this command
+-- the entry of the worker's command of this number, if it is this command of this tenant
 abbrev pub own_entry : Worker → ℕ → ℕ → Command → Entry
 own_entry worker number tenant command = record { ticket = ticket_of (seat_of worker).worker number; tenant = tenant; command = command }
 

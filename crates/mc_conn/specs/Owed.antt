@@ -1,6 +1,8 @@
--- The bytes that a connection is owed for its requests, one after another, over the history of the worker that took them. After
--- memcached's doc/protocol.txt, "Commands" and "Storage commands": each request is answered, in order, but for those that say noreply.
--- That a command is answered at its place in a log which many share is Herlihy's construction (Wait-Free Synchronization, TOPLAS 1991).
+-- The bytes that a connection is owed for its requests, one after another, over the history of the
+-- worker that took them. After memcached's doc/protocol.txt, "Commands" and "Storage commands":
+-- each request is answered, in order, but for those that say noreply. That a command is answered at
+-- its place in a log which many share is Herlihy's construction (Wait-Free Synchronization, TOPLAS
+-- 1991).
 use denote.Struct.Props.{props}
 use Rattle.std.specs.Prelude.{◌≡◌, ◌⊎◌, ℕ, ◌+◌, ◌<◌, ◌≤◌, Bool, if◌then◌else◌, List, [], ◌∷◌, ◌++◌, length, take, Some, slice_get}
 use Rattle.mc_model.specs.declared.command.Command.{Command}
@@ -20,7 +22,7 @@ use Rattle.mc_conn.specs.declared.conn.Role.TheVariants.{Tenant}
 use Rattle.mc_conn.specs.Onward.{own_entry, own_sighting}
 use Rattle.uc_worker.specs.Worker.{IsFull}
 
--- the text of a reply, or nothing where the request is quiet
+-- the text of a reply, or nothing if the request is quiet
 abbrev pub answered : Bool → Reply → List ℕ
 answered quiet reply = if quiet then [] else text reply
 
@@ -32,8 +34,9 @@ pub record Mark : Type 0 where
 abbrev pub mark_of : Worker → Mark
 mark_of worker = record { number = length (announced_of worker); place = length (history_of worker) }
 
--- The tenant's command was announced under the next number, stands at a place of the history that isn't before the mark, and the reply
--- is the answer after that tenant's own commands before that place.
+-- The tenant's command was announced under the next number, stands at a place of the history that
+-- isn't before the mark, and the reply is the answer after that tenant's own commands before that
+-- place.
 pub record IsPlaced (worker : Worker) (tenant : ℕ) (from : Mark) (command : Command) (reply : Reply) (to : Mark) : Type 0 where
   pub place : ℕ
   pub not_before : from.place ≤ place
@@ -42,8 +45,9 @@ pub record IsPlaced (worker : Worker) (tenant : ℕ) (from : Mark) (command : Co
   pub reply_is : Some reply ≡ reply_to (openings_of worker) (entries (take place (history_of worker))) (Some (own_entry worker from.number tenant command))
   pub next : to ≡ record { number = from.number + 1; place = place + 1 }
 
--- All places are learned, and each command of this worker that stands there was announced before this one: so this one stands nowhere,
--- and nor does any later one. The reply says that the log is full, and the command wasn't announced, or was under the next number.
+-- All places are learned, and each command of this worker that stands there was announced before
+-- this one: so neither this one nor any later one stands in the log. The reply says that the log is
+-- full, and the command wasn't announced, or was announced under the next number.
 pub record IsTurnedAway (worker : Worker) (tenant : ℕ) (from : Mark) (command : Command) (reply : Reply) (to : Mark) : Type 0 where
   pub full : IsFull worker
   pub before : (place : ℕ) (ticket : Ticket) → slice_get (seat_of worker).state.learned place ≡ Some ticket → ticket.worker ≡ (seat_of worker).worker →
@@ -56,21 +60,21 @@ pub record IsTurnedAway (worker : Worker) (tenant : ℕ) (from : Mark) (command 
 abbrev pub IsAnswered : Worker → ℕ → Mark → Command → Reply → Mark → Type 0
 IsAnswered worker tenant from command reply to = IsPlaced worker tenant from command reply to ⊎ IsTurnedAway worker tenant from command reply to
 
--- What a request comes to: a command of a tenant is logged, and its reply is owed unless the request is
--- quiet; or a text is owed without the log.
+-- What a request comes to: a command of a tenant is logged, and its reply is owed unless the
+-- request is quiet; or a text is owed without the log.
 pub data Demand : Type 0 where
   Logs : ℕ → Command → Bool → Demand
   Says : List ℕ → Demand
 
--- a role is one for a log with so many tenants: a tenant's, where it is among them
+-- a role fits a log with this many tenants: a tenant's does if that tenant is among them
 abbrev pub IsAmong : Role → ℕ → Type 0
 IsAmong (Tenant tenant) count = tenant < count
 
--- in one way at most
+-- in at most one way
 pub IsAmong-prop : (role : Role) (count : ℕ) → IsProp (IsAmong role count)
 IsAmong-prop (Tenant tenant) count = hlevel props
 
--- and one for the worker's log
+-- a role fits the worker's log
 abbrev pub IsKnown : Role → Worker → Type 0
 IsKnown role worker = IsAmong role (length (tenants_of worker))
 
@@ -88,7 +92,8 @@ OwesFor worker from (Logs tenant command quiet) bytes Later =
     × IsAnswered worker tenant from command reply next × (bytes ≡ answered quiet reply ++ rest) × Later next rest
 OwesFor worker from (Says said) bytes Later = (rest : List ℕ) × (bytes ≡ said ++ rest) × Later from rest
 
--- what is owed for requests of this role that this worker took from the one mark on, and how far the worker is then
+-- the bytes that are owed for requests of this role that this worker took from the one mark up to
+-- the other
 abbrev pub Owes : Worker → Role → Mark → List Request → List ℕ → Mark → Type 0
 Owes worker role from [] bytes to = (bytes ≡ []) × (to.number ≡ from.number) × (from.place ≤ to.place)
 Owes worker role from (request ∷ requests) bytes to =

@@ -1,4 +1,4 @@
--- The parts of a turn, as the functions that make it up say of each other.
+-- The parts of a turn, as the contracts of its functions state them.
 use Rattle.std.specs.Bool.{MatchBool}
 use Rattle.std.specs.Prelude.{◌≡◌, ◌≢◌, ◌⊎◌, ℕ, ◌≤◌, ◌<◌, Bool, true, false, List, [], ◌∷◌, ◌++◌, length, None}
 use Rattle.mc_model.specs.declared.command.Command.{Command}
@@ -33,7 +33,7 @@ pub record Answers (old new : Worker) (tenant : ℕ) (command : Command) (reply 
   pub number : length (announced_of new) ≡ next.number
   pub place : next.place ≤ length (history_of new)
 
--- a request was taken, and what is owed for it queued
+-- a request was taken, and what is owed for it was queued
 pub record Responds (old new : Worker) (role : Role) (request : Request) (before after : List ℕ) : Type 0 where
   pub bytes : List ℕ
   pub queued : after ≡ before ++ bytes
@@ -57,14 +57,14 @@ IsHeldBehind conn = HoldsNone (holding_of conn) ⊎ (conn.waiting ≢ None) × (
 abbrev pub IsTakeFault : Fault → Type 0
 IsTakeFault fault = (fault ≡ Memory) ⊎ (fault ≡ Taken)
 
--- a part that looks at neither the input nor the output: the worker goes on, and the connection is the
--- same but for what is held and queued
+-- a part that uses neither the input nor the output: the worker goes on, and the connection's role,
+-- and whether its input has ended, stay the same
 pub record Keeps (old new : Conn) (before after : Worker) : Type 0 where
   pub role : new.role ≡ old.role
   pub has_ended : new.has_ended ≡ old.has_ended
   pub onward : Continues before after
 
--- the reader has looked for the next request, which is all that was done
+-- the reader has looked for the next request, and nothing else was done
 pub record Looks (old new : Conn) : Type 0 where
   pub role : new.role ≡ old.role
   pub has_ended : new.has_ended ≡ old.has_ended
@@ -72,20 +72,20 @@ pub record Looks (old new : Conn) : Type 0 where
   pub queue : queue_of new ≡ queue_of old
   pub over : new.is_over ≡ old.is_over
 
--- all but the queue is the same
+-- the role, what is held, and whether the input or the stream has ended are the same
 pub record IsSameBesideQueue (old new : Conn) : Type 0 where
   pub role : new.role ≡ old.role
   pub holding : holding_of new ≡ holding_of old
   pub has_ended : new.has_ended ≡ old.has_ended
   pub over : new.is_over ≡ old.is_over
 
--- a fault met a request: no reply is queued, and the request's command may be announced
+-- a request met a fault: no reply is queued, and the request's command may be announced
 pub record Refuses (old new : Worker) (role : Role) (request : Request) (before after : List ℕ) (fault : Fault) : Type 0 where
   pub is : IsTakeFault fault
   pub announced : MayAnnounceFor old new (demand_of role request)
   pub unchanged : after ≡ before
 
--- nothing more comes, no request waits, and nothing is queued
+-- nothing more comes, no request is waiting, and nothing is queued
 abbrev pub IsAtRest : Conn → Type 0
 IsAtRest conn = ((conn.has_ended ≡ true) ⊎ (conn.is_over ≡ true)) × (conn.waiting ≡ None) × (queue_of conn ≡ [])
 
@@ -95,7 +95,7 @@ StateIs conn did Closed = IsAtRest conn
 StateIs conn did Idle = ¬ (IsAtRest conn) × (did ≡ false)
 StateIs conn did Busy = ¬ (IsAtRest conn) × (did ≡ true)
 
--- what closing a connection at a fault tells
+-- what the client is told when a fault closes the connection
 abbrev pub TellsOf : Fault → List ℕ → Outflow → Outflow → Type 0
 TellsOf fault queue before after =
     (fault ≡ Memory → TellsStarved queue before after) × (fault ≢ Memory → after ≡ before)

@@ -1,4 +1,5 @@
--- What a turn of a connection does: bytes come, requests are taken, and bytes are sent; this project's profile.
+-- What a turn of a connection does: bytes come, requests are taken, and bytes are sent; this
+-- project's profile.
 use Rattle.std.specs.Bool.{MatchBool}
 use Rattle.std.specs.List.{list_any}
 use Rattle.std.specs.Io.KnownBytes.{Consumes, IsAtEnd}
@@ -14,7 +15,7 @@ use Rattle.mc_conn.specs.Held.{Holding, IsRead, lines_of}
 use Rattle.uc_worker.specs.Going.{Continues}
 use Rattle.mc_conn.specs.Owed.{Mark, Owes, mark_of}
 
--- all that a turn sees: the connection, the worker, and what the input and the output tell
+-- all that a turn sees: the connection, the worker, and what the input and the output report
 pub record Scene : Type 0 where
   pub conn : Conn
   pub worker : Worker
@@ -23,7 +24,7 @@ pub record Scene : Type 0 where
 abbrev pub scene : Conn → Worker → Streams → Scene
 scene conn worker streams = record { conn = conn; worker = worker; streams = streams }
 
--- what the connection holds of what came
+-- what the connection holds of the input
 abbrev pub holding_of : Conn → Holding
 holding_of conn = record { lines = lines_of conn.role; waiting = conn.waiting; held = conn.reader.held }
 
@@ -42,9 +43,9 @@ RemembersTheEnd before after =
     ((before.conn.has_ended ≡ true) × (after.streams.input ≡ before.streams.input) ⊎ (has_ended after.streams.input.events ≡ true) × IsAtEnd after.streams.input.left)
     ((before.conn.has_ended ≡ false) × (ends after.streams.input.events ≡ ends before.streams.input.events))
 
--- What was taken from one scene to another: bytes came, requests were taken, and what was sent and
--- what is queued then is what was queued and what is owed for these requests; each was taken for the
--- connection's role, from the worker's mark before up to this one.
+-- What happened from one scene to another: bytes came and requests were taken, and what was sent
+-- followed by what is queued is what was queued before followed by what is owed for these requests;
+-- each was taken for the connection's role, from the worker's mark before up to this one.
 pub record Taken (before after : Scene) (to : Mark) : Type 0 where
   pub came : List ℕ
   pub requests : List Request
@@ -59,8 +60,8 @@ pub record Taken (before after : Scene) (to : Mark) : Type 0 where
   pub bytes : sent ++ queue_of after.conn ≡ queue_of before.conn ++ owed
   pub waited : waits before.streams.output.events ≤ waits after.streams.output.events
 
--- No fault: what was taken goes up to the worker's mark then, and is what the bytes that came read
--- as. The end of the input is remembered, and a request that ends the stream.
+-- No fault: what was taken goes up to the worker's mark afterwards, and is what the bytes that came
+-- read as. The end of the input is remembered, and so is a request that ends the stream.
 pub record Takes (before after : Scene) : Type 0 where
   pub taken : Taken before after (mark_of after.worker)
   pub reads : IsRead (holding_of before.conn) taken.came taken.requests (holding_of after.conn)

@@ -9,20 +9,20 @@ use mc_model::{Request, TenantId};
 use mc_read::Reader;
 use std::alloc::Global;
 
-/// How many bytes may be queued when a request is taken.
+/// A request is taken only while at most this many bytes are queued.
 pub const QUEUE_BYTES: usize = 1_048_576;
 
 /// How many bytes a pull asks for.
 pub const PULL_BYTES: usize = 16_384;
 
-/// Whose requests come on a connection.
+/// Who sends the requests of a connection.
 #[derive(Clone, Copy, Debug, PartialEq, Eq)]
 pub enum Role {
-    /// A tenant's: each is for that tenant.
+    /// A tenant: each request is for that tenant.
     Tenant(TenantId),
 }
 
-/// One connection: what came and isn't taken yet, and the replies that aren't sent yet.
+/// One connection: the input that isn't taken yet, and the replies that aren't sent yet.
 #[derive(Drop)]
 pub struct Conn {
     pub(crate) role: Role,
@@ -31,18 +31,19 @@ pub struct Conn {
     pub(crate) waiting: Option<Request>,
     /// Reply bytes that are to be pushed.
     pub(crate) queue: Queue,
-    /// The input has ended.
+    /// Whether the input has ended.
     pub(crate) has_ended: bool,
-    /// A request that ends the stream was taken.
+    /// Whether a request that ends the stream was taken.
     pub(crate) is_over: bool,
-    /// A fault has closed the connection.
+    /// Whether a fault has closed the connection.
     pub(crate) is_closed: bool,
 }
 
 /// How a turn ended.
 #[derive(Clone, Copy, Debug, PartialEq, Eq)]
 pub enum State {
-    /// Nothing is left to be done: nothing more is read, no whole request is held, and nothing is queued.
+    /// Nothing is left to do: nothing more is read, no whole request is held, and nothing is
+    /// queued; or an earlier fault has closed the connection.
     Closed,
     /// Nothing could be done.
     Idle,
@@ -51,7 +52,7 @@ pub enum State {
 }
 
 impl Conn {
-    /// A connection of this tenant on which nothing has come. Needs no memory.
+    /// Returns a connection of this tenant on which nothing has come yet. Needs no memory.
     pub fn new(alloc: Global, tenant: TenantId) -> Conn
         ensures role { result.role ≡ Role.Tenant tenant }
         ensures holding { holding_of result ≡ nothing_held result.role }

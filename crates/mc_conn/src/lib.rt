@@ -1,5 +1,6 @@
-//! The connection engine: what comes in on one connection is read as requests, these are submitted by a worker of a shared log, and
-//! their replies go out, turn by turn. `specs/Owed.antt` says which bytes a connection is owed for its requests, `specs/Turn.antt` what
+//! The connection engine: the bytes of one connection are read as requests, a worker of a shared
+//! log submits these, and their replies are sent, turn by turn. Begin with `Conn::new`;
+//! `specs/Owed.antt` says which bytes a connection is owed for its requests, `specs/Turn.antt` what
 //! a turn does, and `specs/Ending.antt` how it ends.
 #![tactic(auto)]
 

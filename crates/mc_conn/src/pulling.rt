@@ -1,4 +1,4 @@
-//! Bytes are pulled.
+//! Pulling bytes.
 ghost use Rattle.std.specs.Prelude.{◌≡◌, ◌≢◌, ◌⊎◌, ◌+◌, ◌<◌, ◌≤◌, ◌∷◌, [], true, false, length, None, IfOk, MatchResult, OnOk};
 ghost use Rattle.mc_stream.specs.Event.{Event, last_moved, waits};
 ghost use Rattle.mc_stream.specs.Stream.{Outflow, both};
@@ -15,7 +15,9 @@ use mc_stream::{Input, Output, Pull};
 use uc_worker::{Gate, Worker};
 
 impl Conn {
-    /// Pulls once. Says whether bytes came.
+    /// Pulls once. Returns whether bytes came.
+    ///
+    /// Returns `Memory` if memory runs out, and `Input` if the input fails.
     fn pull<I: Input>(
         &mut self,
         input: &mut I,
@@ -47,9 +49,11 @@ impl Conn {
             Pull::Failed => Err(Fault::Input),
         }
     }
-    /// Pulls, where no whole request is held, the queue isn't too long and the input hasn't ended, and takes requests again. Replies that
-    /// are queued are pushed before, since an input may wait for its next bytes; where a request has ended the stream and all is sent,
-    /// nothing is pulled. Says whether anything was done.
+    /// Pulls once and takes requests again, if no whole request is held, the queue isn't too long
+    /// and the input hasn't ended. Returns whether anything was done.
+    ///
+    /// Queued replies are pushed first, since an input may wait for its next bytes. If a request
+    /// has ended the stream and all is sent, nothing is pulled.
     pub(crate) fn pull_and_take<I: Input, O: Output, G: Gate>(
         &mut self,
         worker: &mut Worker<'_>,
@@ -75,7 +79,7 @@ impl Conn {
             return Ok(false);
         }
         let pushed = self.push(output)?;
-        // Behind a request that ended the stream nothing is to come.
+        // Nothing is to come after a request that ended the stream.
         if self.is_over & self.queue.is_empty() {
             return Ok(pushed);
         }

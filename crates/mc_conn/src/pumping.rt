@@ -1,4 +1,4 @@
-//! A connection from its beginning to its end.
+//! Serving a connection from its beginning to its end.
 ghost use Rattle.std.specs.Prelude.{◌≡◌, true, false, Ok, MatchResult};
 ghost use Rattle.mc_stream.specs.Stream.{both};
 ghost use Rattle.mc_conn.specs.Ending.{PullsLate, Serves, Stops};
@@ -11,8 +11,10 @@ use mc_stream::{Input, Output};
 use std::sync::Wait;
 use uc_worker::{Open, Worker};
 
-/// Turns of a connection until it is closed. An input that has nothing, and an output that takes no more, are asked again. Faults are
-/// those of a turn.
+/// Makes turns of a connection until it is closed.
+///
+/// An input that has nothing, and an output that takes no more, are asked again. Returns the errors
+/// of `Conn::turn`.
 pub fn pump<R: Wait, I: Input, O: Output>(
     rt: &R,
     conn: &mut Conn,

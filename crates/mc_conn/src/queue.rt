@@ -8,11 +8,14 @@ use mc_write::write_reply;
 use std::alloc::Global;
 use std::marker::Model;
 
-/// How many bytes of memory a queue keeps once what it held is pushed.
+/// How many bytes of memory a queue keeps at most once all that it held is pushed.
 const KEPT_BYTES: usize = 4_194_304;
 
-/// Bytes that are appended as replies and pushed from the front. What was pushed stays in the vector until a reply comes behind it,
-/// or all is pushed, so that an output that takes a long queue in small pieces costs no more than these pieces.
+/// Bytes that are appended as replies and pushed from the front.
+///
+/// What was pushed stays in the vector until all is pushed, or a reply is appended while no more is
+/// left than was pushed: so an output that takes a long queue in small pieces costs no more than
+/// these pieces.
 #[derive(Drop)]
 pub struct Queue {
     bytes: Vec<u8>,
@@ -28,7 +31,7 @@ impl Model for Queue {
 }
 
 impl Queue {
-    /// An empty queue. Needs no memory.
+    /// Returns an empty queue. Needs no memory.
     pub fn new(alloc: Global) -> Queue
         ensures { result ≡ [] }
     {
@@ -38,28 +41,28 @@ impl Queue {
         }
     }
 
-    /// The bytes that are to be pushed.
+    /// Returns the bytes that are to be pushed.
     pub fn as_slice(&self) -> &[u8]
         ensures { result.now ≡ self.now }
     {
         &self.bytes[self.pushed..]
     }
 
-    /// How many bytes are to be pushed.
+    /// Returns how many bytes are to be pushed.
     pub fn len(&self) -> usize
         ensures { result ≡ length self.now }
     {
         self.bytes.len() - self.pushed
     }
 
-    /// Whether all is pushed.
+    /// Returns whether all is pushed.
     pub fn is_empty(&self) -> bool
         ensures { result ≡ (length self.now == 0) }
     {
         self.len() == 0
     }
 
-    /// Drops bytes at the front, which were pushed.
+    /// Drops this many bytes at the front, which were pushed.
     pub fn advance(&mut self, count: usize)
         requires { count ≤ length self.old }
         ensures { self.new ≡ drop count self.old }
@@ -70,7 +73,9 @@ impl Queue {
         }
     }
 
-    /// Appends a reply's text. Where memory runs out the queue stays as it was.
+    /// Appends a reply's text.
+    ///
+    /// Returns `Memory` if memory runs out; the queue is unchanged then.
     pub fn append(&mut self, reply: &Reply) -> Result<(), Fault>
         ensures { MatchResult result (λ _. self.new ≡ self.old ++ text reply.now)
             (λ fault. (fault ≡ faults.Memory) × (self.new ≡ self.old)) }
@@ -79,8 +84,10 @@ impl Queue {
         write_reply(reply, &mut self.bytes)
     }
 
-    /// Moves what is to be pushed to the front of the vector, where it is no longer than what was pushed since the last move, and gives
-    /// back the room behind it, where the vector has more than a queue keeps.
+    /// Moves what is to be pushed to the front of the vector, if it is no longer than what was
+    /// pushed since the last move.
+    ///
+    /// Gives back the room after it if the vector has more than a queue keeps.
     fn settle(&mut self)
         ensures { self.new ≡ self.old }
     {

@@ -1,4 +1,4 @@
-//! What a request asks for is done, and its reply queued.
+//! Doing what a request asks for, and queueing its reply.
 ghost use Rattle.std.specs.Prelude.{◌≡◌, ◌<◌, ◌++◌, length, MatchResult};
 ghost use Rattle.mc_model.specs.declared.fault.Fault.TheVariants as faults;
 ghost use Rattle.uc_worker.specs.Worker.{tenants_of};
@@ -11,7 +11,9 @@ use crate::queue::Queue;
 use mc_model::{Command, Fault, Reply, Request, TenantId, WireNo};
 use uc_worker::{Gate, Worker};
 
-/// Submits a command. A full log is a reply.
+/// Submits a command and returns its reply. A full log is a reply, not an error.
+///
+/// Returns `Memory` and `Taken` as `Worker::submit` does.
 fn answer<G: Gate>(
     tenant: TenantId,
     command: Command,
@@ -28,12 +30,14 @@ fn answer<G: Gate>(
         Err(Fault::LogFull) => Ok(Reply::Refused(WireNo::E10)),
         Err(Fault::Memory) => Err(Fault::Memory),
         Err(Fault::Taken) => Err(Fault::Taken),
-        // A submit has no other fault.
+        // `submit` returns no other fault.
         Err(Fault::Input | Fault::Output | Fault::BadEvent | Fault::BadSettings) => unreachable!(),
     }
 }
 
-/// Queues a reply, but for a quiet request.
+/// Queues a reply, unless the request is quiet.
+///
+/// Returns `Memory` if memory runs out; the queue is unchanged then.
 fn queue_reply(reply: &Reply, quiet: bool, queue: &mut Queue) -> Result<(), Fault>
     ensures { MatchResult result (λ _. queue.new ≡ queue.old ++ answered quiet reply.now)
         (λ fault. (fault ≡ faults.Memory) × (queue.new ≡ queue.old)) }
@@ -44,7 +48,10 @@ fn queue_reply(reply: &Reply, quiet: bool, queue: &mut Queue) -> Result<(), Faul
     queue.append(reply)
 }
 
-/// Does what a request asks for, and queues the reply. At a fault no reply is queued, and the request's command may be announced.
+/// Does what a request asks for, and queues the reply.
+///
+/// Returns `Memory` if memory runs out, and `Taken` if the cell of the request's command holds
+/// another value. No reply is queued then, and the command may be announced.
 pub(crate) fn respond<G: Gate>(
     role: Role,
     request: Request,

@@ -1,4 +1,4 @@
-//! What is queued is pushed.
+//! Pushing what is queued.
 ghost use Rattle.std.specs.Prelude.{◌≡◌, ◌⊎◌, ◌+◌, ◌≤◌, [], length, take, drop, MatchResult, OnOk};
 ghost use Rattle.mc_stream.specs.Event.{waits};
 ghost use Rattle.mc_stream.specs.Pushing.{Pushes, StopsAs};
@@ -13,7 +13,8 @@ use crate::queue::Queue;
 use mc_model::Fault;
 use mc_stream::{Output, Stop, push_front};
 
-/// Pushes what is queued while the output takes it, and drops what was taken. Gives how many bytes were, and why no more.
+/// Pushes what is queued while the output takes it, and drops what was taken. Returns how many
+/// bytes were taken, and why no more were.
 fn push_queue<O: Output>(queue: &mut Queue, output: &mut O) -> (usize, Stop)
     ensures within { result.0 ≤ length queue.old }
     ensures pushed { Pushes (O.tells output.old) (O.tells output.new) (take result.0 queue.old) }
@@ -26,7 +27,10 @@ fn push_queue<O: Output>(queue: &mut Queue, output: &mut O) -> (usize, Stop)
 }
 
 impl Conn {
-    /// Pushes what is queued, until all is taken or the output takes no more. Says whether any was.
+    /// Pushes what is queued, until all is taken or the output takes no more. Returns whether any
+    /// was taken.
+    ///
+    /// Returns `Output` if the output fails.
     pub(crate) fn push<O: Output>(&mut self, output: &mut O) -> Result<bool, Fault>
         ensures outcome { MatchResult result
             (λ did. (worker : Worker) (input : Inflow) → Does (scene self.old worker (both input (O.tells output.old)))

@@ -1,4 +1,4 @@
-//! Requests are read and taken.
+//! Reading requests and taking them.
 ghost use Rattle.std.specs.Bool.{MatchBool};
 ghost use Rattle.std.specs.Prelude.{◌≡◌, ◌≢◌, ◌⊎◌, ◌<◌, ◌∷◌, [], true, false, length, None, IfOk, IsOkUnless, MatchResult, OnOk};
 ghost use Rattle.mc_model.specs.declared.fault.Fault.TheVariants as faults;
@@ -17,7 +17,9 @@ use mc_read::ends_stream;
 use uc_worker::{Gate, Worker};
 
 impl Conn {
-    /// Reads the next request, where none waits.
+    /// Reads the next request, if none is waiting.
+    ///
+    /// Returns `Memory` if memory runs out.
     fn look(&mut self) -> Result<(), Fault>
         ensures read { OnOk result (IsRead (holding_of self.old) [] [] (holding_of self.new)) }
         ensures found { OnOk result (HoldsNone (holding_of self.new) ⊎ (self.new.waiting ≢ None)) }
@@ -30,7 +32,7 @@ impl Conn {
         Ok(())
     }
 
-    /// Takes the request that waits. Says whether one did.
+    /// Takes the waiting request. Returns whether there was one.
     fn answer_waiting<G: Gate>(
         &mut self,
         worker: &mut Worker<'_>,
@@ -56,7 +58,8 @@ impl Conn {
         }
     }
 
-    /// Takes a request, where one is held and the queue isn't too long. Says whether it did.
+    /// Takes a request, if a whole one is held and the queue isn't too long. Returns whether it
+    /// did.
     fn take_one<G: Gate>(&mut self, worker: &mut Worker<'_>, gate: &mut G) -> Result<bool, Fault>
         requires role { IsKnown self.old.role worker.old }
         ensures outcome { MatchResult result
@@ -73,7 +76,7 @@ impl Conn {
         self.answer_waiting(worker, gate)
     }
 
-    /// Takes requests while the queue isn't too long. Says whether any was taken.
+    /// Takes whole requests while the queue isn't too long. Returns whether any was taken.
     pub(crate) fn take<G: Gate>(
         &mut self,
         worker: &mut Worker<'_>,

@@ -13,7 +13,8 @@ use mc_stream::{Input, Output, push_while_taken};
 use mc_write::refusal_text;
 use uc_worker::{Gate, Worker};
 
-/// Tells the client that memory ran out, after the replies that are queued, as far as the output takes it at once.
+/// Tells the client that memory ran out, after the queued replies, as far as the output takes it at
+/// once.
 fn tell_starved<O: Output>(queue: &[u8], output: &mut O)
     ensures { TellsStarved queue.now (O.tells output.old) (O.tells output.new) }
 {
@@ -23,7 +24,7 @@ fn tell_starved<O: Output>(queue: &[u8], output: &mut O)
 }
 
 impl Conn {
-    /// The state after a turn that did something or nothing.
+    /// Returns the state after a turn; `did` is whether the turn did anything.
     fn state(&self, did: bool) -> State
         ensures { StateIs self.now did result }
     {
@@ -36,7 +37,10 @@ impl Conn {
         }
     }
 
-    /// A turn, as `turn`, which tells nothing of a fault.
+    /// Makes a turn as `turn` does, but at a fault neither tells the client nor closes the
+    /// connection.
+    ///
+    /// It pushes before the pull as well as at the end, since an input may wait for its next bytes.
     fn go_round<I: Input, O: Output, G: Gate>(
         &mut self,
         worker: &mut Worker<'_>,
@@ -61,7 +65,7 @@ impl Conn {
         Ok(self.state(first | taken | pulled | last))
     }
 
-    /// Closes the connection for good. Where memory ran out, the client is told.
+    /// Closes the connection for good. If memory ran out, the client is told so.
     fn close<O: Output>(&mut self, fault: Fault, output: &mut O)
         ensures closed { self.new.is_closed ≡ true }
         ensures same { (self.new.role ≡ self.old.role) × (queue_of self.new ≡ queue_of self.old) }
@@ -73,11 +77,17 @@ impl Conn {
         }
     }
 
-    /// A turn: what is queued is pushed; while no more than `QUEUE_BYTES` are queued, whole requests are taken; where none is held then,
-    /// bytes are pulled once, into the buffer, which is the caller's to use again, and requests taken as before; and their replies are
-    /// pushed. A full log is a reply. Every other fault closes the connection for good, and later turns answer `Closed` and do nothing:
-    /// want of memory (`Memory`), which the client is told as far as the output takes it at once, a cell that holds another value
-    /// (`Taken`), and a failure of the input or the output (`Input`, `Output`).
+    /// Makes one turn: pushes what is queued, takes whole requests, pulls once, takes requests
+    /// again, and pushes their replies.
+    ///
+    /// Requests are taken while no more than `QUEUE_BYTES` are queued. Bytes are pulled only if no
+    /// whole request is held then, and into the buffer, which the caller may use again afterwards.
+    /// A full log is a reply, not an error.
+    ///
+    /// Each error closes the connection for good; later turns return `Closed` and do nothing.
+    /// Returns `Memory` if memory runs out, which the client is told as far as the output takes it
+    /// at once; `Taken` if a command's cell holds another value; `Input` or `Output` if the input
+    /// or the output fails.
     pub fn turn<I: Input, O: Output, G: Gate>(
         &mut self,
         worker: &mut Worker<'_>,
@@ -87,13 +97,18 @@ impl Conn {
         buffer: &mut [u8; PULL_BYTES],
     ) -> Result<State, Fault>
         requires role { IsKnown self.old.role worker.old }
+        // What was sent and is queued then is what was queued and what is owed for the requests that
+        // were taken; after a fault, what was sent is a prefix of that.
         ensures outcome { self.old.is_closed ≡ false → MatchResult result
             (Turns (scene self.old worker.old (both (I.tells input.old) (O.tells output.old)))
             (scene self.new worker.new (both (I.tells input.new) (O.tells output.new))))
             (Stops (scene self.old worker.old (both (I.tells input.old) (O.tells output.old)))
             (scene self.new worker.new (both (I.tells input.new) (O.tells output.new)))) }
+        // It pulls at most once, and only after what had come before was answered, unless the output
+        // took no more.
         ensures pulls { Pulls (scene self.old worker.old (both (I.tells input.old) (O.tells output.old)))
             (scene self.new worker.new (both (I.tells input.new) (O.tells output.new))) }
+        // It is still the same client's, on the same log.
         ensures same { (self.new.role ≡ self.old.role) × (worker.new.log ≡ worker.old.log) }
         ensures closed { self.old.is_closed ≡ true → (result ≡ Ok State.Closed) × (self.new ≡ self.old) × (worker.new ≡ worker.old)
             × (input.new ≡ input.old) × (output.new ≡ output.old) }

@@ -1,5 +1,5 @@
 //! A tenant's table, as an ordered map with a running total, and the tables of all tenants, with
-//! the replies that the definitions of `mc_model` give.
+//! the replies that the definitions of `mc_model` give. Begin with `Items::apply`.
 #![tactic(auto)]
 
 pub use items::Items;

@@ -1,4 +1,4 @@
-//! A shared log that goes by a list of events, from standard input to standard output.
+//! Runs a shared log by a list of events, from standard input to standard output.
 #![tactic(auto)]
 
 use mc_programs::{ReadInput, WriteOutput, refuse_words, run_schedule, words_after_name};

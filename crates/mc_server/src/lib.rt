@@ -1,4 +1,5 @@
-//! The functions behind the programs: those over streams, and that of the server for several tenants.
+//! The server for several tenants: `run_wfmc` reads the words, binds the listeners, opens the log,
+//! serves and reports, as `specs/Network.antt` says. The programs over streams are re-exported.
 #![tactic(auto)]
 
 pub use mc_programs::{

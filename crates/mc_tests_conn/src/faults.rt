@@ -15,7 +15,7 @@ const STREAM: (&str, &str) = (
 /// How many turns follow the fault.
 const LATER: u32 = 3;
 
-/// So many single bytes, then a failure and an empty pull.
+/// Returns steps that pull `good` single bytes, and then a failure and an empty pull.
 fn failing_pulls(alloc: Global, good: usize) -> Result<Vec<InputStep>, Fault> {
     let mut steps = Vec::new(alloc);
     for _ in 0..good {
@@ -25,7 +25,7 @@ fn failing_pulls(alloc: Global, good: usize) -> Result<Vec<InputStep>, Fault> {
     Ok(steps)
 }
 
-/// So many single bytes, then a failure and a full push.
+/// Returns steps that push `good` single bytes, and then a failure and a full push.
 fn failing_pushes(alloc: Global, good: usize) -> Result<Vec<OutputStep>, Fault> {
     let mut steps = Vec::new(alloc);
     for _ in 0..good {
@@ -35,31 +35,33 @@ fn failing_pushes(alloc: Global, good: usize) -> Result<Vec<OutputStep>, Fault> 
     Ok(steps)
 }
 
-/// Whether the turns end with this fault.
+/// Returns whether the turns end with this fault.
 fn breaks(line: &mut Line<'_>, fault: Fault) -> bool {
     line.comes_to(State::Closed) == Err(fault)
 }
 
-/// Whether later turns are closed, and neither push nor replay more.
+/// Returns whether later turns return `Closed`, and neither push nor replay more.
 fn stays_closed(line: &mut Line<'_>) -> Result<bool, Fault> {
     let (pushed, replayed) = (line.pushed().len(), line.replayed());
     let is_closed = line.stays(State::Closed, LATER)?;
     Ok(is_closed && line.pushed().len() == pushed && line.replayed() == replayed)
 }
 
-/// Whether the connection is closed for good by this fault, and what it pushed before is the front of what is owed.
+/// Returns whether this fault closes the connection for good, and what was pushed before it is the
+/// front of what is owed.
 fn closes_by(line: &mut Line<'_>, fault: Fault) -> Result<bool, Fault> {
     let is_broken = breaks(line, fault);
     Ok(is_broken && stays_closed(line)? && STREAM.1.as_bytes().starts_with(line.pushed()))
 }
 
-/// Whether the line is closed for good by this fault, and the steps after the fault are these.
+/// Returns whether this fault closes the line for good, and the steps after the fault are these.
 fn closes_before(mut line: Line<'_>, fault: Fault, next: (Pull, Push)) -> Result<bool, Fault> {
     let is_closed = closes_by(&mut line, fault)?;
     Ok(is_closed && line.next_pull() == next.0 && line.next_push() == next.1)
 }
 
-/// Whether the line that sends the stream by these steps is closed for good by this fault, and the steps after the fault are these.
+/// Returns whether this fault closes the line that sends the stream by these steps for good, and
+/// the steps after the fault are `next`.
 fn closes(
     alloc: Global,
     pulls: &[InputStep],
@@ -72,7 +74,7 @@ fn closes(
     closes_before(one_line(alloc, &log, passes, ends)?, fault, next)
 }
 
-/// Whether a pull that fails after so many bytes closes the connection for good.
+/// Returns whether a pull that fails after `good` bytes closes the connection for good.
 fn closes_at_pull(alloc: Global, good: usize) -> Result<bool, Fault> {
     let pulls = failing_pulls(alloc, good)?;
     closes(
@@ -84,8 +86,8 @@ fn closes_at_pull(alloc: Global, good: usize) -> Result<bool, Fault> {
     )
 }
 
-/// Whether a push that fails after so many bytes closes the connection for good. The whole stream is pulled before, and a second pull
-/// would fail.
+/// Returns whether a push that fails after `good` bytes closes the connection for good. The whole
+/// stream is pulled before it, and a second pull would fail.
 fn closes_at_push(alloc: Global, good: usize) -> Result<bool, Fault> {
     let pulls = [InputStep::Give(100), InputStep::Fail];
     let pushes = failing_pushes(alloc, good)?;

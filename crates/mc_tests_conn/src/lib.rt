@@ -1,5 +1,6 @@
-//! Tests of the connection engine over what its crates make public: streams in pieces of any size, a queue above its bound, faults, two
-//! tenants on one log, and a full log. They stand above the crates that they test, since a crate with tests is proved twice.
+//! Tests of the connection engine through what its crates make public: streams in pieces of any
+//! size, a queue above its bound, faults, two tenants on one log, and a full log. They are in a
+//! crate above those that they test, since a crate with tests is proved twice.
 #![tactic(auto)]
 
 #[cfg(test)]

@@ -1,4 +1,4 @@
-//! A connection beside its worker and the log, with an input and an output over memory.
+//! A connection with its worker and log, and with an input and an output in memory.
 ghost use Rattle.std.specs.Prelude.{◌≡◌, ◌<◌, ℕ, Some, length, slice_get, IfOk, IfSome};
 ghost use Rattle.mc_conn.specs.declared.conn.Role.TheVariants.{Tenant};
 ghost use Rattle.mc_conn.specs.Owed.{IsKnown};
@@ -33,7 +33,7 @@ pub(crate) struct Line<'a> {
     ghost whose: { conn.role ≡ Tenant tenant },
 }
 
-/// A turn that promises no more than that the line stays what it is.
+/// Makes a turn, and promises only that the role and the worker's log stay the same.
 fn turn(
     conn: &mut Conn,
     worker: &mut Worker<'_>,
@@ -49,7 +49,7 @@ fn turn(
 }
 
 impl<'a> Line<'a> {
-    /// A line of the tenant and of the worker with this pass, on which nothing has come.
+    /// Returns a line of the tenant and the worker with this pass, on which nothing has come yet.
     pub(crate) fn open(
         alloc: Global,
         log: &'a Log,
@@ -75,7 +75,7 @@ impl<'a> Line<'a> {
         })
     }
 
-    /// A turn, if there is such a tenant.
+    /// Makes a turn, if there is such a tenant.
     pub(crate) fn turn(&mut self, buffer: &mut [u8; PULL_BYTES]) -> Result<State, Fault> {
         if usize::from(self.tenant.number()) >= self.log.settings().tenants().len() {
             return Err(Fault::BadEvent);
@@ -89,7 +89,7 @@ impl<'a> Line<'a> {
         )
     }
 
-    /// Turns until one ends so. Says whether one does.
+    /// Makes turns until one ends in this state. Returns whether one does.
     pub(crate) fn comes_to(&mut self, end: State) -> Result<bool, Fault> {
         let mut buffer = [0u8; PULL_BYTES];
         for _ in 0..TURNS {
@@ -100,7 +100,7 @@ impl<'a> Line<'a> {
         Ok(false)
     }
 
-    /// Whether the next turns all end so.
+    /// Returns whether the next turns all end in this state.
     pub(crate) fn stays(&mut self, end: State, turns: u32) -> Result<bool, Fault> {
         let mut buffer = [0u8; PULL_BYTES];
         for _ in 0..turns {
@@ -111,33 +111,33 @@ impl<'a> Line<'a> {
         Ok(true)
     }
 
-    /// Whether the line comes to its end, and has pushed this then.
+    /// Returns whether the line comes to its end, and has pushed this by then.
     pub(crate) fn closes_with(&mut self, want: &[u8]) -> Result<bool, Fault> {
         Ok(self.comes_to(State::Closed)? && self.pushed() == want)
     }
 
-    /// What was pushed.
+    /// Returns what was pushed.
     pub(crate) fn pushed(&self) -> &[u8] {
         self.output.as_bytes()
     }
 
-    /// How many entries the worker has replayed.
+    /// Returns how many entries the worker has replayed.
     pub(crate) fn replayed(&self) -> usize {
         self.worker.history().len()
     }
 
-    /// What a pull beside the connection gives.
+    /// Returns what one more pull gives, without the connection.
     pub(crate) fn next_pull(&mut self) -> Pull {
         self.input.pull(&mut [0; 512])
     }
 
-    /// What a push beside the connection takes.
+    /// Returns what one more push takes, without the connection.
     pub(crate) fn next_push(&mut self) -> Push {
         self.output.push(b"x")
     }
 }
 
-/// An input that holds these bytes and an output, which go by these steps first.
+/// Returns an input that holds these bytes, and an output; both follow these steps first.
 pub(crate) fn ends_of(
     alloc: Global,
     sent: &[u8],
@@ -153,7 +153,8 @@ pub(crate) fn ends_of(
     ))
 }
 
-/// A log of two workers, of so many places, and of tenants with these quotas; and the workers' passes.
+/// Opens a log of two workers, this many places and tenants with these quotas, and returns the
+/// workers' passes too.
 pub(crate) fn opened(
     alloc: Global,
     places: u64,
@@ -167,7 +168,7 @@ pub(crate) fn opened(
     Ok((log, passes))
 }
 
-/// The passes of worker 0 and worker 1.
+/// Returns the passes of worker 0 and worker 1.
 pub(crate) fn both_passes(log: &Log, mut passes: Vec<Pass>) -> Option<(Pass, Pass)>
     requires { (number : ℕ) (pass : _) → slice_get passes.items number ≡ Some pass → IsFresh log.now pass }
     ensures { IfSome result (λ pair. IsFresh log.now pair.0 × IsFresh log.now pair.1) }
@@ -177,7 +178,7 @@ pub(crate) fn both_passes(log: &Log, mut passes: Vec<Pass>) -> Option<(Pass, Pas
     Some((first, second))
 }
 
-/// A line of the first tenant and worker 0. The other worker does nothing.
+/// Returns a line of the first tenant and worker 0. The other worker does nothing.
 pub(crate) fn one_line<'a>(
     alloc: Global,
     log: &'a Log,
@@ -192,7 +193,8 @@ pub(crate) fn one_line<'a>(
     Line::open(alloc, log, first, 0, ends)
 }
 
-/// Whether a client with these ends reads this, where a new log is of so many places.
+/// Returns whether a client with this input and output reads this, with a new log of this many
+/// places.
 pub(crate) fn reads(
     alloc: Global,
     places: u64,

@@ -1,4 +1,5 @@
-//! Worked streams in pieces: what a client sends comes, and what it is owed goes, however both are cut.
+//! Golden streams in pieces: a client's input comes, and what it is owed goes, however both are
+//! cut.
 use crate::lines::{ends_of, reads};
 use mc_model::Fault;
 use mc_stream::{InputStep, OutputStep};
@@ -24,7 +25,8 @@ const BLOCK: (&str, &str) = (
     "STORED\r\nVALUE k 0 7\r\n\r\nEND\r\n\r\nEND\r\n",
 );
 
-/// Whether a client that sends this reads that, where a new log is of so many places, and the input and the output go by these steps.
+/// Returns whether a client that sends the first text reads the second, with a new log of this many
+/// places and by these steps of the input and the output.
 fn is_served(
     alloc: Global,
     places: u64,
@@ -36,7 +38,7 @@ fn is_served(
     reads(alloc, places, ends, want.as_bytes())
 }
 
-/// So many single bytes, with an empty pull before each.
+/// Returns steps that pull `count` single bytes, with an empty pull before each.
 fn single_pulls(alloc: Global, count: usize) -> Result<Vec<InputStep>, Fault> {
     let mut steps = Vec::new(alloc);
     for _ in 0..count {
@@ -45,7 +47,7 @@ fn single_pulls(alloc: Global, count: usize) -> Result<Vec<InputStep>, Fault> {
     Ok(steps)
 }
 
-/// So many single bytes, with a full push before each.
+/// Returns steps that push `count` single bytes, with a full push before each.
 fn single_pushes(alloc: Global, count: usize) -> Result<Vec<OutputStep>, Fault> {
     let mut steps = Vec::new(alloc);
     for _ in 0..count {
@@ -54,7 +56,8 @@ fn single_pushes(alloc: Global, count: usize) -> Result<Vec<OutputStep>, Fault> 
     Ok(steps)
 }
 
-/// Whether the client is served where nothing and one byte come in turn, and nothing and one byte are taken in turn.
+/// Returns whether the client is served if pulls give nothing and one byte in turn, and pushes take
+/// nothing and one byte in turn.
 fn is_served_by_turns(alloc: Global, stream: (&str, &str)) -> Result<bool, Fault> {
     let pulls = single_pulls(alloc, stream.0.len())?;
     let pushes = single_pushes(alloc, stream.1.len())?;
@@ -69,7 +72,7 @@ fn empty_and_full_in_turn(rt: HostRuntime) -> Result<(), Fail> {
     Ok(())
 }
 
-/// The first pull gives so many bytes, and the second the others.
+/// The first pull gives the bytes before the cut, and the second the others.
 #[test]
 fn block_cut_anywhere(rt: HostRuntime) -> Result<(), Fail> {
     for count in 1..BLOCK.0.len() {

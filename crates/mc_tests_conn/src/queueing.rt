@@ -1,5 +1,5 @@
-//! A client that takes nothing at first: replies are queued up to a bound, and requests wait behind it. One that takes long replies in
-//! small pieces.
+//! Back-pressure from a client that takes nothing at first: replies are queued up to a bound, and
+//! further requests wait. And a client that takes long replies in small pieces.
 use crate::lines::{Line, QUOTAS, ends_of, one_line, opened, reads};
 use mc_conn::State;
 use mc_model::Fault;
@@ -24,7 +24,7 @@ const OWED: usize = 3_145_814;
 /// What an item begins with again and again, so that a byte at a wrong place is seen.
 const TEXT: &str = "0123456789 abcdefghijklmnopqrst";
 
-/// A set of the item, and three gets of it.
+/// Returns a set of the item, and three gets of it.
 fn sent(alloc: Global) -> Result<Vec<u8>, Fault> {
     let item = "x".repeat(alloc, ITEM)?;
     let mut bytes = Vec::new(alloc);
@@ -34,7 +34,7 @@ fn sent(alloc: Global) -> Result<Vec<u8>, Fault> {
     Ok(bytes)
 }
 
-/// The set comes in many pulls, and the gets in the last one.
+/// Returns many pulls for the set, and a last one for the gets.
 fn pulls(alloc: Global) -> Result<Vec<InputStep>, Fault> {
     let mut steps = Vec::new(alloc);
     for _ in 0..PULLS {
@@ -44,7 +44,8 @@ fn pulls(alloc: Global) -> Result<Vec<InputStep>, Fault> {
     Ok(steps)
 }
 
-/// Pushes that take nothing, more than the turns make before the worker has replayed two entries.
+/// Returns pushes that take nothing, more than the turns make before the worker has replayed two
+/// entries.
 fn pushes(alloc: Global) -> Result<Vec<OutputStep>, Fault> {
     let mut steps = Vec::new(alloc);
     for _ in 0..1_000 {
@@ -53,7 +54,7 @@ fn pushes(alloc: Global) -> Result<Vec<OutputStep>, Fault> {
     Ok(steps)
 }
 
-/// The client's input and output.
+/// Returns the client's input and output.
 fn ends(alloc: Global) -> Result<(MemoryInput, MemoryOutput), Fault> {
     let sent = sent(alloc)?;
     let pulls = pulls(alloc)?;
@@ -61,18 +62,18 @@ fn ends(alloc: Global) -> Result<(MemoryInput, MemoryOutput), Fault> {
     ends_of(alloc, &sent, &pulls, &pushes)
 }
 
-/// Whether the turns come to nothing that can be done, again and again, once the set and one get are taken.
+/// Returns whether no later turn can do anything once the set and one get are taken.
 fn waits_behind_two(line: &mut Line<'_>) -> Result<bool, Fault> {
     let is_idle = line.comes_to(State::Idle)? && line.stays(State::Idle, 100)?;
     Ok(is_idle && line.replayed() == 2 && line.pushed().is_empty())
 }
 
-/// Whether all is taken and sent once the output takes it.
+/// Returns whether all is taken and sent once the output takes it.
 fn goes_on(line: &mut Line<'_>) -> Result<bool, Fault> {
     Ok(line.comes_to(State::Closed)? && line.replayed() == 4 && line.pushed().len() == OWED)
 }
 
-/// The line waits behind two replies, and goes on once the output takes them.
+/// Asserts that the line waits after two replies, and goes on once the output takes them.
 fn assert_queue(rt: &impl Abort, line: &mut Line<'_>) -> Result<(), Fault> {
     assert!(rt; waits_behind_two(line)?);
     assert!(rt; goes_on(line)?);
@@ -89,7 +90,7 @@ fn queue_above_its_bound(rt: HostRuntime) -> Result<(), Fail> {
     Ok(())
 }
 
-/// An item in which no two places near each other look alike.
+/// Returns an item in which no two places near each other look alike.
 fn long_item(alloc: Global) -> Result<Vec<u8>, Fault> {
     let mut bytes = Vec::new(alloc);
     bytes.extend_from_slice(TEXT.repeat(alloc, ITEM / TEXT.len() + 1)?.as_bytes())?;
@@ -97,7 +98,7 @@ fn long_item(alloc: Global) -> Result<Vec<u8>, Fault> {
     Ok(bytes)
 }
 
-/// Sets the item, and gets it once, five times by one line, and once.
+/// Returns requests that set the item, and get it once, five times by one line, and once more.
 fn long_requests(alloc: Global, item: &[u8]) -> Result<Vec<u8>, Fault> {
     let mut bytes = Vec::new(alloc);
     bytes.extend_from_slice(b"set b 0 0 1048576\r\n")?;
@@ -106,7 +107,7 @@ fn long_requests(alloc: Global, item: &[u8]) -> Result<Vec<u8>, Fault> {
     Ok(bytes)
 }
 
-/// What is owed for these.
+/// Returns what is owed for these requests.
 fn long_replies(alloc: Global, item: &[u8]) -> Result<Vec<u8>, Fault> {
     let mut bytes = Vec::from_slice(alloc, b"STORED\r\n")?;
     for times in [1, 5, 1] {
@@ -129,7 +130,8 @@ fn small_pieces(alloc: Global) -> Result<Vec<OutputStep>, Fault> {
     Ok(steps)
 }
 
-/// The input and the output of a client that asks for the item so, and takes the replies in small pieces.
+/// Returns the input and the output of a client that makes these requests and takes the replies in
+/// small pieces.
 fn long_ends(alloc: Global, item: &[u8]) -> Result<(MemoryInput, MemoryOutput), Fault> {
     let requests = long_requests(alloc, item)?;
     let pieces = small_pieces(alloc)?;

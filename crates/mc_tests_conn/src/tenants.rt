@@ -26,7 +26,8 @@ const SCRIPTS: [([&str; 3], &str); 2] = [
     ),
 ];
 
-/// Each order of three turns of the one and three of the other: whether a turn is the second tenant's.
+/// Each order of three turns of the one and three of the other: whether a turn is the second
+/// tenant's.
 const ORDERS: [[bool; 6]; 20] = [
     [false, false, false, true, true, true],
     [false, false, true, false, true, true],
@@ -50,7 +51,7 @@ const ORDERS: [[bool; 6]; 20] = [
     [true, true, true, false, false, false],
 ];
 
-/// The input and the output of a client that sends these requests.
+/// Returns the input and the output of a client that sends these requests.
 fn ends(alloc: Global, requests: &[&str]) -> Result<(MemoryInput, MemoryOutput), Fault> {
     let mut bytes = Vec::new(alloc);
     let mut steps = Vec::new(alloc);
@@ -61,12 +62,12 @@ fn ends(alloc: Global, requests: &[&str]) -> Result<(MemoryInput, MemoryOutput),
     ends_of(alloc, &bytes, &steps, &[])
 }
 
-/// Whether a turn of the line does something.
+/// Returns whether a turn of the line does something.
 fn is_busy(line: &mut Line<'_>, buffer: &mut [u8; PULL_BYTES]) -> Result<bool, Fault> {
     Ok(line.turn(buffer)? == State::Busy)
 }
 
-/// Whether each turn, in this order, does something.
+/// Returns whether each turn, in this order, does something.
 fn are_busy(first: &mut Line<'_>, second: &mut Line<'_>, order: &[bool]) -> Result<bool, Fault> {
     let mut buffer = [0u8; PULL_BYTES];
     for is_second in order {
@@ -82,14 +83,15 @@ fn are_busy(first: &mut Line<'_>, second: &mut Line<'_>, order: &[bool]) -> Resu
     Ok(true)
 }
 
-/// Whether each reads what it is owed, and the workers have replayed all six entries between them.
+/// Returns whether each reads what it is owed, and the workers have replayed all six entries
+/// between them.
 fn are_served(first: &Line<'_>, second: &Line<'_>) -> bool {
     first.pushed() == SCRIPTS[0].1.as_bytes()
         && second.pushed() == SCRIPTS[1].1.as_bytes()
         && first.replayed().max(second.replayed()) == 6
 }
 
-/// Whether both are served where their turns come in this order.
+/// Returns whether both are served if their turns come in this order.
 fn are_served_in(
     first: &mut Line<'_>,
     second: &mut Line<'_>,
@@ -98,7 +100,8 @@ fn are_served_in(
     Ok(are_busy(first, second, order)? && are_served(first, second))
 }
 
-/// The tenant's line, by the worker with this pass, to a client that sends these requests.
+/// Returns the line of this tenant and of the worker with this pass, for a client that sends these
+/// requests.
 fn line_of<'a>(
     alloc: Global,
     log: &'a Log,
@@ -112,7 +115,7 @@ fn line_of<'a>(
     Line::open(alloc, log, pass, tenant, ends)
 }
 
-/// The lines of the first tenant and worker 0, and of the second tenant and worker 1.
+/// Returns the lines of the first tenant and worker 0, and of the second tenant and worker 1.
 fn both_lines<'a>(
     alloc: Global,
     log: &'a Log,
@@ -128,7 +131,7 @@ fn both_lines<'a>(
     Ok((first, second))
 }
 
-/// Whether both tenants are served as alone where their turns come in this order.
+/// Returns whether each tenant is served as if it were alone, if their turns come in this order.
 fn are_apart(alloc: Global, order: &[bool]) -> Result<bool, Fault> {
     let (log, passes) = opened(alloc, 64, &[QUOTAS, QUOTAS])?;
     let (mut first, mut second) = both_lines(alloc, &log, passes)?;

@@ -1,11 +1,11 @@
-//! Lists with bad lines, by the number of the first.
+//! Event lists with bad lines: the number of the first is reported.
 use crate::lists::{assert_bad, assert_list};
 use mc_model::Limits;
 use std::alloc::Global;
 use std::process::Abort;
 use std::test::Fail;
 
-/// A list of `core 1 4` and a tenant with this third line is bad there.
+/// Asserts that a list of `core 1 4` and a tenant is bad at this third line.
 fn assert_bad_line(rt: &impl Abort, alloc: Global, line: &str) -> Result<(), Fail> {
     let text = format!(in alloc; "core 1 4\ntenant 4 100\n{line}\nread 0\nread x\n")?;
     assert_bad(rt, alloc, text.as_bytes(), 3)
@@ -65,7 +65,7 @@ fn lists_without_tenants(rt: HostRuntime) -> Result<(), Fail> {
     assert_bad(&rt, alloc, b"core 99 0\n\n#\n", 0)
 }
 
-/// A list of so many tenants.
+/// Returns a list of `count` tenants.
 fn tenants(alloc: Global, count: usize) -> Result<String, Fail> {
     let mut text = String::new(alloc);
     text.push_str("core 1 4\n")?;
@@ -87,7 +87,7 @@ fn at_most_64_tenants(rt: HostRuntime) -> Result<(), Fail> {
     assert_bad(&rt, alloc, tenants(alloc, 65)?.as_bytes(), 66)
 }
 
-/// These lines, and a comment that makes the list so many bytes long.
+/// Returns these lines, and a comment that makes the list `length` bytes long.
 fn long_list(alloc: Global, lines: &[u8], length: usize) -> Result<Vec<u8>, Fail> {
     let mut bytes = Vec::from_slice(alloc, lines)?;
     bytes.push(b'#')?;

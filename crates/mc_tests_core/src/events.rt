@@ -1,7 +1,7 @@
 //! What the tests share: cores, events as text, and what a core answers and shows as text.
 //!
-//! Events are separated by `/`: `announce WORKER TENANT COMMAND`, where the command is what a client writes, or `read`, `look`,
-//! `propose`, `replay` or `stop` and a worker.
+//! Events are separated by `/`: `announce WORKER TENANT COMMAND`, where the command is what a
+//! client writes, or `read`, `look`, `propose`, `replay` or `stop` and a worker.
 use mc_model::{Command, Fault, Limits, Phase, Reply, Request, Settings, WorkerId};
 use mc_read::Reader;
 use mc_write::write_reply;
@@ -9,13 +9,13 @@ use std::alloc::Global;
 use std::test::Fail;
 use uc_core::{Core, Event, Progress};
 
-/// Quotas that the worked runs don't reach.
+/// Quotas that the golden runs don't reach.
 pub(crate) const AMPLE: Limits = Limits {
     items: 4,
     bytes: 100,
 };
 
-/// A core of so many workers and places, with these tenants.
+/// Opens a core of this many workers and places, with these tenants.
 pub(crate) fn opened(
     alloc: Global,
     workers: u64,
@@ -27,7 +27,7 @@ pub(crate) fn opened(
     Ok(Core::new(alloc, &settings)?)
 }
 
-/// The command that a client writes so.
+/// Returns the command that a client writes as this text.
 pub(crate) fn command_of(alloc: Global, text: &str) -> Result<Command, Fail> {
     match request_of(alloc, text)? {
         Some(Request::Logged { command, .. }) => Ok(command),
@@ -57,7 +57,7 @@ fn announcement(
     Ok(Event::Announce(worker, tenant, command))
 }
 
-/// The event of this text.
+/// Returns the event of this text.
 pub(crate) fn event_of(alloc: Global, text: &str) -> Result<Event, Fail> {
     let mut words = text.splitn(4, ' ');
     let name = words.next().ok_or("an event is missing")?;
@@ -73,7 +73,7 @@ pub(crate) fn event_of(alloc: Global, text: &str) -> Result<Event, Fail> {
     }
 }
 
-/// All events of a text.
+/// Returns all events of a text.
 pub(crate) fn events_of(alloc: Global, text: &str) -> Result<Vec<Event>, Fail> {
     let mut events = Vec::new(alloc);
     for event in text.split('/') {
@@ -82,18 +82,18 @@ pub(crate) fn events_of(alloc: Global, text: &str) -> Result<Vec<Event>, Fail> {
     Ok(events)
 }
 
-/// What the core shows of a worker, but for its look.
+/// What the core shows of a worker, but for the command that it found to help.
 #[derive(Clone, Copy)]
 pub(crate) struct View {
     pub(crate) phase: Phase,
     pub(crate) learned: u64,
     pub(crate) replayed: u64,
-    /// The place of its mark and one, or 0 without one.
+    /// The place of its mark plus one, or 0 if it has none.
     pub(crate) mark: u64,
     pub(crate) proposals: u64,
 }
 
-/// What the core shows of a worker.
+/// Returns what the core shows of a worker.
 pub(crate) fn view_of(core: &Core, worker: u8) -> Result<View, Fail> {
     let worker = WorkerId::new(worker).ok_or("no worker")?;
     match core.progress(worker) {
@@ -126,7 +126,7 @@ fn phase_name(phase: Phase) -> &'static str {
     }
 }
 
-/// What the core shows: the log, and each worker in a line.
+/// Returns what the core shows: the log, and each worker on a line.
 pub(crate) fn shown_by(alloc: Global, core: &Core) -> Result<String, Fail> {
     let mut text = String::from_str(alloc, "log")?;
     for ticket in core.decided() {
@@ -171,7 +171,8 @@ fn tell(
     write_reply(reply, said)
 }
 
-/// What a core answers to these events, taken one at a time: each reply behind its worker and its place.
+/// Returns what a core answers to these events, taken one at a time: each reply after its worker
+/// and its place.
 pub(crate) fn stepped(alloc: Global, core: &mut Core, text: &str) -> Result<Vec<u8>, Fail> {
     let mut said = Vec::new(alloc);
     for event in text.split('/') {
@@ -192,7 +193,7 @@ fn step(alloc: Global, core: &mut Core, text: &str, said: &mut Vec<u8>) -> Resul
     Ok(())
 }
 
-/// The same of a run of all these events.
+/// Returns what a core answers to one run of all these events.
 pub(crate) fn ran(alloc: Global, core: &mut Core, text: &str) -> Result<Vec<u8>, Fail> {
     let events = events_of(alloc, text)?;
     let mut replies = Vec::new(alloc);

@@ -1,6 +1,7 @@
-//! Tests of the core and of its event lists over what their crates make public: worked runs, refusals, a second opinion on all states of a
-//! small core; worked lists, what each line says, bad lines by their numbers, reports and pictures of runs. They stand above all libraries,
-//! since a crate with tests is proved twice.
+//! Tests of the core and of its event lists through what their crates make public: golden runs,
+//! refusals, and a second opinion on all states of a small core; golden lists, what each line
+//! means, bad lines by their numbers, reports and pictures of runs. They are in a crate above all
+//! libraries, since a crate with tests is proved twice.
 #![tactic(auto)]
 
 #[cfg(test)]

@@ -1,4 +1,4 @@
-//! Worked lists, and what each line says.
+//! Golden event lists, and what each line means.
 use crate::events::{AMPLE, command_of};
 use crate::lists::{assert_asks, assert_list};
 use mc_model::Limits;
@@ -113,7 +113,7 @@ fn steps_are_events(rt: HostRuntime) -> Result<(), Fail> {
     assert_asks(&rt, alloc, "stop 16", &Action::Event(Event::Stop(16)))
 }
 
-/// The command is read as a client of memcached writes it so.
+/// Asserts that the words of a list mean the command that a memcached client writes as `sent`.
 fn assert_command(rt: &impl Abort, alloc: Global, words: &str, sent: &str) -> Result<(), Fail> {
     let line = format!(in alloc; "submit 3 64 {words}")?;
     let action = Action::Submit(3, 64, command_of(alloc, sent)?);

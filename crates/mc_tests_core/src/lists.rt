@@ -5,7 +5,7 @@ use std::alloc::Global;
 use std::process::Abort;
 use std::test::Fail;
 
-/// The list of this text.
+/// Returns the list of this text.
 pub(crate) fn list_of(alloc: Global, text: &str) -> Result<Schedule, Fail> {
     match read_schedule(alloc, text.as_bytes())? {
         Reading::Schedule(schedule) => Ok(schedule),
@@ -13,7 +13,7 @@ pub(crate) fn list_of(alloc: Global, text: &str) -> Result<Schedule, Fail> {
     }
 }
 
-/// The text reads as a list of these settings, and of items at these lines.
+/// Asserts that the text reads as a list of these settings, and of items at these lines.
 pub(crate) fn assert_list(
     rt: &impl Abort,
     alloc: Global,
@@ -33,7 +33,7 @@ pub(crate) fn assert_list(
     Ok(())
 }
 
-/// The line asks for this.
+/// Asserts that the line asks for this.
 pub(crate) fn assert_asks(
     rt: &impl Abort,
     alloc: Global,
@@ -49,7 +49,7 @@ pub(crate) fn assert_asks(
     Ok(())
 }
 
-/// The bytes are bad at this line.
+/// Asserts that the bytes are bad at this line.
 pub(crate) fn assert_bad(
     rt: &impl Abort,
     alloc: Global,

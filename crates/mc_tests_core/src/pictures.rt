@@ -6,7 +6,7 @@ use std::alloc::Global;
 use std::process::Abort;
 use std::test::Fail;
 
-/// The picture of the list's run.
+/// Returns the picture of the list's run.
 fn picture_of(alloc: Global, list: &str) -> Result<Vec<u8>, Fail> {
     let schedule = list_of(alloc, list)?;
     let settings = Settings::check(schedule.workers, schedule.places, schedule.tenants)?;
@@ -14,7 +14,7 @@ fn picture_of(alloc: Global, list: &str) -> Result<Vec<u8>, Fail> {
     Ok(drawn)
 }
 
-/// The list's run is drawn so, and an empty line after it.
+/// Asserts that the list's run is drawn as this picture, and an empty line after it.
 fn assert_picture(rt: &impl Abort, alloc: Global, list: &str, picture: &str) -> Result<(), Fail> {
     let drawn = picture_of(alloc, list)?;
     let drawn = String::from_utf8(drawn)?;

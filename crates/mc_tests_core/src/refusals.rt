@@ -1,4 +1,5 @@
-//! Every event at every phase that refuses it, by which fault; and that a refused event changes nothing.
+//! Every event in every phase that refuses it, and by which fault; and that a refused event changes
+//! nothing.
 use crate::events::{AMPLE, event_of, events_of, opened, shown_by, stepped};
 use mc_model::Fault;
 use std::alloc::Global;
@@ -6,7 +7,7 @@ use std::process::Abort;
 use std::test::Fail;
 use uc_core::{Core, RunFault};
 
-/// A core of 2 workers and so many places, after these events.
+/// Returns a core of 2 workers and this many places, after these events.
 fn after(alloc: Global, places: u64, before: &str) -> Result<Core, Fail> {
     let mut core = opened(alloc, 2, places, &[AMPLE])?;
     if !before.is_empty() {
@@ -29,7 +30,7 @@ fn assert_refused(
     Ok(())
 }
 
-/// After these events, each of those is refused so.
+/// Asserts that each of the events `refused` is refused by this fault after the events `before`.
 fn assert_all_refused(
     rt: &impl Abort,
     alloc: Global,
@@ -69,7 +70,7 @@ fn a_worker_that_has_looked_proposes(rt: HostRuntime) -> Result<(), Fail> {
     assert_all_refused(&rt, rt.alloc(), 4, looked, refused, Fault::BadEvent)
 }
 
-/// Whatever it was at, and with a place left to replay.
+/// Whatever its phase was, and with a place left to replay.
 #[test]
 fn a_stopped_worker_does_nothing(rt: HostRuntime) -> Result<(), Fail> {
     const ALL: &str = "announce 0 0 get a\r\n/read 0/look 0/propose 0/replay 0/stop 0";
@@ -89,7 +90,7 @@ fn a_worker_that_does_not_exist_does_nothing(rt: HostRuntime) -> Result<(), Fail
     assert_all_refused(&rt, rt.alloc(), 4, "", LAST, Fault::BadEvent)
 }
 
-/// The only place is decided, and learned by both workers; worker 1's command waits.
+/// The only place is decided, and learned by both workers; worker 1's command is pending.
 const FULL: &str = "announce 0 0 set a 0 0 1\r\nx\r\n/read 0/look 0/propose 0/replay 0\
     /announce 1 0 get a\r\n/read 1";
 
@@ -105,7 +106,7 @@ fn a_full_log_is_not_read_and_knows_no_other_tenant(rt: HostRuntime) -> Result<(
     assert_all_refused(&rt, rt.alloc(), 1, FULL, refused, Fault::BadEvent)
 }
 
-/// A run ends at the first event that is refused; the events before it stand.
+/// A run ends at the first event that is refused; the events before it keep their effect.
 #[test]
 fn a_run_ends_at_its_first_fault(rt: HostRuntime) -> Result<(), Fail> {
     let text = "announce 0 0 get a\r\n/read 0/look 0/propose 0/replay 0/replay 0/stop 0";
@@ -124,7 +125,8 @@ fn a_run_ends_at_its_first_fault(rt: HostRuntime) -> Result<(), Fail> {
     Ok(())
 }
 
-/// The only place goes to worker 0; worker 1's command waits, and its look meets the full log.
+/// The only place goes to worker 0; worker 1's command is pending, and it finds the log full when
+/// it looks.
 #[test]
 fn a_run_meets_the_full_log(rt: HostRuntime) -> Result<(), Fail> {
     let text = "announce 0 0 set a 0 0 1\r\nx\r\n/read 0/look 0/propose 0/replay 0\

@@ -7,7 +7,7 @@ use std::process::Abort;
 use std::test::Fail;
 use uc_core::Event;
 
-/// What is left and given where a core of so many workers and places takes these events.
+/// Returns the outcome of these events on a core of this many workers and places.
 fn outcome_of(
     alloc: Global,
     size: (u64, u64),
@@ -36,7 +36,8 @@ fn assert_report(
     Ok(())
 }
 
-/// A worker stops before its command is decided, and another helps it.
+/// Returns the outcome of a run in which a worker stops before its command is decided, and another
+/// helps it.
 fn helped_after_stop(alloc: Global) -> Result<Outcome, Fail> {
     let set = command_of(alloc, "set a 0 0 1\r\nx\r\n")?;
     let get = command_of(alloc, "get a\r\n")?;
@@ -55,7 +56,7 @@ fn helped_after_stop(alloc: Global) -> Result<Outcome, Fail> {
     outcome_of(alloc, (2, 8), &events, None)
 }
 
-/// The events by which a worker alone has its command decided.
+/// Returns the events by which a worker alone gets its command decided.
 fn decided(alloc: Global, command: Command) -> Result<Vec<Event>, Fail> {
     let events = vec![in alloc;
         Event::Announce(0, 0, command),
@@ -105,7 +106,7 @@ fn nothing_has_happened(rt: HostRuntime) -> Result<(), Fail> {
     assert_report(&rt, rt.alloc(), &outcome, false, text)
 }
 
-/// A data block of all bytes that are printed in another way than as they stand, and their neighbours.
+/// Returns a data block of all bytes that aren't printed as they are, and of their neighbours.
 fn odd_data(alloc: Global) -> Result<Data, Fail> {
     let bytes = Vec::from_slice(
         alloc,

@@ -1,12 +1,13 @@
-//! Worked runs, as single events: what is answered, and what the log and its workers show at the end. Each is taken by `step` and
-//! by `run`.
+//! Golden runs, as single events: what is answered, and what the log and its workers show at the
+//! end. Each is taken by `step` and by `run`.
 use crate::events::{AMPLE, opened, ran, shown_by, stepped};
 use mc_model::Limits;
 use std::alloc::Global;
 use std::process::Abort;
 use std::test::Fail;
 
-/// A core of so many workers and places takes these events, answers so and then shows this.
+/// A golden run: a core of this many workers and places takes these events, gives these answers and
+/// shows this at the end.
 #[derive(Clone, Copy)]
 struct Row<'a> {
     size: (u64, u64),
@@ -113,8 +114,8 @@ fn three_workers_two_tenants(rt: HostRuntime) -> Result<(), Fail> {
     assert_row(&rt, rt.alloc(), &row)
 }
 
-/// This log agrees for its tenant with that of `three_workers_two_tenants` for the first of its two, and the replies to the
-/// tenant's commands are the same.
+/// This log agrees for its tenant with that of `three_workers_two_tenants` for the first of its
+/// two, and the replies to the tenant's commands are the same.
 #[test]
 fn agreeing_logs_answer_alike(rt: HostRuntime) -> Result<(), Fail> {
     let row = Row {

@@ -1,8 +1,9 @@
-//! A second opinion on the theorem: every state of a small core, whatever the events, is looked at by plain code that knows none of
-//! the definitions.
+//! A second opinion on the theorem: plain code that knows none of the definitions checks every
+//! reachable state of a small core.
 //!
-//! Two workers share three places. Each move is tried at the end of each way, shorter ways first; a way that leads to a state that was
-//! seen goes no further. So event lists of any length are covered.
+//! Two workers share three places. Each move is tried at the end of each path, shorter paths first;
+//! a path that leads to a state that was seen before goes no further. So event lists of any length
+//! are covered.
 use crate::events::{AMPLE, command_of, opened, view_of};
 use mc_model::{Key, Phase, TenantId, Ticket, WorkerId};
 use mc_write::write_reply;
@@ -17,7 +18,7 @@ const PLACES: u64 = 3;
 /// As many states as `tests/core_states.py` counts, which knows nothing of the core's code.
 const STATES: usize = 48_992;
 
-/// More moves than lead to a state that is new.
+/// More moves than the longest path to a new state has.
 const MOVES: usize = 40;
 
 #[derive(Clone, Copy, PartialEq, Eq)]
@@ -46,13 +47,13 @@ struct Move {
     deed: Deed,
 }
 
-/// What the test remembers of a worker beside what the core shows.
+/// What the test remembers of a worker in addition to what the core shows.
 #[derive(Clone, Copy)]
 struct Notes {
     announced: u64,
-    /// How many places were decided as it announced its latest command.
+    /// How many places were decided when the worker announced its latest command.
     decided_then: u64,
-    /// How many commands the worker at whom it has looked had announced.
+    /// How many commands the worker whose turn it was had announced when this one looked.
     looked_at: u64,
 }
 
@@ -62,7 +63,7 @@ const NONE: Notes = Notes {
     looked_at: 0,
 };
 
-/// A way of moves from the opening, and the notes at its end.
+/// A path of moves from the opening, and the notes at its end.
 #[derive(Drop)]
 struct Way {
     moves: Vec<Move>,
@@ -75,7 +76,7 @@ impl Way {
         if worker == 0 { self.first } else { self.second }
     }
 
-    /// The way with one more move, and what is noted of its worker.
+    /// Returns the path with one more move, and the new notes of its worker.
     fn longer(&self, alloc: Global, made: Move, notes: Notes) -> Result<Way, Fail> {
         let mut moves = Vec::from_slice(alloc, &self.moves)?;
         moves.push(made)?;
@@ -88,8 +89,8 @@ impl Way {
     }
 }
 
-/// A client's text of the worker's command of this number: worker 0 sets a key to a digit, worker 1 asks for it and takes it out by
-/// turns.
+/// Returns the text of the worker's command of this number, as a client writes it: worker 0 sets a
+/// key to a digit, worker 1 gets and deletes it by turns.
 fn text_of(alloc: Global, worker: u8, number: u64) -> Result<String, Fail> {
     let digit = number % 10;
     let text = if worker == 0 {
@@ -110,7 +111,7 @@ struct Plain {
 }
 
 impl Plain {
-    /// Does what a ticket's command says.
+    /// Takes the effect of a ticket's command.
     fn take(&mut self, ticket: &Ticket) {
         if ticket.worker.number() == 0 {
             self.changes = self.changes.wrapping_add(1);
@@ -120,7 +121,7 @@ impl Plain {
         }
     }
 
-    /// What a ticket's command is answered.
+    /// Returns the answer to a ticket's command.
     fn answer(&self, alloc: Global, ticket: &Ticket) -> Result<String, Fail> {
         let gets = ticket.number % 2 == 0;
         let text = match self.held {
@@ -136,7 +137,7 @@ impl Plain {
     }
 }
 
-/// What the command at a place is answered after all commands before it.
+/// Returns the answer to the command at a place, after all commands before it.
 fn answer_at(alloc: Global, decided: &[Ticket], place: usize) -> Result<String, Fail> {
     let mut plain = Plain {
         held: None,
@@ -149,7 +150,7 @@ fn answer_at(alloc: Global, decided: &[Ticket], place: usize) -> Result<String, 
     plain.answer(alloc, ticket)
 }
 
-/// The event of a move by a worker that has announced so many commands.
+/// Returns the event of a move by a worker that has announced this many commands.
 fn event_for(alloc: Global, announced: u64, made: Move) -> Result<Event, Fail> {
     let worker = made.worker;
     Ok(match made.deed {
@@ -165,7 +166,7 @@ fn event_for(alloc: Global, announced: u64, made: Move) -> Result<Event, Fail> {
     })
 }
 
-/// How many commands of its worker are announced by these moves.
+/// Returns how many commands of the worker these moves announce.
 fn announced_in(moves: &[Move], worker: u8) -> u64 {
     moves
         .iter()
@@ -173,7 +174,7 @@ fn announced_in(moves: &[Move], worker: u8) -> u64 {
         .count() as u64
 }
 
-/// A core that has taken these moves.
+/// Returns a core that has taken these moves.
 fn core_after(alloc: Global, moves: &[Move]) -> Result<Core, Fail> {
     let mut core = opened(alloc, 2, PLACES, &[AMPLE])?;
     let mut events = Vec::new(alloc);
@@ -188,7 +189,8 @@ fn core_after(alloc: Global, moves: &[Move]) -> Result<Core, Fail> {
     }
 }
 
-/// What is to be answered to a move: at a replay of the worker's own command its answer, else nothing.
+/// Returns the expected answer to a move: at a replay of the worker's own command its answer,
+/// otherwise nothing.
 fn wanted(alloc: Global, core: &Core, made: Move) -> Result<String, Fail> {
     let place = view_of(core, made.worker)?.replayed as usize;
     match core.decided().get(place) {
@@ -199,7 +201,7 @@ fn wanted(alloc: Global, core: &Core, made: Move) -> Result<String, Fail> {
     }
 }
 
-/// What is answered to an event, as a client reads it.
+/// Returns what is answered to an event, as a client reads it.
 fn answered(alloc: Global, core: &mut Core, event: Event) -> Result<Vec<u8>, Fail> {
     let mut bytes = Vec::new(alloc);
     if let Some(reply) = core.step(event)? {
@@ -208,12 +210,13 @@ fn answered(alloc: Global, core: &mut Core, event: Event) -> Result<Vec<u8>, Fai
     Ok(bytes)
 }
 
-/// Whose turn it is at a worker's next place, as a remainder.
+/// Returns whose turn it is at a worker's next place, as a remainder.
 fn turn_of(core: &Core, worker: u8) -> Result<u64, Fail> {
     Ok(view_of(core, worker)?.learned % 2)
 }
 
-/// The notes of a worker after its move, at this turn and with so many places decided before it.
+/// Returns the notes of a worker after its move, made at this turn and with this many places
+/// decided before it.
 fn noted(way: &Way, made: Move, turn: u64, decided: u64) -> Notes {
     let helped = if turn == 0 { way.first } else { way.second };
     let mut notes = way.notes(made.worker);
@@ -229,7 +232,8 @@ fn noted(way: &Way, made: Move, turn: u64, decided: u64) -> Notes {
     notes
 }
 
-/// No ticket stands twice or before an earlier one of its worker, and each was announced.
+/// Asserts that no ticket stands twice or before an earlier one of its worker, and that each was
+/// announced.
 fn assert_sound(rt: &impl Abort, way: &Way, core: &Core) {
     let decided = core.decided();
     for (place, ticket) in decided.iter().enumerate() {
@@ -243,7 +247,7 @@ fn assert_sound(rt: &impl Abort, way: &Way, core: &Core) {
     }
 }
 
-/// A worker's latest command stands among the places that it must stand at by now.
+/// Asserts that a worker's latest command stands among the places where it must stand by now.
 fn assert_helped(rt: &impl Abort, way: &Way, core: &Core, worker: u8) {
     let notes = way.notes(worker);
     let soon = notes.decided_then.wrapping_add(3);
@@ -256,7 +260,7 @@ fn assert_helped(rt: &impl Abort, way: &Way, core: &Core, worker: u8) {
     }
 }
 
-/// A worker hasn't proposed too often, and knows no more than there is.
+/// Asserts that a worker hasn't proposed too often, and has learned no more than there is.
 fn assert_bounds(rt: &impl Abort, core: &Core, worker: u8) -> Result<(), Fail> {
     let view = view_of(core, worker)?;
     assert!(rt; view.proposals <= 3);
@@ -265,7 +269,7 @@ fn assert_bounds(rt: &impl Abort, core: &Core, worker: u8) -> Result<(), Fail> {
     Ok(())
 }
 
-/// The key's digit and unique in a worker's table.
+/// Returns the key's digit and unique in a worker's table.
 fn held_by(alloc: Global, core: &Core, worker: u8) -> Result<Option<(Vec<u8>, u64)>, Fail> {
     let (worker, tenant) = (WorkerId::new(worker), TenantId::new(0));
     let (worker, tenant) = (worker.ok_or("no worker")?, tenant.ok_or("no tenant")?);
@@ -280,7 +284,7 @@ fn held_by(alloc: Global, core: &Core, worker: u8) -> Result<Option<(Vec<u8>, u6
     }
 }
 
-/// Two workers that have replayed as many places hold the same.
+/// Asserts that two workers that have replayed equally many places hold the same.
 fn assert_agree(rt: &impl Abort, alloc: Global, core: &Core) -> Result<(), Fail> {
     if view_of(core, 0)?.replayed == view_of(core, 1)?.replayed {
         assert!(rt; held_by(alloc, core, 0)? == held_by(alloc, core, 1)?);
@@ -306,7 +310,7 @@ fn phase_code(phase: Phase) -> u64 {
     }
 }
 
-/// Where a worker is.
+/// Appends what the core shows of a worker.
 fn push_worker(key: &mut Vec<u64>, core: &Core, worker: u8) -> Result<(), Fail> {
     let view = view_of(core, worker)?;
     key.push(phase_code(view.phase))?;
@@ -327,7 +331,7 @@ fn push_ticket(key: &mut Vec<u64>, ticket: &Ticket) -> Result<(), Fail> {
     Ok(())
 }
 
-/// A state as numbers: two states are the same exactly where these are.
+/// Returns a state as numbers: two states are equal exactly if their numbers are.
 fn key_of(alloc: Global, way: &Way, core: &Core) -> Result<Vec<u64>, Fail> {
     let mut key = Vec::new(alloc);
     push_worker(&mut key, core, 0)?;
@@ -340,7 +344,8 @@ fn key_of(alloc: Global, way: &Way, core: &Core) -> Result<Vec<u64>, Fail> {
     Ok(key)
 }
 
-/// The way with one more move, where the core takes it and it leads to a state that wasn't seen.
+/// Returns the path with one more move, if the core takes it and it leads to a state that wasn't
+/// seen before.
 fn longer(
     rt: &impl Abort,
     alloc: Global,
@@ -364,7 +369,7 @@ fn longer(
     Ok(if is_new { Some(longer) } else { None })
 }
 
-/// Tries each move at the end of a way.
+/// Tries each move at the end of a path.
 fn try_moves(
     rt: &impl Abort,
     alloc: Global,
@@ -382,7 +387,8 @@ fn try_moves(
     Ok(ways)
 }
 
-/// All ways that are one move longer than these and lead to states that weren't seen.
+/// Returns all paths that are one move longer than these and lead to states that weren't seen
+/// before.
 fn all_longer(
     rt: &impl Abort,
     alloc: Global,

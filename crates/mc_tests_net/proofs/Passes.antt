@@ -1,4 +1,4 @@
--- Passes that were never used.
+-- Unused passes.
 use Rattle.std.proofs.Common.{◌≡◌, ℕ, List, [], Some, All, ap, slice_get}
 use Rattle.std.proofs.lemmas.Option.{slice_get-get_or}
 use Rattle.mc_model.specs.declared.shown.Phase.TheVariants.{Idle}
@@ -7,7 +7,7 @@ use Rattle.uc_log.specs.declared.pass.Pass.{Pass}
 use Rattle.uc_log.specs.Passes.{IsNew, IsOf, learned, state}
 use Rattle.uc_places.specs.declared.view.View.{View}
 
--- the pass is of the log, and its worker has done nothing
+-- the pass belongs to the log, and its worker has done nothing
 pub record IsFresh (log : Log) (pass : Pass) : Type 0 where
   pub of : IsOf log pass
   pub idle : (state pass).phase ≡ Idle

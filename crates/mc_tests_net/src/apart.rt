@@ -1,4 +1,5 @@
-//! Tenants over sockets: each has a table of its own, and a client is the tenant's at whose listener it connected.
+//! Isolation of tenants over sockets: each has its own table, and a client belongs to the tenant at
+//! whose listener it connected.
 use crate::clients::Act;
 use crate::visits::{Outcome, Visit, outcome_of};
 use mc_model::Limits;
@@ -14,8 +15,9 @@ const SAME_KEY: [Act<'static>; 6] = [
     Act::Finish(1, b"END\r\nSTORED\r\nVALUE a 0 1 1\r\ny\r\nEND\r\n"),
 ];
 
-/// At each of three listeners one client sets three keys, and another, at another worker, reads the first. All are there before any
-/// has sent a block, and what is stored tells by the quotas whose client each is.
+/// At each of three listeners one client sets three keys, and another, served by another worker,
+/// reads the first. All have connected before any has sent a block, and the quotas show by what is
+/// stored whose client each is.
 const CROSSED: [Act<'static>; 21] = [
     Act::Connect(0),
     Act::Connect(1),
@@ -46,12 +48,12 @@ const CROSSED: [Act<'static>; 21] = [
     Act::Finish(5, b"VALUE a 0 1\r\nz\r\nEND\r\n"),
 ];
 
-/// Quotas of so many items.
+/// Returns quotas of this many items.
 fn items(items: u64) -> Limits {
     Limits { items, bytes: 100 }
 }
 
-/// How many of the entries are this tenant's.
+/// Returns how many of the entries are this tenant's.
 fn count_of(tenants: &[u8], tenant: u8) -> usize {
     tenants.iter().filter(|other| **other == tenant).count()
 }

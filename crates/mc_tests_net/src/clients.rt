@@ -1,4 +1,4 @@
-//! Clients over sockets, who do one thing after another.
+//! Clients over sockets that act one after another.
 use crate::signals::Signals;
 use std::alloc::Global;
 use std::io;
@@ -6,30 +6,30 @@ use std::io::{ErrorKind, Read, Write};
 use std::net::{Net, SocketAddr, TcpListener, TcpStream};
 use std::time::Duration;
 
-/// How long a client waits for bytes before they are given up, in seconds.
+/// How long a client waits for bytes before the test gives up on them, in seconds.
 const SECONDS: u64 = 20;
 
 /// How long a client waits until it is sure that nothing more is taken, in milliseconds.
 const TAKEN_MILLIS: u64 = 100;
 
-/// What a client does. They are numbered as they connect.
+/// What a client does. Clients are numbered as they connect.
 #[derive(Clone, Copy)]
 pub(crate) enum Act<'a> {
-    /// One more connects at the listener of this number.
+    /// One more client connects at the listener of this number.
     Connect(usize),
-    /// One sends this.
+    /// The client of this number sends this.
     Send(usize, &'a [u8]),
-    /// One sends this again and again, and reads nothing, until nothing more is taken.
+    /// The client sends this again and again, and reads nothing, until nothing more is taken.
     Flood(usize, &'a [u8]),
-    /// One reads this.
+    /// The client reads this.
     Read(usize, &'a [u8]),
-    /// One reads this, and then the end.
+    /// The client reads this, and then the end.
     Finish(usize, &'a [u8]),
-    /// One leaves. Where it hasn't read all that came, its connection is reset.
+    /// The client leaves. If it hasn't read all that came, its connection is reset.
     Leave(usize),
     /// All wait until a worker is held.
     AwaitHeld,
-    /// The worker, which must have been held until now, may go on.
+    /// The worker, which must have been held until now, is let go.
     Free,
 }
 
@@ -78,7 +78,7 @@ impl Crowd<'_> {
         Ok(())
     }
 
-    /// The client of this number, if it is there.
+    /// Returns the client of this number, if it is there.
     fn client(&mut self, number: usize) -> io::Result<&mut TcpStream> {
         match self.clients.get_mut(number) {
             Some(Some(client)) => Ok(client),
@@ -86,14 +86,14 @@ impl Crowd<'_> {
         }
     }
 
-    /// Reads as many bytes as these are, which must be these.
+    /// Reads as many bytes as these, and fails unless they are these.
     fn read(&mut self, number: usize, want: &[u8]) -> io::Result<()> {
         let mut bytes = vec![in self.alloc; 0u8; want.len()]?;
         self.client(number)?.read_exact(&mut bytes)?;
         demand(bytes.as_slice() == want)
     }
 
-    /// Reads to the end, which must be these bytes.
+    /// Reads to the end, and fails unless the bytes are these.
     fn finish(&mut self, number: usize, want: &[u8]) -> io::Result<()> {
         let mut bytes = Vec::new(self.alloc);
         self.client(number)?.read_to_end(&mut bytes)?;
@@ -126,8 +126,9 @@ impl Crowd<'_> {
     }
 }
 
-/// Does these acts at the listeners with these addresses. Says which failed first, if any did; after it connections alone are made, so that
-/// as many come as are to be served.
+/// Does these acts at the listeners with these addresses. Returns which failed first, if any did.
+///
+/// After a failure clients only connect, so that as many come as are to be served.
 pub(crate) fn first_failure<R: Net<Listener = TcpListener, Stream = TcpStream>>(
     rt: &R,
     alloc: Global,

@@ -3,7 +3,8 @@ use crate::clients::Act;
 use crate::visits::{Outcome, QUOTAS, Visit, outcome_of};
 use std::test::Fail;
 
-/// The first client's worker is held after it has announced the client's command, until the second client has all its replies.
+/// The first client's worker is held after it has announced the client's command, until the second
+/// client has all its replies.
 const ACTS: [Act<'static>; 8] = [
     Act::Connect(0),
     Act::Send(0, b"set a 0 0 1\r\nx\r\nquit\r\n"),

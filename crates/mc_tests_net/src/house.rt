@@ -28,7 +28,7 @@ pub(crate) struct House {
 }
 
 impl House {
-    /// A house of tenants with these quotas and no listener.
+    /// Returns a house of tenants with these quotas and no listener.
     pub(crate) fn new(alloc: Global, quotas: &[Limits]) -> Result<House, AllocError> {
         Ok(House {
             quotas: Vec::from_slice(alloc, quotas)?,
@@ -36,7 +36,8 @@ impl House {
         })
     }
 
-    /// Listens for the tenant of this number, if there is one, at a free port, and says at which address.
+    /// Listens for the tenant of this number, if there is one, at a free port, and returns its
+    /// address.
     pub(crate) fn listen<R: Net>(&mut self, rt: &R, number: u8) -> io::Result<SocketAddr> {
         let tenant = match TenantId::new(number) {
             Some(tenant) if usize::from(number) < self.quotas.len() => tenant,
@@ -50,7 +51,7 @@ impl House {
     }
 }
 
-/// A worker for each pass of the log.
+/// Opens a worker for each pass of the log.
 fn open_workers<'a>(
     alloc: Global,
     log: &'a Log,
@@ -66,14 +67,16 @@ fn open_workers<'a>(
     Ok(workers)
 }
 
-/// Whether both histories are equal, place by place.
+/// Returns whether both histories are equal, place by place.
 fn are_equal(ones: &[Seen<'_>], others: &[Seen<'_>]) -> bool {
     ones.len() == others.len()
         && ones.iter().zip(others).all(|(one, other)| one.ticket() == other.ticket()
             && one.entry() == other.entry())
 }
 
-/// Has a worker meet the others, each of whom must have its history then.
+/// Has a worker meet the others.
+///
+/// Returns `BadEvent` if one of them has another history afterwards.
 fn meet_others<'a>(one: &mut Worker<'a>, others: Vec<Worker<'a>>) -> Result<(), Fault>
     requires { All (λ worker. worker.log.now ≡ one.old.log.now) others.items }
 {
@@ -87,7 +90,7 @@ fn meet_others<'a>(one: &mut Worker<'a>, others: Vec<Worker<'a>>) -> Result<(), 
     Ok(())
 }
 
-/// Has the workers meet, and gives the number of each entry's tenant, in the log's order.
+/// Has the workers meet, and returns the number of each entry's tenant, in the log's order.
 fn tenants_of_all<'a>(
     alloc: Global,
     log: &'a Log,
@@ -107,7 +110,8 @@ fn tenants_of_all<'a>(
     Ok(tenants)
 }
 
-/// Serves so many connections by as many workers as there are gates, and gives the number of each entry's tenant, in the log's order.
+/// Serves `connections` connections by as many workers as there are gates, and returns the number
+/// of each entry's tenant, in the log's order.
 pub(crate) fn served<R: Threads + Wait + Net + Sync>(
     rt: &R,
     alloc: Global,

@@ -1,10 +1,12 @@
-//! Clients over sockets that leave, never read or reset their connection, beside one that the same worker serves to the end.
+//! Clients over sockets that leave, never read or reset their connection, next to one that the same
+//! worker serves to the end.
 use crate::clients::Act;
 use crate::visits::{Outcome, QUOTAS, Visit, outcome_of};
 use std::alloc::{AllocError, Global};
 use std::test::Fail;
 
-/// Two clients leave in the middle of a block: one at once, and one after another client has been answered.
+/// Two clients leave in the middle of a block: one at once, and one after another client has been
+/// answered.
 const HALF: [Act<'static>; 11] = [
     Act::Connect(0),
     Act::Send(0, b"set a 0 0 10\r\nabc"),
@@ -19,7 +21,7 @@ const HALF: [Act<'static>; 11] = [
     Act::Finish(2, b"VALUE a 5 3\r\nabc\r\nEND\r\n"),
 ];
 
-/// A set of a large block, of 100,000 bytes.
+/// Returns a set of a large block, of 100,000 bytes.
 fn large_set(alloc: Global) -> Result<Vec<u8>, AllocError> {
     let mut bytes = Vec::from_slice(alloc, b"set k 0 0 100000\r\n")?;
     for _ in 0..100u8 {

@@ -1,5 +1,6 @@
-//! Tests of the network over what its crate makes public: listeners that the test knows, at places that it can look into, and clients over
-//! sockets on loopback. They stand above the crate that they test, since a crate with tests is proved twice.
+//! Tests of the network through what its crate makes public: listeners and mailboxes that are test
+//! doubles, and clients over sockets on loopback. They are in a crate above the one that they test,
+//! since a crate with tests is proved twice.
 #![tactic(auto)]
 
 #[cfg(test)]

@@ -1,4 +1,4 @@
-//! Streams of listeners that the test knows, at places that it can look into.
+//! Streams of listeners that are test doubles, at mailboxes that the test can look into.
 ghost use Rattle.std.specs.Prelude.{◌≡◌, ⊤, IfOk, OnOk};
 
 use mc_model::TenantId;

@@ -1,23 +1,23 @@
-//! A gate that holds its worker, and what it and the clients tell each other.
+//! A gate that holds its worker, and the signals between it and the clients.
 use std::sync::atomic::{AtomicBool, Ordering};
 use std::thread;
 use uc_worker::{Gate, Step};
 
-/// How often a signal is looked at before it is given up.
+/// How often a signal is loaded before the test gives up on it.
 const LOOKS: u32 = 30_000_000;
 
-/// What a gate that holds its worker tells the clients, and they tell it.
+/// The signals between a gate that holds its worker and the clients.
 #[derive(Drop)]
 pub(crate) struct Signals {
     /// The worker is held.
     held: AtomicBool,
-    /// It may go on.
+    /// The worker may go on.
     freed: AtomicBool,
-    /// It went on before it might.
+    /// The worker went on before it was let go.
     strayed: AtomicBool,
 }
 
-/// Whether the signal comes.
+/// Returns whether the signal comes.
 fn comes(signal: &AtomicBool) -> bool {
     for _ in 0..LOOKS {
         if signal.load(Ordering::SeqCst) {
@@ -37,26 +37,27 @@ impl Signals {
         }
     }
 
-    /// Holds the worker that calls, once, until it may go on.
+    /// Holds the calling worker, once, until it is let go.
     fn hold(&self) {
         if !self.held.swap(true, Ordering::SeqCst) && !comes(&self.freed) {
             self.strayed.store(true, Ordering::SeqCst);
         }
     }
 
-    /// Whether the worker comes to be held.
+    /// Returns whether the worker comes to be held.
     pub(crate) fn holds(&self) -> bool {
         comes(&self.held)
     }
 
-    /// Lets the worker go on. Says whether it was held until now.
+    /// Lets the worker go on. Returns whether it was held until now.
     pub(crate) fn free(&self) -> bool {
         self.freed.store(true, Ordering::SeqCst);
         self.held.load(Ordering::SeqCst) && !self.strayed.load(Ordering::SeqCst)
     }
 }
 
-/// Holds its worker directly after its first announcement where there are signals for it, and else nobody.
+/// Holds its worker directly after its first announcement if there are signals for it, and nobody
+/// otherwise.
 #[derive(Drop)]
 pub(crate) struct Holding<'a> {
     pub(crate) signals: Option<&'a Signals>,

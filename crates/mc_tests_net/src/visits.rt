@@ -1,4 +1,4 @@
-//! Clients beside the workers that serve them.
+//! Clients and the workers that serve them.
 use crate::clients::{Act, first_failure};
 use crate::house::{House, served};
 use crate::signals::{Holding, Signals};
@@ -19,13 +19,13 @@ pub(crate) const QUOTAS: Limits = Limits {
 #[derive(Clone, Copy)]
 pub(crate) struct Visit<'a> {
     pub(crate) quotas: &'a [Limits],
-    /// Whose each listener is.
+    /// Which tenant each listener belongs to.
     pub(crate) listeners: &'a [u8],
     pub(crate) workers: usize,
     pub(crate) acts: &'a [Act<'a>],
 }
 
-/// What came of a visit.
+/// The outcome of a visit.
 #[derive(Drop)]
 pub(crate) struct Outcome {
     /// Which act failed first, if any did.
@@ -34,7 +34,8 @@ pub(crate) struct Outcome {
     pub(crate) tenants: Result<Vec<u8>, Fault>,
 }
 
-/// The first gate holds its worker by these signals, where it is to, and all others nobody.
+/// Returns gates of which the first holds its worker by these signals, if there are any, and all
+/// others hold nobody.
 fn gates_of<'a>(
     alloc: Global,
     count: usize,
@@ -48,7 +49,7 @@ fn gates_of<'a>(
     Ok(gates)
 }
 
-/// The house of a visit, and at which address each listener is.
+/// Returns the house of a visit, and the address of each listener.
 fn opened<R: Net>(rt: &R, alloc: Global, visit: Visit) -> io::Result<(House, Vec<SocketAddr>)> {
     let mut house = House::new(alloc, visit.quotas)?;
     let mut addresses = Vec::new(alloc);
@@ -58,7 +59,7 @@ fn opened<R: Net>(rt: &R, alloc: Global, visit: Visit) -> io::Result<(House, Vec
     Ok((house, addresses))
 }
 
-/// Serves the clients while they act. The first worker is held by the signals where it is to be.
+/// Serves the clients while they act. The first worker is held by the signals if it is to be.
 pub(crate) fn outcome_of<R>(
     rt: &R,
     alloc: Global,

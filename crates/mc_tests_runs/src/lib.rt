@@ -1,5 +1,6 @@
-//! Tests of the reader, of the serving loop and of whole runs of mc_stdin and mc_schedule, over what their crates make public. They stand
-//! in a crate of their own, since a crate with tests is proved twice.
+//! Tests of the reader, of the serving loop and of whole runs of mc_stdin and mc_schedule, through
+//! what their crates make public. They are in a crate of their own, since a crate with tests is
+//! proved twice.
 #![tactic(auto)]
 
 #[cfg(test)]

@@ -1,4 +1,4 @@
-//! Whole runs of programs: their words, what comes in, and what goes out.
+//! Whole runs of programs: their command line, what comes in, and what goes out.
 use crate::runs::{demand, input_of, output_of};
 use mc_programs::{InputStep, MemoryInput, MemoryOutput, OutputStep, run_schedule, run_stdin};
 use std::alloc::{AllocError, Global};
@@ -34,7 +34,7 @@ struct Streams {
     errors: MemoryOutput,
 }
 
-/// What a run has to leave.
+/// What a run must leave.
 #[derive(Clone, Copy)]
 pub struct Wanted<'a> {
     pub status: u8,
@@ -47,7 +47,7 @@ fn push_word(words: &mut Vec<String>, word: &str) -> Result<(), AllocError> {
     Ok(())
 }
 
-/// The words of a command line, of which these are given with a space between them.
+/// Returns the words of a command line; the given ones have a space between them.
 pub fn words_of(alloc: Global, given: &str) -> Result<Vec<String>, AllocError> {
     let mut words = Vec::new(alloc);
     for word in given.split_terminator(' ') {
@@ -82,14 +82,14 @@ fn run<R: Wait>(
     }
 }
 
-/// Whether the run left what it has to.
+/// Returns whether the run left what it must.
 fn has_left(wanted: Wanted, status: u8, streams: &Streams) -> bool {
     status == wanted.status
         && streams.output.as_bytes() == wanted.output
         && streams.errors.as_bytes() == wanted.errors
 }
 
-/// A run by these words.
+/// Runs the program with these words.
 fn run_given<R: Wait + AllocGlobal>(
     rt: &R,
     program: Program,
@@ -100,7 +100,7 @@ fn run_given<R: Wait + AllocGlobal>(
     Ok(run(rt, rt.alloc(), program, words, streams))
 }
 
-/// A run of the program by these words and steps leaves what it has to.
+/// Asserts that a run of the program with these words and steps leaves what it must.
 pub fn check_run(
     rt: &(impl AllocGlobal + Wait + Abort),
     program: Program,

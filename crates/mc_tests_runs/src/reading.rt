@@ -1,4 +1,5 @@
-//! The requests of worked rows and of further streams: each is read whole, byte by byte, and cut in two at every place.
+//! The requests of golden and further streams: each is read whole, byte by byte, and cut in two at
+//! every place.
 ghost use Rattle.std.specs.Prelude.{◌<◌};
 
 use crate::runs::{columns, joined};
@@ -9,34 +10,35 @@ use mc_write::refusal_text;
 use std::process::Abort;
 use std::test::Fail;
 
-/// What follows a word.
+/// Returns what follows a word.
 fn after<'a>(text: &'a [u8], word: &[u8]) -> Option<&'a [u8]> {
     text.strip_prefix(word)
 }
 
-/// What follows a space and a word.
+/// Returns what follows a space and a word.
 fn after_word<'a>(text: &'a [u8], word: &[u8]) -> Option<&'a [u8]> {
     after(after(text, b" ")?, word)
 }
 
-/// What follows a space and a number. Takes no memory, so that no failing allocation falls in here; nor does the like below.
+/// Returns what follows a space and a number. Needs no memory, so that no failing allocation falls
+/// in here; nor do the functions like it below.
 fn after_number<'a>(text: &'a [u8], number: u64) -> Option<&'a [u8]> {
     let mut buffer = Buffer::new();
     after_word(text, buffer.format(number).as_bytes())
 }
 
-/// What follows a key and a number.
+/// Returns what follows a key and a number.
 fn after_key_number<'a>(text: &'a [u8], key: &Key, number: u64) -> Option<&'a [u8]> {
     after_number(after_word(text, key.as_bytes())?, number)
 }
 
-/// What follows a key, flags and a block.
+/// Returns what follows a key, flags and a block.
 fn after_item<'a>(text: &'a [u8], key: &Key, flags: u32, block: &Data) -> Option<&'a [u8]> {
     let text = after_key_number(text, key, u64::from(flags))?;
     after_word(text, block.as_bytes())
 }
 
-/// What follows keys.
+/// Returns what follows keys.
 fn after_keys<'a>(text: &'a [u8], keys: &[Key]) -> Option<&'a [u8]> {
     let mut text = text;
     for key in keys {
@@ -116,7 +118,8 @@ fn after_decr<'a>(text: &'a [u8], command: &Command) -> Option<&'a [u8]> {
     }
 }
 
-/// What follows a command: its name, and of a cas its unique, then its key or keys, its number or flags, and its block.
+/// Returns what follows a command: its name, for a cas its unique, then its key or keys, its number
+/// or flags, and its block.
 fn after_command<'a>(text: &'a [u8], command: &Command) -> Option<&'a [u8]> {
     match command {
         Command::Store { .. } => after_store(text, command),
@@ -137,7 +140,7 @@ fn after_reply<'a>(text: &'a [u8], reply: &Reply) -> Option<&'a [u8]> {
     }
 }
 
-/// What follows the word of a quiet request.
+/// Returns what follows the word of a quiet request.
 fn after_quiet<'a>(text: &'a [u8], quiet: bool) -> Option<&'a [u8]> {
     if quiet {
         after(text, b"quiet ")
@@ -146,7 +149,7 @@ fn after_quiet<'a>(text: &'a [u8], quiet: bool) -> Option<&'a [u8]> {
     }
 }
 
-/// What follows a request in a text of those that are wanted, where it is the one that is wanted next.
+/// Returns what follows a request in a text of the expected ones, if it is the next one expected.
 fn after_request<'a>(text: &'a [u8], request: &Request) -> Option<&'a [u8]> {
     match request {
         Request::Logged { command, quiet } => {
@@ -163,7 +166,7 @@ fn after_request<'a>(text: &'a [u8], request: &Request) -> Option<&'a [u8]> {
 struct Reading<'a> {
     reader: Reader,
     text: &'a [u8],
-    /// Whether no other request has come.
+    /// Whether no unexpected request has come.
     agrees: bool,
 }
 
@@ -175,7 +178,7 @@ fn next_once(reader: &mut Reader) -> Result<Option<Request>, Fault> {
     reader.next()
 }
 
-/// Feeds a piece, once more where that fails.
+/// Feeds a piece, and feeds it once more if that fails.
 fn feed(reader: &mut Reader, piece: &[u8]) -> Result<(), Fault> {
     match feed_once(reader, piece) {
         Ok(()) => Ok(()),
@@ -200,7 +203,7 @@ impl<'a> Reading<'a> {
         }
     }
 
-    /// Asks for the next request, once only. Whether there is one.
+    /// Asks for the next request, without a second try. Returns whether there is one.
     fn see_once(&mut self) -> Result<bool, Fault> {
         match next_once(&mut self.reader)? {
             Some(request) => {
@@ -211,7 +214,7 @@ impl<'a> Reading<'a> {
         }
     }
 
-    /// As `see_once`, once more where that fails.
+    /// Does as `see_once`, and tries once more if that fails.
     fn see_next(&mut self) -> Result<bool, Fault> {
         match self.see_once() {
             Ok(is_there) => Ok(is_there),
@@ -235,13 +238,13 @@ impl<'a> Reading<'a> {
         self.see_all()
     }
 
-    /// Whether all that were wanted have come, and no other.
+    /// Returns whether all expected requests have come, and no others.
     fn is_done(&self) -> bool {
         self.agrees && self.text.is_empty()
     }
 }
 
-/// A stream under its name, and a text of the requests that it reads as.
+/// A named stream, and a text of the requests that it reads as.
 #[derive(Clone, Copy)]
 struct Case<'a> {
     name: &'a str,
@@ -261,7 +264,7 @@ fn read_pieces(reading: &mut Reading, sent: &[u8], first: usize, size: usize) ->
     Ok(())
 }
 
-/// Whether the stream in such pieces reads as the requests of its case.
+/// Returns whether the stream in pieces like these reads as the requests of its case.
 fn reads_in_pieces(
     rt: &impl AllocGlobal,
     case: Case,
@@ -275,7 +278,7 @@ fn reads_in_pieces(
     Ok(reading.is_done())
 }
 
-/// The stream in such pieces reads as the requests of its case.
+/// Asserts that the stream in pieces like these reads as the requests of its case.
 fn check_pieces(
     rt: &(impl AllocGlobal + Abort),
     case: Case,
@@ -289,7 +292,8 @@ fn check_pieces(
     Ok(())
 }
 
-/// The stream reads as the requests of the case, cut in two at each place from one to another.
+/// Asserts that the stream, cut in two at each place of this range, reads as the requests of the
+/// case.
 fn check_cuts(
     rt: &(impl AllocGlobal + Abort),
     case: Case,
@@ -302,7 +306,8 @@ fn check_cuts(
     Ok(())
 }
 
-/// The stream reads as these requests, byte by byte, and cut in two at every place, its end among them.
+/// Asserts that the stream reads as these requests, byte by byte, and cut in two at every place,
+/// its end included.
 fn check(
     rt: &(impl AllocGlobal + Abort),
     name: &str,
@@ -314,13 +319,13 @@ fn check(
     check_cuts(rt, case, 0, sent.len())
 }
 
-/// As `check`, of a row: a name, a stream and its requests, with `|` between them.
+/// Does as `check` for a row: a name, a stream and its requests, with `|` between them.
 fn check_row(rt: &(impl AllocGlobal + Abort), row: &str) -> Result<(), Fault> {
     let (name, sent, wanted) = columns(row);
     check(rt, name, sent.as_bytes(), wanted.as_bytes())
 }
 
-/// As `check_row`, of each row, with `~` between them.
+/// Does as `check_row` for each row, with `~` between them.
 fn check_rows(rt: &(impl AllocGlobal + Abort), rows: &str) -> Result<(), Fault> {
     for row in rows.split('~') {
         check_row(rt, row)?;
@@ -400,7 +405,8 @@ fn worked_rows_of_changes(rt: HostRuntime) -> Result<(), Fail> {
     Ok(())
 }
 
-/// The programs of these rows are given quotas, places or generations; the reader reads their input as any other.
+/// The programs of these rows are given quotas, places or generations; the reader reads their input
+/// like any other.
 #[test]
 fn worked_rows_with_options(rt: HostRuntime) -> Result<(), Fail> {
     check_rows(
@@ -550,8 +556,8 @@ fn longest_line(rt: HostRuntime) -> Result<(), Fail> {
     Ok(())
 }
 
-/// To cut two million bytes in two at each place would take 13 minutes. So each place is a cut of one of 64 readings, which have
-/// one at each 64th place.
+/// Cuts the stream at each 64th place, with each of the 64 first cuts: each place is a cut of one
+/// of these readings. To cut two million bytes in two at each place would take 13 minutes.
 fn check_sixty_fourths(rt: &(impl AllocGlobal + Abort), case: Case) -> Result<(), Fault> {
     for first in 1..=64 {
         check_pieces(rt, case, first, 64)?;
@@ -566,14 +572,15 @@ fn check_thousands(rt: &(impl AllocGlobal + Abort), case: Case) -> Result<(), Fa
     Ok(())
 }
 
-/// Cut in two round the ends of the blocks of `object_too_large`.
+/// Cuts the stream in two around the ends of the blocks of `object_too_large`.
 fn check_block_ends(rt: &(impl AllocGlobal + Abort), case: Case) -> Result<(), Fault> {
     check_cuts(rt, case, 0, 24)?;
     check_cuts(rt, case, 1_048_592, 1_048_620)?;
     check_cuts(rt, case, 2_097_190, 2_097_214)
 }
 
-/// A stream of two million bytes: byte by byte, with a cut at each place, and cut in two at some of them.
+/// Checks a stream of two million bytes: byte by byte, with a cut at each place, and cut in two at
+/// some of them.
 fn check_long(
     rt: &(impl AllocGlobal + Abort),
     name: &str,
@@ -613,17 +620,17 @@ fn object_too_large(rt: HostRuntime) -> Result<(), Fail> {
     Ok(())
 }
 
-/// Whether no request is there, as asked once only.
+/// Returns whether there is no request, without a second try.
 fn shows_nothing(reading: &mut Reading) -> bool {
     reading.see_once() == Ok(false)
 }
 
-/// Feeds a piece, once only. Whether no request has come then.
+/// Feeds a piece, without a second try. Returns whether no request has come then.
 fn brings_nothing(reading: &mut Reading, piece: &[u8]) -> bool {
     feed_once(&mut reading.reader, piece).is_ok() && shows_nothing(reading)
 }
 
-/// Whether 1 MiB brings nothing, piece by piece.
+/// Returns whether 1 MiB brings no request, piece by piece.
 fn is_swallowed(reading: &mut Reading) -> bool {
     let piece = [b'z'; 1_024];
     for _ in 0..1_024 {
@@ -634,7 +641,8 @@ fn is_swallowed(reading: &mut Reading) -> bool {
     true
 }
 
-/// Reads a block that is refused; its bytes are fed once only: these calls take no memory, so none of them can fail.
+/// Reads a block that is refused. Its bytes are fed without a second try: these calls need no
+/// memory, so none of them can fail.
 fn swallows(reading: &mut Reading) -> Result<bool, Fault> {
     reading.read(b"set b 0 0 1048577\r\n")?;
     let is_swallowed = is_swallowed(reading);
@@ -651,7 +659,7 @@ fn refused_block_takes_no_memory(rt: HostRuntime) -> Result<(), Fail> {
     Ok(())
 }
 
-/// Feeds a line of 65,536 bytes that doesn't end, piece by piece.
+/// Feeds an unfinished line of 65,536 bytes, piece by piece.
 fn feed_line(reader: &mut Reader) -> Result<(), Fault> {
     let piece = [b'a'; 1_024];
     for _ in 0..64 {
@@ -660,7 +668,7 @@ fn feed_line(reader: &mut Reader) -> Result<(), Fault> {
     Ok(())
 }
 
-/// Looks at a line that hasn't ended, and at one that is too long, once only.
+/// Asks for a request at an unfinished line, and at one that is too long, without a second try.
 fn looks(reading: &mut Reading) -> Result<bool, Fault> {
     feed_line(&mut reading.reader)?;
     let shows_nothing = shows_nothing(reading);
@@ -676,7 +684,7 @@ fn looks_without_memory(rt: HostRuntime) -> Result<(), Fail> {
     Ok(())
 }
 
-/// Goes on after the end, where whatever comes is dropped and takes no memory.
+/// Goes on after the end, where whatever comes is dropped and needs no memory.
 fn drops(reading: &mut Reading) -> Result<bool, Fault> {
     reading.read(b"quit\r\n")?;
     Ok(brings_nothing(reading, b"get a\r\n") && reading.is_done())

@@ -1,15 +1,16 @@
-//! What tests of whole streams share: bytes put together, and the steps by which they are pulled and pushed.
+//! What tests of whole streams share: joined bytes, and the steps by which they are pulled and
+//! pushed.
 use itoa::Buffer;
 use mc_programs::{InputStep, MemoryInput, MemoryOutput, OutputStep};
 use std::alloc::{AllocError, Global};
 use std::process::Abort;
 
-/// Stops the test where this doesn't hold.
+/// Stops the test unless this holds.
 pub fn demand(rt: &impl Abort, holds: bool, what: &str, at: usize) {
     assert!(rt; holds, "{what}, at {at}");
 }
 
-/// Pieces after one another.
+/// Returns the pieces, one after another.
 pub fn joined(alloc: Global, pieces: &[&[u8]]) -> Result<Vec<u8>, AllocError> {
     let mut bytes = Vec::new(alloc);
     for piece in pieces {
@@ -18,7 +19,7 @@ pub fn joined(alloc: Global, pieces: &[&[u8]]) -> Result<Vec<u8>, AllocError> {
     Ok(bytes)
 }
 
-/// So many bytes by themselves, with an empty pull before each.
+/// Returns steps that pull `count` single bytes, with an empty pull before each.
 pub fn single_pulls(alloc: Global, count: usize) -> Result<Vec<InputStep>, AllocError> {
     let mut steps = Vec::new(alloc);
     for _ in 0..count {
@@ -27,7 +28,7 @@ pub fn single_pulls(alloc: Global, count: usize) -> Result<Vec<InputStep>, Alloc
     Ok(steps)
 }
 
-/// So many bytes by themselves, with a full push before each.
+/// Returns steps that push `count` single bytes, with a full push before each.
 pub fn single_pushes(alloc: Global, count: usize) -> Result<Vec<OutputStep>, AllocError> {
     let mut steps = Vec::new(alloc);
     for _ in 0..count {
@@ -36,7 +37,7 @@ pub fn single_pushes(alloc: Global, count: usize) -> Result<Vec<OutputStep>, All
     Ok(steps)
 }
 
-/// An input that holds these bytes, and goes by these steps first.
+/// Returns an input that holds these bytes, and follows these steps first.
 pub fn input_of(
     alloc: Global,
     sent: &[u8],
@@ -46,7 +47,7 @@ pub fn input_of(
     Ok(MemoryInput::new(bytes, Vec::from_slice(alloc, steps)?))
 }
 
-/// An output that goes by these steps first.
+/// Returns an output that follows these steps first.
 pub fn output_of(alloc: Global, steps: &[OutputStep]) -> Result<MemoryOutput, AllocError> {
     Ok(MemoryOutput::new(alloc, Vec::from_slice(alloc, steps)?))
 }
@@ -70,7 +71,7 @@ fn push_filled(
     Ok(())
 }
 
-/// The text once for each number from 1,000 to 1,999, which stands for `#`.
+/// Returns the text once for each number from 1,000 to 1,999, for which `#` stands.
 fn for_each_number(alloc: Global, text: &[u8]) -> Result<Vec<u8>, AllocError> {
     let mut bytes = Vec::new(alloc);
     for number in 1_000..2_000 {
@@ -79,7 +80,8 @@ fn for_each_number(alloc: Global, text: &[u8]) -> Result<Vec<u8>, AllocError> {
     Ok(bytes)
 }
 
-/// The text once for each length of a key; `#` stands for the length, and `@` for a key that has it.
+/// Returns the text once for each length of a key; `#` stands for the length, and `@` for a key of
+/// that length.
 pub fn for_each_key(alloc: Global, text: &[u8]) -> Result<Vec<u8>, AllocError> {
     let mut bytes = Vec::new(alloc);
     let key = [b'k'; 250];
@@ -89,21 +91,21 @@ pub fn for_each_key(alloc: Global, text: &[u8]) -> Result<Vec<u8>, AllocError> {
     Ok(bytes)
 }
 
-/// Sets 1,000 keys, and gets them all in one line.
+/// Returns lines that set 1,000 keys, and get them all in one line.
 pub fn thousand_keys(alloc: Global) -> Result<Vec<u8>, AllocError> {
     let sets = for_each_number(alloc, b"set k# 0 0 4\r\n#\r\n")?;
     let keys = for_each_number(alloc, b" k#")?;
     joined(alloc, &[&sets, b"get", &keys, b"\r\n"])
 }
 
-/// What `thousand_keys` is owed.
+/// Returns what `thousand_keys` is owed.
 pub fn thousand_values(alloc: Global) -> Result<Vec<u8>, AllocError> {
     let stored = for_each_number(alloc, b"STORED\r\n")?;
     let values = for_each_number(alloc, b"VALUE k# 0 4\r\n#\r\n")?;
     joined(alloc, &[&stored, &values, b"END\r\n"])
 }
 
-/// The three columns of a row, with `|` between them.
+/// Returns the three columns of a row, with `|` between them.
 pub fn columns<'a>(row: &'a str) -> (&'a str, &'a str, &'a str) {
     let (first, others) = row.split_once('|').unwrap_or((row, "?"));
     let (second, third) = others.split_once('|').unwrap_or((others, "?"));

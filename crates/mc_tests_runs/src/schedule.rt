@@ -1,4 +1,4 @@
-//! Runs of mc_schedule: its words, an event list, and what comes out.
+//! Runs of mc_schedule: its command line, an event list, and what comes out.
 use crate::programs::{NO_STEPS, Program, Steps, Wanted, check_run};
 use crate::runs::{joined, single_pulls, single_pushes};
 use mc_programs::{InputStep, OutputStep};
@@ -7,7 +7,7 @@ use std::process::Abort;
 use std::sync::Wait;
 use std::test::Fail;
 
-/// A run by these words and steps leaves what it has to.
+/// Asserts that a run with these words and steps leaves what it must.
 fn check_steps(
     rt: &(impl AllocGlobal + Wait + Abort),
     given: &str,
@@ -18,7 +18,8 @@ fn check_steps(
     check_run(rt, Program::Schedule, given, list.as_bytes(), steps, wanted)
 }
 
-/// A list is reported so, whole, and by a byte a pull and a byte a push.
+/// Asserts that a list is reported like this, with whole pulls and pushes, and with a byte a pull
+/// and a byte a push.
 fn check_reported(
     rt: &(impl AllocGlobal + Wait + Abort),
     given: &str,
@@ -42,7 +43,7 @@ fn check_reported(
     check_steps(rt, given, list, steps, wanted)
 }
 
-/// A list is refused by this line, before anything is done.
+/// Asserts that a list is refused by this line, before anything is done.
 fn check_refused(
     rt: &(impl AllocGlobal + Wait + Abort),
     given: &str,
@@ -206,7 +207,7 @@ fn bad_lines_come_before_bad_settings(rt: HostRuntime) -> Result<(), Fail> {
 /// A list that asks for nothing.
 const OPENING: &str = "core 1 4\ntenant 4 100\n";
 
-/// The same with a comment behind it, so many bytes in all.
+/// Returns the same list with a comment after it, `count` bytes in total.
 fn list_of_bytes(alloc: Global, count: usize) -> Result<Vec<u8>, AllocError> {
     let comment = "#".repeat(alloc, count.saturating_sub(OPENING.len()))?;
     joined(alloc, &[OPENING.as_bytes(), comment.as_bytes()])
@@ -265,7 +266,7 @@ fn failed_streams_are_told(rt: HostRuntime) -> Result<(), Fail> {
     Ok(())
 }
 
-/// These words are answered on standard output.
+/// Asserts that these words are answered on standard output.
 fn check_shown(
     rt: &(impl AllocGlobal + Wait + Abort),
     given: &str,

@@ -1,5 +1,5 @@
-//! Worked streams through the loop, whole and in the smallest pieces, and what it does where the input, the output or
-//! memory fails.
+//! Golden streams through the serving loop, whole and in the smallest pieces, and what it does if
+//! the input, the output or memory fails.
 ghost use Rattle.std.specs.Prelude.{◌≤◌, length};
 
 use crate::runs::{
@@ -15,7 +15,7 @@ use std::process::Abort;
 use std::sync::Wait;
 use std::test::Fail;
 
-/// How many commands are applied.
+/// How many commands are applied at most.
 const PLACES: u64 = 65_536;
 
 /// Quotas with room for all that these streams store.
@@ -24,10 +24,10 @@ const LIMITS: Limits = Limits {
     bytes: 10_000_000,
 };
 
-/// What is pushed last where memory runs out.
+/// What is pushed last if memory runs out.
 const STARVED: &[u8] = b"SERVER_ERROR out of memory\r\n";
 
-/// What a client sends, and the replies that it is owed.
+/// Returns what a client sends, and the replies that it is owed.
 fn streams() -> [(&'static str, &'static [&'static str]); 10] {
     [
         // A stored value is given back with its flags and its length.
@@ -54,12 +54,12 @@ fn streams() -> [(&'static str, &'static [&'static str]); 10] {
             "set a 0 0 2\r\nabcde\r\n",
             &["CLIENT_ERROR bad data chunk\r\n", "ERROR\r\n"],
         ),
-        // An expiry is refused with its block, quietly where the line says so.
+        // An expiry is refused with its block, without a reply if the line says so.
         (
             "set a 0 60 3\r\nget\r\nset a 0 9 1 noreply\r\nx\r\nget a\r\n",
             &["CLIENT_ERROR expiry is not supported\r\n", "END\r\n"],
         ),
-        // Names that are none, and a get without a key.
+        // Names of no command, and a get without a key.
         (
             "bogus\r\n\r\nGET a\r\nget\r\nget  a b\n",
             &[
@@ -84,7 +84,7 @@ fn streams() -> [(&'static str, &'static [&'static str]); 10] {
     ]
 }
 
-/// The streams of one client, and how its service ended.
+/// The streams of one client, and how serving it ended.
 #[derive(Drop)]
 struct Served {
     result: Result<(), Fault>,
@@ -92,7 +92,7 @@ struct Served {
     output: MemoryOutput,
 }
 
-/// A client that sends these bytes, with these steps, before its service.
+/// Returns a client that sends these bytes, with these steps, before it is served.
 fn open(
     rt: &impl AllocGlobal,
     sent: &[u8],
@@ -106,7 +106,7 @@ fn open(
     })
 }
 
-/// Serves a client, of whose commands so many are applied.
+/// Serves a client on a log of this many places.
 fn serve_places(rt: &(impl Wait + AllocGlobal), places: u64, served: &mut Served) {
     served.result = serve_client(
         rt,
@@ -130,7 +130,7 @@ fn serve(
     Ok(served)
 }
 
-/// The replies after one another.
+/// Returns the replies, one after another.
 fn bytes_of(rt: &impl AllocGlobal, replies: &[&str]) -> Result<Vec<u8>, AllocError> {
     let mut bytes = Vec::new(rt.alloc());
     for reply in replies {
@@ -139,7 +139,7 @@ fn bytes_of(rt: &impl AllocGlobal, replies: &[&str]) -> Result<Vec<u8>, AllocErr
     Ok(bytes)
 }
 
-/// What follows whole replies, as many as stand there, from the first on.
+/// Returns what follows the whole replies at the front, from the first reply on.
 fn after_replies<'a>(pushed: &'a [u8], replies: &[&str]) -> &'a [u8] {
     let mut rest = pushed;
     for reply in replies {
@@ -151,8 +151,9 @@ fn after_replies<'a>(pushed: &'a [u8], replies: &[&str]) -> &'a [u8] {
     rest
 }
 
-/// Whether the bytes that a service has pushed fit how it ended: they are those that are wanted; or where memory ran out, whole
-/// replies and the word of it; or where the output failed, the front of those that are wanted.
+/// Returns whether the bytes that were pushed fit how serving ended: they are the expected ones; or
+/// if memory ran out, whole replies and then the refusal; or if the output failed, a prefix of the
+/// expected ones.
 fn fits(served: &Served, case: Case) -> bool {
     let pushed = served.output.as_bytes();
     if served.result == Ok(()) {
@@ -164,7 +165,7 @@ fn fits(served: &Served, case: Case) -> bool {
     served.result == Err(Fault::Output) && case.wanted.starts_with(pushed)
 }
 
-/// A stream, what it is owed, and the replies that this is made of.
+/// A stream, what it is owed, and the replies of which that consists.
 #[derive(Clone, Copy)]
 struct Case<'a> {
     sent: &'a [u8],
@@ -172,7 +173,7 @@ struct Case<'a> {
     replies: &'a [&'a str],
 }
 
-/// By these steps the stream is served.
+/// Asserts that the stream is served by these steps.
 fn check_steps(
     rt: &(impl AllocGlobal + Wait + Abort),
     case: Case,
@@ -189,7 +190,7 @@ fn check_steps(
     served.result
 }
 
-/// The stream is served whole, by these pulls, by these pushes, and by both.
+/// Asserts that the stream is served whole, by these pulls, by these pushes, and by both.
 fn check_ways(
     rt: &(impl AllocGlobal + Wait + Abort),
     case: Case,
@@ -202,14 +203,15 @@ fn check_ways(
     check_steps(rt, case, pulls, pushes)
 }
 
-/// The stream is served whole, in single bytes pulled, in single bytes pushed, and both.
+/// Asserts that the stream is served whole, in single bytes pulled, in single bytes pushed, and in
+/// both.
 fn check_singles(rt: &(impl AllocGlobal + Wait + Abort), case: Case) -> Result<(), Fault> {
     let pulls = single_pulls(rt.alloc(), case.sent.len())?;
     let pushes = single_pushes(rt.alloc(), case.wanted.len())?;
     check_ways(rt, case, &pulls, &pushes)
 }
 
-/// As `check_singles`, of a stream that is owed these replies.
+/// Does as `check_singles` for a stream that is owed these replies.
 fn check_each_way(
     rt: &(impl AllocGlobal + Wait + Abort),
     sent: &[u8],
@@ -234,7 +236,7 @@ fn serves_worked_streams(rt: HostRuntime) -> Result<(), Fail> {
 
 const LINE_TOO_LONG: &str = "CLIENT_ERROR line too long\r\n";
 
-/// A stream that begins with 65,536 letters is served.
+/// Asserts that a stream that begins with 65,536 letters is served.
 fn check_line(
     rt: &(impl AllocGlobal + Wait + Abort),
     others: &[u8],
@@ -274,7 +276,7 @@ fn nothing_is_pulled_after_a_line_too_long(rt: HostRuntime) -> Result<(), Fail> 
     Ok(())
 }
 
-/// So many pulls of 16,384 bytes, and then a failure.
+/// Returns `good` pulls of 16,384 bytes, and then a failure.
 fn failing_pieces(rt: &impl AllocGlobal, good: usize) -> Result<Vec<InputStep>, AllocError> {
     let mut pulls = Vec::new(rt.alloc());
     for _ in 0..good {
@@ -284,7 +286,8 @@ fn failing_pieces(rt: &impl AllocGlobal, good: usize) -> Result<Vec<InputStep>, 
     Ok(pulls)
 }
 
-/// Nothing is pulled after a `quit` that waited behind replies of more than 1,048,576 bytes, though the next pull would fail.
+/// Nothing is pulled after a `quit` that waited for replies of more than 1,048,576 bytes, though
+/// the next pull would fail.
 #[test]
 fn nothing_is_pulled_after_a_quit_that_waited(rt: HostRuntime) -> Result<(), Fail> {
     let block = "x".repeat(rt.alloc(), 1_048_576)?;
@@ -325,7 +328,7 @@ fn too_large_an_object_is_passed_over(rt: HostRuntime) -> Result<(), Fail> {
     Ok(())
 }
 
-/// How many bytes the next pull gives, which are all that are left.
+/// Returns how many bytes the next pull gives, which are all that are left.
 fn left_in(input: &mut MemoryInput) -> usize {
     match input.pull(&mut [0; 512]) {
         Pull::Bytes(count) => count,
@@ -333,12 +336,12 @@ fn left_in(input: &mut MemoryInput) -> usize {
     }
 }
 
-/// Whether the service ended so, and pushed these bytes.
+/// Returns whether serving ended like this, and pushed these bytes.
 fn has_ended(served: &Served, end: Result<(), Fault>, pushed: &[u8]) -> bool {
     served.result == end && served.output.as_bytes() == pushed
 }
 
-/// The service ended so, and pushed these bytes.
+/// Asserts that serving ended like this, and pushed these bytes.
 fn check_end(
     rt: &impl Abort,
     served: &Served,
@@ -357,7 +360,7 @@ fn check_end(
     Ok(())
 }
 
-/// What is owed for bytes that are the front of a stream.
+/// Returns what is owed for bytes that are the front of a stream.
 fn owed_for(
     rt: &(impl AllocGlobal + Wait + Abort),
     front: &[u8],
@@ -370,14 +373,14 @@ fn owed_for(
     Ok(owed)
 }
 
-/// So many single bytes, and then a failure.
+/// Returns steps that pull `good` single bytes, and then a failure.
 fn failing_pulls(rt: &impl AllocGlobal, good: usize) -> Result<Vec<InputStep>, AllocError> {
     let mut pulls = single_pulls(rt.alloc(), good)?;
     pulls.push(InputStep::Fail)?;
     Ok(pulls)
 }
 
-/// A pull that fails after so many bytes, for which this is owed, ends the service.
+/// Asserts that a pull that fails after `good` bytes, for which this is owed, ends serving.
 fn check_failing_pull(
     rt: &(impl AllocGlobal + Wait + Abort),
     sent: &[u8],
@@ -399,7 +402,7 @@ fn check_failing_pull(
     Ok(())
 }
 
-/// A pull that fails ends the service, whichever it is.
+/// Asserts that a pull that fails ends serving, whichever it is.
 fn check_failing_pulls(
     rt: &(impl AllocGlobal + Wait + Abort),
     sent: &[u8],
@@ -421,19 +424,19 @@ fn a_failing_pull_ends_it(rt: HostRuntime) -> Result<(), Fail> {
     Ok(())
 }
 
-/// So many single bytes, then a failure and a full push.
+/// Returns steps that push `good` single bytes, and then a failure and a full push.
 fn failing_pushes(rt: &impl AllocGlobal, good: usize) -> Result<Vec<OutputStep>, AllocError> {
     let mut pushes = single_pushes(rt.alloc(), good)?;
     pushes.extend_from_slice(&[OutputStep::Fail, OutputStep::Full])?;
     Ok(pushes)
 }
 
-/// Whether the output finds itself full at the next push.
+/// Returns whether the output is full at the next push.
 fn is_full(output: &mut MemoryOutput) -> bool {
     output.push(b"x") == Push::Full
 }
 
-/// A push that fails after these bytes ends the service, and the step after it isn't used.
+/// Asserts that a push that fails after these bytes ends serving, and the step after it isn't used.
 fn check_failing_push(
     rt: &(impl AllocGlobal + Wait + Abort),
     sent: &[u8],
@@ -447,7 +450,7 @@ fn check_failing_push(
     Ok(())
 }
 
-/// A push that fails ends the service, whichever it is but the one after the last.
+/// Asserts that a push that fails ends serving, whichever it is but the one after the last.
 fn check_failing_pushes(
     rt: &(impl AllocGlobal + Wait + Abort),
     sent: &[u8],
@@ -459,19 +462,19 @@ fn check_failing_pushes(
     Ok(())
 }
 
-/// The push after the last one isn't asked for.
+/// Asserts that the push after the last one isn't asked for.
 fn check_last_push(rt: &(impl AllocGlobal + Wait + Abort), case: Case) -> Result<(), Fault> {
     let pushes = failing_pushes(rt, case.wanted.len())?;
     check_steps(rt, case, &[], &pushes)
 }
 
-/// The service ends at a push that fails, and at no other.
+/// Asserts that serving ends at a push that fails, and at no other.
 fn check_all_pushes(rt: &(impl AllocGlobal + Wait + Abort), case: Case) -> Result<(), Fault> {
     check_failing_pushes(rt, case.sent, case.wanted)?;
     check_last_push(rt, case)
 }
 
-/// As `check_all_pushes`, of a stream that is owed these replies.
+/// Does as `check_all_pushes` for a stream that is owed these replies.
 fn check_pushes(
     rt: &(impl AllocGlobal + Wait + Abort),
     sent: &[u8],
@@ -512,7 +515,8 @@ fn a_long_reply_is_pushed_before_the_next_request(rt: HostRuntime) -> Result<(),
     Ok(())
 }
 
-/// What is sent to a log of two places, and the replies: refusals take no place, and a quiet command takes one.
+/// What is sent to a log of two places, and the replies: a refusal takes no place, and a quiet
+/// command takes one.
 const FULL_LOG: (&str, &[&str]) = (
     "bogus\r\nset a 7 0 1 noreply\r\nx\r\nget a\r\nset a 0 0 1\r\nx\r\nget a\r\nbogus\r\nset a 0 0 1 noreply\r\nx\r\nset a 0 9 1 noreply\r\nx\r\nset a 0 0 1\r\nxyzget a\r\n",
     &[
@@ -526,7 +530,7 @@ const FULL_LOG: (&str, &[&str]) = (
     ],
 );
 
-/// Serves a client of whose commands two are applied.
+/// Serves a client on a log of two places.
 fn serve_two_places(rt: &(impl Wait + AllocGlobal), sent: &[u8]) -> Result<Served, AllocError> {
     let mut served = open(rt, sent, &[], &[])?;
     serve_places(rt, 2, &mut served);
@@ -542,7 +546,7 @@ fn a_full_log_refuses_commands_alone(rt: HostRuntime) -> Result<(), Fail> {
     Ok(())
 }
 
-/// A get that gives up at some key fails.
+/// A get that gave up at some key would fail.
 #[test]
 fn a_get_of_a_thousand_keys_shows_each(rt: HostRuntime) -> Result<(), Fail> {
     let sent = thousand_keys(rt.alloc())?;

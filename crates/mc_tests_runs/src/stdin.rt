@@ -1,4 +1,4 @@
-//! Runs of mc_stdin: its words, what a client sends, and what comes out.
+//! Runs of mc_stdin: its command line, what a client sends, and what comes out.
 use crate::programs::{NO_STEPS, Program, Steps, Wanted, check_run};
 use crate::runs::{
     columns, demand, for_each_key, joined, single_pulls, single_pushes, thousand_keys,
@@ -11,7 +11,7 @@ use std::process::Abort;
 use std::sync::Wait;
 use std::test::Fail;
 
-/// As `check_run`, of a run that ends well.
+/// Does as `check_run` for a run that ends well.
 fn check_serves(
     rt: &(impl AllocGlobal + Wait + Abort),
     given: &str,
@@ -48,7 +48,7 @@ fn check_ways(
     check_serves(rt, given, sent, pulls, pushes, replies)
 }
 
-/// Runs a stream whole, a byte a pull, a byte a push, and both.
+/// Runs a stream whole, with a byte a pull, with a byte a push, and with both.
 fn check_served(
     rt: &(impl AllocGlobal + Wait + Abort),
     given: &str,
@@ -148,7 +148,8 @@ fn names_faults_as_they_are_displayed(rt: HostRuntime) -> Result<(), Fail> {
     Ok(())
 }
 
-/// Of each row, with `~` between them: what it shows, a stream, and the replies with which it is served, with `|` between them.
+/// Checks each row, with `~` between them: what it shows, a stream, and the replies with which it
+/// is served, with `|` between them.
 fn check_rows(rt: &(impl AllocGlobal + Wait + Abort), rows: &str) -> Result<(), AllocError> {
     for row in rows.split('~') {
         let (_, sent, replies) = columns(row);
@@ -241,7 +242,8 @@ fn serves_worked_runs_under_options(rt: HostRuntime) -> Result<(), Fail> {
             "set n 0 0 1\r\n9\r\nincr n 1\r\ndecr n 1\r\n",
             "STORED\r\nSERVER_ERROR out of memory storing object\r\n8\r\n",
         ),
-        // The quota of bytes counts keys and data; a refused set keeps the old item and uses no unique.
+        // The quota of bytes counts keys and data; a refused set keeps the old item and uses no
+        // unique.
         (
             "--bytes 4",
             "set ab 0 0 2\r\nxy\r\nset ab 0 0 3\r\nxyz\r\nreplace ab 0 0 1\r\nx\r\nset c 0 0 1\r\ny\r\ndelete ab\r\nset c 0 0 3\r\nyyy\r\ngets ab c\r\n",
@@ -290,7 +292,8 @@ fn a_line_has_at_most_65_536_bytes(rt: HostRuntime) -> Result<(), Fail> {
     Ok(())
 }
 
-// A byte a pull is quick as the gate runs it; under `rt try` this one takes more than its minute.
+// With a byte a pull this is quick as the gate runs it; under `rt try` it takes more than its
+// minute.
 #[test]
 fn data_have_at_most_1_048_576_bytes(rt: HostRuntime) -> Result<(), Fail> {
     let block = "z".repeat(rt.alloc(), 1_048_576)?;
@@ -333,7 +336,7 @@ Options:
   -V, --version     Print version
 ";
 
-/// These words are answered on standard output.
+/// Asserts that these words are answered on standard output.
 fn check_shown(
     rt: &(impl AllocGlobal + Wait + Abort),
     given: &str,
@@ -342,7 +345,7 @@ fn check_shown(
     check_serves(rt, given, FOUR_REQUESTS, &[], &[], text.as_bytes())
 }
 
-/// These words are refused on standard error.
+/// Asserts that these words are refused on standard error.
 fn check_refused(
     rt: &(impl AllocGlobal + Wait + Abort),
     given: &str,
@@ -415,10 +418,10 @@ fn serves_a_thousand_keys_of_one_line(rt: HostRuntime) -> Result<(), Fail> {
     Ok(())
 }
 
-/// As many keys as the longest line has.
+/// How many keys the longest line can have.
 const MOST_KEYS: usize = 32_766;
 
-/// What asks for one held key in the longest line.
+/// Returns a set of a key, and a get in the longest line, which asks for that key again and again.
 fn longest_get(alloc: Global) -> Result<Vec<u8>, AllocError> {
     let keys = " a".repeat(alloc, MOST_KEYS)?;
     joined(
@@ -438,7 +441,7 @@ fn serves_the_longest_line_of_keys(rt: HostRuntime) -> Result<(), Fail> {
     Ok(())
 }
 
-/// Sets a key of each length, and then gets each.
+/// Returns lines that set a key of each length, and then get each.
 fn keys_sent(alloc: Global) -> Result<Vec<u8>, AllocError> {
     let sets = for_each_key(alloc, b"set @ # 0 1\r\nx\r\n")?;
     let gets = for_each_key(alloc, b"get @\r\n")?;
@@ -455,7 +458,8 @@ fn serves_keys_of_every_length(rt: HostRuntime) -> Result<(), Fail> {
     Ok(())
 }
 
-/// The replies to commands of which all but the last find a place in the log, where the words don't say how many it has.
+/// Returns the replies to commands of which all but the last find a place in the log, if the words
+/// don't say how many it has.
 fn full_log_replies(alloc: Global) -> Result<Vec<u8>, AllocError> {
     let answers = "NOT_FOUND\r\n".repeat(alloc, 65_536)?;
     joined(alloc, &[answers.as_bytes(), b"SERVER_ERROR log full\r\n"])

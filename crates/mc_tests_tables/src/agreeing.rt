@@ -13,7 +13,7 @@ use std::process::Abort;
 use std::test::Fail;
 use uc_cells::Cells;
 
-/// Both replay what each sees of the ticket's cell.
+/// Has both replay what each sees of the ticket's cell.
 fn replay_both<'a>(
     rt: &impl Abort,
     alloc: Global,
@@ -37,7 +37,7 @@ fn replay_both<'a>(
     Ok(())
 }
 
-/// Two workers replay three cells, of which the last is absent, and agree.
+/// Has two workers replay three cells, of which the last is absent, and agree.
 fn agree_on_three<'a>(
     rt: &impl Abort,
     alloc: Global,

@@ -1,5 +1,5 @@
-//! The worked examples that speak of one table, and what a fault leaves: each row is a command as a client writes it, and
-//! the reply as the client reads it.
+//! The golden examples of one table, and what a fault leaves: each row is a command as a client
+//! writes it, and the reply as the client reads it.
 use crate::values::{
     assert_text, command_of, copied, key_of, numbered_get, numbered_set, numbered_values,
 };
@@ -24,7 +24,7 @@ const TOO_LARGE: &str = "SERVER_ERROR object too large for cache\r\n";
 
 const NON_NUMERIC: &str = "CLIENT_ERROR cannot increment or decrement non-numeric value\r\n";
 
-/// A table that answers, and one that is advanced beside it.
+/// A table that answers, and one next to it that is advanced.
 #[derive(Drop)]
 struct Twins {
     items: Items,
@@ -61,7 +61,8 @@ fn assert_alike(rt: &impl Abort, alloc: Global, items: &Items, other: &Items) ->
     Ok(())
 }
 
-/// The command gets this reply, and a table that is advanced stays like one that answers.
+/// Asserts that the command gets this reply, and that a table that is advanced stays like one that
+/// answers.
 fn assert_answer(
     rt: &impl Abort,
     alloc: Global,
@@ -83,7 +84,7 @@ fn twins_of(alloc: Global, quotas: Limits) -> Twins {
     }
 }
 
-/// Each command in turn gets its reply.
+/// Asserts that each command in turn gets its reply.
 fn assert_next(
     rt: &impl Abort,
     alloc: Global,
@@ -96,7 +97,7 @@ fn assert_next(
     Ok(())
 }
 
-/// The table after these commands, each of which gets its reply within the quotas.
+/// Returns the table after these commands, each of which gets its reply within the quotas.
 fn answered(
     rt: &impl Abort,
     alloc: Global,
@@ -122,7 +123,7 @@ fn is_item(item: &Item, flags: u32, block: &str, unique: u64) -> bool {
     item.flags == flags && item.unique == unique && item.block.as_bytes() == block.as_bytes()
 }
 
-/// Whether the key has an item of these flags, data and unique.
+/// Returns whether the key has an item of these flags, data and unique.
 fn holds(
     alloc: Global,
     items: &Items,
@@ -142,7 +143,7 @@ fn assert_filled(rt: &impl Abort, items: &Items, used: u64, count: u64) {
     assert_eq!(rt; (items.used(), items.count()), (used, count));
 }
 
-/// What a set of one key leaves.
+/// Asserts what a set of one key leaves.
 fn assert_one(rt: &impl Abort, alloc: Global, items: &Items) -> Result<(), Fail> {
     assert!(rt; holds(alloc, items, "a", 5, "abc", 1)?);
     assert!(rt; !is_held(alloc, items, "b")?);
@@ -201,7 +202,8 @@ fn arithmetic_wraps_and_stops_at_zero(rt: HostRuntime) -> Result<(), Fail> {
     assert_answers(&rt, rt.alloc(), &ROWS)
 }
 
-/// An increment of these data is answered so, and one of no item in its way.
+/// Asserts that an increment of these data is answered like this, and one of a missing item in its
+/// own way.
 fn assert_increment(rt: &impl Abort, alloc: Global, set: &str, want: &str) -> Result<(), Fail> {
     let rows = [
         (set, "STORED\r\n"),
@@ -286,7 +288,7 @@ fn fragments_joined(rt: HostRuntime) -> Result<(), Fail> {
     assert_answers(&rt, rt.alloc(), &ROWS)
 }
 
-/// The block between these texts.
+/// Returns the block between these texts.
 fn framed(alloc: Global, front: &str, block: &[u8], back: &str) -> Result<Vec<u8>, Fault> {
     let mut text = Vec::from_slice(alloc, front.as_bytes())?;
     text.extend_from_slice(block)?;
@@ -294,7 +296,7 @@ fn framed(alloc: Global, front: &str, block: &[u8], back: &str) -> Result<Vec<u8
     Ok(text)
 }
 
-/// The block is stored by this line.
+/// Asserts that the block is stored by this line.
 fn assert_large_set(
     rt: &impl Abort,
     alloc: Global,
@@ -306,7 +308,7 @@ fn assert_large_set(
     assert_answer(rt, alloc, twins, &text, b"STORED\r\n")
 }
 
-/// The block is shown behind this line.
+/// Asserts that the block is shown after this line.
 fn assert_large_get(
     rt: &impl Abort,
     alloc: Global,
@@ -318,7 +320,7 @@ fn assert_large_get(
     assert_answer(rt, alloc, twins, b"gets b\r\n", &want)
 }
 
-/// A block of as many bytes as it may have is stored, and takes no more.
+/// Asserts that a block of the greatest length is stored, and that nothing can be joined to it.
 fn assert_largest(
     rt: &impl Abort,
     alloc: Global,
@@ -334,7 +336,7 @@ fn assert_largest(
     assert_large_get(rt, alloc, twins, "VALUE b 0 1048576 1\r\n", largest)
 }
 
-/// One of a byte less takes one more.
+/// Asserts that a byte can be joined to a block that is a byte shorter.
 fn assert_joined(
     rt: &impl Abort,
     alloc: Global,
@@ -356,7 +358,7 @@ fn object_too_large(rt: HostRuntime) -> Result<(), Fail> {
     assert_joined(&rt, rt.alloc(), &mut twins, &largest)
 }
 
-/// A key that is held may be stored again where the count is at its quota.
+/// A key that is held may be stored again even if the count is at its quota.
 #[test]
 fn quota_of_items(rt: HostRuntime) -> Result<(), Fail> {
     const ROWS: [(&str, &str); 10] = [
@@ -380,7 +382,8 @@ fn quota_of_items(rt: HostRuntime) -> Result<(), Fail> {
     Ok(())
 }
 
-/// Keys and data count, before a change and after it, and a refused change leaves the item and its unique.
+/// Keys and data count, before a change and after it, and a refused change leaves the item and its
+/// unique.
 #[test]
 fn quota_of_bytes(rt: HostRuntime) -> Result<(), Fail> {
     const ROWS: [(&str, &str); 17] = [
@@ -420,7 +423,7 @@ fn advance_by_copy(
     Ok(())
 }
 
-/// A table after copies of these commands.
+/// Returns a table after copies of these commands.
 fn advanced_by(
     rt: &impl Abort,
     alloc: Global,
@@ -434,7 +437,7 @@ fn advanced_by(
     Ok(items)
 }
 
-/// What that run leaves.
+/// Asserts what the run below leaves.
 fn assert_left(rt: &impl Abort, alloc: Global, items: &Items) -> Result<(), Fail> {
     assert!(rt; holds(alloc, items, "c", 0, "yyy", 3)?);
     assert!(rt; !is_held(alloc, items, "ab")?);
@@ -442,7 +445,8 @@ fn assert_left(rt: &impl Abort, alloc: Global, items: &Items) -> Result<(), Fail
     Ok(())
 }
 
-/// The worked run of the same name, by copies of its commands, and what it leaves in a copy of the table.
+/// The golden run of the same name, by copies of its commands, and what it leaves in a copy of the
+/// table.
 #[test]
 fn byte_quota(rt: HostRuntime) -> Result<(), Fail> {
     const TEXTS: [&str; 6] = [
@@ -463,7 +467,7 @@ fn byte_quota(rt: HostRuntime) -> Result<(), Fail> {
     assert_left(&rt, rt.alloc(), &copy)
 }
 
-/// A table with an item under `a` and a number under `n`.
+/// Returns a table with an item under `a` and a number under `n`.
 fn started(rt: &impl Abort, alloc: Global) -> Result<Items, Fail> {
     const ROWS: [(&str, &str); 2] = [
         ("set a 5 0 3\r\nold\r\n", "STORED\r\n"),
@@ -472,7 +476,7 @@ fn started(rt: &impl Abort, alloc: Global) -> Result<Items, Fail> {
     answered(rt, alloc, QUOTAS, &ROWS)
 }
 
-/// The reply to the command, at once or after memory ran out and nothing changed.
+/// Returns the reply to the command, at once or after memory ran out and nothing changed.
 fn apply_at_last(
     rt: &impl Abort,
     alloc: Global,
@@ -502,7 +506,8 @@ fn advance_at_last(rt: &impl Abort, items: &mut Items, command: &Command) -> Res
     }
 }
 
-/// The command is answered so, or memory runs out and nothing changes; after that it is answered so too.
+/// Asserts that the command is answered like this, at once or after memory ran out and nothing
+/// changed.
 fn assert_bears_a_fault(
     rt: &impl Abort,
     alloc: Global,
@@ -518,7 +523,7 @@ fn assert_bears_a_fault(
     assert_alike(rt, alloc, &items, &advanced)
 }
 
-/// Where an allocation fails in a command (`rt try --test --fail-alloc N`), the answers stay what they were.
+/// If an allocation fails in a command (`rt try --test --fail-alloc N`), the answers are the same.
 #[test]
 fn a_fault_changes_nothing(rt: HostRuntime) -> Result<(), Fail> {
     const ROWS: [(&str, &str); 12] = [
@@ -541,7 +546,7 @@ fn a_fault_changes_nothing(rt: HostRuntime) -> Result<(), Fail> {
     Ok(())
 }
 
-/// A table with so many keys, each a number, stored in order.
+/// Returns a table with `count` keys, each a number, stored in order.
 fn numbered(rt: &impl Abort, alloc: Global, count: u64) -> Result<Items, Fail> {
     let quotas = Limits {
         items: count,

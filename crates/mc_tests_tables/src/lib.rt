@@ -1,5 +1,5 @@
-//! Tests of tables, replicas, reply text and streams over what their crates make public. They stand above all libraries, since a
-//! crate with tests is proved twice.
+//! Tests of tables, replicas, reply text and streams through what their crates make public. They
+//! are in a crate above all libraries, since a crate with tests is proved twice.
 #![tactic(auto)]
 
 #[cfg(test)]

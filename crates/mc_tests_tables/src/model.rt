@@ -1,4 +1,4 @@
-//! Each constructor at its bounds, and each call that takes memory, with ample memory.
+//! Each constructor at its bounds, and each call that needs memory, with ample memory.
 use crate::values::{Shown, block_of, copied, key_of, value_of};
 use mc_model::{
     Data, Fault, Key, KeyList, Limits, Settings, TenantId, ValueList, WorkerId, read_number,
@@ -7,7 +7,7 @@ use std::alloc::Global;
 use std::process::Abort;
 use std::test::Fail;
 
-/// Whether the bytes make a key, which then has these bytes and a copy like it.
+/// Returns whether the bytes make a key, which then has these bytes and a copy like it.
 fn is_key(rt: &impl Abort, alloc: Global, bytes: &[u8]) -> Result<bool, Fault> {
     let Some(key) = Key::new(alloc, bytes)? else {
         return Ok(false);
@@ -53,7 +53,7 @@ fn blocks_at_their_bound(rt: HostRuntime) -> Result<(), Fail> {
     Ok(())
 }
 
-/// Blocks of one length are alike where their bytes are, in order.
+/// Blocks of one length are equal exactly if their bytes are, in order.
 #[test]
 fn blocks_compared(rt: HostRuntime) -> Result<(), Fail> {
     let block = block_of(rt.alloc(), b"ab")?;
@@ -71,12 +71,12 @@ fn two_keys(alloc: Global, first: &str, second: &str) -> Result<Vec<Key>, Fail> 
     Ok(vec![in alloc; first, second]?)
 }
 
-/// The list of two keys.
+/// Returns the list of two keys.
 fn keys_of(alloc: Global, first: &str, second: &str) -> Result<KeyList, Fail> {
     Ok(KeyList::new(two_keys(alloc, first, second)?).ok_or("no key")?)
 }
 
-/// The list shows these keys, has a copy like it, and gives them back.
+/// Asserts that the list shows these keys, has an equal copy, and gives them back.
 fn assert_keys(rt: &impl Abort, list: KeyList, keys: &[Key]) -> Result<(), Fault> {
     assert!(rt; list.as_slice() == keys);
     assert!(rt; list.try_clone()? == list);
@@ -102,7 +102,7 @@ fn is_keys(alloc: Global, list: &KeyList, first: &str, second: &str) -> Result<b
     Ok(*list == keys)
 }
 
-/// Lists of as many keys are alike where their keys are, in order.
+/// Lists of equally many keys are equal exactly if their keys are, in order.
 #[test]
 fn keys_compared(rt: HostRuntime) -> Result<(), Fail> {
     const CASES: [(&str, &str, bool); 5] = [
@@ -146,7 +146,7 @@ const FIRST: Shown = ("a", 5, "x", Some(1));
 
 const SECOND: Shown = ("b", 6, "y", None);
 
-/// Lists of as many values are alike where each part of their values is, in order.
+/// Lists of equally many values are equal exactly if each part of their values is, in order.
 #[test]
 fn values_compared(rt: HostRuntime) -> Result<(), Fail> {
     const CASES: [(Shown, Shown, bool); 8] = [
@@ -215,7 +215,7 @@ fn numbers_in_a_line(rt: HostRuntime) {
     }
 }
 
-/// Each tenant's quotas are looked at, and not the first one's alone.
+/// Each tenant's quotas are checked, and not the first one's alone.
 #[test]
 fn the_second_tenants_quotas_count(rt: HostRuntime) -> Result<(), Fail> {
     let lawful = Limits { items: 1, bytes: 1 };
@@ -225,7 +225,7 @@ fn the_second_tenants_quotas_count(rt: HostRuntime) -> Result<(), Fail> {
     Ok(())
 }
 
-/// Whether the numbers make settings, which then show them.
+/// Returns whether the numbers make settings, which then show them.
 fn are_settings(
     rt: &impl Abort,
     alloc: Global,

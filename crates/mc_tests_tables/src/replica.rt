@@ -1,5 +1,6 @@
-//! What a replica answers, with ample memory: the worked examples that speak of several tenants or workers. Each row is a
-//! command as a client writes it, and the reply as the client reads it, which is empty where none comes.
+//! What a replica answers, with ample memory: the golden examples of several tenants or workers.
+//! Each row is a command as a client writes it, and the reply as the client reads it, which is
+//! empty if none comes.
 ghost use Rattle.std.specs.Prelude.{◌≡◌, [], IfOk};
 ghost use Rattle.uc_cells.specs.Cells.{HasCell};
 
@@ -30,7 +31,7 @@ pub(crate) fn ticket_of(worker: WorkerId, number: u64) -> Ticket {
     Ticket { worker, number }
 }
 
-/// Cells for the tickets of three workers, as many as any test here needs.
+/// Returns cells for the tickets of three workers, as many as any test here needs.
 fn cells_of(alloc: Global) -> Result<Cells, Fail> {
     Ok(Cells::open(alloc, 3, 1_001)?)
 }
@@ -53,7 +54,7 @@ pub(crate) fn put(
     Ok(())
 }
 
-/// What is seen of a ticket's cell.
+/// Returns what is seen of a ticket's cell.
 fn see<'a>(
     rt: &impl Abort,
     alloc: Global,
@@ -65,7 +66,7 @@ fn see<'a>(
     cells.see(alloc, Ticket { worker, number })
 }
 
-/// What is seen of a worker's command on a tenant's table, once it stands in its cell.
+/// Returns what is seen of a worker's command on a tenant's table, once it is in its cell.
 fn seen_of<'a>(
     rt: &impl Abort,
     alloc: Global,
@@ -86,7 +87,7 @@ fn replay<'a>(
     replica.replay(seen)
 }
 
-/// The unique of the latest change of a tenant's table.
+/// Returns the unique of the latest change of a tenant's table.
 fn unique_at(rt: &impl Abort, replica: &Replica<'_>, tenant: TenantId) -> u64 {
     assert!(rt; replica.has_tenant(tenant));
     replica.table(tenant).last_unique()
@@ -103,7 +104,7 @@ pub(crate) fn assert_unique(
     Ok(())
 }
 
-/// A client reads this text for the reply, and nothing where there is none.
+/// Asserts that a client reads this text for the reply, and nothing if there is none.
 fn assert_shown(
     rt: &impl Abort,
     alloc: Global,
@@ -119,7 +120,7 @@ fn assert_shown(
     }
 }
 
-/// What is seen is answered so.
+/// Asserts that what was seen is answered like this.
 fn assert_reply<'a>(
     rt: &impl Abort,
     alloc: Global,
@@ -131,10 +132,10 @@ fn assert_reply<'a>(
     assert_shown(rt, alloc, reply, want)
 }
 
-/// A worker, a tenant, what is asked and what is wanted.
+/// A worker, a tenant, what is asked and the expected answer.
 pub(crate) type Row = (u8, u8, &'static str, &'static str);
 
-/// The entry of a row, with its worker's ticket of this number.
+/// Returns the entry of a row, with its worker's ticket of this number.
 pub(crate) fn entry_of(alloc: Global, number: u64, row: Row) -> Result<Entry, Fail> {
     let (worker, tenant, text, _want) = row;
     let command = command_of(alloc, text.as_bytes())?;
@@ -158,7 +159,7 @@ fn assert_row<'a>(
     assert_reply(rt, alloc, replica, seen, row.3)
 }
 
-/// Rows one after another.
+/// Asserts the answers of rows one after another.
 fn assert_rows<'a>(
     rt: &impl Abort,
     alloc: Global,
@@ -184,7 +185,7 @@ pub(crate) fn opened<'a>(
     Ok(Replica::open(alloc, worker, limits, places)?)
 }
 
-/// A replica of this worker after these rows.
+/// Returns a replica of this worker after these rows.
 fn replayed<'a>(
     rt: &impl Abort,
     alloc: Global,
@@ -198,7 +199,8 @@ fn replayed<'a>(
     Ok(replica)
 }
 
-/// So many places are replayed, and the uniques of two tenants' tables are these.
+/// Asserts that this many places are replayed, and that the uniques of two tenants' tables are
+/// these.
 fn assert_stands(
     rt: &impl Abort,
     replica: &Replica<'_>,
@@ -225,7 +227,7 @@ fn tenants_are_apart(rt: HostRuntime) -> Result<(), Fail> {
     assert_stands(&rt, &replica, 5, (3, 1))
 }
 
-/// Nothing stands in the cell of this worker's ticket.
+/// Asserts that the cell of worker 0's ticket of this number is absent, and changes nothing.
 fn assert_absent<'a>(
     rt: &impl Abort,
     alloc: Global,
@@ -258,7 +260,8 @@ fn nobodys_entries_change_no_table(rt: HostRuntime) -> Result<(), Fail> {
     assert_stands(&rt, &replica, 3, (0, 1))
 }
 
-/// What stands in the cells of the next ticket, and of another worker's ticket of the same number, is nothing to this one.
+/// The contents of the cells of the next ticket, and of another worker's ticket of the same number,
+/// don't matter to this one.
 #[test]
 fn an_entry_of_another_ticket_counts_as_absent(rt: HostRuntime) -> Result<(), Fail> {
     const KNOWN: [Row; 1] = [(0, 1, "set a 0 0 1\r\nx\r\n", "STORED\r\n")];
@@ -316,7 +319,8 @@ fn quotas_are_each_tenants_own(rt: HostRuntime) -> Result<(), Fail> {
     Ok(())
 }
 
-/// Two replicas of one log answer alike in their tables, whosever the commands are.
+/// Asserts that two replicas of one log come to the same uniques, though only one of them answers
+/// the command.
 fn assert_both<'a>(
     rt: &impl Abort,
     alloc: Global,
@@ -343,7 +347,7 @@ fn assert_places(rt: &impl Abort, replica: &Replica<'_>, places: u64, has_place:
     assert!(rt; replica.places() == places && replica.has_place() == has_place);
 }
 
-/// At each place both have seen one and the same.
+/// Asserts that both have seen the same at each place.
 fn assert_same(rt: &impl Abort, short: &Replica<'_>, long: &Replica<'_>) {
     assert!(rt; short.history().len() == long.history().len());
     for (one, other) in short.history().iter().zip(long.history()) {
@@ -351,7 +355,7 @@ fn assert_same(rt: &impl Abort, short: &Replica<'_>, long: &Replica<'_>) {
     }
 }
 
-/// One history, of two places and of a thousand.
+/// Asserts that both have one history, in replicas of two places and of a thousand.
 fn assert_unequal(rt: &impl Abort, short: &Replica<'_>, long: &Replica<'_>) {
     assert_same(rt, short, long);
     assert_places(rt, short, 2, false);
@@ -369,8 +373,8 @@ fn replicas_of_unequal_places_agree(rt: HostRuntime) -> Result<(), Fail> {
     Ok(())
 }
 
-/// Each worker has replayed as much of one log as it has learned, and answers its own commands alone. The row of a worker's
-/// own command has its reply; in the log of another worker it is silent.
+/// Asserts that a worker that has replayed as much of one log as it has learned answers its own
+/// commands alone. A row's reply is that to its owner; to another worker its command is silent.
 fn assert_worker(
     rt: &impl Abort,
     alloc: Global,
@@ -396,7 +400,7 @@ fn assert_worker(
 /// An owner, its ticket's number, a tenant, what is asked and what the owner is answered.
 type LogRow = (u8, u64, u8, &'static str, &'static str);
 
-/// Each owner has put its entry.
+/// Puts each owner's entry into its cell.
 fn put_all(rt: &impl Abort, alloc: Global, cells: &Cells, log: &[LogRow]) -> Result<(), Fail> {
     for (owner, number, tenant, text, want) in log {
         let entry = entry_of(alloc, *number, (*owner, *tenant, *text, *want))?;
@@ -420,7 +424,7 @@ fn three_workers_answer_their_own_commands_of_one_log(rt: HostRuntime) -> Result
     assert_worker(&rt, rt.alloc(), &cells, 2, &LOG)
 }
 
-/// This worker's command on its tenant's table.
+/// Returns this worker's command on its tenant's table.
 fn own_entry(number: u64, command: Command) -> Result<Entry, Fail> {
     Ok(Entry {
         ticket: ticket_of(worker_of(0)?, number),

@@ -1,5 +1,5 @@
-//! The streams over memory and over std's readers and writers, by themselves, lent, and with a reader or a writer that
-//! fails.
+//! The streams in memory and over std's readers and writers, by themselves, lent, and with a reader
+//! or a writer that fails.
 ghost use Rattle.std.specs.Prelude.{◌<◌, length};
 
 use mc_stream::{
@@ -23,7 +23,8 @@ fn push_to<O: Output + Drop>(mut output: O, bytes: &[u8]) -> Push
     output.push(bytes)
 }
 
-/// A pull of at most three bytes gives so many, and they are kept behind those of the pulls before.
+/// Asserts what a pull of at most three bytes gives, and appends its bytes to those of the pulls
+/// before.
 fn assert_pull(
     rt: &impl Abort,
     input: &mut MemoryInput,
@@ -39,7 +40,7 @@ fn assert_pull(
     Ok(())
 }
 
-/// Seven bytes, by four steps.
+/// Returns an input of seven bytes, by four steps.
 fn input_by_steps(alloc: Global) -> Result<MemoryInput, Fail> {
     let steps = [
         InputStep::Give(2),
@@ -72,7 +73,7 @@ fn gives_by_its_steps(rt: HostRuntime) -> Result<(), Fail> {
     Ok(())
 }
 
-/// A push of these bytes takes so many, and then these are kept.
+/// Asserts what a push of these bytes takes, and that the output holds `kept` afterwards.
 fn assert_push(
     rt: &impl Abort,
     output: &mut MemoryOutput,
@@ -90,7 +91,7 @@ fn assert_push(
     Ok(())
 }
 
-/// No byte yet, and four steps.
+/// Returns an output that holds no byte yet, and has four steps.
 fn output_by_steps(alloc: Global) -> Result<MemoryOutput, Fail> {
     let steps = [
         OutputStep::Take(1),
@@ -141,7 +142,7 @@ fn lends_its_pushes(rt: HostRuntime) -> Result<(), Fail> {
     Ok(())
 }
 
-/// At each of its first calls fails by this kind, or succeeds.
+/// A reader and writer that fails with these kinds at its first calls, or succeeds.
 #[derive(Drop)]
 struct Flawed<'a> {
     kinds: &'a [Option<ErrorKind>],
@@ -220,7 +221,7 @@ fn tells_waits_from_failed_reads(rt: HostRuntime) {
     }
 }
 
-/// Pushes to a writer that fails so give these answers.
+/// Asserts that pushes to a writer that fails like this return these answers.
 fn assert_pushes(rt: &impl Abort, kinds: &[Option<ErrorKind>], wants: [Push; 4]) {
     let mut output = WriteOutput::new(Flawed { kinds });
     for want in wants {
@@ -229,7 +230,7 @@ fn assert_pushes(rt: &impl Abort, kinds: &[Option<ErrorKind>], wants: [Push; 4])
     }
 }
 
-/// What was interrupted in a flush has failed, since the bytes would be pushed again.
+/// An interruption in a flush is a failure, since the bytes would be pushed again.
 #[test]
 fn tells_waits_from_failed_writes(rt: HostRuntime) {
     const CALLS: [Push; 4] = [Push::Full, Push::Full, Push::Failed, Push::Taken(1)];

@@ -1,4 +1,4 @@
-//! Each reply's text, with ample memory, and what want of memory leaves.
+//! Each reply's text, with ample memory, and what is left if memory runs out.
 use crate::values::{assert_text, value_of};
 use mc_model::{Fault, Reply, ValueList, WireNo};
 use mc_write::{refusal_text, write_reply};
@@ -57,7 +57,7 @@ fn writes_refusals(rt: HostRuntime) -> Result<(), Fail> {
     Ok(())
 }
 
-/// The reply that shows one item.
+/// Returns the reply that shows one item.
 fn one_value(alloc: Global) -> Result<Reply, Fail> {
     let value = value_of(alloc, ("k", 1, "data", Some(2)))?;
     Ok(Reply::Values(ValueList::new(vec![in alloc; value]?)))
@@ -67,7 +67,7 @@ const ONE_VALUE: &str = "VALUE k 1 4 2\r\ndata\r\nEND\r\n";
 
 const BEHIND_OLD: &str = "oldVALUE k 1 4 2\r\ndata\r\nEND\r\n";
 
-/// The reply's text stands behind what was there.
+/// The reply's text stands after what was there.
 #[test]
 fn writes_behind_old_bytes(rt: HostRuntime) -> Result<(), Fail> {
     let mut out = Vec::from_slice(rt.alloc(), b"STORED\r\n")?;
@@ -87,7 +87,7 @@ fn writes_items(rt: HostRuntime) -> Result<(), Fail> {
     assert_text(&rt, rt.alloc(), &reply, text.as_bytes())
 }
 
-/// Where an allocation fails (`rt try --test --fail-alloc N`), the old bytes stay.
+/// If an allocation fails (`rt try --test --fail-alloc N`), the old bytes stay.
 #[test]
 fn want_of_memory_keeps_old_bytes(rt: HostRuntime) -> Result<(), Fail> {
     let mut out = Vec::from_slice(rt.alloc(), b"old")?;
@@ -103,7 +103,8 @@ fn want_of_memory_keeps_old_bytes(rt: HostRuntime) -> Result<(), Fail> {
     Ok(())
 }
 
-/// With as much room as the text needs none is asked for, so no failing allocation falls in here.
+/// With as much room as the text needs no more is asked for, so no failing allocation falls in
+/// here.
 #[test]
 fn room_is_enough(rt: HostRuntime) -> Result<(), Fail> {
     let reply = one_value(rt.alloc())?;

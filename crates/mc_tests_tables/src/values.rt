@@ -1,4 +1,4 @@
-//! What the tests share: values that are made of plain data, and replies as a client reads them.
+//! What the tests share: values made of plain data, and replies as a client reads them.
 use mc_model::{Command, Data, Fault, Key, Reply, Request, Value};
 use mc_read::Reader;
 use mc_write::write_reply;
@@ -29,7 +29,7 @@ pub(crate) fn value_of(alloc: Global, shown: Shown) -> Result<Value, Fail> {
     })
 }
 
-/// The command that a client writes so.
+/// Returns the command that a client writes as this text.
 pub(crate) fn command_of(alloc: Global, text: &[u8]) -> Result<Command, Fail> {
     match request_of(alloc, text)? {
         Some(Request::Logged { command, .. }) => Ok(command),
@@ -43,7 +43,7 @@ fn request_of(alloc: Global, text: &[u8]) -> Result<Option<Request>, Fault> {
     reader.next()
 }
 
-/// A copy of the command that a client writes so, which is like it.
+/// Returns a copy of the command that a client writes as this text, which is equal to it.
 pub(crate) fn copied(rt: &impl Abort, alloc: Global, text: &str) -> Result<Command, Fail> {
     let command = command_of(alloc, text.as_bytes())?;
     let copy = command.try_clone()?;
@@ -51,7 +51,7 @@ pub(crate) fn copied(rt: &impl Abort, alloc: Global, text: &str) -> Result<Comma
     Ok(copy)
 }
 
-/// A client reads this text for the reply.
+/// Asserts that a client reads this text for the reply.
 pub(crate) fn assert_text(
     rt: &impl Abort,
     alloc: Global,
@@ -64,13 +64,13 @@ pub(crate) fn assert_text(
     Ok(())
 }
 
-/// The command that stores one letter under a number.
+/// Returns the command that stores one letter under a number.
 pub(crate) fn numbered_set(alloc: Global, number: u64) -> Result<Command, Fail> {
     let text = format!(in alloc; "set {number} 0 0 1\r\nx\r\n")?;
     command_of(alloc, text.as_bytes())
 }
 
-/// The command that asks for so many numbers, with their uniques.
+/// Returns the command that asks for `count` numbers, with their uniques.
 pub(crate) fn numbered_get(alloc: Global, count: u64) -> Result<Command, Fail> {
     let mut text = String::from_str(alloc, "gets")?;
     for number in 0..count {
@@ -80,7 +80,7 @@ pub(crate) fn numbered_get(alloc: Global, count: u64) -> Result<Command, Fail> {
     command_of(alloc, text.as_bytes())
 }
 
-/// What a client reads for so many numbers that were stored in order.
+/// Returns what a client reads for `count` numbers that were stored in order.
 pub(crate) fn numbered_values(alloc: Global, count: u64) -> Result<String, Fail> {
     let mut text = String::new(alloc);
     for number in 0..count {

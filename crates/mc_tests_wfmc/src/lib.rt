@@ -1,4 +1,4 @@
-//! Tests of whole runs of wfmc that end before it serves, over what `mc_server` makes public.
+//! Tests of whole runs of wfmc that end before it serves, through what `mc_server` makes public.
 #![tactic(auto)]
 
 #[cfg(test)]

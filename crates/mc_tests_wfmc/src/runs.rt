@@ -1,4 +1,5 @@
-//! Runs of wfmc that end before it serves: its words, and addresses that can't be listened at.
+//! Runs of wfmc that end before it serves: its command line, and addresses at which it can't
+//! listen.
 use mc_server::{MemoryOutput, OutputStep, run_wfmc};
 use std::alloc::{AllocError, Global};
 use std::net::Net;
@@ -7,7 +8,7 @@ use std::sync::Wait;
 use std::test::Fail;
 use std::thread::Threads;
 
-/// What a run has to leave.
+/// What a run must leave.
 #[derive(Clone, Copy)]
 struct Wanted<'a> {
     status: u8,
@@ -15,7 +16,7 @@ struct Wanted<'a> {
     errors: &'a [u8],
 }
 
-/// The words of a command line, of which these are given with a space between them.
+/// Returns the words of a command line; the given ones have a space between them.
 fn words_of(alloc: Global, given: &str) -> Result<Vec<String>, AllocError> {
     let mut words = Vec::new(alloc);
     for word in given.split_terminator(' ') {
@@ -24,7 +25,7 @@ fn words_of(alloc: Global, given: &str) -> Result<Vec<String>, AllocError> {
     Ok(words)
 }
 
-/// A run by these words, whose outputs go by these steps, leaves what it has to.
+/// Asserts that a run with these words, whose outputs follow these steps, leaves what it must.
 fn check_steps<R: Threads + Wait + Net + Sync + AllocGlobal + Abort>(
     rt: &R,
     given: &str,
@@ -48,7 +49,7 @@ fn check_steps<R: Threads + Wait + Net + Sync + AllocGlobal + Abort>(
     Ok(())
 }
 
-/// As `check_steps`, of a run that ends with this status and tells this.
+/// Does as `check_steps` for a run that ends with this status and prints this error.
 fn check_told<R: Threads + Wait + Net + Sync + AllocGlobal + Abort>(
     rt: &R,
     given: &str,

@@ -1,5 +1,5 @@
 //! The text that a client reads for each reply, appended to a queue of bytes, and the names of
-//! faults.
+//! faults. Begin with `write_reply`; `specs/Text.antt` defines the bytes.
 #![tactic(auto)]
 
 ghost use Rattle.std.specs.Io.{StartsWith};

@@ -1,4 +1,5 @@
 //! Cells for the contents of commands: one for each ticket, set once and never changed after that.
+//! Begin with `Cells::put`; `specs/Sighting.antt` says what is seen of a cell.
 #![tactic(auto)]
 
 pub use cells::Cells;

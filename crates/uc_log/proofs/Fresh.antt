@@ -1,4 +1,4 @@
--- A pass that was never used.
+-- A pass that is unused.
 use Rattle.std.proofs.Common.{◌≡◌, ℕ, List, [], ◌∷◌, ◌++◌, ◌+◌, length, length-append, sym, ap, ◌∙◌, slice_get, Some}
 use Rattle.std.proofs.lemmas.Option.{none-some}
 use Rattle.uc_cells.specs.Sighting.{Sighting}

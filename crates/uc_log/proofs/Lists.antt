@@ -14,7 +14,7 @@ each_pushed {X} P old new x is each last place y at = pushed old P each last pla
     pushed (z ∷ old) P each last zero at = each zero y at
     pushed (z ∷ old) P each last (suc place) at = pushed old (λ k. P (suc k)) (λ k w h. each (suc k) w h) last place at
 
--- what stands at the end, and what stood before
+-- the element at the end, and those before it
 pub at_end : {X : Type 0} (list : List X) (x : X) → slice_get (list ++ x ∷ []) (length list) ≡ Some x
 at_end [] x = refl
 at_end (y ∷ list) x = at_end list x
@@ -24,7 +24,7 @@ stands_longer [] more place x at = absurd (none-some x at)
 stands_longer (y ∷ list) more zero x at = at
 stands_longer (y ∷ list) more (suc place) x at = stands_longer list more place x at
 
--- where nothing is left, all was taken
+-- if nothing is left, all was taken
 pub all_taken : {X : Type 0} (taken rest list : List X) → taken ++ rest ≡ list → length rest ≡ 0 → taken ≡ list
 all_taken taken [] list is none = sym (append-nil taken) ∙ is
 all_taken taken (x ∷ rest) list is none = absurd (omega (arith, none))

@@ -16,7 +16,8 @@ use Rattle.uc_places.specs.declared.view.View.{View}
 use Rattle.uc_places.specs.Calls.{IsSeatOf, known}
 use Rattle.uc_places.specs.Told.{new_seat}
 
--- what the pass's seat knows: the size of the log, its worker's number, what its worker has come to, and what it was told
+-- what the pass's seat knows: the size of the log, its worker's number and state, and the list that
+-- was shared with it
 abbrev pub seat : Pass → View
 seat pass = known pass.desk
 
@@ -35,7 +36,7 @@ state pass = (seat pass).state
 abbrev pub learned : Pass → List Ticket
 learned pass = (state pass).learned
 
--- what it saw of the cells that it filled, by the numbers of their tickets
+-- what it saw in the cells that it filled, by the numbers of their tickets
 abbrev pub own_sightings : Pass → List Sighting
 own_sightings pass = pass.sealed.items
 
@@ -47,16 +48,16 @@ next_ticket pass = ticket_of (worker pass) (state pass).announced
 abbrev pub size_of : Log → LogSize
 size_of log = record { workers = log.settings.workers; places = log.settings.places }
 
--- in which row of the log's cells the ticket's cell stands
+-- the row of the log's cells that has the ticket's cell
 abbrev pub row_of : Log → Ticket → ℕ
 row_of log ticket = row_at log.cells ticket
 
--- the pass was made with the log, and what it put is in the log's cells
+-- the pass was opened with the log, and what it put is in the log's cells
 abbrev pub IsOf : Log → Pass → Type 0
 IsOf log pass = IsSeatOf log.places pass.desk × (size pass ≡ size_of log)
     × ((number : ℕ) (seen : Sighting) → slice_get (own_sightings pass) number ≡ Some seen → seen.row ≡ row_of log seen.ticket)
 
--- the pass is of the log still, and what it put into the log's cells is what it was
+-- the pass still belongs to the log, and what it put into the log's cells is unchanged
 pub record Keeps (log : Log) (old new : Pass) : Type 0 where
   pub of : IsOf log new
   pub own : own_sightings new ≡ own_sightings old
@@ -68,11 +69,11 @@ next_entry pass tenant command = record { ticket = next_ticket pass; tenant = te
 abbrev pub next_sighting : Log → Pass → ℕ → Command → Sighting
 next_sighting log pass tenant command = sighting (next_ticket pass) (Some (next_entry pass tenant command)) (row_of log (next_ticket pass))
 
--- the pass of the worker of this number, which was never used
+-- the unused pass of the worker of this number
 abbrev pub IsNew : Log → ℕ → Pass → Type 0
 IsNew log number pass = IsOf log pass × (seat pass ≡ new_seat (size_of log) number)
 
--- each pass has the seat of its number, and was never used
+-- each pass has the seat of its number, and is unused
 abbrev pub AreMadeOf : List Pass → List Idle → Type 0
 AreMadeOf passes seats = (number : ℕ) (pass : Pass) → slice_get passes number ≡ Some pass →
     (own_sightings pass ≡ []) × (seat : Idle) × (slice_get seats number ≡ Some seat) × (pass.desk ≡ seat.desk)

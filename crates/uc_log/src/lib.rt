@@ -1,5 +1,7 @@
-//! The shared log of a server's workers: cells for the contents of commands, and places for their order, joined. A worker's commands
-//! stand in its cells before they are announced, so whoever learns a ticket finds its entry, and all find the same.
+//! The shared log of a server's workers: cells for the contents of commands, and places for their
+//! order, joined. A worker's command is in its cell before it is announced, so every worker that
+//! learns a ticket finds its entry, and all find the same one. Begin with `Log::open`;
+//! `specs/Passes.antt` says what a pass is to its log.
 #![tactic(auto)]
 
 pub use log::Log;

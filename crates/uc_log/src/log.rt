@@ -1,11 +1,12 @@
-//! What the workers share.
+//! The part of a log that its workers share.
 ghost use Rattle.std.specs.Prelude.{◌≡◌};
 
 use mc_model::Settings;
 use uc_cells::Cells;
 use uc_places::Places;
 
-/// A log of set-once places: a cell for each ticket, and the words in which the workers decide which ticket stands where.
+/// A log of set-once places: a cell for each ticket, and the words by which the workers decide
+/// which ticket stands at which place.
 #[derive(Drop)]
 pub struct Log {
     pub(crate) settings: Settings,
@@ -15,7 +16,7 @@ pub struct Log {
 }
 
 impl Log {
-    /// The settings that it was opened with.
+    /// Returns the settings with which the log was opened.
     pub fn settings(&self) -> &Settings
         ensures { result.now ≡ self.now.settings }
     {

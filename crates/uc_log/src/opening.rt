@@ -1,4 +1,4 @@
-//! A log and its passes.
+//! Opening a log and its passes.
 ghost use Rattle.std.specs.Prelude.{◌≡◌, ℕ, [], Some, length, slice_get, IfOk, IsOkUnless};
 ghost use Rattle.mc_model.specs.declared.fault.Fault.TheVariants as faults;
 ghost use Rattle.uc_log.specs.Passes.{AreMadeOf, IsNew, own_sightings};
@@ -13,7 +13,8 @@ use uc_cells::Cells;
 use uc_places::{Desk, Idle};
 
 impl Pass {
-    /// A pass with this new seat. Its lists are reserved here, once.
+    /// Returns a pass with this new seat. Its lists are reserved here, once, so that no later step
+    /// of the pass allocates for them.
     fn open(alloc: Global, desk: Desk) -> Result<Pass, Fault>
         requires { known desk ≡ new_seat (size_of desk) (worker_of desk) }
         ensures desk { IfOk result (λ pass. pass.desk ≡ desk) }
@@ -31,7 +32,7 @@ impl Pass {
     }
 }
 
-/// A pass with each of these new seats, in their order.
+/// Returns a pass with each of these new seats, in order.
 fn passes_of(alloc: Global, seats: Vec<Idle>) -> Result<Vec<Pass>, Fault>
     requires new { (number : ℕ) (seat : _) → slice_get seats.items number ≡ Some seat → known seat.desk ≡ new_seat (size_of seat.desk) (worker_of seat.desk) }
     ensures count { IfOk result (λ passes. length passes.items ≡ length seats.items) }
@@ -45,7 +46,7 @@ fn passes_of(alloc: Global, seats: Vec<Idle>) -> Result<Vec<Pass>, Fault>
     Ok(passes)
 }
 
-/// The same settings once more.
+/// Returns a copy of the settings.
 fn copied(alloc: Global, settings: &Settings) -> Result<Settings, Fault>
     ensures settings { IfOk result (λ copy. copy ≡ settings.now) }
     ensures memory { IsOkUnless result faults.Memory }
@@ -58,8 +59,9 @@ fn copied(alloc: Global, settings: &Settings) -> Result<Settings, Fault>
 }
 
 impl Log {
-    /// A log with these settings in which nothing is decided, and a pass for each worker, by the workers' numbers. Where memory runs out:
-    /// `Memory`.
+    /// Opens an empty log with these settings, and a pass for each worker, by the workers' numbers.
+    ///
+    /// Returns `Memory` if memory runs out.
     pub fn open(alloc: Global, settings: &Settings) -> Result<(Log, Vec<Pass>), Fault>
         ensures settings { IfOk result (λ opened. opened.0.settings ≡ settings.now) }
         ensures count { IfOk result (λ opened. length opened.1.items ≡ settings.now.workers) }

@@ -8,7 +8,8 @@ use mc_model::Ticket;
 use uc_cells::Sealed;
 use uc_places::Desk;
 
-/// A worker's seat at the log's words, the tickets that it has learned there, and what it put into the cells of those that it announced.
+/// A worker's seat at the log's words, the tickets that it has learned there, and what it put into
+/// the cells of the tickets that it announced.
 #[derive(Drop)]
 pub struct Pass {
     pub(crate) desk: Desk,

@@ -1,4 +1,4 @@
-//! What a worker does with its pass.
+//! The steps that a worker takes with its pass.
 ghost use Rattle.std.specs.Prelude.{◌≡◌, ◌≢◌, ◌⊎◌, ◌<◌, ◌∷◌, ◌++◌, [], length, slice_get, None, Some, IfOk, IfErr, IsOkUnless, OnErr, OnOk};
 ghost use Rattle.mc_model.specs.declared.fault.Fault.TheVariants as faults;
 ghost use Rattle.mc_model.specs.declared.shown.Phase.TheVariants as phase;
@@ -13,8 +13,10 @@ use std::alloc::Global;
 use uc_cells::Seen;
 
 impl Log {
-    /// Fills the cell of the worker's next ticket with the tenant's command, and then announces it. Where memory runs out: `Memory`;
-    /// where the cell holds another value: `Taken`. Then nothing is announced, and the command is dropped.
+    /// Fills the cell of the worker's next ticket with the tenant's command, and then announces it.
+    ///
+    /// Returns `Memory` if memory runs out, and `Taken` if the cell holds another value. Either way
+    /// nothing is announced, and the command is dropped.
     pub fn announce(
         &self,
         alloc: Global,
@@ -49,8 +51,10 @@ impl Log {
         Ok(())
     }
 
-    /// Reads the next place, and learns the ticket that stands there, if one does: where it is its own, the worker is idle. An empty
-    /// place becomes the mark of a pending worker that has none.
+    /// Reads the next place, and learns the ticket that stands there, if there is one.
+    ///
+    /// Returns that ticket, or `None` if the place is empty. The worker becomes idle if the ticket
+    /// is its own. An empty place becomes the mark of a pending worker that has none.
     pub fn read(&self, pass: &mut Pass) -> Option<Ticket>
         requires of { IsOf self.now pass.old }
         requires phase { ((state pass.old).phase ≡ phase.Idle) ⊎ ((state pass.old).phase ≡ phase.Pending) }
@@ -58,13 +62,14 @@ impl Log {
         ensures read { Reads (desk pass.old) (desk pass.new) result }
         ensures kept { Keeps self.now pass.old pass.new }
     {
-        // Its parts, since a ticket that is passed twice gets no proof.
+        // In parts, since a ticket that is passed twice gets no proof.
         let Ticket { worker, number } = pass.desk.read(&self.places)?;
         pass.learned.push_reserved(Ticket { worker, number });
         Some(Ticket { worker, number })
     }
 
-    /// Looks at the worker whose turn it is at the next place: its first command that isn't learned is to be helped, if there is one.
+    /// Looks for a command to help: the first one that isn't learned of the worker whose turn it is
+    /// at the next place, if there is one.
     pub fn look(&self, pass: &mut Pass)
         requires of { IsOf self.now pass.old }
         requires pending { (state pass.old).phase ≡ phase.Pending }
@@ -76,22 +81,26 @@ impl Log {
         pass.desk.look(&self.places);
     }
 
-    /// Proposes at the next place what it found, or else its own command, and learns the ticket that stands there then: where it is its
-    /// own, the worker is idle.
+    /// Proposes the command that it found to help, or else its own, at the next place.
+    ///
+    /// Learns and returns the ticket that stands there afterwards. The worker becomes idle if that
+    /// ticket is its own.
     pub fn propose(&self, pass: &mut Pass) -> Ticket
         requires of { IsOf self.now pass.old }
         requires looked { (state pass.old).phase ≡ phase.Looked }
         ensures proposed { Proposes (desk pass.old) (desk pass.new) result }
         ensures kept { Keeps self.now pass.old pass.new }
     {
-        // Its parts, since a ticket that is passed twice gets no proof.
+        // In parts, since a ticket that is passed twice gets no proof.
         let Ticket { worker, number } = pass.desk.propose(&self.places);
         pass.learned.push_reserved(Ticket { worker, number });
         Ticket { worker, number }
     }
 
-    /// What is in the cell of the ticket that was learned at the place. Where it is the pass's own, it is what it put, and no memory is
-    /// needed; else, where memory runs out: `Memory`.
+    /// Returns what is in the cell of the ticket that was learned at the place.
+    ///
+    /// If the ticket is the pass's own, that is what the pass put there, and no memory is needed.
+    /// Otherwise returns `Memory` if memory runs out.
     pub fn seen(&self, alloc: Global, pass: &mut Pass, place: usize) -> Result<Seen<'_>, Fault>
         requires of { IsOf self.now pass.old }
         requires learned { place < length (learned pass.old) }
@@ -108,8 +117,10 @@ impl Log {
         self.cells.see(alloc, Ticket { worker, number })
     }
 
-    /// Tells what one pass has learned to another. That one finds each place of which it was told as it was told, and of what the two
-    /// have learned, one begins with the other.
+    /// Shares what one pass has learned with another.
+    ///
+    /// From then on the other finds at each place of that list the ticket that the list has there.
+    /// One of the two learned lists begins with the other.
     pub fn tell(&self, from: &mut Pass, to: &mut Pass)
         requires { IsOf self.now from.old × IsOf self.now to.old }
         ensures told { Tells (desk from.old) (desk to.old) (desk from.new) (desk to.new) }

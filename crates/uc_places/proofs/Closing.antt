@@ -1,4 +1,4 @@
--- The seats that an opening gives, and what the words are at the end.
+-- The seats that an opening gives, and what the words are when they are closed.
 use Rattle.std.proofs.Common.{◌≡◌, ℕ, ◌+◌, List, [], ◌∷◌, ◌++◌, ⊎_elim, length, length-append, Result, Ok, Err, IfOk, sym, ap, ◌∙◌, subst, arith, slice_get, slice_index, Some}
 use Rattle.atomic_table.specs.Seated.{TableId}
 use Rattle.atomic_table.specs.Table.{Final, Seen}
@@ -28,7 +28,7 @@ snoc_seats size id old new number seat pushed long before last worker x at = ⊎
 pub snoc_length : (old new : List Idle) (number : ℕ) (seat : Idle) → new ≡ old ++ seat ∷ [] → length old ≡ number → length new ≡ number + 1
 snoc_length old new number seat pushed long = ap length pushed ∙ (length-append old (seat ∷ []) ∙ ap (λ (k : ℕ). k + 1) long)
 
--- at the end the words spell the log
+-- at the end the words encode the log
 spells : (size : LogSize) (s : TableState) (kept : IsKept size s) (words : List ℕ) → s.words ≡ words →
     Spells words (1 + size.workers) size.places kept.log.decided
 spells size s kept words same = let law = law size s kept in let few = kept.small.1 in record {
@@ -37,7 +37,8 @@ spells size s kept words same = let law = law size s kept in let few = kept.smal
   small = λ place ticket at. let below = (ticket_small size kept.log law place ticket at).0 in omega arith;
 }
 
--- what the words are at the end: they spell the log of a state that events lead to, which a seat that stays open shows
+-- what the words are at the end: they encode the log of a reachable state, which a seat that stays
+-- open shows
 pub closes : (size : LogSize) (id : ℕ) (view : View) (words : List ℕ) (slots : List Unit) → view.kind ≡ Seated →
     Final (Seen (IsKept size) id view) words slots →
     (log : ShownState) × IsReached size log × Spells words (1 + size.workers) size.places log.decided × IsWorker log view.worker view.state
@@ -52,7 +53,7 @@ closes size id view words slots is final =
       mine.3,
     )
 
--- the same, where no seat is left
+-- the same, if no seat is left
 pub closes_bare : (size : LogSize) (words : List ℕ) (slots : List Unit) → Final (IsKept size) words slots →
     (log : ShownState) × IsReached size log × Spells words (1 + size.workers) size.places log.decided
 closes_bare size words slots final = let kept = final.1 in (kept.log, kept.reached, spells size final.0 kept words final.2)

@@ -30,12 +30,12 @@ use Rattle.uc_places.proofs.Wording.{decoded}
 pub words_of : (z z' : TableId) (n : ℕ) → z ≡ z' → z.words ≡ n → z'.words ≡ n
 words_of z z' n e h = ap (λ (t : TableId). t.words) (sym e) ∙ h
 
--- a word that isn't 0 says its ticket
+-- a word that isn't 0 encodes its ticket
 pub found_some : (found : ℕ) (ticket : Ticket) → found ≢ 0 → ticket ≡ said_ticket found → found_in found ≡ Some ticket
 found_some zero ticket ne e = absurd (ne refl)
 found_some (suc n) ticket ne e = ap (λ (y : Ticket). Some y) (sym e)
 
--- the test by numbers is the definition's
+-- the test on numbers is the definition's
 pub owns_is : (view : View) (numbers : Numbers) (ticket : Ticket) → Mirrors view numbers →
     owns numbers ticket ≡ is_latest view.worker view.state ticket
 owns_is view numbers ticket m = λ i. (ticket.worker == sym m.worker i) && (ticket.number + 1 == sym m.announced i)
@@ -110,7 +110,7 @@ pub small_ticket : (size : LogSize) (found : ℕ) (ticket : Ticket) → IsTicket
 small_ticket size found ticket is ne e = let t = is ne in let a = t.0 in let b = t.3 in let c = t.1 in
     subst (λ (y : Ticket). (y.worker < WORKERS) × (y.number < size.places)) (sym e) (omega arith, t.1)
 
--- the ticket for a look, as numbers give it
+-- the ticket to propose after looking, from the numbers
 pub proposed_is : (view : View) (numbers : Numbers) (helped found : ℕ) → Mirrors view numbers → helped < 16 → helped ≡ turn view.size view.state →
     ticket_for numbers helped found ≡ proposal view.worker (look (turn view.size view.state) found view.state)
 proposed_is view numbers helped found m small e = both ∙ ap (λ (i : ℕ). proposal view.worker (look i found view.state)) e
@@ -137,7 +137,7 @@ proposed_small view numbers helped found m small room = by_test (ltb (get_or num
     by_test true = let few = count_few view numbers helped m small in let s = m.small in let places = s.2 in omega arith
     by_test false = let few = m.announced_few in omega arith
 
--- what is looked up is a worker's that there can be
+-- the worker of the ticket to propose is below the bound on workers
 proposed_worker : (view : View) (numbers : Numbers) (helped found : ℕ) → Mirrors view numbers → helped < 16 → (ticket_for numbers helped found).worker < WORKERS
 proposed_worker view numbers helped found m small = by_test (ltb (get_or numbers.counts helped 0) found)
   where
@@ -145,7 +145,7 @@ proposed_worker view numbers helped found m small = by_test (ltb (get_or numbers
     by_test true = small
     by_test false = let inside = m.inside in let few = m.small.1 in let same = m.workers in omega arith
 
--- a look is kept as the word of what it makes the worker propose
+-- looking is kept as the word of the ticket that the worker proposes next
 pub mirrors_looked : (last : ShownState) (view : View) (numbers : Numbers) (helped found word : ℕ) → Mirrors view numbers → helped < 16 →
     helped ≡ turn view.size view.state → numbers.learned < view.size.places → word ≡ said_word (ticket_for numbers helped found) →
     Mirrors (moved_on view (look (turn view.size view.state) found view.state) last) (record numbers { proposal = word; phase = Looked })

@@ -1,4 +1,4 @@
--- Each operation of a worker's seat on a word keeps the rule, and is its event.
+-- Each operation of a worker's seat on a word keeps the invariant, and is its event.
 use Rattle.std.proofs.Common.{◌≡◌, ◌≢◌, ◌⊎◌, ℕ, zero, suc, ◌+◌, ◌%◌, ◌^◌, ◌<◌, ◌==◌, Bool, List, [], ◌∷◌, ◌++◌, length, get_or, set, sym, refl, ap, ◌∙◌, subst, inl, inr, ⊎_elim, arith, eq-eqb, ne_eqb, slice_get, unwrap_or, Option, Some, None}
 use Rattle.std.proofs.lemmas.List.Sums.{count_by-le-length}
 use Rattle.std.proofs.lemmas.Option.{slice_get_within}
@@ -38,13 +38,13 @@ module _ (size : LogSize) where
   pub law : (s : TableState) (kept : IsKept size s) → LogLaw size kept.log
   law s kept = is_lawful size kept.log kept.reached
 
-  -- what the rule says of a worker's seat
+  -- what the invariant says of a worker's seat
   pub seated : (s : TableState) (kept : IsKept size s) (id : ℕ) (view : View) → get_elem? s.views id ≡ some view → view.kind ≡ Seated →
       (kept.owner view.worker ≡ id) × IsWorker kept.log view.worker view.state × BeginsWith kept.log.decided view.told
       × OthersLead size view.worker view.last kept.log
   seated s kept id view at is = subst (Knows size kept.log kept.owner id view) is (kept.fits id view at).1
 
-  -- another seat keeps what the rule says of it
+  -- another seat keeps what the invariant says of it
   others : (old new : ShownState) (event : ShownEvent) (owner : ℕ → ℕ) (number id other : ℕ) (state : WorkerState) → taker event ≡ number →
       Step size old event new →
       owner number ≡ id → other ≢ id → new.workers ≡ set old.workers number state → BeginsWith new.decided old.decided →
@@ -74,7 +74,7 @@ module _ (size : LogSize) where
       by_kind Note knows = begins_through new.decided old.decided view.told longer knows
       by_kind Spent knows = tt
 
-  -- an event of a worker, by its seat, keeps the rule where the words then show the new state
+  -- an event of a worker, by its seat, keeps the invariant if the words then show the new state
   steps : (s : TableState) (kept : IsKept size s) (id : ℕ) (view : View) (event : ShownEvent) (decided : List Ticket) (state : WorkerState)
       (words : List ℕ) →
       get_elem? s.views id ≡ some view → view.kind ≡ Seated → taker event ≡ view.worker →
@@ -118,7 +118,7 @@ module _ (size : LogSize) where
     set_here kept.log.workers view.worker state (slice_get_within kept.log.workers view.worker view.state mine.1),
   )
 
--- the view's size is the rule's
+-- the view's size is the invariant's
 at_size : (size : LogSize) (slots id : ℕ) (me : SeatState) → me.0.kind ≡ Seated → (word : ℕ) (f : ℕ → ℕ) (tells : ℕ → SeatState → Type 0) →
     Allows (IsKept me.0.size) slots id me word f tells → Allows (IsKept size) slots id me word f tells
 at_size size slots id me is word f tells body s kept long at fits =
@@ -162,7 +162,7 @@ module _ (slots id : ℕ) (me : SeatState) (is : me.0.kind ≡ Seated) where
   read_announced number worker None = refl
   read_announced number worker (Some ticket) = refl
 
-  -- what stands in a beginning stands in the list
+  -- an element of a prefix stands at the same place of the list
   at_longer : (list more : List Ticket) (place : ℕ) (ticket : Ticket) → slice_get list place ≡ Some ticket →
       slice_get (list ++ more) place ≡ Some ticket
   at_longer [] more place ticket at = absurd (let no = at in cc)
@@ -309,7 +309,7 @@ module _ (slots id : ℕ) (me : SeatState) (is : me.0.kind ≡ Seated) where
               (subst (λ (some : List ℕ). Shows size some (with_worker log number new)) (sym (set-get_or words i 0))
               (shows_same size words log number old new shows at kept))
 
-  -- of two beginnings of a list, one begins with the other
+  -- one of two beginnings of a list begins with the other
   compared : (a b r q : List Ticket) → a ++ r ≡ b ++ q → BeginsWith a b ⊎ BeginsWith b a
   compared [] b r q e = inr (b, refl)
   compared (x ∷ a) [] r q e = inl (x ∷ a, refl)

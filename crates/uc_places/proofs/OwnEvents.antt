@@ -30,7 +30,7 @@ in_front : (number : ℕ) (event : ShownEvent) (events : List ShownEvent) (its :
 in_front number event events its is =
     ap (λ (b : Bool). if b then event ∷ own_events number events else own_events number events) is
 
--- of others' events none is the worker's
+-- none of others' events is the worker's
 none_its : (number : ℕ) (events : List ShownEvent) → AreOfOthers number events → own_events number events ≡ []
 none_its number [] others = refl
 none_its number (event ∷ events) others = in_front number event events false (not_its number event others.0) ∙ none_its number events others.1
@@ -41,7 +41,8 @@ lead_on : (size : LogSize) (front back : List ShownEvent) (old here new : ShownS
 lead_on size [] back old here new one other = subst (λ (z : ShownState). LeadOn size z back new) one other
 lead_on size (event ∷ front) back old here new one other = (one.0, one.1, lead_on size front back one.0 here new one.2 other)
 
--- events lead from one desk's last state to another's, and these calls are the worker's own among them
+-- events lead from one desk's last state to another's, and these calls are the worker's own among
+-- them
 abbrev Lie : LogSize → ℕ → Desk → List ShownEvent → Desk → Type 0
 Lie size number old calls new = (events : List ShownEvent) × LeadOn size (last_of old) events (last_of new) × (own_events number events ≡ calls)
     × IsWorker (last_of new) number (state_of new)

@@ -18,7 +18,7 @@ use Rattle.uc_places.specs.SeatLaw.{SeatLaw}
 use Rattle.uc_places.specs.Told.{Happens, moved_on}
 use Rattle.uc_places.proofs.Wording.{announced_in, ticket_small}
 
--- what stands in the front of a list stands in the list
+-- an element of the front of a list is an element of the list
 in_longer : {X : Type 0} (list front : List X) (rest : List X) (place : ℕ) (x : X) → list ≡ front ++ rest → slice_get front place ≡ Some x → slice_get list place ≡ Some x
 in_longer {X} list front rest place x is at = ap (λ (l : List X). slice_get l place) is ∙ stands front place at
   where
@@ -27,7 +27,7 @@ in_longer {X} list front rest place x is at = ap (λ (l : List X). slice_get l p
     stands (y ∷ front) zero at = at
     stands (y ∷ front) (suc place) at = stands front place at
 
--- in a state that events lead to
+-- in a reachable state
 pub seat_law : (size : LogSize) (log : ShownState) (number : ℕ) (worker : WorkerState) → IsReached size log → IsWorker log number worker →
     SeatLaw size number worker
 seat_law size log number worker reached at = record {

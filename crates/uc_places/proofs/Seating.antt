@@ -1,4 +1,4 @@
--- The rule holds at the opening, and stays so as seats are given out and told.
+-- The invariant holds at the opening, and is kept as seats are given out and lists are shared.
 use Rattle.std.proofs.Common.{◌≡◌, ◌≢◌, ◌⊎◌, ℕ, zero, suc, ◌+◌, ◌<◌, ◌==◌, Bool, cond, List, [], ◌∷◌, ◌++◌, length, length-set, replicate, set, sym, refl, ap, ◌∙◌, subst, inl, inr, ⊎_elim, arith, eq-eqb, ne_eqb, le_refl, slice_get, Some}
 use Rattle.std.specs.Prelude.{slice_index}
 use mathlib.Core.Option.{some, some-injective, some-ne-none}
@@ -41,7 +41,7 @@ notes size id view is s kept at = let mine = seated size s kept id view at is in
     (λ (new : note_of view ≡ there_view). subst (Fits size kept.log kept.owner other) new ((λ _. (kept.fits id view at).0 (λ q. cc)), begins))
     (at_snoc (set s.views id view) (note_of view) there_view other there))
 
--- a seat that is told a note
+-- a seat with which a note is shared
 pub informs : (size : LogSize) (id : ℕ) (view : View) (other : ℕ) (note : View) → view.kind ≡ Seated → note.kind ≡ Note →
     Joins (IsKept size) id view other note (informed view note) spent
 informs size id view other note is theirs s kept at apart there =
@@ -59,7 +59,7 @@ informs size id view other note is theirs s kept at apart there =
     (λ (r : (j ≢ id) × (get_elem? s.views j ≡ some y)). kept.fits j y r.1) (at_set s.views id j new y q.1))
     (at_set (set s.views id new) other j spent y e))
 
--- which seat is whose, once a worker has another
+-- each worker's seat, once one more worker has its own
 abbrev moved_to : (ℕ → ℕ) → ℕ → ℕ → ℕ → ℕ
 moved_to owner number id worker = cond (worker == number) id (owner worker)
 
@@ -115,7 +115,7 @@ deals size id view is below s kept at =
     again size log owner new_owner id own view Note knows = knows
     again size log owner new_owner id own view Spent knows = tt
 
--- the rule holds of the words before the first event
+-- the invariant holds of the words before the first event
 pub starts : (size : LogSize) (words : List ℕ) → IsSmall size → length words ≡ 1 + size.workers + size.places → slice_index words 0 ≡ size.workers →
     ((i : ℕ) → 0 < i → i < length words → slice_index words i ≡ 0) → IsKept size (opening words [] (spare_from size 0))
 starts size words small wide first blank = record {

@@ -1,4 +1,4 @@
--- The list that the words of the places spell.
+-- The list that the words of the places encode.
 use Rattle.std.proofs.Common.{◌≡◌, ◌≢◌, ℕ, zero, suc, ◌+◌, ◌<◌, List, [], ◌∷◌, ◌++◌, take, take_all, get_or, sym, refl, ap, ◌∙◌, subst, arith, add-one, slice_get, slice_index, Option, Some, None}
 use mathlib.Core.Option.{some, some-injective, some-ne-none}
 use lib.ListN.{get_elem?}
@@ -42,7 +42,7 @@ module _ (words : List ℕ) (first places : ℕ) (tickets : List Ticket) (spells
   pub spelled_all : take places tickets ≡ tickets
   spelled_all = take_all places tickets spells.few
 
-  -- each word but 0 is a worker's ticket's
+  -- each word other than 0 is that of a worker's ticket
   pub spelled_tickets : AreTickets words first places
   spelled_tickets place room ne = by_found (slice_get tickets place) refl
     where

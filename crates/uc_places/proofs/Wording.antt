@@ -18,16 +18,16 @@ use Rattle.uc_places.specs.Rule.{IsSmall}
 use Rattle.uc_places.specs.Told.{IsTicketOf}
 use Rattle.uc_places.specs.Words.{Shows, found_in, place_word, said_ticket, said_word}
 
--- how many commands it has announced, once it is known what is shown of the worker
+-- how many commands a worker has announced, once its shown state is known
 abbrev pub announced_in : Option WorkerState → ℕ
 announced_in found = option_map_or (λ (worker : WorkerState). worker.announced) found 0
 
--- the ticket of a ticket's word is the ticket
+-- the word of a ticket encodes that ticket
 pub decoded : (ticket : Ticket) → ticket.worker < 256 → said_ticket (said_word ticket) ≡ ticket
 decoded ticket below = let worker : (said_word ticket - 1) % 256 ≡ ticket.worker = omega arith in
     let number : (said_word ticket - 1) / 256 ≡ ticket.number = omega arith in λ i. ticket_of (worker i) (number i)
 
--- what a place's word says is what stands there
+-- a place's word encodes what stands there
 pub found_of : (stands : Option Ticket) → ((ticket : Ticket) → stands ≡ Some ticket → ticket.worker < 256) → found_in (place_word stands) ≡ stands
 found_of None below = refl
 found_of (Some ticket) below = let n : ℕ = ticket.number * 256 + ticket.worker in
@@ -66,7 +66,7 @@ module _ (size : LogSize) (log : ShownState) (law : LogLaw size log) where
           subst (λ (y : Ticket). (y.worker < size.workers) × (y.number < size.places) × (said_word ticket ≡ said_word y)
           × (size.workers ≤ WORKERS)) (sym same) (both.0, both.1, refl, small.1)
 
--- where a worker is set, its count is told by it, and all others' are as they were
+-- where a worker is set, its count is that of its new state, and all others' are as they were
 counts_here : (log : ShownState) (number : ℕ) (old new : WorkerState) → IsWorker log number old →
     announced_by (with_worker log number new) number ≡ new.announced
 counts_here log number old new is = ap announced_in (set_here log.workers number new (slice_get_within log.workers number old is))

@@ -1,5 +1,6 @@
--- What the calls of a seat say. The four events are those of Herlihy's universal construction (Wait-Free Synchronization, TOPLAS 1991):
--- a command is announced, a place of the list is read, the worker to be helped is looked for, and a command is proposed.
+-- What the calls of a seat do. The four events are those of Herlihy's universal construction
+-- (Wait-Free Synchronization, TOPLAS 1991): a command is announced, a place of the list is read,
+-- the worker to be helped is looked for, and a command is proposed.
 use Rattle.std.specs.Prelude.{◌≡◌, ◌≢◌, ◌⊎◌, ℕ, ◌+◌, ◌≤◌, Bool, true, false, length, Option, Some, None, slice_get}
 use Rattle.mc_model.specs.declared.id.Ticket.{Ticket}
 use Rattle.mc_model.specs.declared.shown.Phase.{Phase}
@@ -15,7 +16,8 @@ use Rattle.uc_places.specs.declared.view.View.{View}
 use Rattle.uc_places.specs.SeatLaw.{SeatLaw}
 use Rattle.uc_places.specs.Told.{Happens, moved_on, told_list}
 
--- what a seat knows: the size of its log, its worker's number, what its worker has come to, and the state after its last event
+-- what a seat knows: the size of its log, its worker's number and state, the list that was shared
+-- with it, and the log's state after its last event
 abbrev pub known : Desk → View
 known desk = desk.seat.me.0
 
@@ -31,13 +33,14 @@ state_of desk = (known desk).state
 abbrev pub last_of : Desk → ShownState
 last_of desk = (known desk).last
 
--- the seat is of the same opening as the words
+-- the seat was opened together with the words
 abbrev pub IsSeatOf : Places → Desk → Type 0
 IsSeatOf places desk = desk.seat.table_id ≡ places.table.shared.table_id
 
--- The call is this event of the log, and the seat's worker becomes what is given: the event leads from a state that events lead to,
--- where the worker is what the seat showed, to the seat's new last state, where it is what the seat shows now; between the seat's last
--- event and this one lie only events of other workers. Nothing else of the seat changes.
+-- The call is this event of the log, and gives the seat's worker this state: the event leads from a
+-- reachable state, in which the worker is as the seat showed it, to the seat's new last state, in
+-- which it is as the seat shows it now; only events of other workers lie between the seat's last
+-- event and this one. Nothing else of the seat changes.
 abbrev pub Makes : Desk → Desk → ShownEvent → WorkerState → Type 0
 Makes old new event state = (new.seat.table_id ≡ old.seat.table_id) × (new.seat.id ≡ old.seat.id)
     × (known new ≡ moved_on (known old) state (last_of new))
@@ -47,36 +50,39 @@ Makes old new event state = (new.seat.table_id ≡ old.seat.table_id) × (new.se
 abbrev pub Announces : Desk → Desk → Type 0
 Announces old new = Makes old new (announces (worker_of old)) (announce (state_of old))
 
--- the worker reads its next place, where this is what stands there; what the seat was told of that place is what it finds
+-- the worker reads its next place, and this is what stands there; it is the ticket that the list
+-- shared with the seat has at that place, if the list is long enough
 pub record Reads (old new : Desk) (found : Option Ticket) : Type 0 where
   pub made : Makes old new (reads (worker_of old)) (read (worker_of old) found (state_of old))
   pub stands : slice_get (last_of new).decided (length (state_of old).learned) ≡ found
   pub told : (ticket : Ticket) → slice_get (known old).told (length (state_of old).learned) ≡ Some ticket → found ≡ Some ticket
 
--- the worker looks at how many commands the one has announced whose turn it is at its next place
+-- the worker looks up how many commands were announced by the worker whose turn it is at its next
+-- place
 abbrev pub Looks : Desk → Desk → Type 0
 Looks old new = let helped = turn (size_of old) (state_of old) in
     Makes old new (looks (worker_of old)) (look helped (announced_by (last_of new) helped) (state_of old))
 
--- the worker proposes at its next place, and this ticket stands there then
+-- the worker proposes at its next place, and this ticket stands there afterwards
 pub record Proposes (old new : Desk) (ticket : Ticket) : Type 0 where
   pub made : Makes old new (proposes (worker_of old)) (propose (worker_of old) (Some ticket) (state_of old))
   pub stands : slice_get (last_of new).decided (length (state_of old).learned) ≡ Some ticket
 
--- what the one's worker has learned is told to the other: the one knows what it knew, the other was told the one's list and knows what it
--- knew, and of the two learned lists one begins with the other
+-- one seat shares what its worker has learned with another: the one knows what it knew, the other
+-- knows what it knew and the one's list, and one of the two learned lists begins with the other
 pub record Tells (one other new_one new_other : Desk) : Type 0 where
   pub first : (new_one.seat.table_id ≡ one.seat.table_id) × (known new_one ≡ known one)
   pub second : (new_other.seat.table_id ≡ other.seat.table_id) × (known new_other ≡ told_list (known other) (state_of one).learned)
   pub compared : BeginsWith (state_of one).learned (state_of other).learned ⊎ BeginsWith (state_of other).learned (state_of one).learned
 
--- so many places are learned
+-- this many places are learned
 pub record HasLearned (view : View) (learned : ℕ) : Type 0 where
   pub value : learned ≡ length view.state.learned
   pub few : learned ≤ view.size.places
   pub law : SeatLaw view.size view.worker view.state
 
--- so many proposals were made for the command that was announced last: at most one more than there are workers
+-- this many proposals were made for the command that was announced last: at most one more than
+-- there are workers
 pub record HasProposed (view : View) (proposals : ℕ) : Type 0 where
   pub value : proposals ≡ view.state.proposals
   pub few : proposals ≤ view.size.workers + 1
@@ -86,12 +92,12 @@ pub record TellsFull (view : View) (is_full : Bool) : Type 0 where
   pub full : is_full ≡ true → length view.state.learned ≡ view.size.places
   pub room : is_full ≡ false → HasRoom view.size view.state
 
--- whether the command that waits has its mark
+-- whether the command that was announced last has its mark
 pub record TellsMarked (view : View) (is_marked : Bool) : Type 0 where
   pub marked : is_marked ≡ true → view.state.mark ≢ None
   pub unmarked : is_marked ≡ false → view.state.mark ≡ None
 
--- whether the worker is at this
+-- whether the worker is in this phase
 pub record TellsPhase (phase : Phase) (view : View) (is_there : Bool) : Type 0 where
   pub there : is_there ≡ true → view.state.phase ≡ phase
   pub other : is_there ≡ false → view.state.phase ≢ phase

@@ -1,4 +1,4 @@
--- What a seat keeps as numbers.
+-- What a seat knows, as numbers.
 use Rattle.std.specs.Prelude.{◌≡◌, ◌≢◌, ℕ, ◌+◌, ◌-◌, ◌<◌, ◌≤◌, Bool, List, length, slice_get, slice_index, slice_set, ltb, if◌then◌else◌, Some}
 use Rattle.mc_model.specs.declared.id.TheConstants.{WORKERS}
 use Rattle.mc_model.specs.declared.id.Ticket.{Ticket}
@@ -13,7 +13,7 @@ use Rattle.uc_places.specs.declared.view.View.{View}
 use Rattle.uc_places.specs.Rule.{IsSmall}
 use Rattle.uc_places.specs.Words.{place_word, said_ticket, said_word}
 
--- the numbers are those of what the seat knows
+-- the numbers are those of the seat's view
 pub record Mirrors (view : View) (numbers : Numbers) : Type 0 where
   pub seated : view.kind ≡ Seated
   pub small : IsSmall view.size
@@ -44,7 +44,8 @@ marked_here numbers = record numbers { mark = marked numbers.phase numbers.mark 
 abbrev pub owns : Numbers → Ticket → Bool
 owns numbers ticket = is_latest_of numbers.worker numbers.announced ticket
 
--- one more ticket is learned: where it is its own, the worker is idle, and else at what is given
+-- one more ticket is learned: the worker becomes idle if the ticket is its own, and otherwise takes
+-- the given phase
 abbrev pub learned_one : Numbers → Ticket → Phase → Numbers
 learned_one numbers ticket phase = record numbers {
   learned = numbers.learned + 1;
@@ -52,24 +53,24 @@ learned_one numbers ticket phase = record numbers {
   counts = slice_set numbers.counts ticket.worker (slice_index numbers.counts ticket.worker + 1);
 }
 
--- what is proposed where so many commands were found of the worker whose turn it is
+-- the ticket to propose where this many commands were found of the worker whose turn it is
 abbrev pub ticket_for : Numbers → ℕ → ℕ → Ticket
 ticket_for numbers turn found =
     if ltb (slice_index numbers.counts turn) found then ticket_of turn (slice_index numbers.counts turn) else ticket_of numbers.worker (numbers.announced - 1)
 
--- the words at an opening
+-- the words at the opening
 pub record IsBlank (words : List ℕ) (workers places : ℕ) : Type 0 where
   pub wide : length words ≡ 1 + workers + places
   pub first : slice_index words 0 ≡ workers
   pub blank : (i : ℕ) → 0 < i → i < length words → slice_index words i ≡ 0
 
--- the words of the places spell this list
+-- the words of the places encode this list, and those after it are 0
 pub record Spells (words : List ℕ) (first places : ℕ) (tickets : List Ticket) : Type 0 where
   pub few : length tickets ≤ places
   pub at : (place : ℕ) → place < places → slice_index words (first + place) ≡ place_word (slice_get tickets place)
   pub small : (place : ℕ) (ticket : Ticket) → slice_get tickets place ≡ Some ticket → ticket.worker < WORKERS
 
--- each word of a decided place is that of some worker's ticket
+-- each word of a decided place encodes some worker's ticket
 abbrev pub AreTickets : List ℕ → ℕ → ℕ → Type 0
 AreTickets words first places = (place : ℕ) → place < places → slice_index words (first + place) ≢ 0 →
     (said_ticket (slice_index words (first + place))).worker < WORKERS

@@ -1,5 +1,6 @@
--- What a seat knows of its own worker whatever the others do: the part of the law of states that events lead to (`WorkerLaw` and
--- `LogLaw` of the shown log) which speaks of this worker and its list alone.
+-- What a seat knows of its own worker whatever the others do: the part of the invariant of
+-- reachable states (`WorkerLaw` and `LogLaw` of the shown log) that speaks of this worker and its
+-- list alone.
 use Rattle.std.specs.Prelude.{◌≡◌, ℕ, ◌+◌, ◌<◌, ◌≤◌, length, slice_get, Some}
 use Rattle.mc_model.specs.declared.id.Ticket.{Ticket}
 use Rattle.mc_model.specs.declared.shown.LogSize.{LogSize}
@@ -7,8 +8,9 @@ use Rattle.mc_model.specs.declared.shown.Phase.TheVariants.{Idle, Pending, Looke
 use Rattle.mc_model.specs.declared.shown.WorkerState.{WorkerState}
 use Rattle.mc_model.specs.Legal.{IsLegal, count}
 
--- what the worker of this number has learned is a legal list of tickets of this log, no longer than the log; its own tickets there are
--- of commands that it has announced, all of them but one that waits
+-- what the worker of this number has learned is a legal list of tickets of this log, no longer than
+-- the log; its own tickets there are those of all commands that it has announced, but for a pending
+-- one
 pub record SeatLaw (size : LogSize) (number : ℕ) (worker : WorkerState) : Type 0 where
   pub legal : IsLegal worker.learned
   pub few : length worker.learned ≤ size.places

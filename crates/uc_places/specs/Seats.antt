@@ -4,12 +4,12 @@ use Rattle.uc_places.specs.declared.desk.Desk.{Desk}
 use Rattle.uc_places.specs.declared.seats.Seat.{Seat}
 use Rattle.uc_places.specs.declared.seats.Seat.TheVariants as seat
 
--- what a seat keeps, whether it is idle or pending
+-- the desk of a seat, whether it is idle or pending
 abbrev pub desk_of : Seat → Desk
 desk_of (seat.Idle idle) = idle.desk
 desk_of (seat.Pending pending) = pending.desk
 
--- its worker has no command that waits
+-- its worker has no pending command
 abbrev pub is_idle : Seat → Bool
 is_idle (seat.Idle idle) = true
 is_idle (seat.Pending pending) = false

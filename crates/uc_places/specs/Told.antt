@@ -1,4 +1,4 @@
--- What each operation on a word tells the seat that does it.
+-- What each operation on a word shows to the seat that does it.
 use Rattle.std.specs.Prelude.{◌≡◌, ◌≢◌, ◌⊎◌, ℕ, ◌+◌, ◌<◌, ◌≤◌, List, [], length, slice_get, Some}
 use Rattle.std.specs.Option.{unwrap_or}
 use Rattle.atomic_table.specs.Table.{Me}
@@ -17,7 +17,8 @@ use Rattle.uc_places.specs.declared.view.View.{View}
 use Rattle.uc_places.specs.Rule.{OthersLead}
 use Rattle.uc_places.specs.Words.{found_in, said_ticket, said_word}
 
--- the views of a log's seats at its opening: of the spare seat that has the workers from this one on, and of a worker's seat
+-- a view, and the views of a log's seats at its opening: of the spare seat that has the workers
+-- from this one on, and of a worker's seat
 abbrev pub view_of : LogSize → Kind → ℕ → WorkerState → List Ticket → ShownState → View
 view_of size kind worker state told last = record { size = size; kind = kind; worker = worker; state = state; told = told; last = last }
 
@@ -31,31 +32,33 @@ new_seat size worker = view_of size Seated worker new_worker [] (new_log size)
 abbrev pub moved_on : View → WorkerState → ShownState → View
 moved_on view state last = view_of view.size view.kind view.worker state view.told last
 
--- the event leads from a reached state, where the seat's worker is what the seat shows, to a reached state, where it is what is given;
--- between the seat's last event and this one lie only events of other workers
+-- the event leads from a reachable state, in which the seat's worker is as the seat shows it, to a
+-- reachable state, in which it has the given state; only events of other workers lie between the
+-- seat's last event and this one
 abbrev pub Happens : LogSize → ShownEvent → View → WorkerState → ShownState → Type 0
 Happens size event view state new = (old : ShownState) × OthersLead size view.worker view.last old × IsReached size old × Step size old event new
     × IsReached size new × IsWorker old view.worker view.state × IsWorker new view.worker state
 
--- a step of the table, and what a seat is: its view, with no slots
+-- a step of the table, and the state of a seat: its view, with no slots
 abbrev pub TableStep : Type 0
 TableStep = table.Step Unit
 
 abbrev pub SeatState : Type 0
 SeatState = Me Unit View
 
--- what a place's word says is a ticket of this log
+-- a place's word, unless it is 0, encodes a ticket of this log
 abbrev pub IsTicketOf : LogSize → ℕ → Type 0
 IsTicketOf size word = word ≢ 0 → ((said_ticket word).worker < size.workers) × ((said_ticket word).number < size.places)
     × (word ≡ said_word (said_ticket word)) × (size.workers ≤ WORKERS)
 
--- an announcement finds how many its worker had announced
+-- an announcement finds how many commands its worker had announced
 abbrev pub AnnounceTells : TableStep → SeatState → ℕ → SeatState → Type 0
 AnnounceTells at old found new = let view = old.0 in let state = announce view.state in
     (new ≡ (moved_on view state new.0.last, old.1)) × (found ≡ view.state.announced) × (found < view.size.places)
     × Happens view.size (announces view.worker) view state new.0.last
 
--- a read finds what stands at the next place, which is what it was told, if it was told anything of that place
+-- a read finds what stands at the next place, which is the ticket that the list shared with the
+-- seat has there, if the list is long enough
 abbrev pub ReadTells : TableStep → SeatState → ℕ → SeatState → Type 0
 ReadTells at old found new = let view = old.0 in let state = read view.worker (found_in found) view.state in
     (new ≡ (moved_on view state new.0.last, old.1)) × IsTicketOf view.size found
@@ -63,13 +66,13 @@ ReadTells at old found new = let view = old.0 in let state = read view.worker (f
     × (slice_get new.0.last.decided (length view.state.learned) ≡ found_in found)
     × Happens view.size (reads view.worker) view state new.0.last
 
--- a look finds how many commands the worker has announced whose turn it is
+-- looking finds how many commands were announced by the worker whose turn it is
 abbrev pub LookTells : TableStep → SeatState → ℕ → SeatState → Type 0
 LookTells at old found new = let view = old.0 in let state = look (turn view.size view.state) found view.state in
     (new ≡ (moved_on view state new.0.last, old.1)) × (found ≡ announced_by new.0.last (turn view.size view.state))
     × Happens view.size (looks view.worker) view state new.0.last
 
--- a proposal finds what stood at the next place, where the proposal stands if that was nothing
+-- a proposal finds what stood at the next place; the proposal stands there now if that was nothing
 abbrev pub ProposeTells : TableStep → SeatState → ℕ → SeatState → Type 0
 ProposeTells at old found new = let view = old.0 in let state = propose view.worker (found_in found) view.state in
     (new ≡ (moved_on view state new.0.last, old.1)) × IsTicketOf view.size found
@@ -77,11 +80,13 @@ ProposeTells at old found new = let view = old.0 in let state = propose view.wor
     × (state.proposals ≤ view.size.workers + 1)
     × Happens view.size (proposes view.worker) view state new.0.last
 
--- a load of word 0 changes nothing, and tells that of the learned list and the told one, one begins with the other
+-- a load of word 0 changes nothing, and shows that one of the learned list and the shared list
+-- begins with the other
 abbrev pub CompareTells : TableStep → SeatState → ℕ → SeatState → Type 0
 CompareTells at old found new = (new ≡ old) × (BeginsWith old.0.told old.0.state.learned ⊎ BeginsWith old.0.state.learned old.0.told)
 
--- a note of what a seat has learned, and a seat that is told such a note
+-- a note of what a seat has learned, a seat with which a list or a note is shared, and a seat that
+-- knows nothing any more
 abbrev pub note_of : View → View
 note_of view = view_of view.size Note 0 new_worker view.state.learned view.last
 
@@ -94,7 +99,7 @@ informed view note = told_list view note.told
 abbrev pub spent : View
 spent = view_of (record { workers = 0; places = 0 }) Spent 0 new_worker [] (record { decided = []; workers = [] })
 
--- the spare seat gives out the seat of its first worker
+-- what is left of the spare seat once it has given out its first worker's seat, and that seat
 abbrev pub fewer : View → View
 fewer view = spare_from view.size (view.worker + 1)
 

@@ -1,5 +1,6 @@
--- The words that the threads share. Word 0 is the number of workers n and never changes; words 1 to n are how many commands each
--- worker has announced; word n + 1 + p is the place p, which is 0 while the place is empty, and then the word of its ticket.
+-- The words that the threads share. Word 0 is the number of workers n and never changes; words 1 to
+-- n are how many commands each worker has announced; word n + 1 + p is that of place p: 0 while the
+-- place is empty, and then the word of its ticket.
 use Rattle.std.specs.Prelude.{◌≡◌, ℕ, zero, suc, ◌+◌, ◌-◌, ◌*◌, ◌/◌, ◌%◌, ◌<◌, List, length, slice_get, slice_index, Option, Some, None}
 use Rattle.mc_model.specs.declared.id.Ticket.{Ticket}
 use Rattle.mc_model.specs.declared.shown.LogSize.{LogSize}

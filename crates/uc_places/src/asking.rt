@@ -1,4 +1,4 @@
-//! What a seat tells of its worker.
+//! What a seat reports about its worker.
 ghost use Rattle.std.specs.Prelude.{◌≡◌, ◌<◌, ◌≤◌, true, false, length};
 ghost use Rattle.mc_model.specs.declared.settings.TheConstants.{MAX_PLACES};
 ghost use Rattle.mc_model.specs.declared.shown.Phase.TheVariants as phase;
@@ -10,7 +10,7 @@ use crate::seats::{Idle, Looked, Pending, Seat};
 use mc_model::{Phase, WorkerId};
 
 impl Desk {
-    /// Whose seat it is.
+    /// Returns the worker whose seat this is.
     pub fn worker(&self) -> WorkerId
         ensures value { result ≡ worker_of self.now }
         ensures inside { result < (size_of self.now).workers }
@@ -18,21 +18,21 @@ impl Desk {
         self.numbers.worker
     }
 
-    /// How many commands its worker has announced.
+    /// Returns how many commands the worker has announced.
     pub fn announced(&self) -> u64
         ensures { result ≡ (state_of self.now).announced }
     {
         self.numbers.announced
     }
 
-    /// How many places its worker has learned.
+    /// Returns how many places the worker has learned.
     pub fn learned(&self) -> usize
         ensures { HasLearned (known self.now) result }
     {
         self.numbers.learned
     }
 
-    /// How many places there are.
+    /// Returns the number of places of the log.
     pub fn places(&self) -> usize
         ensures value { result ≡ (size_of self.now).places }
         ensures small { result ≤ MAX_PLACES }
@@ -40,56 +40,63 @@ impl Desk {
         self.numbers.places
     }
 
-    /// Whether its worker has learned all places. If not, it can announce where it is idle, read, and look once it is marked.
+    /// Returns whether the worker has learned all places.
+    ///
+    /// If it hasn't, it can announce when it is idle, read when it is idle or pending, and look
+    /// when it is pending and marked.
     pub fn is_full(&self) -> bool
         ensures { TellsFull (known self.now) result }
     {
         self.numbers.learned >= self.numbers.places
     }
 
-    /// How many proposals its worker has made for the command that it announced last: at most one more than there are workers.
+    /// Returns how many proposals the worker has made for the command that it announced last: at
+    /// most one more than there are workers.
     pub fn proposals(&self) -> u64
         ensures { HasProposed (known self.now) result }
     {
         self.numbers.proposals
     }
 
-    /// The first place that its worker found empty since it announced the command that waits.
+    /// Returns the first place that the worker found empty while the command that it announced last
+    /// was pending, or `None` if it found none.
     pub fn mark(&self) -> Option<u64>
         ensures { result ≡ (state_of self.now).mark }
     {
         self.numbers.mark
     }
 
-    /// Whether its worker has found a place empty since it announced the command that waits.
+    /// Returns whether the worker found a place empty while the command that it announced last was
+    /// pending.
     pub fn is_marked(&self) -> bool
         ensures { TellsMarked (known self.now) result }
     {
         self.numbers.mark.is_some()
     }
 
-    /// What its worker is at. A worker with a seat hasn't stopped.
+    /// Returns the worker's phase. A worker with a seat hasn't stopped.
     pub fn phase(&self) -> Phase
         ensures value { result ≡ (state_of self.now).phase }
     {
         self.numbers.phase
     }
 
-    /// Whether its worker has no command that waits.
+    /// Returns whether the worker has no pending command.
     pub fn is_idle(&self) -> bool
         ensures { TellsPhase phase.Idle (known self.now) result }
     {
         self.numbers.phase == Phase::Idle
     }
 
-    /// Whether its worker has a command that waits, and hasn't looked at its next place.
+    /// Returns whether the worker has a pending command, and hasn't looked for whom to help at its
+    /// next place.
     pub fn is_pending(&self) -> bool
         ensures { TellsPhase phase.Pending (known self.now) result }
     {
         self.numbers.phase == Phase::Pending
     }
 
-    /// Whether its worker has looked at whom to help at its next place.
+    /// Returns whether the worker has looked for whom to help at its next place.
     pub fn is_looked(&self) -> bool
         ensures { TellsPhase phase.Looked (known self.now) result }
     {
@@ -98,7 +105,7 @@ impl Desk {
 }
 
 impl Idle {
-    /// The desk that it is, whose calls have conditions in place of types.
+    /// Returns the seat's desk, whose calls have preconditions in place of types.
     pub fn into_desk(self) -> Desk
         ensures desk { result ≡ self.desk }
         ensures idle { (state_of result).phase ≡ phase.Idle }
@@ -107,21 +114,22 @@ impl Idle {
         desk
     }
 
-    /// How many places its worker has learned.
+    /// Returns how many places the worker has learned.
     pub fn learned(&self) -> usize
         ensures { result ≡ length (state_of self.now.desk).learned }
     {
         self.desk.learned()
     }
 
-    /// Whether it has learned all places. If not, it can announce and read.
+    /// Returns whether the worker has learned all places. If it hasn't, it can announce and read.
     pub fn is_full(&self) -> bool
         ensures { TellsFull (known self.now.desk) result }
     {
         self.desk.is_full()
     }
 
-    /// How many proposals its worker has made for the command that it announced last: at most one more than there are workers.
+    /// Returns how many proposals the worker has made for the command that it announced last: at
+    /// most one more than there are workers.
     pub fn proposals(&self) -> u64
         ensures { HasProposed (known self.now.desk) result }
     {
@@ -130,35 +138,38 @@ impl Idle {
 }
 
 impl Pending {
-    /// How many places its worker has learned.
+    /// Returns how many places the worker has learned.
     pub fn learned(&self) -> usize
         ensures { result ≡ length (state_of self.now.desk).learned }
     {
         self.desk.learned()
     }
 
-    /// Whether it has learned all places. If not, it can read, and look once it is marked.
+    /// Returns whether the worker has learned all places. If it hasn't, it can read, and look once
+    /// it is marked.
     pub fn is_full(&self) -> bool
         ensures { TellsFull (known self.now.desk) result }
     {
         self.desk.is_full()
     }
 
-    /// The first place that its worker found empty since it announced the command that waits.
+    /// Returns the first place that the worker found empty since it announced its pending command,
+    /// or `None` if it found none.
     pub fn mark(&self) -> Option<u64>
         ensures { result ≡ (state_of self.now.desk).mark }
     {
         self.desk.mark()
     }
 
-    /// Whether its worker has found a place empty since it announced the command that waits.
+    /// Returns whether the worker has found a place empty since it announced its pending command.
     pub fn is_marked(&self) -> bool
         ensures { TellsMarked (known self.now.desk) result }
     {
         self.desk.is_marked()
     }
 
-    /// How many proposals its worker has made for the command that waits: at most one more than there are workers.
+    /// Returns how many proposals the worker has made for its pending command: at most one more
+    /// than there are workers.
     pub fn proposals(&self) -> u64
         ensures { HasProposed (known self.now.desk) result }
     {
@@ -167,14 +178,15 @@ impl Pending {
 }
 
 impl Looked {
-    /// How many places its worker has learned.
+    /// Returns how many places the worker has learned.
     pub fn learned(&self) -> usize
         ensures { result ≡ length (state_of self.now.desk).learned }
     {
         self.desk.learned()
     }
 
-    /// How many proposals its worker has made for the command that waits: at most one more than there are workers.
+    /// Returns how many proposals the worker has made for its pending command: at most one more
+    /// than there are workers.
     pub fn proposals(&self) -> u64
         ensures { HasProposed (known self.now.desk) result }
     {
@@ -183,7 +195,7 @@ impl Looked {
 }
 
 impl Seat {
-    /// What it keeps, by itself.
+    /// Returns the seat's desk.
     pub(crate) fn into_desk(self) -> Desk
         ensures desk { result ≡ desk_of self }
         ensures idle { is_idle self ≡ true → (state_of result).phase ≡ phase.Idle }
@@ -194,7 +206,7 @@ impl Seat {
         }
     }
 
-    /// Whether its worker has no command that waits.
+    /// Returns whether the worker has no pending command.
     pub fn is_idle(&self) -> bool
         ensures { result ≡ is_idle self.now }
     {
@@ -210,21 +222,22 @@ impl Seat {
         }
     }
 
-    /// How many places its worker has learned.
+    /// Returns how many places the worker has learned.
     pub fn learned(&self) -> usize
         ensures { result ≡ length (state_of (desk_of self.now)).learned }
     {
         self.desk().learned()
     }
 
-    /// Whether it has learned all places.
+    /// Returns whether the worker has learned all places.
     pub fn is_full(&self) -> bool
         ensures { TellsFull (known (desk_of self.now)) result }
     {
         self.desk().is_full()
     }
 
-    /// How many proposals its worker has made for the command that it announced last: at most one more than there are workers.
+    /// Returns how many proposals the worker has made for the command that it announced last: at
+    /// most one more than there are workers.
     pub fn proposals(&self) -> u64
         ensures { HasProposed (known (desk_of self.now)) result }
     {

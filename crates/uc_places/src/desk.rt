@@ -1,4 +1,4 @@
-//! The shared words, and what each seat keeps.
+//! The shared words, and each seat's own numbers.
 ghost use Rattle.std.specs.Prelude.{◌≡◌, ◌≢◌, ◌+◌, ◌<◌, ◌^◌, [], length, slice_index};
 ghost use Rattle.mc_model.specs.declared.id.TheConstants.{WORKERS};
 ghost use Rattle.uc_places.specs.Desk.{Mirrors, learned_one, marked_here, owns, ticket_for};
@@ -25,21 +25,22 @@ pub struct Numbers {
     pub(crate) workers: usize,
     pub(crate) places: usize,
     pub(crate) worker: WorkerId,
-    /// How many places its worker has learned.
+    /// How many places the worker has learned.
     pub(crate) learned: usize,
-    /// How many commands its worker has announced.
+    /// How many commands the worker has announced.
     pub(crate) announced: u64,
     pub(crate) proposals: u64,
     pub(crate) mark: Option<u64>,
     pub(crate) phase: Phase,
-    /// The word of the ticket that it proposes next, once it has looked.
+    /// The word of the ticket that the worker proposes next, once it has looked.
     pub(crate) proposal: u64,
     /// How many tickets of each worker it has learned, by the workers' numbers.
     pub(crate) counts: [u64; 16],
 }
 
-/// A worker's seat at the words, with its numbers. What its worker is at is known while it runs; the seats by whose types it is known
-/// before stand in `seats`.
+/// A worker's seat at the shared words, with its numbers.
+///
+/// The phase of its worker is known at run time only; the types in `seats` give it at compile time.
 #[derive(Drop)]
 pub struct Desk {
     pub(crate) seat: TableSeat,
@@ -51,14 +52,14 @@ pub struct Desk {
 }
 
 impl Numbers {
-    /// Where its worker's own word stands.
+    /// Returns the index of the worker's own word.
     pub(crate) fn own_word(&self) -> usize
         ensures { result ≡ 1 + self.now.worker }
     {
         1 + usize::from(self.worker.number())
     }
 
-    /// Where the word of its next place stands.
+    /// Returns the index of the next place's word.
     pub(crate) fn next_word(&self) -> usize
         requires { (self.now.workers < 2 ^ 20) × (self.now.learned < 2 ^ 30) }
         ensures { result ≡ 1 + self.now.workers + self.now.learned }
@@ -66,7 +67,8 @@ impl Numbers {
         1 + self.workers + self.learned
     }
 
-    /// It has learned one more ticket: where that is its own, it is idle, and else at what is given.
+    /// Learns one more ticket. The worker becomes idle if the ticket is its own, and otherwise
+    /// takes the given phase.
     pub(crate) fn learn(&mut self, ticket: &Ticket, phase: Phase)
         requires counts { (length self.old.counts ≡ 16) × (slice_index self.old.counts ticket.now.worker < 2 ^ 32) }
         requires small { (self.old.learned < 2 ^ 32) × (ticket.now.number < 2 ^ 32) }
@@ -81,8 +83,8 @@ impl Numbers {
         self.counts[usize::from(ticket.worker.number())] += 1;
     }
 
-    /// What it proposes where the worker whose turn it is has announced this many commands: the first of them that it hasn't learned,
-    /// or else its own.
+    /// Returns the ticket to propose if the worker whose turn it is has announced `found` commands:
+    /// the first of those that isn't learned, or else this worker's own.
     pub(crate) fn proposed(&self, turn: usize, found: u64) -> Ticket
         requires { (turn < WORKERS) × (length self.now.counts ≡ 16) × (0 < self.now.announced) }
         ensures { result ≡ ticket_for self.now turn found }
@@ -101,7 +103,7 @@ impl Numbers {
         }
     }
 
-    /// Its next place becomes its mark, where it is pending and has none.
+    /// Makes the next place the mark of a pending worker that has none.
     pub(crate) fn mark_here(&mut self)
         ensures { self.new ≡ marked_here self.old }
     {
@@ -110,7 +112,7 @@ impl Numbers {
         }
     }
 
-    /// Whether this is the ticket of the command that its worker announced last.
+    /// Returns whether this is the ticket of the command that the worker announced last.
     fn is_own(&self, ticket: &Ticket) -> bool
         requires { ticket.now.number < 2 ^ 32 }
         ensures { result ≡ owns self.now ticket.now }

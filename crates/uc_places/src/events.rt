@@ -1,4 +1,4 @@
-//! The events of a desk, in place: each is one operation on one word, and one event of the log.
+//! The steps of a desk, in place: each is one operation on one word, and one event of the log.
 ghost use Rattle.std.specs.Prelude.{◌≡◌, ◌≢◌, ◌⊎◌, None};
 ghost use Rattle.mc_model.specs.declared.shown.Phase.TheVariants as phase;
 ghost use Rattle.mc_model.specs.Lawful.{HasRoom};
@@ -26,8 +26,10 @@ impl Desk {
         self.numbers.phase = Phase::Pending;
     }
 
-    /// Reads the next place, and learns the ticket that stands there, if one does: where it is its own, the worker is idle. An empty
-    /// place becomes the mark of a pending worker that has none.
+    /// Reads the next place, and learns the ticket that stands there, if there is one.
+    ///
+    /// Returns that ticket, or `None` if the place is empty. The worker becomes idle if the ticket
+    /// is its own. An empty place becomes the mark of a pending worker that has none.
     pub fn read(&mut self, places: &Places) -> Option<Ticket>
         requires place { IsSeatOf places.now self.old }
         requires phase { ((state_of self.old).phase ≡ phase.Idle) ⊎ ((state_of self.old).phase ≡ phase.Pending) }
@@ -47,7 +49,8 @@ impl Desk {
         Some(ticket)
     }
 
-    /// Looks at the worker whose turn it is at the next place: its first command that isn't learned is to be helped, if there is one.
+    /// Looks for a command to help: the first one that isn't learned of the worker whose turn it is
+    /// at the next place, if there is one.
     pub fn look(&mut self, places: &Places)
         requires place { IsSeatOf places.now self.old }
         requires pending { (state_of self.old).phase ≡ phase.Pending }
@@ -62,8 +65,11 @@ impl Desk {
         self.numbers.phase = Phase::Looked;
     }
 
-    /// Proposes at the next place what it found, or else its own command, by one compare-exchange, and learns the ticket that stands
-    /// there then: where it is its own, the worker is idle.
+    /// Proposes the command that it found to help, or else its own, at the next place, by one
+    /// compare-exchange.
+    ///
+    /// Learns and returns the ticket that stands there afterwards. The worker becomes idle if that
+    /// ticket is its own.
     pub fn propose(&mut self, places: &Places) -> Ticket
         requires place { IsSeatOf places.now self.old }
         requires looked { (state_of self.old).phase ≡ phase.Looked }

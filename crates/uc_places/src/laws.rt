@@ -1,10 +1,13 @@
-//! What follows from what the calls of a seat say: the contract says it, and the body is empty.
+//! What follows from the contracts of a seat's calls. A law is the contract of a function with an
+//! empty body.
 ghost use Rattle.uc_places.specs.OneRun.{CallsLieOnOneRun, OthersLeaveIt};
 
-/// The calls of a seat, in their order, are its worker's own events of one run of the log, whatever other workers do in between.
+/// The calls of a seat, in order, are its worker's own events of one run of the log, whatever other
+/// workers do in between.
 pub fn calls_lie_on_one_run()
-    // Events lead from the opening to the state after the last call; those of its worker among them are the calls, and no others.
+    // Events lead from the opening to the state after the last call; the worker's own among them
+    // are exactly the calls.
     ensures run { CallsLieOnOneRun }
-    // Between two calls its worker stays what it is, and no decided place changes.
+    // Between two calls the worker's state stays the same, and no decided place changes.
     ensures between { OthersLeaveIt }
 {}

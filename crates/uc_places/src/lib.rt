@@ -1,5 +1,7 @@
-//! The words that the threads of a log share, under a rule: at every moment the words and the seats show one state of the log that
-//! events lead to. Each call of a seat is one event of that log, by one operation on one word.
+//! The words that the threads of a log share, under an invariant: at every moment the words and the
+//! seats show one reachable state of the log. Each `announce`, `read`, `look` and `propose` of a
+//! seat is one event of that log, by one operation on one word. Begin with `open`;
+//! `specs/Rule.antt` states the invariant, and `specs/Calls.antt` what each call does.
 #![tactic(auto)]
 
 pub mod asking;

@@ -1,4 +1,4 @@
-//! The table of words under its rule, and what each operation on a word tells.
+//! The table of words with its invariant, and what an operation on a word shows.
 ghost use Rattle.uc_places.specs.Rule.{IsKept};
 ghost use Rattle.uc_places.specs.Told.{AnnounceTells, CompareTells, LookTells, ProposeTells, ReadTells, fewer, first_of, informed, note_of, spare_from, spent};
 
@@ -7,7 +7,7 @@ use atomic_table::{Join, Play, Seat, Split, Table, TableRule};
 use mc_model::LogSize;
 use std::alloc::Global;
 
-/// The rule: the words and the seats show a state of the log that events lead to.
+/// The invariant: the words and the seats show a reachable state of the log.
 pub struct LogRule;
 
 impl TableRule<(), View, LogSize> for LogRule {
@@ -16,7 +16,7 @@ impl TableRule<(), View, LogSize> for LogRule {
     ghost first = { λ size. spare_from size 0 };
 }
 
-/// The words, under the rule.
+/// The words, under that invariant.
 pub type PlacesTable = Table<(), View, LogSize, LogRule, Global>;
 
 /// A seat of the table.
@@ -50,14 +50,14 @@ impl Play<(), View> for Proposing {
     ghost then = { ProposeTells };
 }
 
-/// Compares what was learned with what was told.
+/// Compares the learned list with the one that was shared with the seat.
 pub(crate) struct Comparing;
 
 impl Play<(), View> for Comparing {
     ghost then = { CompareTells };
 }
 
-/// The spare seat gives out the seat of its first worker.
+/// Splits the seat of its first worker off the spare seat.
 pub(crate) struct Dealing;
 
 impl Split<View> for Dealing {
@@ -66,7 +66,7 @@ impl Split<View> for Dealing {
     ghost right = { first_of };
 }
 
-/// A note of what one seat has learned is made, and told to another.
+/// Makes a note of what one seat has learned, and shares it with another.
 pub(crate) struct Noting;
 
 impl Split<View> for Noting {

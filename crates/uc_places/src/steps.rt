@@ -1,4 +1,4 @@
-//! The calls of a seat: each is an event of its desk.
+//! The calls of the typed seats: each is one step of the seat's desk.
 ghost use Rattle.std.specs.Prelude.{◌≡◌, ◌≢◌, ◌⊎◌, None, true, false};
 ghost use Rattle.mc_model.specs.declared.shown.Phase.TheVariants as phase;
 ghost use Rattle.mc_model.specs.Lawful.{HasRoom};
@@ -9,7 +9,7 @@ use crate::desk::{Desk, Places};
 use crate::seats::{Idle, Looked, Pending, Seat};
 use mc_model::Ticket;
 
-/// The seat of a worker that is between two steps.
+/// Returns the typed seat of a desk whose worker is between two steps.
 pub(crate) fn settled(desk: Desk) -> Seat
     requires rests { ((state_of desk).phase ≡ phase.Idle) ⊎ ((state_of desk).phase ≡ phase.Pending) }
     ensures desk { desk_of result ≡ desk }
@@ -35,7 +35,9 @@ impl Idle {
         Pending { desk }
     }
 
-    /// Reads the next place, and learns the ticket that stands there, if one does.
+    /// Reads the next place, and learns the ticket that stands there, if there is one.
+    ///
+    /// Returns that ticket, or `None` if the place is empty.
     pub fn read(&mut self, places: &Places) -> Option<Ticket>
         requires place { IsSeatOf places.now self.old.desk }
         requires room { HasRoom (size_of self.old.desk) (state_of self.old.desk) }
@@ -46,8 +48,10 @@ impl Idle {
 }
 
 impl Pending {
-    /// Reads the next place, and learns the ticket that stands there, if one does: where it is its own, the worker is idle. An empty
-    /// place becomes the worker's mark, if it has none.
+    /// Reads the next place, and learns the ticket that stands there, if there is one.
+    ///
+    /// Returns that ticket, or `None` if the place is empty. The seat becomes idle if the ticket is
+    /// its worker's own. An empty place becomes the worker's mark, if it has none.
     pub fn read(self, places: &Places) -> (Seat, Option<Ticket>)
         requires place { IsSeatOf places.now self.desk }
         requires room { HasRoom (size_of self.desk) (state_of self.desk) }
@@ -58,7 +62,8 @@ impl Pending {
         (settled(desk), found)
     }
 
-    /// Looks at the worker whose turn it is at the next place: its first command that isn't learned is to be helped, if there is one.
+    /// Looks for a command to help: the first one that isn't learned of the worker whose turn it is
+    /// at the next place, if there is one.
     pub fn look(self, places: &Places) -> Looked
         requires place { IsSeatOf places.now self.desk }
         requires room { HasRoom (size_of self.desk) (state_of self.desk) }
@@ -72,8 +77,11 @@ impl Pending {
 }
 
 impl Looked {
-    /// Proposes at the next place what it found, or else its own command, by one compare-exchange, and learns the ticket that stands
-    /// there then: where it is its own, the worker is idle.
+    /// Proposes the command that it found to help, or else its own, at the next place, by one
+    /// compare-exchange.
+    ///
+    /// Learns and returns the ticket that stands there afterwards. The seat becomes idle if that
+    /// ticket is its worker's own.
     pub fn propose(self, places: &Places) -> (Seat, Ticket)
         requires { IsSeatOf places.now self.desk }
         ensures { Proposes self.desk (desk_of result.0) result.1 }

@@ -1,4 +1,4 @@
-//! One seat is told what another has learned.
+//! Shares what one seat has learned with another.
 ghost use Rattle.std.specs.Prelude.{◌≡◌};
 ghost use Rattle.uc_places.specs.Calls.{IsSeatOf, Tells};
 ghost use Rattle.uc_places.specs.Seats.{desk_of, is_idle};
@@ -9,8 +9,11 @@ use crate::seats::Seat;
 use crate::steps::settled;
 
 impl Desk {
-    /// Tells what this worker has learned to another's desk, by three loads of word 0: a note is made, taken in, and compared. The other
-    /// finds each place of which it was told as it was told, and of what the two have learned, one begins with the other.
+    /// Shares what this worker has learned with another's desk, by three loads of word 0: a note is
+    /// made, taken in, and compared.
+    ///
+    /// From then on the other finds at each place of that list the ticket that the list has there.
+    /// One of the two learned lists begins with the other.
     pub fn tell(&mut self, places: &Places, other: &mut Desk)
         requires { IsSeatOf places.now self.old × IsSeatOf places.now other.old }
         ensures { Tells self.old other.old self.new other.new }
@@ -22,12 +25,14 @@ impl Desk {
     }
 }
 
-/// Tells what the first seat's worker has learned to the second, and gives both back. The second finds each place of which it was told
-/// as it was told, and of what the two have learned, one begins with the other.
+/// Shares what the first seat's worker has learned with the second seat, and returns both.
+///
+/// From then on the second finds at each place of that list the ticket that the list has there. One
+/// of the two learned lists begins with the other.
 pub fn tell(places: &Places, from: Seat, to: Seat) -> (Seat, Seat)
     requires { IsSeatOf places.now (desk_of from) × IsSeatOf places.now (desk_of to) }
     ensures told { Tells (desk_of from) (desk_of to) (desk_of result.0) (desk_of result.1) }
-    // Each is idle or pending as it was.
+    // Neither changes between idle and pending.
     ensures idle { (is_idle result.0 ≡ is_idle from) × (is_idle result.1 ≡ is_idle to) }
 {
     let mut first = from.into_desk();

@@ -1,4 +1,4 @@
-//! The beginning and the end of the shared words.
+//! Opening and closing the shared words.
 ghost use Rattle.std.specs.Prelude.{◌≡◌, ◌<◌, ◌≤◌, ◌+◌, ◌^◌, ℕ, List, length, slice_get, Some, IfOk, IsOkUnless};
 ghost use Rattle.core.specs.Mem.Slots.{IsFull, slots_items, slots_len};
 ghost use Rattle.mc_model.specs.declared.fault.Fault.TheVariants as faults;
@@ -23,7 +23,7 @@ use atomic_table::Closed;
 use mc_model::{Fault, LogSize, Phase, Ticket, WorkerId};
 use std::alloc::Global;
 
-/// The words before the first event.
+/// Returns the words as they are before the first event.
 fn blank(alloc: Global, workers: u8, places: u64) -> Result<Vec<u64>, Fault>
     requires { (workers ≤ WORKERS) × (places ≤ MAX_PLACES) }
     ensures blank { IfOk result (λ words. IsBlank words.items workers places) }
@@ -34,8 +34,10 @@ fn blank(alloc: Global, workers: u8, places: u64) -> Result<Vec<u64>, Fault>
     Ok(words)
 }
 
-/// The shared words of a log with so many workers and places, and the workers' seats, by the workers' numbers. Where memory runs out:
-/// `Memory`.
+/// Opens the shared words of a log of this many workers and places, and the workers' seats, by the
+/// workers' numbers.
+///
+/// Returns `Memory` if memory runs out.
 pub fn open(alloc: Global, workers: u8, places: u64) -> Result<(Places, Vec<Idle>), Fault>
     requires workers { (0 < workers) × (workers ≤ WORKERS) }
     requires places { (0 < places) × (places ≤ MAX_PLACES) }
@@ -77,7 +79,7 @@ pub fn open(alloc: Global, workers: u8, places: u64) -> Result<(Places, Vec<Idle
     Ok((shared, seats))
 }
 
-/// The tickets of the decided places.
+/// Returns the tickets of the decided places, in order.
 fn decided(
     alloc: Global,
     closed: &Closed<(), Global>,
@@ -101,7 +103,7 @@ fn decided(
     Ok(log)
 }
 
-/// Closes the words, where some seat stays open.
+/// Closes the words with one seat that is still open, and returns the log.
 fn close_with(alloc: Global, places: Places, desk: Desk) -> Result<Vec<Ticket>, Fault>
     requires { IsSeatOf places desk }
     ensures log { IfOk result (λ tickets. (log : state.ShownState) × IsReached places.table.shared.key log
@@ -120,7 +122,7 @@ fn close_with(alloc: Global, places: Places, desk: Desk) -> Result<Vec<Ticket>, 
     log
 }
 
-/// Closes the words, where no seat stays open.
+/// Closes the words without an open seat, and returns the log.
 fn close_bare(alloc: Global, places: Places) -> Result<Vec<Ticket>, Fault>
     ensures log { IfOk result (λ tickets. (log : state.ShownState) × IsReached places.table.shared.key log × (tickets.items ≡ log.decided)) }
     ensures memory { IsOkUnless result faults.Memory }
@@ -136,21 +138,24 @@ fn close_bare(alloc: Global, places: Places) -> Result<Vec<Ticket>, Fault>
     log
 }
 
-/// The first of the seats.
+/// Returns the first of the seats.
 fn first_of(seats: Vec<Seat>) -> Option<Seat>
     ensures { result ≡ slice_get seats.items 0 }
 {
     seats.into_iter().next()
 }
 
-/// Closes the words, and gives the log: a legal list that begins with what the first seat passed has learned. Where memory runs out:
-/// `Memory`.
+/// Closes the words, and returns the log, which is a legal list of tickets.
+///
+/// The log begins with what the first of these seats has learned. Returns `Memory` if memory runs
+/// out.
 pub fn close(alloc: Global, places: Places, seats: Vec<Seat>) -> Result<Vec<Ticket>, Fault>
     requires { (seat : _) → slice_get seats.items 0 ≡ Some seat → IsSeatOf places (desk_of seat) }
     ensures legal { IfOk result (λ tickets. IsLegal tickets.items) }
     ensures begins { IfOk result (λ tickets. (seat : _) → slice_get seats.items 0 ≡ Some seat →
         BeginsWith tickets.items (state_of (desk_of seat)).learned) }
-    // It is the log of a state that events lead to; from the first seat's last state others' events alone lead there.
+    // It is the log of a reachable state, to which only other workers' events lead from the first
+    // seat's last state.
     ensures end { IfOk result (λ tickets. IsEnd places.table.shared.key tickets.items (slice_get seats.items 0)) }
     ensures memory { IsOkUnless result faults.Memory }
 {

@@ -1,5 +1,6 @@
-//! Tests of the cells over what their crate makes public: one thread, and threads that see the cells that another puts. They stand above
-//! the library, since a crate with tests is proved twice.
+//! Tests of the cells through what their crate makes public: on one thread, and on threads that see
+//! the cells that another puts. They are in a crate above the library, since a crate with tests is
+//! proved twice.
 #![tactic(auto)]
 
 #[cfg(test)]

@@ -1,5 +1,6 @@
-//! Where memory runs out, a call says so, and the cell is what it was. `tests/cell_allocations.py` refuses each allocation of these tests in
-//! turn: where it is one of the call's own, the test ends with `TOLD`, in place of going on.
+//! A call that runs out of memory says so, and leaves the cell as it was.
+//! `tests/cell_allocations.py` refuses each allocation of these tests in turn: if it is one of the
+//! call's own, the test ends with `TOLD` instead of going on.
 ghost use Rattle.uc_cells.specs.Cells.{HasCell};
 
 use crate::values::{entry_of, ticket_in};
@@ -15,7 +16,8 @@ const OTHER: &str = "set a 7 0 3\r\nabd\r\n";
 
 const TOLD: &str = "the call told want of memory, and wrote nothing";
 
-/// The fault is want of memory, and the cell is empty still: another entry can be put into it.
+/// Asserts that the fault is `Memory`, and that the cell is still empty: another entry can be put
+/// into it.
 fn assert_untouched(
     rt: &impl Abort,
     alloc: Global,
@@ -49,7 +51,7 @@ fn a_sighting_tells_want_of_memory(rt: HostRuntime) -> Result<(), Fail> {
     let alloc = rt.alloc();
     let cells = Cells::open(alloc, 1, 2)?;
     let ticket = ticket_in(&cells, 0, 1).ok_or("no cell")?;
-    // Its parts, since a ticket that is passed twice gets no proof.
+    // In parts, since a ticket that is passed twice gets no proof.
     let Ticket { worker, number } = ticket;
     let other = entry_of(alloc, ticket, OTHER)?;
     match cells.see(alloc, Ticket { worker, number }) {

@@ -1,4 +1,4 @@
-//! A cell is set once.
+//! A cell is set at most once.
 ghost use Rattle.uc_cells.specs.Cells.{HasCell};
 
 use crate::values::{assert_holds, entry_of, ticket_in};
@@ -12,7 +12,7 @@ const FIRST: &str = "set a 7 0 3\r\nabc\r\n";
 
 const OTHER: &str = "set a 7 0 3\r\nabd\r\n";
 
-/// A put of this text shows the entry.
+/// Asserts that a put of this text shows the entry.
 fn assert_put(
     rt: &impl Abort,
     alloc: Global,
@@ -27,7 +27,7 @@ fn assert_put(
     Ok(())
 }
 
-/// Whether a put of this text is told that the cell is taken.
+/// Returns whether a put of this text returns `Taken`.
 fn is_taken(alloc: Global, cells: &Cells, ticket: Ticket, text: &str) -> Result<bool, Fail>
     requires { HasCell cells.now ticket }
 {
@@ -35,7 +35,7 @@ fn is_taken(alloc: Global, cells: &Cells, ticket: Ticket, text: &str) -> Result<
     Ok(cells.put(alloc, entry).err() == Some(Fault::Taken))
 }
 
-/// The first entry is put, shown, and put again; another is refused.
+/// Asserts that the first entry is put, shown, and put again, and that another is refused.
 fn assert_stays(rt: &impl Abort, alloc: Global, cells: &Cells, first: &Entry) -> Result<(), Fail>
     requires { HasCell cells.now first.now.ticket }
 {

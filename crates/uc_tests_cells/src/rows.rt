@@ -13,7 +13,7 @@ const PLACES: u64 = 3_000;
 
 const NUMBERS: [u64; 6] = [0, 1_023, 1_024, 2_047, 2_048, 2_999];
 
-/// The entry of a command that names its own ticket.
+/// Returns the entry of a command that names its own ticket.
 fn own_entry(alloc: Global, ticket: Ticket) -> Result<Entry, Fail>
     ensures { IfOk result (λ entry. entry.ticket ≡ ticket) }
 {
@@ -48,7 +48,7 @@ fn assert_seen(
     Ok(())
 }
 
-/// Where nobody saw a cell, no put is refused, and each cell has its own entry.
+/// If nobody has seen a cell, no put is refused, and each cell has its own entry.
 #[test]
 fn each_ticket_has_its_own_cell(rt: HostRuntime) -> Result<(), Fail> {
     let alloc = rt.alloc();

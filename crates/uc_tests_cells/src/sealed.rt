@@ -38,7 +38,7 @@ fn what_was_sealed_absent_is_shown_absent(rt: HostRuntime) -> Result<(), Fail> {
     Ok(())
 }
 
-/// The command's entry, sealed; or that the cell is absent, if another thread saw it first.
+/// Returns the command's entry, sealed; or that the cell is absent, if another thread saw it first.
 fn sealed_put(
     cells: &Cells,
     alloc: Global,
@@ -53,7 +53,7 @@ fn sealed_put(
     Ok(put_or_see(cells, alloc, ticket, tenant, command)?.seal())
 }
 
-/// What is seen of the cell, sealed.
+/// Returns what is seen of the cell, sealed.
 fn sealed_see(cells: &Cells, alloc: Global, ticket: Ticket) -> Result<Sealed, Fault>
     requires { HasCell cells.now ticket }
     ensures ticket { IfOk result (λ known. known.ticket ≡ ticket) }
@@ -72,7 +72,8 @@ fn show<'a>(cells: &'a Cells, known: Sealed) -> Seen<'a>
     cells.see_again(&mut known)
 }
 
-/// Two threads seal what they see of a cell, one of which puts the command; two others show it again.
+/// Has two threads seal what they see of a cell, into which one of them puts the command, and two
+/// others show it again.
 fn seal_and_show<R: Threads + Sync + Abort>(
     rt: &R,
     cells: &Cells,

@@ -1,4 +1,5 @@
-//! Threads that see cells while another puts them: all sightings of a cell are equal, and outlive the threads that made them.
+//! Threads that see cells while another puts them: all sightings of a cell are equal, and outlive
+//! the threads that made them.
 ghost use Rattle.std.specs.Prelude.{◌≡◌, All, IfOk};
 ghost use Rattle.uc_tests_cells.specs.Places.{IsSeenIn};
 ghost use Rattle.uc_cells.specs.Cells.{HasCell, row_at};
@@ -28,7 +29,8 @@ fn see_all<'a>(cells: &'a Cells, alloc: Global) -> Result<Vec<Seen<'a>>, Fault>
     Ok(all)
 }
 
-/// Puts the command into the cell, and sees it there; or sees that the cell is absent for good, if another thread saw it first.
+/// Puts the command into the cell, and sees it there; or sees that the cell is absent for good, if
+/// another thread saw it first.
 pub(crate) fn put_or_see<'a>(
     cells: &'a Cells,
     alloc: Global,
@@ -71,7 +73,7 @@ fn put_all<'a>(
     Ok(all)
 }
 
-/// Two sightings of one cell are equal, and so are the entries that they show.
+/// Asserts that two sightings of one cell are equal, and that the entries they show are.
 pub(crate) fn assert_agreed<'a>(
     rt: &impl Abort,
     cells: &Cells,
@@ -89,7 +91,7 @@ pub(crate) fn assert_agreed<'a>(
     one
 }
 
-/// Compares the sightings of the same tickets, one by one, and gives the first ones back.
+/// Compares the sightings of the same tickets, one by one, and returns the first ones.
 fn agreed<'a>(
     rt: &impl Abort,
     cells: &Cells,
@@ -109,7 +111,7 @@ fn agreed<'a>(
     Ok(all)
 }
 
-/// What two threads see.
+/// Returns what two threads see.
 fn see_twice<'a, R: Threads + Sync>(
     rt: &R,
     cells: &'a Cells,
@@ -122,7 +124,8 @@ fn see_twice<'a, R: Threads + Sync>(
     Ok((one?, other?))
 }
 
-/// Five threads, of which one puts the command and four see: what they saw of each cell is equal, after all of them have ended.
+/// Has one thread put the command and four see: what the five saw of each cell is equal, after all
+/// of them have ended.
 fn put_and_see<'a, R: Threads + Sync + Abort>(
     rt: &R,
     cells: &'a Cells,

@@ -9,7 +9,7 @@ use std::process::Abort;
 use std::test::Fail;
 use uc_cells::{Cells, Seen};
 
-/// The ticket of this worker and number, if it has a cell.
+/// Returns the ticket of this worker and number, if it has a cell.
 pub(crate) fn ticket_in(cells: &Cells, worker: u8, number: u64) -> Option<Ticket>
     ensures { IfSome result (λ ticket. HasCell cells.now ticket) }
 {
@@ -21,7 +21,7 @@ pub(crate) fn ticket_in(cells: &Cells, worker: u8, number: u64) -> Option<Ticket
     }
 }
 
-/// The command that a client writes so.
+/// Returns the command that a client writes as this text.
 pub(crate) fn command_of(alloc: Global, text: &str) -> Result<Command, Fail> {
     match request_of(alloc, text)? {
         Some(Request::Logged { command, .. }) => Ok(command),
@@ -35,7 +35,7 @@ fn request_of(alloc: Global, text: &str) -> Result<Option<Request>, Fault> {
     reader.next()
 }
 
-/// The entry of the first tenant under this ticket.
+/// Returns the entry of the first tenant under this ticket.
 pub(crate) fn entry_of(alloc: Global, ticket: Ticket, text: &str) -> Result<Entry, Fail>
     ensures { IfOk result (λ entry. entry.ticket ≡ ticket) }
 {
@@ -48,7 +48,7 @@ pub(crate) fn entry_of(alloc: Global, ticket: Ticket, text: &str) -> Result<Entr
     })
 }
 
-/// The cell that was seen holds this entry.
+/// Asserts that the cell that was seen holds this entry.
 pub(crate) fn assert_holds(rt: &impl Abort, seen: &Seen<'_>, want: &Entry) {
     let Some(entry) = seen.entry() else {
         panic!(rt; "no entry was seen")

@@ -1,5 +1,6 @@
-//! Tests of the shared words: worked runs on typed seats, threads that help each other, and the words of tickets. They stand above the
-//! crate that they test, since a crate with tests is proved twice.
+//! Tests of the shared words: golden runs on typed seats, threads that help each other, and the
+//! words of tickets. They are in a crate above the one that they test, since a crate with tests is
+//! proved twice.
 #![tactic(auto)]
 
 pub mod moves;

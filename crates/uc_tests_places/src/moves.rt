@@ -1,4 +1,4 @@
-//! Seats of any kind that are moved one step at a time.
+//! Seats in any phase, moved one step at a time.
 ghost use Rattle.std.specs.Prelude.{◌≡◌, IfSome};
 ghost use Rattle.uc_places.specs.Calls.{IsSeatOf};
 ghost use Rattle.uc_places.specs.Seats.{desk_of};
@@ -6,7 +6,7 @@ ghost use Rattle.uc_tests_places.specs.Held.{IsHeldAt, held_desk};
 
 use uc_places::{Idle, Looked, Pending, Places, Seat};
 
-/// A seat, whatever its worker is at.
+/// A seat, whatever the phase of its worker.
 #[derive(Drop)]
 pub enum Held {
     Idle(Idle),
@@ -63,7 +63,7 @@ fn move_pending(places: &Places, pending: Pending, step: Move) -> Option<Held>
     }
 }
 
-/// The seat after its step; none where it can't take that step.
+/// Returns the seat after its step, or `None` if it can't take that step.
 pub fn moved(places: &Places, seat: Held, step: Move) -> Option<Held>
     requires { IsHeldAt places.now seat }
     ensures { IfSome result (λ next. IsHeldAt places.now next) }

@@ -1,4 +1,4 @@
-//! Worked runs of two workers on eight places, in one thread.
+//! Golden runs of two workers on eight places, on one thread.
 ghost use Rattle.uc_tests_places.specs.Held.{IsHeldAt, held_desk};
 ghost use Rattle.std.specs.Prelude.{◌≡◌, ℕ, slice_get, Some, IfSome, IfOk};
 ghost use Rattle.uc_places.specs.Calls.{IsSeatOf};
@@ -10,7 +10,7 @@ use std::alloc::Global;
 use std::test::Fail;
 use uc_places::{Idle, Places, Seat, close, open};
 
-/// Both seats after these steps of worker 0 and worker 1.
+/// Returns both seats after these steps of worker 0 and worker 1.
 fn run(places: &Places, first: Held, second: Held, steps: &[(usize, Move)]) -> Option<(Held, Held)>
     requires { IsHeldAt places.now first × IsHeldAt places.now second }
     ensures { IfSome result (λ seats. IsHeldAt places.now seats.0 × IsHeldAt places.now seats.1) }
@@ -27,7 +27,7 @@ fn run(places: &Places, first: Held, second: Held, steps: &[(usize, Move)]) -> O
     Some(seats)
 }
 
-/// The seats of worker 0 and worker 1.
+/// Returns the seats of worker 0 and worker 1.
 fn both_seats(places: &Places, mut seats: Vec<Idle>) -> Option<(Held, Held)>
     requires { (worker : ℕ) (seat : _) → slice_get seats.items worker ≡ Some seat → IsSeatOf places.now seat.desk }
     ensures { IfSome result (λ pair. IsHeldAt places.now pair.0 × IsHeldAt places.now pair.1) }
@@ -37,7 +37,7 @@ fn both_seats(places: &Places, mut seats: Vec<Idle>) -> Option<(Held, Held)>
     Some((Held::Idle(first), Held::Idle(second)))
 }
 
-/// The seat alone, if it can be closed with.
+/// Returns the seat alone, if the words can be closed with it.
 fn alone(alloc: Global, seat: Held) -> Result<Vec<Seat>, Fault>
     ensures { IfOk result (λ seats. (first : _) → slice_get seats.items 0 ≡ Some first → desk_of first ≡ held_desk seat) }
 {
@@ -53,7 +53,7 @@ fn alone(alloc: Global, seat: Held) -> Result<Vec<Seat>, Fault>
     }
 }
 
-/// The log that stands after these steps. It begins with what worker 0 has learned.
+/// Returns the log after these steps. It begins with what worker 0 has learned.
 fn log_after(alloc: Global, steps: &[(usize, Move)]) -> Result<Vec<Ticket>, Fail> {
     let (places, seats) = open(alloc, 2, 8)?;
     let Some((first, second)) = both_seats(&places, seats) else {
@@ -66,7 +66,7 @@ fn log_after(alloc: Global, steps: &[(usize, Move)]) -> Result<Vec<Ticket>, Fail
     Ok(close(alloc, places, seats)?)
 }
 
-/// The tickets as pairs of a worker and a number.
+/// Returns the tickets as pairs of a worker and a number.
 fn pairs(alloc: Global, log: &[Ticket]) -> Result<Vec<(u8, u64)>, Fault> {
     let mut pairs = Vec::new(alloc);
     for ticket in log {

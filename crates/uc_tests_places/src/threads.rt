@@ -53,7 +53,7 @@ fn submit_all(places: &Places, mut idle: Idle) -> Seat
     Seat::Idle(idle)
 }
 
-/// Whether before each ticket of number k stand k of its worker.
+/// Returns whether each ticket of number k has k tickets of its worker before it.
 fn is_legal(log: &[Ticket]) -> bool {
     let mut counts = [0u64; 16];
     for ticket in log {

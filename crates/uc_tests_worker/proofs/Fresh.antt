@@ -1,4 +1,4 @@
--- The passes that a log is opened with were never used.
+-- The passes with which a log is opened are unused.
 use Rattle.std.proofs.Common.{◌≡◌, ◌∙◌, ◌∷◌, ◌++◌, [], ℕ, List, length, Some, slice_get, ap}
 use Rattle.uc_log.specs.declared.log.Log.{Log}
 use Rattle.uc_log.specs.declared.pass.Pass.{Pass}

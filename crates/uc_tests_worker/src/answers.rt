@@ -1,4 +1,5 @@
-//! What one worker answers the clients of two tenants: each row is a tenant, what its client writes, and what it reads.
+//! What one worker answers to the clients of two tenants: each row is a tenant, what its client
+//! writes, and what it reads.
 
 use crate::clients::{Client, both_clients, is_answer, opened};
 use mc_model::{Fault, Limits};
@@ -75,7 +76,7 @@ const ROWS: [Row; 38] = [
     ),
 ];
 
-/// Whether the row's command is answered so, at this place of the log.
+/// Returns whether the row's command is answered like this, at this place of the log.
 fn is_answered(
     alloc: Global,
     client: &mut Client<'_>,

@@ -10,7 +10,7 @@ use uc_worker::{Answer, Gate};
 /// The last tenant's quotas refuse many commands.
 pub(crate) const TENANTS: [Limits; 3] = [QUOTAS, QUOTAS, Limits { items: 2, bytes: 8 }];
 
-/// Where the text is empty, a cas with the unique that the worker was shown last is asked for.
+/// An empty text asks for a cas with the unique that the worker was shown last.
 const TEXTS: [&str; 24] = [
     "set a 1 0 1\r\nx\r\n",
     "gets a\r\n",
@@ -46,13 +46,13 @@ pub(crate) struct Asked {
     pub(crate) answer: Answer,
 }
 
-/// A number that looks like chance, the same in each run.
+/// Returns a number that looks random, and is the same in each run.
 fn mixed(worker: u8, number: u64) -> u64 {
     let seed = number.wrapping_mul(16).wrapping_add(u64::from(worker));
     seed.wrapping_add(1).wrapping_mul(0x9E37_79B9_7F4A_7C15) >> 40
 }
 
-/// The tenant and the text of the worker's command of this number.
+/// Returns the tenant and the text of the worker's command of this number.
 fn chosen(worker: u8, number: u64) -> (u8, &'static str) {
     let mixed = mixed(worker, number);
     let tenant = (mixed / 24 % 3) as u8;
@@ -86,7 +86,7 @@ fn ask_next<G: Gate>(
     })
 }
 
-/// The unique that the reply shows first, if it does.
+/// Returns the unique that the reply shows first, if it shows one.
 fn shown_unique(reply: &Reply) -> Option<u64> {
     match reply {
         Reply::Values(values) => values.as_slice().first()?.unique,
@@ -94,7 +94,7 @@ fn shown_unique(reply: &Reply) -> Option<u64> {
     }
 }
 
-/// Submits so many commands, one after another.
+/// Submits this many commands, one after another.
 pub(crate) fn ask_all<G: Gate>(
     alloc: Global,
     client: &mut Client<'_>,

@@ -1,4 +1,4 @@
-//! A worker beside the log that it works on, and several of them.
+//! A worker together with the log that it works on, and several of them.
 ghost use Rattle.std.specs.Prelude.{◌≡◌, ℕ, Some, slice_get, All, IfOk, IfSome};
 ghost use Rattle.uc_tests_worker.specs.Fresh.{IsFresh};
 
@@ -19,7 +19,7 @@ pub(crate) struct Client<'a> {
 }
 
 impl<'a> Client<'a> {
-    /// The client of the worker with this pass.
+    /// Opens the client of the worker with this pass.
     pub(crate) fn open(alloc: Global, log: &'a Log, pass: Pass) -> Result<Client<'a>, Fault>
         requires { IsFresh log.now pass }
         ensures { IfOk result (λ client. client.log.now ≡ log.now) }
@@ -46,7 +46,7 @@ impl<'a> Client<'a> {
         self.worker.submit(tenant, command, gate)
     }
 
-    /// Submits what a client writes so.
+    /// Submits the command that a client writes as this text.
     pub(crate) fn ask<G: Gate>(
         &mut self,
         alloc: Global,
@@ -60,7 +60,7 @@ impl<'a> Client<'a> {
         self.submit(tenant, command, gate)
     }
 
-    /// Whether the first tenant's client that writes so reads this.
+    /// Returns whether the first tenant's client that writes this text reads that one.
     pub(crate) fn says(&mut self, alloc: Global, text: &str, want: &str) -> Result<bool, Fault>
         ensures { self.new.log ≡ self.old.log }
     {
@@ -82,7 +82,7 @@ impl<'a> Client<'a> {
         self.worker.meet(&mut other.worker)
     }
 
-    /// The worker's number.
+    /// Returns the worker's number.
     pub(crate) fn number(&self) -> u8 {
         self.worker.worker().number()
     }
@@ -91,7 +91,7 @@ impl<'a> Client<'a> {
         self.worker.history()
     }
 
-    /// The tenant's table, if there is such a tenant.
+    /// Returns the tenant's table, if there is such a tenant.
     pub(crate) fn table(&self, tenant: TenantId) -> Option<&Items> {
         if usize::from(tenant.number()) < self.log.settings().tenants().len() {
             Some(self.worker.table(tenant))
@@ -105,7 +105,7 @@ impl<'a> Client<'a> {
     }
 }
 
-/// Whether the answer has this place, and its reply is read so.
+/// Returns whether the answer has this place, and its reply is read as this text.
 pub(crate) fn is_answer(
     alloc: Global,
     answer: &Answer,
@@ -118,14 +118,15 @@ pub(crate) fn is_answer(
     reads_as(alloc, &answer.reply, want)
 }
 
-/// Whether both histories are equal, place by place: the tickets and the entries under them.
+/// Returns whether both histories are equal, place by place: the tickets and the entries under
+/// them.
 pub(crate) fn are_equal(ones: &[Seen<'_>], others: &[Seen<'_>]) -> bool {
     ones.len() == others.len()
         && ones.iter().zip(others).all(|(one, other)| one.ticket() == other.ticket()
             && one.entry() == other.entry())
 }
 
-/// Whether the history has these tickets: pairs of a worker and a number.
+/// Returns whether the history has these tickets: pairs of a worker and a number.
 pub(crate) fn has_tickets(history: &[Seen<'_>], tickets: &[(u8, u64)]) -> bool {
     history.len() == tickets.len()
         && history.iter().zip(tickets).all(|(seen, (worker, number))| {
@@ -133,7 +134,8 @@ pub(crate) fn has_tickets(history: &[Seen<'_>], tickets: &[(u8, u64)]) -> bool {
         })
 }
 
-/// A log of so many workers and places, and of tenants with these quotas; and the workers' passes.
+/// Opens a log of this many workers and places, and of tenants with these quotas, and returns the
+/// workers' passes too.
 pub(crate) fn opened(
     alloc: Global,
     workers: u64,
@@ -147,7 +149,7 @@ pub(crate) fn opened(
     Ok((log, passes))
 }
 
-/// The passes of worker 0 and worker 1.
+/// Returns the passes of worker 0 and worker 1.
 pub(crate) fn both_passes(log: &Log, mut passes: Vec<Pass>) -> Option<(Pass, Pass)>
     requires { (number : ℕ) (pass : _) → slice_get passes.items number ≡ Some pass → IsFresh log.now pass }
     ensures { IfSome result (λ pair. IsFresh log.now pair.0 × IsFresh log.now pair.1) }
@@ -157,7 +159,7 @@ pub(crate) fn both_passes(log: &Log, mut passes: Vec<Pass>) -> Option<(Pass, Pas
     Some((first, second))
 }
 
-/// The clients of worker 0 and worker 1.
+/// Returns the clients of worker 0 and worker 1.
 pub(crate) fn both_clients<'a>(
     alloc: Global,
     log: &'a Log,
@@ -175,7 +177,7 @@ pub(crate) fn both_clients<'a>(
     Ok((first, second))
 }
 
-/// The clients of all workers, by their numbers.
+/// Returns the clients of all workers, by their numbers.
 pub(crate) fn clients_of<'a>(
     alloc: Global,
     log: &'a Log,

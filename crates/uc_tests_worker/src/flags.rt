@@ -1,11 +1,11 @@
-//! What threads tell each other, with a bound on how long one looks for it.
+//! Signals between threads, with a bound on how long a thread waits for one.
 use std::sync::atomic::{AtomicBool, AtomicU64, Ordering};
 use std::thread;
 
-/// How often a flag is looked at before its thread is given up.
+/// How often a flag is loaded before the test gives up on its thread.
 const LOOKS: u32 = 10_000_000;
 
-/// Whether the flag is raised.
+/// Returns whether the flag is raised in time.
 pub(crate) fn comes(flag: &AtomicBool) -> bool {
     for _ in 0..LOOKS {
         if flag.load(Ordering::SeqCst) {
@@ -16,7 +16,7 @@ pub(crate) fn comes(flag: &AtomicBool) -> bool {
     false
 }
 
-/// Whether the count comes to this.
+/// Returns whether the count comes to this in time.
 pub(crate) fn counts_to(count: &AtomicU64, end: u64) -> bool {
     for _ in 0..LOOKS {
         if count.load(Ordering::SeqCst) >= end {

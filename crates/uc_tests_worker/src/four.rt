@@ -1,4 +1,4 @@
-//! Four threads of one log that submit commands of three tenants.
+//! Four threads on one log that submit commands of three tenants.
 ghost use Rattle.std.specs.Prelude.{◌≡◌, All, IfOk};
 
 use crate::asking::{TENANTS, ask_all};
@@ -15,7 +15,7 @@ use uc_worker::Open;
 /// How many commands each submits.
 const COMMANDS: u64 = 2_000;
 
-/// The client after its commands.
+/// Returns the client after its commands.
 fn ended<'a>(alloc: Global, client: Client<'a>) -> Ended<'a>
     ensures { result.client.log ≡ client.entry.log }
 {
@@ -24,7 +24,7 @@ fn ended<'a>(alloc: Global, client: Client<'a>) -> Ended<'a>
     Ended { client, asked }
 }
 
-/// All clients once their threads have ended.
+/// Returns all clients once their threads have ended.
 fn all_ended<'a, R: Threads + Sync>(
     rt: &R,
     alloc: Global,

@@ -1,4 +1,4 @@
-//! A full log takes no more commands, and says so however often it is asked.
+//! A full log takes no more commands, and each later call is refused.
 ghost use Rattle.std.specs.Prelude.{◌≡◌};
 
 use crate::clients::{Client, are_equal, both_clients, has_tickets, opened};
@@ -8,7 +8,8 @@ use std::alloc::Global;
 use std::test::Fail;
 use uc_worker::Open;
 
-/// By turns, what the first worker asks and what it is answered, and then what the second is answered to a get.
+/// In each round, what the first worker asks and what it is answered, and then what the second is
+/// answered to a get.
 const ROUNDS: [(&str, &str, &str); 2] = [
     (
         "set a 0 0 1\r\nx\r\n",
@@ -24,7 +25,7 @@ const TICKETS: [(u8, u64); 4] = [(0, 0), (1, 0), (0, 1), (1, 1)];
 /// How often each worker asks for more.
 const AGAIN: u32 = 100;
 
-/// Whether the round is answered so.
+/// Returns whether the round is answered like this.
 fn is_answered(
     alloc: Global,
     first: &mut Client<'_>,
@@ -41,7 +42,7 @@ fn is_answered(
     second.says(alloc, "get a\r\n", value)
 }
 
-/// Whether the rounds are answered so.
+/// Returns whether the rounds are answered like this.
 fn are_answered(
     alloc: Global,
     first: &mut Client<'_>,
@@ -58,7 +59,7 @@ fn are_answered(
     Ok(true)
 }
 
-/// Whether the worker is told that the log is full.
+/// Returns whether the worker gets `LogFull`.
 fn is_refused(alloc: Global, client: &mut Client<'_>, text: &str) -> Result<bool, Fault>
     ensures { client.new.log ≡ client.old.log }
 {
@@ -69,7 +70,7 @@ fn is_refused(alloc: Global, client: &mut Client<'_>, text: &str) -> Result<bool
     }
 }
 
-/// Whether the worker is told so each time, and keeps this history.
+/// Returns whether the worker gets `LogFull` each time, and keeps this history.
 fn stays_full(alloc: Global, client: &mut Client<'_>, tickets: &[(u8, u64)]) -> Result<bool, Fault>
     ensures { client.new.log ≡ client.old.log }
 {
@@ -81,7 +82,8 @@ fn stays_full(alloc: Global, client: &mut Client<'_>, tickets: &[(u8, u64)]) -> 
     Ok(client.is_full() && has_tickets(client.history(), tickets))
 }
 
-/// Whether both workers are told so each time. The first keeps this history, and the second that of all places.
+/// Returns whether both workers get `LogFull` each time. The first keeps this history, and the
+/// second that of all places.
 fn both_stay_full(
     alloc: Global,
     first: &mut Client<'_>,
@@ -97,7 +99,8 @@ fn both_stay_full(
     stays_full(alloc, second, &TICKETS)
 }
 
-/// Whether the rounds fill the log. The first worker hasn't learned the last place when it asks for more, so its command waits for good.
+/// Returns whether the rounds fill the log. The first worker hasn't learned the last place when it
+/// asks for more, so its command stays pending for good.
 fn fill(alloc: Global, first: &mut Client<'_>, second: &mut Client<'_>) -> Result<bool, Fault>
     ensures one { first.new.log ≡ first.old.log }
     ensures two { second.new.log ≡ second.old.log }
@@ -108,7 +111,8 @@ fn fill(alloc: Global, first: &mut Client<'_>, second: &mut Client<'_>) -> Resul
     both_stay_full(alloc, first, second, &TICKETS[..3])
 }
 
-/// Whether the log stays full when the first worker has replayed the last place too, and when both have met.
+/// Returns whether the log stays full when the first worker has replayed the last place too, and
+/// when both have met.
 fn stay_full<'a>(
     alloc: Global,
     first: &mut Client<'a>,

@@ -30,7 +30,8 @@ fn announce(log: &Log, alloc: Global, pass: &mut Pass, text: &str) -> Result<(),
     log.announce(alloc, pass, tenant, command)
 }
 
-/// What the worker of the second pass answers to a get after the worker of the first pass has announced a set, and is left.
+/// Returns the second worker's answer to a get, after the first has announced a set and done
+/// nothing else.
 fn get_beside(alloc: Global, log: &Log, mut first: Pass, second: Pass) -> Result<Answer, Fault>
     requires one { IsFresh log.now first }
     requires two { IsFresh log.now second }
@@ -40,7 +41,7 @@ fn get_beside(alloc: Global, log: &Log, mut first: Pass, second: Pass) -> Result
     client.ask(alloc, 0, "get a\r\n", &mut Open)
 }
 
-/// A worker's whole path is the announcement: another decides its command, before its own.
+/// Announcing is all that a worker does: another decides its command, before its own.
 #[test]
 fn announced_and_left(rt: HostRuntime) -> Result<(), Fail> {
     let alloc = rt.alloc();
@@ -51,7 +52,8 @@ fn announced_and_left(rt: HostRuntime) -> Result<(), Fail> {
     Ok(())
 }
 
-/// Holds its worker once, after its first step of a kind: tells of it by one flag, and goes on when another is raised.
+/// Holds its worker once, after its first step of a kind: raises one flag then, and goes on when
+/// another is raised.
 #[derive(Drop)]
 struct Held<'f> {
     step: Step,
@@ -86,7 +88,7 @@ impl<'f> Gate for Held<'f> {
 /// How the commands of the two threads stand: pairs of a worker and a number.
 const TICKETS: [(u8, u64); 4] = [(1, 0), (1, 1), (0, 0), (1, 2)];
 
-/// What the two threads tell each other.
+/// The signals between the two threads.
 #[derive(Drop)]
 struct Flags {
     looked: AtomicBool,
@@ -94,7 +96,8 @@ struct Flags {
     ended: AtomicBool,
 }
 
-/// Worker 0 begins once the other has looked, and is held after its first read until the other has ended.
+/// Has worker 0 begin once the other has looked, and holds it after its first read until the other
+/// has ended.
 fn helped(alloc: Global, client: &mut Client<'_>, flags: &Flags) -> Result<Answer, Fault>
     ensures { client.new.log ≡ client.old.log }
 {
@@ -109,7 +112,8 @@ fn helped(alloc: Global, client: &mut Client<'_>, flags: &Flags) -> Result<Answe
     Ok(answer)
 }
 
-/// Worker 1 is held after its first look until the other has read; then it ends its three commands.
+/// Holds worker 1 after it has first looked, until the other has read; then worker 1 finishes its
+/// three commands.
 fn helping(alloc: Global, client: &mut Client<'_>, flags: &Flags) -> Result<Answer, Fault>
     ensures { client.new.log ≡ client.old.log }
 {
@@ -124,7 +128,7 @@ fn helping(alloc: Global, client: &mut Client<'_>, flags: &Flags) -> Result<Answ
     Ok(last)
 }
 
-/// Both answers, and both clients once their threads have ended.
+/// Returns both answers, and both clients once their threads have ended.
 fn both_ended<'a, R: Threads + Sync>(
     rt: &R,
     alloc: Global,
@@ -157,7 +161,7 @@ fn both_ended<'a, R: Threads + Sync>(
     )
 }
 
-/// Whether both have the same history once they have met.
+/// Returns whether both have the same history once they have met.
 fn have_met<'a>(first: &mut Client<'a>, second: &mut Client<'a>) -> Result<bool, Fault>
     requires { first.old.log.now ≡ second.old.log.now }
 {
@@ -165,7 +169,8 @@ fn have_met<'a>(first: &mut Client<'a>, second: &mut Client<'a>) -> Result<bool,
     Ok(has_tickets(first.history(), &TICKETS) && are_equal(first.history(), second.history()))
 }
 
-/// Whether the answer came after so many proposals, has this place, and its reply is read so.
+/// Returns whether the answer came after this many proposals, has this place, and its reply is read
+/// as this text.
 fn is_proposed(
     alloc: Global,
     answer: &Result<Answer, Fault>,
@@ -180,7 +185,8 @@ fn is_proposed(
     }
 }
 
-/// A look that is old by the time of the proposal: the other's announcement is helped at a later place.
+/// What worker 1 found when it looked is old by the time of its proposal: the other's announcement
+/// is helped at a later place.
 #[test]
 fn help_on_two_threads(rt: HostRuntime) -> Result<(), Fail> {
     let alloc = rt.alloc();

@@ -45,7 +45,8 @@ fn is_given(alloc: Global, client: &mut Client<'_>, name: &str, number: u64) -> 
     client.says(alloc, text.as_str(), want.as_str())
 }
 
-/// Submits the hundred commands. Each set is stored, and each get gives what was set before it.
+/// Submits the hundred commands. Returns whether each set is stored, and each get gives what was
+/// set before it.
 fn submit_all(alloc: Global, client: &mut Client<'_>, name: &str) -> Result<bool, Fault>
     ensures { client.new.log ≡ client.old.log }
 {
@@ -60,7 +61,7 @@ fn submit_all(alloc: Global, client: &mut Client<'_>, name: &str) -> Result<bool
     Ok(true)
 }
 
-/// The client after its hundred commands, and whether all were answered right.
+/// Returns the client after its hundred commands, and whether all were answered right.
 fn worked<'a>(alloc: Global, client: Client<'a>, name: &str) -> (Client<'a>, Result<bool, Fault>)
     ensures { result.0.log ≡ client.entry.log }
 {
@@ -69,7 +70,7 @@ fn worked<'a>(alloc: Global, client: Client<'a>, name: &str) -> (Client<'a>, Res
     (client, right)
 }
 
-/// Both clients once their threads have ended, if all was answered right.
+/// Returns both clients once their threads have ended, if all was answered right.
 fn worked_both<'a, R: Threads + Sync>(
     rt: &R,
     alloc: Global,
@@ -95,7 +96,7 @@ fn worked_both<'a, R: Threads + Sync>(
     }
 }
 
-/// Whether the command that was seen is the one that a client writes so.
+/// Returns whether the command that was seen is the one that a client writes as this text.
 fn is_command(alloc: Global, seen: &Seen<'_>, text: &str) -> Result<bool, Fault> {
     let command = command_of(alloc, text)?;
     Ok(match seen.entry() {
@@ -104,7 +105,7 @@ fn is_command(alloc: Global, seen: &Seen<'_>, text: &str) -> Result<bool, Fault>
     })
 }
 
-/// What the worker submits, in its order.
+/// Returns what the worker submits, in order.
 fn texts_of(alloc: Global, name: &str) -> Result<Vec<String>, Fault> {
     let mut texts = Vec::new(alloc);
     for number in FIRST..END {
@@ -114,7 +115,7 @@ fn texts_of(alloc: Global, name: &str) -> Result<Vec<String>, Fault> {
     Ok(texts)
 }
 
-/// The worker's places of the history.
+/// Returns the worker's places of the history.
 fn places_of<'s, 'a>(
     alloc: Global,
     history: &'s [Seen<'a>],
@@ -129,7 +130,7 @@ fn places_of<'s, 'a>(
     Ok(own)
 }
 
-/// Whether these are the worker's commands, once each and in their order, under their numbers.
+/// Returns whether these are the worker's commands, once each and in order, under their numbers.
 fn are_all(alloc: Global, own: &[&Seen<'_>], texts: &[String]) -> Result<bool, Fault> {
     for (number, (seen, text)) in own.iter().zip(texts).enumerate() {
         if seen.ticket().number != number as u64 || !is_command(alloc, seen, text.as_str())? {
@@ -139,7 +140,8 @@ fn are_all(alloc: Global, own: &[&Seen<'_>], texts: &[String]) -> Result<bool, F
     Ok(own.len() == 100 && texts.len() == 100)
 }
 
-/// Whether the worker's commands stand in the history once each and in their order, and no others of it.
+/// Returns whether the worker's commands stand in the history once each and in order, and no others
+/// of it.
 fn stand_in_order(
     alloc: Global,
     history: &[Seen<'_>],
@@ -151,7 +153,8 @@ fn stand_in_order(
     are_all(alloc, own.as_slice(), texts.as_slice())
 }
 
-/// Whether each has replayed all commands before they meet, and both have the same history after that.
+/// Returns whether each has replayed all commands before they meet, and both have the same history
+/// afterwards.
 fn agree<'a>(first: &mut Client<'a>, second: &mut Client<'a>) -> Result<bool, Fault>
     requires { first.old.log.now ≡ second.old.log.now }
 {
@@ -164,7 +167,7 @@ fn agree<'a>(first: &mut Client<'a>, second: &mut Client<'a>) -> Result<bool, Fa
     Ok(first.history().len() == 200 && are_equal(first.history(), second.history()))
 }
 
-/// Whether both agree, and each worker's commands stand in their order.
+/// Returns whether both agree, and each worker's commands stand in order.
 fn are_right<'a>(
     alloc: Global,
     first: &mut Client<'a>,

@@ -1,5 +1,6 @@
-//! Tests of the log and its workers over what their crates make public: threads that submit and meet, workers that stop at any of their
-//! steps, and answers that are computed again. They stand above the crates that they test, since a crate with tests is proved twice.
+//! Tests of the log and its workers through what their crates make public: threads that submit and
+//! meet, workers that stop at any of their steps, and answers that are recomputed. They are in a
+//! crate above those that they test, since a crate with tests is proved twice.
 #![tactic(auto)]
 
 #[cfg(test)]

@@ -7,14 +7,14 @@ use mc_model::Fault;
 use std::alloc::Global;
 use uc_log::Log;
 
-/// A client whose thread has ended, and what it had asked for.
+/// A client whose thread has ended, and what it asked for.
 #[derive(Drop)]
 pub(crate) struct Ended<'a> {
     pub(crate) client: Client<'a>,
     pub(crate) asked: Result<Vec<Asked>, Fault>,
 }
 
-/// The one meets the other.
+/// Has the one meet the other.
 fn meet<'a>(log: &Log, one: &mut Ended<'a>, other: &mut Ended<'a>) -> Result<(), Fault>
     requires one { one.old.client.log.now ≡ log.now }
     requires other { other.old.client.log.now ≡ log.now }
@@ -24,7 +24,7 @@ fn meet<'a>(log: &Log, one: &mut Ended<'a>, other: &mut Ended<'a>) -> Result<(),
     one.client.meet(&mut other.client)
 }
 
-/// One meets each of the others.
+/// Has one meet each of the others.
 fn meet_each<'a>(
     alloc: Global,
     log: &Log,
@@ -44,7 +44,8 @@ fn meet_each<'a>(
     Ok(all)
 }
 
-/// The last one meets each of the others twice: first it learns all that they have, and then they do.
+/// Has the last one meet each of the others twice: first it learns all that they have, and then
+/// they do.
 pub(crate) fn all_meet<'a>(
     alloc: Global,
     log: &Log,
@@ -62,7 +63,7 @@ pub(crate) fn all_meet<'a>(
     Ok(all)
 }
 
-/// Whether all have the same history, of so many places.
+/// Returns whether all have the same history, of this many places.
 pub(crate) fn are_all_equal(ended: &[Ended<'_>], places: usize) -> bool {
     let Some(first) = ended.first() else {
         return false;

@@ -1,4 +1,5 @@
-//! What a log answers, computed again from its history by code that isn't the worker's: one plain table a tenant, place by place.
+//! A log's answers, recomputed from its history by code that isn't the worker's: with one plain
+//! table for each tenant, place by place.
 
 use crate::asking::Asked;
 use crate::clients::Client;
@@ -16,7 +17,7 @@ fn applied(items: &mut Items, command: &Command) -> Result<Reply, Fault> {
     items.apply(command)
 }
 
-/// The reply to the entry on its tenant's table.
+/// Returns the reply to the entry on its tenant's table.
 fn reply_to(tables: &mut [Items], entry: &Entry) -> Result<Reply, Fault> {
     match tables.get_mut(usize::from(entry.tenant.number())) {
         Some(items) => applied(items, &entry.command),
@@ -24,7 +25,7 @@ fn reply_to(tables: &mut [Items], entry: &Entry) -> Result<Reply, Fault> {
     }
 }
 
-/// Whether the entry is what was asked for, and this is its answer.
+/// Returns whether the entry is what was asked for, and this is the answer to it.
 fn is_answer_to(
     alloc: Global,
     asked: &Asked,
@@ -41,7 +42,7 @@ fn is_answer_to(
     )
 }
 
-/// What the ticket's worker asked for under its number.
+/// Returns what the ticket's worker asked for under its number.
 fn asked_under<'e>(ended: &'e [Ended<'_>], ticket: Ticket) -> Option<&'e Asked> {
     let Ticket { worker, number } = ticket;
     let asked = ended
@@ -52,7 +53,8 @@ fn asked_under<'e>(ended: &'e [Ended<'_>], ticket: Ticket) -> Option<&'e Asked> 
     asked.get(number as usize)
 }
 
-/// Whether what was seen at the place was asked for, and is answered by the tables as it was then.
+/// Returns whether what was seen at the place was asked for, and the tables answer it as it was
+/// answered then.
 fn is_right_at(
     alloc: Global,
     tables: &mut [Items],
@@ -70,7 +72,7 @@ fn is_right_at(
     is_answer_to(alloc, asked, entry, place, &reply)
 }
 
-/// The tables after the history, if each of its places is answered as it was.
+/// Returns the tables after the history, if they answer each of its places as it was answered.
 fn tables_after(
     alloc: Global,
     quotas: &[Limits],
@@ -86,7 +88,7 @@ fn tables_after(
     Ok(tables)
 }
 
-/// Whether both hold the same under the key of this name.
+/// Returns whether both hold the same under the key of this name.
 fn holds_alike(alloc: Global, one: &Items, other: &Items, name: &str) -> Result<bool, Fault> {
     Ok(match Key::new(alloc, name.as_bytes())? {
         Some(key) => one.get(&key) == other.get(&key),
@@ -94,7 +96,7 @@ fn holds_alike(alloc: Global, one: &Items, other: &Items, name: &str) -> Result<
     })
 }
 
-/// Whether both tables are alike, of the keys that the tests use.
+/// Returns whether both tables are alike in the keys that the tests use.
 fn are_alike(alloc: Global, one: &Items, other: &Items) -> Result<bool, Fault> {
     for name in ["a", "b", "n"] {
         if !holds_alike(alloc, one, other, name)? {
@@ -108,7 +110,7 @@ fn are_alike(alloc: Global, one: &Items, other: &Items) -> Result<bool, Fault> {
     )
 }
 
-/// Whether the client's table of this tenant is like this one.
+/// Returns whether the client's table of this tenant is like this one.
 fn has_table(
     alloc: Global,
     client: &Client<'_>,
@@ -121,12 +123,12 @@ fn has_table(
     }
 }
 
-/// The tenant of this number, if there can be one.
+/// Returns the tenant of this number, if there can be one.
 fn tenant_of(number: usize) -> Option<TenantId> {
     TenantId::new(u8::try_from(number).ok()?)
 }
 
-/// Whether the client's tables are like these, tenant by tenant.
+/// Returns whether the client's tables are like these, tenant by tenant.
 fn has_tables(alloc: Global, client: &Client<'_>, tables: &[Items]) -> Result<bool, Fault> {
     for (number, items) in tables.iter().enumerate() {
         let Some(tenant) = tenant_of(number) else {
@@ -139,7 +141,8 @@ fn has_tables(alloc: Global, client: &Client<'_>, tables: &[Items]) -> Result<bo
     Ok(true)
 }
 
-/// Whether each reply, and each of these tables at the end, is what plain tables give over the history alone.
+/// Returns whether each reply, and each of these tables at the end, is what plain tables give from
+/// the history alone.
 pub(crate) fn is_recomputed(
     alloc: Global,
     quotas: &[Limits],

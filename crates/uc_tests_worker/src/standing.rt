@@ -1,4 +1,4 @@
-//! A worker that stops for good between two steps stops none of the three beside it.
+//! A worker that stops for good between two steps stops none of the other three.
 ghost use Rattle.std.specs.Prelude.{◌≡◌, All, IfOk};
 
 use crate::asking::{Asked, TENANTS, ask_all};
@@ -14,13 +14,15 @@ use std::thread::{Threads, map_vec};
 use uc_log::Log;
 use uc_worker::{Gate, Open, Step};
 
-/// How many commands worker 0 ends before the one in which it stops, and how many each other submits then.
+/// How many commands worker 0 finishes before the one in which it stops, and how many each other
+/// worker submits then.
 const BEFORE: u32 = 5;
 
 const BESIDE: u64 = 2_000;
 
-/// After which of its steps worker 0 stops, and where the command that it was at stands then. Place 8 is the first at which it is helped,
-/// since nobody else proposes its command at the places before.
+/// The step after which worker 0 stops, and the place where its last command stands in the end.
+/// Place 8 is the first at which it is helped, since nobody else proposes its command at the places
+/// before.
 const STOPS: [(Step, usize); 5] = [
     (Step::Announce, 8),
     (Step::Read, 8),
@@ -29,10 +31,10 @@ const STOPS: [(Step, usize); 5] = [
     (Step::Replay, 5),
 ];
 
-/// What the threads tell each other.
+/// The signals between the threads.
 #[derive(Drop)]
 struct Flags {
-    /// Worker 0 stands still.
+    /// Worker 0 is held.
     stands: AtomicBool,
     /// How many others have ended.
     ended: AtomicU64,
@@ -64,7 +66,7 @@ impl<'f> Gate for Stop<'f> {
     }
 }
 
-/// Worker 0 alone ends some commands, and stops in the next.
+/// Has worker 0 alone finish some commands, and stop in the next.
 fn stand_still(
     alloc: Global,
     client: &mut Client<'_>,
@@ -88,7 +90,7 @@ fn stand_still(
     }
 }
 
-/// Another begins once worker 0 stands still, and ends its commands.
+/// Has another worker begin once worker 0 is held, and finish its commands.
 fn go_on(alloc: Global, client: &mut Client<'_>, flags: &Flags) -> Result<Vec<Asked>, Fault>
     ensures { client.new.log ≡ client.old.log }
 {
@@ -100,7 +102,7 @@ fn go_on(alloc: Global, client: &mut Client<'_>, flags: &Flags) -> Result<Vec<As
     Ok(asked)
 }
 
-/// The client after its commands.
+/// Returns the client after its commands.
 fn ended<'a>(alloc: Global, client: Client<'a>, step: Step, flags: &Flags) -> Ended<'a>
     ensures { result.client.log ≡ client.entry.log }
 {
@@ -113,7 +115,7 @@ fn ended<'a>(alloc: Global, client: Client<'a>, step: Step, flags: &Flags) -> En
     Ended { client, asked }
 }
 
-/// All clients once their threads have ended.
+/// Returns all clients once their threads have ended.
 fn all_ended<'a, R: Threads + Sync>(
     rt: &R,
     alloc: Global,
@@ -138,13 +140,14 @@ fn all_ended<'a, R: Threads + Sync>(
     Ok(all)
 }
 
-/// Where the command stands in which worker 0 stopped.
+/// Returns the place of the command in which worker 0 stopped.
 fn place_of_last(all: &[Ended<'_>]) -> Option<usize> {
     let asked = all.first()?.asked.as_ref().ok()?;
     Some(asked.last()?.answer.place)
 }
 
-/// Whether the others ended all their commands while worker 0 stood still, and all is answered right.
+/// Returns whether the others finished all their commands while worker 0 was held, and all is
+/// answered right.
 fn is_right(all: &[Ended<'_>], alloc: Global, place: usize) -> Result<bool, Fault> {
     Ok(
         are_all_equal(all, 6_006)
@@ -153,7 +156,7 @@ fn is_right(all: &[Ended<'_>], alloc: Global, place: usize) -> Result<bool, Faul
     )
 }
 
-/// Whether this is so where it stops after this step.
+/// Returns whether this is so if worker 0 stops after this step.
 fn stops_nobody<R: Threads + Sync>(
     rt: &R,
     alloc: Global,

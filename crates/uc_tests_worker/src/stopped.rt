@@ -16,7 +16,7 @@ const BESIDE: u32 = 100;
 /// More steps than a submit of these tests has.
 const STEPS: u32 = 100;
 
-/// Submits so many sets. Says whether each is stored.
+/// Submits this many sets. Returns whether each is stored.
 fn are_stored(alloc: Global, client: &mut Client<'_>, count: u32) -> Result<bool, Fault>
     ensures { client.new.log ≡ client.old.log }
 {
@@ -28,16 +28,16 @@ fn are_stored(alloc: Global, client: &mut Client<'_>, count: u32) -> Result<bool
     Ok(true)
 }
 
-/// Lets another worker submit its commands to the end after a step of its own worker.
+/// Lets another worker submit its commands to the end after one step of its own worker.
 #[derive(Drop)]
 struct Beside<'a> {
     alloc: Global,
     other: Client<'a>,
-    /// How many steps are left before the one after which the other submits.
+    /// How many steps are left before the one after which the other worker submits.
     left: u32,
-    /// After which step it did.
+    /// The step after which it did.
     held: Option<Step>,
-    /// Whether it was answered right.
+    /// Whether the other worker was answered right.
     is_right: bool,
 }
 
@@ -56,7 +56,7 @@ impl<'a> Gate for Beside<'a> {
 }
 
 impl<'a> Beside<'a> {
-    /// After so many steps.
+    /// Returns a gate that holds its worker after `left` steps and one more.
     fn after(alloc: Global, other: Client<'a>, left: u32) -> Beside<'a> {
         Beside {
             alloc,
@@ -67,7 +67,10 @@ impl<'a> Beside<'a> {
         }
     }
 
-    /// After which step its worker was held, if it has so many; then the other was answered right, and both came to the same.
+    /// Returns the step after which the worker was held, if it took that many.
+    ///
+    /// Returns `BadEvent` if the other worker was answered wrong, the two have different histories,
+    /// or the worker made too many proposals.
     fn held(&mut self, first: &mut Client<'_>, proposals: u64) -> Result<Option<Step>, Fault> {
         if self.held.is_none() {
             return Ok(None);
@@ -80,14 +83,15 @@ impl<'a> Beside<'a> {
     }
 }
 
-/// Both have replayed the same, so many commands.
+/// Returns whether both have replayed the same commands, and this many.
 fn agree_on(first: &mut Client<'_>, second: &mut Client<'_>, count: usize) -> Result<bool, Fault> {
     first.catch_up()?;
     second.catch_up()?;
     Ok(first.history().len() == count && are_equal(first.history(), second.history()))
 }
 
-/// After which step the first was held, if it has so many; it and the other were answered right, and came to the same.
+/// Returns the step after which the first worker was held, if it took that many. Fails as `held`
+/// does.
 fn held_between(
     alloc: Global,
     mut first: Client<'_>,
@@ -99,7 +103,7 @@ fn held_between(
     gate.held(&mut first, answer.proposals)
 }
 
-/// After which step a worker was held on a new log, if its submit has so many.
+/// Returns the step after which a worker was held on a new log, if its submit takes that many.
 fn held_after(alloc: Global, left: u32) -> Result<Option<Step>, Fault> {
     let (log, passes) = opened(alloc, 2, 1_024, &[QUOTAS])?;
     let (first, mut second) = both_clients(alloc, &log, passes)?;
@@ -109,7 +113,7 @@ fn held_after(alloc: Global, left: u32) -> Result<Option<Step>, Fault> {
     held_between(alloc, first, second, left)
 }
 
-/// The steps after which a worker was held, each on a new log, as many as its submit has.
+/// Returns the steps after which a worker was held, each on a new log, as many as its submit takes.
 fn all_held(alloc: Global) -> Result<Vec<Step>, Fault> {
     let mut steps = Vec::new(alloc);
     for left in 0..STEPS {

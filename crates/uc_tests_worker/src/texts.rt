@@ -16,7 +16,7 @@ fn request_of(alloc: Global, text: &str) -> Result<Option<Request>, Fault> {
     reader.next()
 }
 
-/// The command that a client writes so.
+/// Returns the command that a client writes as this text.
 pub(crate) fn command_of(alloc: Global, text: &str) -> Result<Command, Fault> {
     match request_of(alloc, text)? {
         Some(Request::Logged { command, .. }) => Ok(command),
@@ -24,14 +24,14 @@ pub(crate) fn command_of(alloc: Global, text: &str) -> Result<Command, Fault> {
     }
 }
 
-/// Whether a client reads this text for the reply.
+/// Returns whether a client reads this text for the reply.
 pub(crate) fn reads_as(alloc: Global, reply: &Reply, want: &str) -> Result<bool, Fault> {
     let mut text = Vec::new(alloc);
     write_reply(reply, &mut text)?;
     Ok(text.as_slice() == want.as_bytes())
 }
 
-/// Settings of so many workers and places, and of tenants with these quotas.
+/// Returns settings of this many workers and places, and of tenants with these quotas.
 pub(crate) fn settings_of(
     alloc: Global,
     workers: u64,

@@ -1,4 +1,4 @@
--- A worker goes on: what follows from one call after another.
+-- What follows from one call of a worker after another.
 use Rattle.std.proofs.Common.{◌≡◌, ℕ, ◌+◌, [], ◌∷◌, ◌++◌, length, take, Some, sym, refl, ap, ◌∙◌, arith, ⊎_elim, inl, inr}
 use Rattle.mc_model.specs.declared.command.Command.{Command}
 use Rattle.mc_model.specs.Legal.{ticket_of}
@@ -52,7 +52,7 @@ same_next old new tenant command on =
     let entry = same_entry old new tenant command on in let log = on.continues.log in
     λ i. sighting (entry i).ticket (Some (entry i)) (row_of (log i).now (entry i).ticket)
 
--- a submit after it has caught up
+-- a submit after the worker has caught up
 pub submits_through : (old middle new : Worker) (tenant : ℕ) (command : Command) (answer : Answer) → CatchesUp old middle →
     Submits middle new tenant command answer → Submits old new tenant command answer
 submits_through old middle new tenant command answer on submits =

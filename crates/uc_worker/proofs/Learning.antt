@@ -1,4 +1,4 @@
--- What a worker's steps do to what its seat knows.
+-- How a worker's steps change what its seat knows.
 use Rattle.std.proofs.Common.{◌≡◌, ◌≢◌, ℕ, ◌+◌, ◌-◌, ◌==◌, ◌&&◌, Bool, true, false, if◌then◌else◌, [], ◌∷◌, length, length-append, slice_get, Option, Some, None, sym, refl, ap, ◌∙◌, subst, arith, eqb-true, true≢false}
 use Rattle.mc_model.specs.declared.id.Ticket.{Ticket}
 use Rattle.mc_model.specs.declared.shown.Phase.{Phase}
@@ -20,7 +20,7 @@ both_true true true is = (refl, refl)
 both_true true false is = absurd (true≢false (sym is))
 both_true false q is = absurd (true≢false (sym is))
 
--- where a worker that isn't idle is idle after it has learned a ticket, that is its latest
+-- a ticket by which a worker that wasn't idle becomes idle is the worker's latest
 module _ (number : ℕ) (worker : WorkerState) (ticket : Ticket) (at : Phase) where
   abbrev after : Bool → Phase
   after own = if own then Idle else at
@@ -41,7 +41,7 @@ module _ (number : ℕ) (worker : WorkerState) (ticket : Ticket) (at : Phase) wh
       by_test true is = absurd (other (ap after is))
       by_test false is = ap after is
 
--- what a call makes of a seat, where the worker's state is known
+-- what a call makes of a seat, if the worker's state is known
 module _ (old new : View) (state : WorkerState) (last : ShownState) (is : new ≡ moved_on old state last) where
   same_of : IsSame old new
   same_of = (ap (λ (v : View). v.size) is, ap (λ (v : View). v.worker) is)
@@ -90,7 +90,7 @@ learns_proposed old new ticket made = let state = state_is (known old) (known ne
   learned = ap (λ (s : WorkerState). s.learned) state;
 }
 
--- the own ticket is learned
+-- its own ticket is learned
 decides : (one two three : View) (ticket : Ticket) → Later one two → Learns two three ticket → three.state.phase ≡ Idle →
     ticket ≡ ticket_of two.worker (two.state.announced - 1) → Decided one three
 decides one two three ticket later learns idle own =
@@ -117,7 +117,7 @@ decides_proposed one old new ticket later made idle =
     (own_of (worker_of old) (state_of old) ticket Pending (λ (same : Pending ≡ Idle). cc)
     (sym (ap (λ (s : WorkerState). s.phase) (state_is (known old) (known new) _ _ made.2)) ∙ idle))
 
--- a pending worker that isn't idle after a step waits still
+-- a pending worker that isn't idle after a step is still pending
 pub waits_read : (old new : Desk) (found : Option Ticket) → (state_of old).phase ≡ Pending →
     Makes old new (reads (worker_of old)) (read (worker_of old) found (state_of old)) → (state_of new).phase ≢ Idle → (state_of new).phase ≡ Pending
 waits_read old new None pending made other = ap (λ (s : WorkerState). s.phase) (state_is (known old) (known new) _ _ made.2) ∙ pending

@@ -4,7 +4,7 @@ use Rattle.std.proofs.lemmas.Option.{none-some, same_Some}
 use Rattle.mc_model.specs.Helping.{BeginsWith}
 
 module _ {X : Type 0} where
-  -- what stands at the end, and what stood before
+  -- the element at the end, and those before it
   pub last_at : (list : List X) (x : X) → slice_get (list ++ x ∷ []) (length list) ≡ Some x
   last_at [] x = refl
   last_at (y ∷ list) x = last_at list x
@@ -49,7 +49,7 @@ module _ {X : Type 0} where
       by_rest [] is = sym (is ∙ append-nil front)
       by_rest (x ∷ rest) is = absurd (let long = ap length is ∙ length-append front (x ∷ rest) in omega arith)
 
-  -- of two lists one begins with the other: the longer with the shorter
+  -- one of two lists begins with the other: the longer with the shorter
   pub longer_begins : (list other : List X) → BeginsWith list other ⊎ BeginsWith other list → length other ≤ length list → BeginsWith list other
   longer_begins list other (inl begins) few = begins
   longer_begins list other (inr begins) few = let long = begins_length other list begins in

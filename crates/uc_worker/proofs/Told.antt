@@ -1,4 +1,4 @@
--- What a worker that was told a list reads.
+-- What a worker reads at the places of a list that was shared with it.
 use Rattle.std.proofs.Common.{◌≡◌, ◌+◌, ◌<◌, Bool, true, false, if◌then◌else◌, List, length, slice_get, Option, Some, sym, ap, ◌∙◌, subst}
 use Rattle.mc_model.specs.declared.id.Ticket.{Ticket}
 use Rattle.mc_model.specs.declared.shown.Phase.{Phase}
@@ -17,7 +17,7 @@ rests_if : (own : Bool) (phase : Phase) → Rests phase → Rests (if own then I
 rests_if true phase rests = ((λ same. cc), (λ same. cc))
 rests_if false phase rests = rests
 
--- one more place as it was told
+-- one more place, as in the shared list
 pub record ReadsTold (old new : View) : Type 0 where
   pub rests : Rests new.state.phase
   pub same : IsSame old new

@@ -1,6 +1,7 @@
--- What a worker's calls do to it, between what it was before and what it is after: this project's profile. A command's way to its answer is
--- that of Herlihy's universal construction (Wait-Free Synchronization, TOPLAS 1991): announced, decided at a place of one log, and answered
--- by all that stands before it.
+-- What a worker's calls do to it, as relations between the worker before and the worker after: this
+-- project's profile. A command's way to its answer is that of Herlihy's universal construction
+-- (Wait-Free Synchronization, TOPLAS 1991): it is announced, decided at a place of one log, and
+-- answered from all that stands before it.
 use Rattle.std.specs.Prelude.{◌≡◌, ◌⊎◌, ◌≤◌, ◌+◌, ◌∷◌, ◌++◌, [], ℕ, length, take, Some, slice_get}
 use Rattle.mc_model.specs.declared.command.Command.{Command}
 use Rattle.mc_model.specs.Helping.{BeginsWith}
@@ -12,7 +13,8 @@ use Rattle.uc_worker.specs.declared.worker.Worker.{Worker}
 use Rattle.uc_worker.specs.Steps.{IsSame}
 use Rattle.uc_worker.specs.Worker.{announced_of, history_of, next_of, openings_of, seat_of}
 
--- the same worker of the same log over the same tables, later on: what it has replayed, announced and learned stays
+-- the same worker of the same log over the same tables, later on: what it has replayed, announced
+-- and learned stays
 pub record Continues (old new : Worker) : Type 0 where
   pub log : new.log ≡ old.log
   pub openings : openings_of new ≡ openings_of old
@@ -21,26 +23,27 @@ pub record Continues (old new : Worker) : Type 0 where
   pub announced : BeginsWith (announced_of new) (announced_of old)
   pub learned : BeginsWith (seat_of new).state.learned (seat_of old).state.learned
 
--- later on, and it has announced nothing meanwhile
+-- the same, and the worker has announced nothing meanwhile
 pub record CatchesUp (old new : Worker) : Type 0 where
   pub continues : Continues old new
   pub announced : announced_of new ≡ announced_of old
 
--- it has replayed more, and taken no step
+-- the worker has replayed more, and taken no step of the log
 pub record ReplaysMore (old new : Worker) : Type 0 where
   pub log : new.log ≡ old.log
   pub openings : openings_of new ≡ openings_of old
   pub pass : new.pass ≡ old.pass
   pub history : BeginsWith (history_of new) (history_of old)
 
--- the tenant's command was announced under the number that comes next, or nothing was
+-- the tenant's command was announced under the next number, or nothing was announced
 abbrev pub AnnouncesAtMost : Worker → Worker → ℕ → Command → Type 0
 AnnouncesAtMost old new tenant command =
     (announced_of new ≡ announced_of old) ⊎ (announced_of new ≡ announced_of old ++ next_of old tenant command ∷ [])
 
--- The tenant's command was announced under the number that comes next, and nothing else was. It stands last in the history, at a place that
--- wasn't replayed before, and the reply is the answer after that tenant's own commands before that place. No more proposals were made
--- for it than there are workers, and one.
+-- The tenant's command was announced under the next number, and nothing else was. It stands last in
+-- the history, at a place that wasn't replayed before, and the reply is the answer after that
+-- tenant's own commands before that place. At most one more proposal was made for it than there are
+-- workers.
 pub record Submits (old new : Worker) (tenant : ℕ) (command : Command) (answer : Answer) : Type 0 where
   pub announced : announced_of new ≡ announced_of old ++ next_of old tenant command ∷ []
   pub count : (seat_of new).state.announced ≡ (seat_of old).state.announced + 1

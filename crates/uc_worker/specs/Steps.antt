@@ -1,4 +1,4 @@
--- What a worker's steps do to what its seat knows.
+-- How a worker's steps change what its seat knows.
 use Rattle.std.specs.Prelude.{◌≡◌, ◌≢◌, ◌⊎◌, ◌+◌, ◌-◌, ◌<◌, [], ◌∷◌, ◌++◌, length, Some, None, slice_get}
 use Rattle.mc_model.specs.declared.fault.Fault.{Fault}
 use Rattle.mc_model.specs.declared.fault.Fault.TheVariants.{Memory, LogFull, Taken}
@@ -9,7 +9,7 @@ use Rattle.mc_model.specs.Helping.{BeginsWith}
 use Rattle.mc_model.specs.Legal.{ticket_of}
 use Rattle.uc_places.specs.declared.view.View.{View}
 
--- it is between two commands, or between two steps of one
+-- the worker is between two commands, or between two steps of one
 abbrev pub Rests : Phase → Type 0
 Rests phase = (phase ≢ Looked) × (phase ≢ Stopped)
 
@@ -25,7 +25,7 @@ pub record Learns (old new : View) (ticket : Ticket) : Type 0 where
   pub mark : new.state.mark ≡ old.state.mark
   pub learned : new.state.learned ≡ old.state.learned ++ ticket ∷ []
 
--- some tickets are learned, and nothing is announced
+-- more tickets may be learned, and nothing is announced
 pub record Later (old new : View) : Type 0 where
   pub same : IsSame old new
   pub told : new.told ≡ old.told
@@ -36,22 +36,23 @@ pub record Later (old new : View) : Type 0 where
 abbrev pub HasReadOn : View → Type 0
 HasReadOn view = (length view.state.learned ≡ view.size.places) ⊎ (slice_get view.last.decided (length view.state.learned) ≡ None)
 
--- one command is announced, which waits then
+-- one command is announced, and is pending
 pub record Announced (old new : View) : Type 0 where
   pub same : IsSame old new
   pub announced : new.state.announced ≡ old.state.announced + 1
   pub learned : new.state.learned ≡ old.state.learned
   pub phase : new.state.phase ≡ Pending
 
--- the command that was announced last is decided, and its ticket is the last that was learned
+-- the command that was announced last is decided, and its ticket is the last one learned
 pub record Decided (old new : View) : Type 0 where
   pub idle : new.state.phase ≡ Idle
   pub more : length old.state.learned < length new.state.learned
   pub last : slice_get new.state.learned (length new.state.learned - 1) ≡ Some (ticket_of old.worker (old.state.announced - 1))
 
--- What a fault leaves. Where memory runs out, at most the call's command is announced, and none waits: by the seat's law it stands then
--- among what is learned, and takes effect. Where the log is full, all places are learned; the call's command, where it was announced,
--- isn't among them. Where the command's cell holds another value, nothing is announced.
+-- What a fault leaves. If memory ran out, at most the call's command is announced, and none is
+-- pending: by the seat's law it is then among what is learned, and takes effect. If the log is
+-- full, all places are learned, and the call's command, if it was announced, isn't among them. If
+-- the command's cell holds another value, nothing is announced.
 pub record Leaves (fault : Fault) (old new : View) : Type 0 where
   pub which : (fault ≡ Memory) ⊎ (fault ≡ LogFull) ⊎ (fault ≡ Taken)
   pub announced : (new.state.announced ≡ old.state.announced) ⊎ (new.state.announced ≡ old.state.announced + 1)

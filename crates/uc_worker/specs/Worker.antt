@@ -15,7 +15,7 @@ use Rattle.uc_log.specs.Passes.{next_sighting, own_sightings, row_of, seat, stat
 use Rattle.uc_places.specs.declared.view.View.{View}
 use Rattle.uc_worker.specs.declared.worker.Worker.{Worker}
 
--- what its seat knows: how many commands it has announced, which tickets it has learned
+-- what its seat knows, such as how many commands it has announced and which tickets it has learned
 abbrev pub seat_of : Worker → View
 seat_of worker = seat worker.pass
 
@@ -23,7 +23,7 @@ seat_of worker = seat worker.pass
 abbrev pub history_of : Worker → List Sighting
 history_of worker = worker.replica.history
 
--- what it has put into its own cells, one sighting a command that it has announced
+-- what it has put into its own cells, one sighting for each command that it has announced
 abbrev pub announced_of : Worker → List Sighting
 announced_of worker = own_sightings worker.pass
 
@@ -31,7 +31,7 @@ announced_of worker = own_sightings worker.pass
 abbrev pub tenants_of : Worker → List Limits
 tenants_of worker = worker.log.now.settings.tenants
 
--- the tables that its replica was opened over
+-- the tables with which its replica was opened
 abbrev pub openings_of : Worker → List TableState
 openings_of worker = worker.replica.openings
 
@@ -39,7 +39,7 @@ openings_of worker = worker.replica.openings
 abbrev pub tables_of : Worker → List TableState
 tables_of worker = worker.replica.tables
 
--- its next command's ticket with this tenant and command, as it is seen in the log's cell
+-- the entry of its next ticket with this tenant and command, as it is seen in the log's cell
 abbrev pub next_of : Worker → ℕ → Command → Sighting
 next_of worker tenant command = next_sighting worker.log.now worker.pass tenant command
 
@@ -51,7 +51,7 @@ IsFull worker = length (seat_of worker).state.learned ≡ (seat_of worker).size.
 abbrev pub IsUpToDate : Worker → Type 0
 IsUpToDate worker = length (history_of worker) ≡ length (seat_of worker).state.learned
 
--- it has learned all places, and its command isn't among them, or it has replayed them all
+-- it has learned all places, and either its command isn't among them or it has replayed them all
 abbrev pub IsSpent : Worker → Type 0
 IsSpent worker = IsFull worker
     × (((seat_of worker).state.phase ≡ Pending) ⊎ IsUpToDate worker)
@@ -60,7 +60,7 @@ IsSpent worker = IsFull worker
 abbrev pub sighting_of : Log → Entry → Sighting
 sighting_of log entry = sighting entry.ticket (Some entry) (row_of log entry.ticket)
 
--- the entry of the command that a pass announced last, or any where it has announced none
+-- the entry of the command that a pass announced last, or a made-up one if it has announced none
 abbrev pub entry_or : Option Sighting → Entry
 entry_or (Some seen) = unwrap_or seen.entry (record { ticket = ticket_of 0 0; tenant = 0; command = Flush })
 entry_or None = record { ticket = ticket_of 0 0; tenant = 0; command = Flush }

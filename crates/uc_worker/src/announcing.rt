@@ -1,4 +1,4 @@
-//! Commands are announced and decided.
+//! Announcing commands and deciding them.
 ghost use Rattle.std.specs.Bool.{MatchBool};
 ghost use Rattle.std.specs.Prelude.{◌≡◌, length, false, Err, MatchResult};
 ghost use Rattle.mc_model.specs.declared.fault.Fault.TheVariants as faults;
@@ -13,7 +13,9 @@ use mc_model::{Command, Fault, TenantId};
 use std::alloc::Global;
 use uc_log::{Log, Pass};
 
-/// Finishes a command that an earlier call left pending. Returns whether none is pending then; if one is, all places are learned.
+/// Finishes a command that an earlier call left pending.
+///
+/// Returns whether none is pending afterwards; if one is, all places are learned.
 pub(crate) fn settle<G: Gate>(log: &Log, pass: &mut Pass, gate: &mut G) -> bool
     requires of { IsOf log.now pass.old }
     requires rests { Rests (state pass.old).phase }
@@ -29,7 +31,12 @@ pub(crate) fn settle<G: Gate>(log: &Log, pass: &mut Pass, gate: &mut G) -> bool
     }
 }
 
-/// Puts a command into its cell, announces it and decides it: its ticket is the last that is learned then.
+/// Puts a command into its cell, announces it and decides it: its ticket is the last one learned
+/// then.
+///
+/// Returns `Memory` if memory runs out, and `Taken` if the cell holds another value; the command
+/// isn't announced then. Returns `LogFull` if all places are learned and the command isn't among
+/// them.
 pub(crate) fn decide_new<G: Gate>(
     log: &Log,
     alloc: Global,

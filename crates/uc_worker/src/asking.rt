@@ -1,4 +1,4 @@
-//! What a worker shows.
+//! What a worker reports about itself.
 ghost use Rattle.std.specs.Prelude.{◌≡◌, ◌<◌, true, false, length, Some, slice_get};
 ghost use Rattle.std.specs.Option.{option_map};
 ghost use Rattle.mc_model.specs.History.{state_from};
@@ -15,14 +15,16 @@ use mc_model::{TenantId, WorkerId};
 use uc_cells::Seen;
 
 impl<'a> Worker<'a> {
-    /// Which worker it is.
+    /// Returns which worker this is.
     pub fn worker(&self) -> WorkerId
         ensures { result ≡ (seat_of self.now).worker }
     {
         self.pass.worker()
     }
 
-    /// What was seen at each place that it has replayed. Their tickets are a legal list: a beginning of those that it has learned.
+    /// Returns what was seen at each place that the worker has replayed.
+    ///
+    /// The tickets there are a legal list: a prefix of those that the worker has learned.
     pub fn history(&self) -> &[Seen<'a>]
         ensures history { result.now ≡ history_of self.now }
         ensures follows { Follows self.now.log.now (history_of self.now) (seat_of self.now).state.learned }
@@ -31,17 +33,18 @@ impl<'a> Worker<'a> {
         self.replica.history()
     }
 
-    /// The tenant's table, which stands for its own commands of the history.
+    /// Returns the tenant's table, as that tenant's own commands in the history leave it.
     pub fn table(&self, tenant: TenantId) -> &Items
         requires { tenant < length (tenants_of self.now) }
         ensures { Some result.now ≡ option_map (λ opening. state_from opening (own tenant (entries (history_of self.now)))) (slice_get (openings_of self.now) tenant) }
     {
-        // Its contract says that there is a table for each tenant.
+        // The contract of `history` says that there is a table for each tenant.
         let _ = self.replica.history();
         self.replica.table(tenant)
     }
 
-    /// Whether it has learned all places: then nothing more is ever logged for it.
+    /// Returns whether the worker has learned all places. If so, nothing more is ever logged for
+    /// it.
     pub fn is_full(&self) -> bool
         ensures full { result ≡ true → length (seat_of self.now).state.learned ≡ (seat_of self.now).size.places }
         ensures room { result ≡ false → HasRoom (seat_of self.now).size (seat_of self.now).state }

@@ -1,4 +1,4 @@
-//! A worker catches up with the log.
+//! Catching up with the log.
 ghost use Rattle.std.specs.Prelude.{◌≡◌, IsOkUnless, OnOk};
 ghost use Rattle.mc_model.specs.declared.fault.Fault.TheVariants as faults;
 ghost use Rattle.uc_log.specs.Passes.{IsOf, seat, state};
@@ -12,7 +12,7 @@ use crate::worker::Worker;
 use mc_model::Fault;
 use uc_log::{Log, Pass};
 
-/// Reads up to a place that is found empty, or to the end.
+/// Reads up to a place that is found empty, or to the end of the log.
 fn read_up<G: Gate>(log: &Log, pass: &mut Pass, gate: &mut G)
     requires of { IsOf log.now pass.old }
     requires rests { Rests (state pass.old).phase }
@@ -30,11 +30,14 @@ fn read_up<G: Gate>(log: &Log, pass: &mut Pass, gate: &mut G)
 }
 
 impl<'a> Worker<'a> {
-    /// Reads up to a place that is found empty, or to the end, and replays all that is learned then. Where memory runs out: `Memory`; some
-    /// of it may be replayed then.
+    /// Reads up to a place that is found empty, or to the end of the log, and replays all that is
+    /// learned then.
+    ///
+    /// Returns `Memory` if memory runs out; some of it may be replayed then.
     pub fn catch_up<G: Gate>(&mut self, gate: &mut G) -> Result<(), Fault>
         ensures catches { CatchesUp self.old self.new }
-        // After what is learned stood nothing, in the log's state after the worker's last event.
+        // All places are learned, or the next one was empty in the log's state after the worker's
+        // last event.
         ensures read { HasReadOn (seat_of self.new) }
         ensures told { (seat_of self.new).told ≡ (seat_of self.old).told }
         ensures all { OnOk result (IsUpToDate self.new) }

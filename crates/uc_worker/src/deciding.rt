@@ -1,4 +1,4 @@
-//! From an announcement on until it is decided.
+//! From a command's announcement to its decision.
 ghost use Rattle.std.specs.Bool.{MatchBool};
 ghost use Rattle.std.specs.Prelude.{◌≡◌, ◌≢◌, length, None, false};
 ghost use Rattle.mc_model.specs.declared.shown.Phase.TheVariants as phase;
@@ -9,7 +9,8 @@ ghost use Rattle.uc_worker.specs.Waiting.{IsMarked, LearnsOn, RunsOut};
 use crate::gate::{Gate, Step};
 use uc_log::{Log, Pass};
 
-/// Reads until an empty place is marked, or its own ticket or all places are learned. Returns whether its own ticket is.
+/// Reads until it marks an empty place, learns its own ticket, or reaches the end of the log.
+/// Returns whether it learned its own ticket.
 fn read_on<G: Gate>(log: &Log, pass: &mut Pass, gate: &mut G) -> bool
     requires of { IsOf log.now pass.old }
     requires pending { (state pass.old).phase ≡ phase.Pending }
@@ -29,7 +30,8 @@ fn read_on<G: Gate>(log: &Log, pass: &mut Pass, gate: &mut G) -> bool
     false
 }
 
-/// Looks and proposes until its own ticket is learned. Returns whether it is; if not, all places are learned.
+/// Looks and proposes until it learns its own ticket, or reaches the end of the log. Returns
+/// whether it learned its own ticket.
 fn propose_on<G: Gate>(log: &Log, pass: &mut Pass, gate: &mut G) -> bool
     requires of { IsOf log.now pass.old }
     requires pending { (state pass.old).phase ≡ phase.Pending }
@@ -49,7 +51,8 @@ fn propose_on<G: Gate>(log: &Log, pass: &mut Pass, gate: &mut G) -> bool
     false
 }
 
-/// Goes on until the command that was announced last is decided. Returns whether it is; if not, all places are learned.
+/// Goes on until the command that was announced last is decided, or all places are learned. Returns
+/// whether the command is decided.
 pub(crate) fn decide<G: Gate>(log: &Log, pass: &mut Pass, gate: &mut G) -> bool
     requires of { IsOf log.now pass.old }
     requires pending { (state pass.old).phase ≡ phase.Pending }

@@ -1,4 +1,4 @@
-//! What a worker passes after each of its steps.
+//! The gate that a worker passes after each step of `submit` and `catch_up`.
 
 /// A step of a worker.
 #[derive(Clone, Copy, Debug, PartialEq, Eq)]
@@ -7,7 +7,7 @@ pub enum Step {
     Announce,
     /// It has read a place.
     Read,
-    /// It has looked at whom to help.
+    /// It has looked for whom to help.
     Look,
     /// It has proposed at a place.
     Propose,
@@ -15,13 +15,14 @@ pub enum Step {
     Replay,
 }
 
-/// Is told of each step of a worker directly after it, and may hold the worker there: others go on without it.
+/// Sees each step of a worker's `submit` or `catch_up` directly after it, and may hold the worker
+/// there: others go on without it.
 pub trait Gate {
-    /// The step was taken.
+    /// Is called directly after this step.
     fn at(&mut self, step: Step);
 }
 
-/// Holds nobody.
+/// The gate that holds nobody.
 #[derive(Clone, Copy, Debug, PartialEq, Eq)]
 pub struct Open;
 

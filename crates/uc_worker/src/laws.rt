@@ -2,7 +2,7 @@
 ghost use Rattle.uc_worker.specs.Going.{CatchesUp, Continues};
 ghost use Rattle.uc_worker.specs.declared.worker.Worker.{Worker};
 
-/// A worker goes on from itself, and from call to call; so does one that announces nothing meanwhile.
+/// `Continues` and `CatchesUp` are reflexive and transitive.
 pub fn workers_go_on()
     ensures same { (worker : Worker) → Continues worker worker }
     ensures through { (first second third : Worker) → Continues first second → Continues second third → Continues first third }

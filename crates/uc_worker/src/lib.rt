@@ -1,5 +1,7 @@
-//! A worker of a shared log: it submits commands, helps others by turns, replays what was decided on tables of its own, and meets
-//! others. No call waits for another worker, whatever that one does or leaves undone.
+//! A worker of a shared log: it submits commands, helps the others round-robin, replays what was
+//! decided on its own tables, and meets others. No call waits for another worker, whatever that one
+//! does or leaves undone. Begin with `Worker::open`; `specs/Going.antt` says what a call does to a
+//! worker.
 #![tactic(auto)]
 
 pub use gate::{Gate, Open, Step};

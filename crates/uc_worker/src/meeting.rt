@@ -1,4 +1,4 @@
-//! Workers that meet.
+//! Two workers meet, and have the same history afterwards.
 ghost use Rattle.std.specs.Prelude.{◌≡◌, ◌≤◌, length, IsOkUnless, OnOk};
 ghost use Rattle.mc_model.specs.declared.fault.Fault.TheVariants as faults;
 ghost use Rattle.mc_model.specs.Helping.{BeginsWith};
@@ -13,7 +13,7 @@ use crate::worker::Worker;
 use mc_model::Fault;
 use uc_log::{Log, Pass};
 
-/// Reads the list that the pass was told.
+/// Reads the list that was shared with the pass.
 fn read_told(log: &Log, pass: &mut Pass, end: usize)
     requires of { IsOf log.now pass.old }
     requires rests { Rests (state pass.old).phase }
@@ -28,7 +28,7 @@ fn read_told(log: &Log, pass: &mut Pass, end: usize)
     }
 }
 
-/// The one that has learned less learns what the other has.
+/// Lets the pass that has learned less learn what the other has.
 fn even(log: &Log, one: &mut Pass, other: &mut Pass)
     requires of { IsOf log.now one.old × IsOf log.now other.old }
     requires rests { Rests (state one.old).phase × Rests (state other.old).phase }
@@ -46,8 +46,10 @@ fn even(log: &Log, one: &mut Pass, other: &mut Pass)
 }
 
 impl<'a> Worker<'a> {
-    /// Both learn what either has learned, and replay it: then both have the same history, entry by entry. Where memory runs out:
-    /// `Memory`; then some of it may be replayed.
+    /// Lets both workers learn and replay what either has learned: then both have the same history,
+    /// entry by entry.
+    ///
+    /// Returns `Memory` if memory runs out; some of it may be replayed then.
     pub fn meet(&mut self, other: &mut Worker<'a>) -> Result<(), Fault>
         requires { self.old.log.now ≡ other.old.log.now }
         ensures one { CatchesUp self.old self.new }

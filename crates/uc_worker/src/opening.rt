@@ -1,4 +1,4 @@
-//! A worker that has done nothing.
+//! Opening a worker.
 ghost use Rattle.std.specs.Prelude.{◌≡◌, [], IfOk, IsOkUnless};
 ghost use Rattle.mc_model.specs.declared.fault.Fault.TheVariants as faults;
 ghost use Rattle.mc_model.specs.declared.shown.Phase.TheVariants as phase;
@@ -13,8 +13,10 @@ use std::alloc::Global;
 use uc_log::{Log, Pass};
 
 impl<'a> Worker<'a> {
-    /// The worker with this pass of the log, which has an empty table for each tenant of the log's settings. Where memory runs out:
-    /// `Memory`.
+    /// Opens the worker with this pass of the log, with an empty table for each tenant of the log's
+    /// settings.
+    ///
+    /// Returns `Memory` if memory runs out.
     pub fn open(alloc: Global, log: &'a Log, pass: Pass) -> Result<Worker<'a>, Fault>
         requires of { IsOf log.now pass }
         requires idle { (state pass).phase ≡ phase.Idle }

@@ -1,4 +1,4 @@
-//! What was learned is replayed.
+//! Replaying what was learned.
 ghost use Rattle.std.specs.Prelude.{◌≡◌, ◌≤◌, ◌<◌, ◌+◌, ◌-◌, length, take, Some, IfOk, IsOk, IsOkUnless, OnOk, slice_get};
 ghost use Rattle.mc_model.specs.declared.fault.Fault.TheVariants as faults;
 ghost use Rattle.mc_model.specs.Replay.{reply_to};
@@ -12,8 +12,11 @@ use crate::worker::Worker;
 use mc_model::{Fault, Reply};
 
 impl<'a> Worker<'a> {
-    /// Replays what was learned before this place. Nobody waits for an answer there, so none is made: not of an own command either, which an
-    /// earlier call has left behind.
+    /// Replays what was learned before this place.
+    ///
+    /// Nobody waits for an answer there, so none is made, not even to an own command that an
+    /// earlier call left pending. Returns `Memory` if memory runs out; some of it may be replayed
+    /// then.
     pub(crate) fn replay_to<G: Gate>(&mut self, end: usize, gate: &mut G) -> Result<(), Fault>
         requires learned { end ≤ length (learned self.old.pass) }
         requires behind { length (history_of self.old) ≤ end }
@@ -31,7 +34,10 @@ impl<'a> Worker<'a> {
         Ok(())
     }
 
-    /// Replays what was learned up to the place that was learned last, where an own command stands, and gives its reply.
+    /// Replays what was learned up to and including the last place, where an own command stands,
+    /// and returns the reply to that command.
+    ///
+    /// Returns `Memory` if memory runs out; some of it may be replayed then.
     pub(crate) fn reply_last<G: Gate>(&mut self, gate: &mut G) -> Result<Reply, Fault>
         requires behind { length (history_of self.old) < length (learned self.old.pass) }
         requires last { slice_get (learned self.old.pass) (length (learned self.old.pass) - 1) ≡ Some (last_entry self.old.pass).ticket }

@@ -12,7 +12,10 @@ use crate::worker::{Answer, Worker};
 use mc_model::{Command, Fault, TenantId};
 
 impl<'a> Worker<'a> {
-    /// Decides a command that an earlier call has left pending, and replays all that is learned then.
+    /// Decides a command that an earlier call left pending, and replays all that is learned then.
+    ///
+    /// Returns `LogFull` if that command is still pending, as all places are learned, and `Memory`
+    /// if memory runs out.
     fn ready<G: Gate>(&mut self, gate: &mut G) -> Result<(), Fault>
         ensures catches { CatchesUp self.old self.new }
         ensures idle { OnOk result ((seat_of self.new).state.phase ≡ phase.Idle) }
@@ -30,7 +33,9 @@ impl<'a> Worker<'a> {
         self.replay_to(end, gate)
     }
 
-    /// Announces a command, decides it, and answers it after all before it is replayed.
+    /// Announces a command, decides it, and answers it once everything before it is replayed.
+    ///
+    /// Returns the same errors as `submit`.
     fn answer_new<G: Gate>(
         &mut self,
         tenant: TenantId,
@@ -55,10 +60,16 @@ impl<'a> Worker<'a> {
         })
     }
 
-    /// Submits the tenant's command, and answers it once it stands in the log and all before it is replayed. A command that an earlier
-    /// call has left pending is decided and replayed first; its reply is dropped. Where memory runs out: `Memory`; then this command,
-    /// if it was announced, stands in the log and takes effect. Where all places are learned and the command isn't among them: `LogFull`; it never
-    /// takes effect. Where its cell holds another value: `Taken`, and it isn't announced. It never waits for another worker.
+    /// Submits the tenant's command, and answers it once it stands in the log and everything before
+    /// it is replayed.
+    ///
+    /// Never waits for another worker. A command that an earlier call left pending is decided and
+    /// replayed first; its reply is dropped.
+    ///
+    /// Returns `Memory` if memory runs out: this command, if it was announced, stands in the log
+    /// and takes effect. Returns `LogFull` if all places are learned and this command isn't among
+    /// them: it never takes effect. Returns `Taken` if its cell holds another value: it isn't
+    /// announced.
     pub fn submit<G: Gate>(
         &mut self,
         tenant: TenantId,
@@ -66,12 +77,16 @@ impl<'a> Worker<'a> {
         gate: &mut G,
     ) -> Result<Answer, Fault>
         requires { tenant < length (tenants_of self.old) }
+        // Whatever comes of it, it is the same worker later on.
         ensures continues { Continues self.old self.new }
+        // The command is the last of the history, and its reply is the answer after its tenant's own
+        // commands before it.
         ensures submits { IfOk result (λ answer. Submits self.old self.new tenant command answer) }
+        // With a fault, at most this command was announced.
         ensures kept { OnErr result (AnnouncesAtMost self.old self.new tenant command) }
         // What a fault leaves.
         ensures faults { IfErr result (λ fault. Leaves fault (seat_of self.old) (seat_of self.new)) }
-        // Once a log is full, each later call is told so.
+        // Once a call has found the log full, each later call does.
         ensures spends { IfErr result (λ fault. fault ≡ faults.LogFull → IsSpent self.new) }
         ensures spent { IsSpent self.old → result ≡ Err faults.LogFull }
     {

@@ -9,7 +9,8 @@ use mc_replica::Replica;
 use std::alloc::Global;
 use uc_log::{Log, Pass};
 
-/// A worker of a log: its pass, and its replica of the tables, in which it has replayed some of the places that it has learned.
+/// A worker of a log: its pass, and its replica of the tables, in which it has replayed some of the
+/// places that it has learned.
 #[derive(Drop)]
 pub struct Worker<'a> {
     pub(crate) log: &'a Log,

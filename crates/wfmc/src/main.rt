@@ -1,4 +1,4 @@
-//! A memcached server for several tenants, each at a port of its own.
+//! A memcached server for several tenants, each at its own port.
 #![tactic(auto)]
 
 use mc_server::{WriteOutput, refuse_words, run_wfmc, words_after_name};

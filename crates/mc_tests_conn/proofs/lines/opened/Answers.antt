@@ -1,4 +1,4 @@
--- What a log is opened with was never used.
+-- What a log is opened with is unused.
 use Rattle.mc_tests_conn.proofs.Fresh.{all_fresh}
 use Rattle.mc_tests_conn.proofs.lines.opened.Goals as goal
 

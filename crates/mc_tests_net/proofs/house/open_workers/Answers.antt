@@ -1,4 +1,4 @@
--- The next pass was never used, and its worker is of the log.
+-- The next pass is unused, and its worker is of the log.
 use Rattle.std.proofs.Common.{◌≡◌, All, subst, rules}
 use Rattle.std.proofs.lemmas.List.Elements.{All-head, All-push, All-rest}
 use Rattle.uc_worker.specs.declared.worker.Worker.{Worker}

@@ -1,4 +1,4 @@
--- The workers so far are of the log, and the passes that are left were never used.
+-- The workers so far are of the log, and the passes that are left are unused.
 use Rattle.std.proofs.Common.{◌≡◌, All}
 use Rattle.mc_tests_net.proofs.Passes.{IsFresh}
 use Rattle.uc_worker.specs.declared.worker.Worker.{Worker}

@@ -1,4 +1,4 @@
--- Each seat so far has its pass; the others wait.
+-- Each seat so far has its pass; the others are still to come.
 use Rattle.std.proofs.Common.{◌≡◌, ◌++◌, length}
 use Rattle.uc_log.specs.Passes.{AreMadeOf}
 use Rattle.uc_log.proofs.opening.passes_of.Given as goal

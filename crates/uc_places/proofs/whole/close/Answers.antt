@@ -1,4 +1,5 @@
--- The list is the log of a state that events lead to, and so it is legal and begins with what its workers have learned.
+-- The list is the log of a reachable state, and so it is legal and begins with what its workers
+-- have learned.
 use Rattle.std.proofs.Common.{Vec, Global, ◌≡◌, List, sym, ap, ◌∙◌, subst}
 use Rattle.std.proofs.lemmas.Option.{same_Some}
 use Rattle.mc_model.specs.declared.id.Ticket.{Ticket}

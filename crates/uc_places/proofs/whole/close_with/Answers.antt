@@ -1,4 +1,4 @@
--- At the end the words spell a state's log, which the seat shows (`Closing`).
+-- At the end the words encode a state's log, which the seat shows (`Closing`).
 use Rattle.std.proofs.Common.{ℕ, ◌+◌, Vec, Global, ◌≡◌, List, subst, arith}
 use Rattle.core.specs.Mem.Slots.{slots_items}
 use Rattle.mc_model.specs.declared.id.Ticket.{Ticket}

@@ -1,4 +1,4 @@
--- What was read so far is the beginning of whatever the words spell.
+-- What was read so far is the beginning of whatever list the words encode.
 use Rattle.std.proofs.Common.{◌≡◌, List, take}
 use Rattle.core.specs.Mem.Slots.{slots_items}
 use Rattle.mc_model.specs.declared.id.Ticket.{Ticket}

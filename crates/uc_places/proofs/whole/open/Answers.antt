@@ -1,4 +1,4 @@
--- The words are blank, which the rule allows, and seats are given out one by one (`Seating`).
+-- The words are blank, which the invariant allows, and seats are given out one by one (`Seating`).
 use Rattle.std.proofs.Common.{rules, arith, ℕ, [], ◌<◌, sym, ap, ◌∙◌, subst}
 use Rattle.atomic_table.specs.Table.{opening}
 use Rattle.mc_model.specs.declared.shown.LogSize.{LogSize}

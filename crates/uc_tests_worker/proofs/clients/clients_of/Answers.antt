@@ -1,4 +1,4 @@
--- The next pass was never used, and its client is of the log.
+-- The next pass is unused, and its client is of the log.
 use Rattle.std.proofs.Common.{◌≡◌, ℕ, List, Some, All, slice_get, subst, rules}
 use Rattle.std.proofs.lemmas.List.Elements.{All-head, All-push, All-rest}
 use Rattle.std.proofs.lemmas.Option.{slice_get-get_or}

@@ -1,4 +1,4 @@
--- The clients so far are of the log, and the passes that are left were never used.
+-- The clients so far are of the log, and the passes that are left are unused.
 use Rattle.std.proofs.Common.{◌≡◌, All}
 use Rattle.uc_tests_worker.specs.Fresh.{IsFresh}
 use Rattle.uc_tests_worker.specs.declared.clients.Client.{Client}

@@ -1,4 +1,4 @@
--- What a log is opened with was never used.
+-- What a log is opened with is unused.
 use Rattle.uc_tests_worker.proofs.Fresh.{all_fresh}
 use Rattle.uc_tests_worker.proofs.clients.opened.Goals as goal
 

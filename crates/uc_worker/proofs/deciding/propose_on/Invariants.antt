@@ -1,4 +1,4 @@
--- The command waits still, and has its mark.
+-- The command is still pending, and has its mark.
 use Rattle.std.proofs.Common.{◌≢◌, None}
 use Rattle.uc_log.specs.Passes.{state}
 use Rattle.uc_worker.specs.Waiting.{IsWaiting}

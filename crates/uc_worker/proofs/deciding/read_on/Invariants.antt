@@ -1,4 +1,4 @@
--- The command waits still.
+-- The command is still pending.
 use Rattle.uc_worker.specs.Waiting.{IsWaiting}
 use Rattle.uc_worker.proofs.deciding.read_on.Given as goal
 

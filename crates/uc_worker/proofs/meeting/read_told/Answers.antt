@@ -1,4 +1,4 @@
--- The next place is read as it was told.
+-- The next place is read, as in the shared list.
 use Rattle.std.proofs.Common.{ℕ, ◌<◌, ◌+◌, List, length, sym, ap, ◌∙◌, arith}
 use Rattle.mc_model.specs.declared.id.Ticket.{Ticket}
 use Rattle.mc_model.specs.Helping.{BeginsWith}

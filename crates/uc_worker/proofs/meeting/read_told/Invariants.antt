@@ -1,4 +1,4 @@
--- The places before this one are learned as they were told.
+-- The places before this one are learned, as in the shared list.
 use Rattle.std.proofs.Common.{◌≡◌, length}
 use Rattle.mc_model.specs.Helping.{BeginsWith}
 use Rattle.uc_log.specs.Passes.{IsOf, learned, own_sightings, seat, state}

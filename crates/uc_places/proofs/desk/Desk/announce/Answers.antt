@@ -1,4 +1,4 @@
--- The own word is raised by one, which is the announcement (`Moves`).
+-- The worker's own word is raised by one, which is the announcement (`Moves`).
 use Rattle.std.proofs.Common.{ℕ, ◌+◌, ◌∙◌, sym, ap, arith}
 use Rattle.atomic_table.specs.Seated.{TableId}
 use Rattle.uc_places.proofs.Moves.{announces_at}

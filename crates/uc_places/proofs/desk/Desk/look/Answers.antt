@@ -1,4 +1,5 @@
--- The word of the worker whose turn it is is loaded, which is the look (`Moves`); the ticket is what the look makes it propose.
+-- A load of the word of the worker whose turn it is, which is the look (`Moves`); the ticket is the
+-- one that the look makes the worker propose.
 use Rattle.std.proofs.Common.{◌≡◌, ◌<◌, ◌+◌, ◌%◌, sym, ap, ◌∙◌, subst, arith}
 use Rattle.atomic_table.specs.Seated.{TableId}
 use Rattle.mc_model.specs.declared.shown.Phase.TheVariants.{Looked}

@@ -1,4 +1,5 @@
--- A load of the next place's word, which is the read (`Moves`); the numbers follow what was learned.
+-- A load of the next place's word, which is the read (`Moves`); the numbers follow what was
+-- learned.
 use Rattle.std.proofs.Common.{◌≡◌, ◌+◌, sym, refl, ap, ◌∙◌, subst, arith, ⊎_elim, Option, Some}
 use Rattle.atomic_table.specs.Seated.{TableId}
 use Rattle.mc_model.specs.declared.id.Ticket.{Ticket}

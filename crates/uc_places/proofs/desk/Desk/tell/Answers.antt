@@ -1,4 +1,5 @@
--- A note of what the first has learned is made and told to the second, and then compared (`Seating`, `Moves`).
+-- A note of what the first has learned is made and shared with the second, and then compared
+-- (`Seating`, `Moves`).
 use Rattle.std.proofs.Common.{ap, ◌∙◌, arith}
 use Rattle.atomic_table.specs.Seated.{TableId}
 use Rattle.uc_places.specs.Told.{SeatState}

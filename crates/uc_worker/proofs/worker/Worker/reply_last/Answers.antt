@@ -1,4 +1,4 @@
--- All before is replayed, and then what was put is seen at the last place.
+-- Everything before is replayed, and then what was put is seen at the last place.
 use Rattle.std.proofs.Common.{◌≡◌, ℕ, ◌-◌, ◌<◌, List, length, take, slice_get, Some, sym, ap, ◌∙◌, subst, arith}
 use Rattle.mc_model.specs.Replay.{reply_to}
 use Rattle.mc_model.specs.State.{TableState}
