@@ -267,8 +267,10 @@ fn run_threads<R: Threads + Clock + Sync>(
 
 /// Returns the seats of worker 0 and worker 1.
 fn both_seats(places: &Places, mut seats: Vec<Idle>) -> Option<(Idle, Idle)>
-    requires { (worker : ℕ) (seat : _) → slice_get seats.items worker ≡ Some seat → IsSeatOf places.now seat.desk }
-    ensures { IfSome result (λ pair. IsSeatOf places.now pair.0.desk × IsSeatOf places.now pair.1.desk) }
+    requires { (worker : ℕ) (seat : _) → slice_get seats.items worker ≡ Some seat →
+        IsSeatOf places.now seat.desk }
+    ensures { IfSome result
+        (λ pair. IsSeatOf places.now pair.0.desk × IsSeatOf places.now pair.1.desk) }
 {
     let second = seats.pop()?;
     let first = seats.pop()?;

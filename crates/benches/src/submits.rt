@@ -278,7 +278,8 @@ fn jobs_of<'a>(
     mut passes: Vec<Pass>,
     load: &Load,
 ) -> Result<Vec<Job<'a>>, Fault>
-    requires { (number : ℕ) (pass : _) → slice_get passes.items number ≡ Some pass → IsNew log.now number pass }
+    requires { (number : ℕ) (pass : _) → slice_get passes.items number ≡ Some pass →
+        IsNew log.now number pass }
 {
     let mut jobs = Vec::new(alloc);
     for number in 0..load.workers {

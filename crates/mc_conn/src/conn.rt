@@ -57,7 +57,8 @@ impl Conn {
         ensures role { result.role ≡ Role.Tenant tenant }
         ensures holding { holding_of result ≡ nothing_held result.role }
         ensures queue { queue_of result ≡ [] }
-        ensures open { (result.has_ended ≡ false) × (result.is_over ≡ false) × (result.is_closed ≡ false) }
+        ensures open { (result.has_ended ≡ false) × (result.is_over ≡ false)
+            × (result.is_closed ≡ false) }
     {
         Conn {
             role: Role::Tenant(tenant),

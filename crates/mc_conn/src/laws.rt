@@ -14,13 +14,22 @@ ghost use Rattle.mc_conn.specs.Owed.{IsPlaced, IsTurnedAway, Mark, Owes};
 /// after as many commands as there are places: so what is owed there doesn't depend on when one
 /// looks, and is a function of the requests.
 pub fn a_worker_alone_answers_in_order()
-    ensures placed { (worker : Worker) (tenant : ℕ) (from to : Mark) (command : Command) (reply : Reply) →
-        (seat_of worker).size.workers ≡ 1 → (is : IsPlaced worker tenant from command reply to) → is.place ≡ from.number }
-    ensures away { (worker : Worker) (tenant : ℕ) (from to : Mark) (command : Command) (reply : Reply) →
-        (seat_of worker).size.workers ≡ 1 → IsTurnedAway worker tenant from command reply to → (seat_of worker).size.places ≤ from.number }
-    ensures owes { (limits : Limits) (places : ℕ) (worker : Worker) (requests : List Request) (bytes : List ℕ) (to : Mark) →
-        IsAlone limits places worker → Owes worker (Tenant 0) first_mark requests bytes to → bytes ≡ owed limits places requests }
+    ensures placed { (worker : Worker) (tenant : ℕ) (from to : Mark) (command : Command)
+        (reply : Reply) →
+        (seat_of worker).size.workers ≡ 1 → (is : IsPlaced worker tenant from command reply to) →
+        is.place ≡ from.number }
+    ensures away { (worker : Worker) (tenant : ℕ) (from to : Mark) (command : Command)
+        (reply : Reply) →
+        (seat_of worker).size.workers ≡ 1 → IsTurnedAway worker tenant from command reply to →
+        (seat_of worker).size.places ≤ from.number }
+    ensures owes { (limits : Limits) (places : ℕ) (worker : Worker) (requests : List Request)
+        (bytes : List ℕ) (to : Mark) →
+        IsAlone limits places worker → Owes worker (Tenant 0) first_mark requests bytes to →
+        bytes ≡ owed limits places requests }
     // A log that is opened over a table goes on from that table.
-    ensures goes_on { (limits : Limits) (base : List Command) (places : ℕ) (worker : Worker) (requests : List Request) (bytes : List ℕ) (to : Mark) →
-        IsAloneOver limits base places worker → Owes worker (Tenant 0) first_mark requests bytes to → bytes ≡ owed_after limits base places [] requests }
+    ensures goes_on { (limits : Limits) (base : List Command) (places : ℕ) (worker : Worker)
+        (requests : List Request) (bytes : List ℕ) (to : Mark) →
+        IsAloneOver limits base places worker →
+        Owes worker (Tenant 0) first_mark requests bytes to →
+        bytes ≡ owed_after limits base places [] requests }
 {}

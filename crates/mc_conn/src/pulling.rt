@@ -26,13 +26,17 @@ impl Conn {
         requires waiting { self.old.waiting ≡ None }
         requires going { self.old.has_ended ≡ false }
         ensures outcome { MatchResult result
-            (λ did. (worker : Worker) (output : Outflow) → Does (scene self.old worker (both (I.tells input.old) output))
+            (λ did. (worker : Worker) (output : Outflow) →
+            Does (scene self.old worker (both (I.tells input.old) output))
             (scene self.new worker (both (I.tells input.new) output)) did)
-            (λ fault. (worker : Worker) (output : Outflow) → Breaks (scene self.old worker (both (I.tells input.old) output))
+            (λ fault. (worker : Worker) (output : Outflow) →
+            Breaks (scene self.old worker (both (I.tells input.old) output))
             (scene self.new worker (both (I.tells input.new) output)) fault) }
         ensures stuck { IfOk result (λ did. did ≡ false →
-            (waits (I.tells input.new).events ≡ waits (I.tells input.old).events + 1) ⊎ (self.new.has_ended ≡ true)) }
-        ensures once { (event : Event) × ((I.tells input.new).events ≡ event ∷ (I.tells input.old).events) }
+            (waits (I.tells input.new).events ≡ waits (I.tells input.old).events + 1)
+            ⊎ (self.new.has_ended ≡ true)) }
+        ensures once { (event : Event)
+            × ((I.tells input.new).events ≡ event ∷ (I.tells input.old).events) }
         ensures short { length (last_moved (I.tells input.new).events) ≤ PULL_BYTES }
         ensures role { self.new.role ≡ self.old.role }
     {
@@ -70,9 +74,13 @@ impl Conn {
             (Breaks (scene self.old worker.old (both (I.tells input.old) (O.tells output.old)))
             (scene self.new worker.new (both (I.tells input.new) (O.tells output.new)))) }
         ensures held { OnOk result (IsHeldBehind self.new) }
-        ensures stuck { IfOk result (λ did. did ≡ false → (waits (I.tells input.new).events ≡ waits (I.tells input.old).events + 1)
-            ⊎ (self.new.has_ended ≡ true) ⊎ (QUEUE_BYTES < length (queue_of self.new)) ⊎ (self.new.is_over ≡ true) × (queue_of self.new ≡ [])) }
-        ensures pulls { Pulls (scene self.old worker.old (both (I.tells input.old) (O.tells output.old)))
+        ensures stuck { IfOk result
+            (λ did. did ≡ false →
+            (waits (I.tells input.new).events ≡ waits (I.tells input.old).events + 1)
+            ⊎ (self.new.has_ended ≡ true) ⊎ (QUEUE_BYTES < length (queue_of self.new))
+            ⊎ (self.new.is_over ≡ true) × (queue_of self.new ≡ [])) }
+        ensures pulls { Pulls
+            (scene self.old worker.old (both (I.tells input.old) (O.tells output.old)))
             (scene self.new worker.new (both (I.tells input.new) (O.tells output.new))) }
     {
         if self.waiting.is_some() | (self.queue.len() > QUEUE_BYTES) | self.has_ended {

@@ -28,9 +28,11 @@ pub fn pump<R: Wait, I: Input, O: Output>(
         (scene conn.new worker.new (both (I.tells input.new) (O.tells output.new))))
         (Stops (scene conn.old worker.old (both (I.tells input.old) (O.tells output.old)))
         (scene conn.new worker.new (both (I.tells input.new) (O.tells output.new)))) }
-    ensures late { PullsLate (scene conn.old worker.old (both (I.tells input.old) (O.tells output.old)))
+    ensures late { PullsLate
+        (scene conn.old worker.old (both (I.tells input.old) (O.tells output.old)))
         (scene conn.new worker.new (both (I.tells input.new) (O.tells output.new))) }
-    ensures closed { conn.old.is_closed ≡ true → (result ≡ Ok tt) × (conn.new ≡ conn.old) × (worker.new ≡ worker.old)
+    ensures closed { conn.old.is_closed ≡ true → (result ≡ Ok tt) × (conn.new ≡ conn.old)
+        × (worker.new ≡ worker.old)
         × (input.new ≡ input.old) × (output.new ≡ output.old) }
 {
     if conn.is_closed {

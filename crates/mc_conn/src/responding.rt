@@ -22,7 +22,8 @@ fn answer<G: Gate>(
 ) -> Result<Reply, Fault>
     requires tenant { tenant < length (tenants_of worker.old) }
     ensures onward { Continues worker.old worker.new }
-    ensures outcome { MatchResult result (Answers worker.old worker.new tenant command) IsTakeFault }
+    ensures outcome { MatchResult result
+        (Answers worker.old worker.new tenant command) IsTakeFault }
     ensures announced { MayAnnounce worker.old worker.new tenant command }
 {
     match worker.submit(tenant, command, gate) {
@@ -61,7 +62,8 @@ pub(crate) fn respond<G: Gate>(
 ) -> Result<(), Fault>
     requires role { IsKnown role worker.old }
     ensures onward { Continues worker.old worker.new }
-    ensures outcome { MatchResult result (λ _. Responds worker.old worker.new role request queue.old queue.new)
+    ensures outcome { MatchResult result
+        (λ _. Responds worker.old worker.new role request queue.old queue.new)
         (Refuses worker.old worker.new role request queue.old queue.new) }
 {
     match request {

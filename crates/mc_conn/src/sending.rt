@@ -19,7 +19,8 @@ fn push_queue<O: Output>(queue: &mut Queue, output: &mut O) -> (usize, Stop)
     ensures within { result.0 ≤ length queue.old }
     ensures pushed { Pushes (O.tells output.old) (O.tells output.new) (take result.0 queue.old) }
     ensures left { queue.new ≡ drop result.0 queue.old }
-    ensures stop { StopsAs result.1 result.0 (length queue.old) (O.tells output.old) (O.tells output.new) }
+    ensures stop { StopsAs result.1 result.0 (length queue.old) (O.tells output.old)
+        (O.tells output.new) }
 {
     let (count, stop) = push_front(queue.as_slice(), output);
     queue.advance(count);
@@ -33,11 +34,15 @@ impl Conn {
     /// Returns `Output` if the output fails.
     pub(crate) fn push<O: Output>(&mut self, output: &mut O) -> Result<bool, Fault>
         ensures outcome { MatchResult result
-            (λ did. (worker : Worker) (input : Inflow) → Does (scene self.old worker (both input (O.tells output.old)))
+            (λ did. (worker : Worker) (input : Inflow) →
+            Does (scene self.old worker (both input (O.tells output.old)))
             (scene self.new worker (both input (O.tells output.new))) did)
-            (λ fault. (worker : Worker) (input : Inflow) → Breaks (scene self.old worker (both input (O.tells output.old)))
+            (λ fault. (worker : Worker) (input : Inflow) →
+            Breaks (scene self.old worker (both input (O.tells output.old)))
             (scene self.new worker (both input (O.tells output.new))) fault) }
-        ensures left { OnOk result ((queue_of self.new ≡ []) ⊎ (waits (O.tells output.new).events ≡ waits (O.tells output.old).events + 1)) }
+        ensures left { OnOk result
+            ((queue_of self.new ≡ [])
+            ⊎ (waits (O.tells output.new).events ≡ waits (O.tells output.old).events + 1)) }
         ensures same { IsSameBesideQueue self.old self.new }
     {
         let (count, stop) = push_queue(&mut self.queue, output);

@@ -40,10 +40,13 @@ impl Conn {
     ) -> Result<bool, Fault>
         requires role { IsKnown self.old.role worker.old }
         ensures outcome { MatchResult result
-            (λ did. (streams : Streams) → Does (scene self.old worker.old streams) (scene self.new worker.new streams) did)
-            (λ fault. (streams : Streams) → Breaks (scene self.old worker.old streams) (scene self.new worker.new streams) fault) }
+            (λ did. (streams : Streams) →
+            Does (scene self.old worker.old streams) (scene self.new worker.new streams) did)
+            (λ fault. (streams : Streams) →
+            Breaks (scene self.old worker.old streams) (scene self.new worker.new streams) fault) }
         ensures read { IfOk result (λ did. MatchBool did
-            ((request : Request) × IsRead (holding_of self.old) [] (request ∷ []) (holding_of self.new))
+            ((request : Request)
+            × IsRead (holding_of self.old) [] (request ∷ []) (holding_of self.new))
             ((self.old.waiting ≡ None) × (self.new ≡ self.old))) }
         ensures keeps { Keeps self.old self.new worker.old worker.new }
     {
@@ -63,9 +66,13 @@ impl Conn {
     fn take_one<G: Gate>(&mut self, worker: &mut Worker<'_>, gate: &mut G) -> Result<bool, Fault>
         requires role { IsKnown self.old.role worker.old }
         ensures outcome { MatchResult result
-            (λ did. (streams : Streams) → Does (scene self.old worker.old streams) (scene self.new worker.new streams) did)
-            (λ fault. (streams : Streams) → Breaks (scene self.old worker.old streams) (scene self.new worker.new streams) fault) }
-        ensures fewer { IfOk result (λ did. did ≡ true → (request : Request) × IsRead (holding_of self.old) [] (request ∷ []) (holding_of self.new)) }
+            (λ did. (streams : Streams) →
+            Does (scene self.old worker.old streams) (scene self.new worker.new streams) did)
+            (λ fault. (streams : Streams) →
+            Breaks (scene self.old worker.old streams) (scene self.new worker.new streams) fault) }
+        ensures fewer { IfOk result
+            (λ did. did ≡ true → (request : Request)
+            × IsRead (holding_of self.old) [] (request ∷ []) (holding_of self.new)) }
         ensures held { IfOk result (λ did. did ≡ false → IsHeldBehind self.new) }
         ensures keeps { Keeps self.old self.new worker.old worker.new }
     {
@@ -84,8 +91,10 @@ impl Conn {
     ) -> Result<bool, Fault>
         requires role { IsKnown self.old.role worker.old }
         ensures outcome { MatchResult result
-            (λ did. (streams : Streams) → Does (scene self.old worker.old streams) (scene self.new worker.new streams) did)
-            (λ fault. (streams : Streams) → Breaks (scene self.old worker.old streams) (scene self.new worker.new streams) fault) }
+            (λ did. (streams : Streams) →
+            Does (scene self.old worker.old streams) (scene self.new worker.new streams) did)
+            (λ fault. (streams : Streams) →
+            Breaks (scene self.old worker.old streams) (scene self.new worker.new streams) fault) }
         ensures held { OnOk result (IsHeldBehind self.new) }
         ensures keeps { Keeps self.old self.new worker.old worker.new }
     {

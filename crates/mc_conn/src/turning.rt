@@ -55,7 +55,8 @@ impl Conn {
             (scene self.new worker.new (both (I.tells input.new) (O.tells output.new))))
             (Breaks (scene self.old worker.old (both (I.tells input.old) (O.tells output.old)))
             (scene self.new worker.new (both (I.tells input.new) (O.tells output.new)))) }
-        ensures pulls { Pulls (scene self.old worker.old (both (I.tells input.old) (O.tells output.old)))
+        ensures pulls { Pulls
+            (scene self.old worker.old (both (I.tells input.old) (O.tells output.old)))
             (scene self.new worker.new (both (I.tells input.new) (O.tells output.new))) }
     {
         let first = self.push(output)?;
@@ -106,11 +107,13 @@ impl Conn {
             (scene self.new worker.new (both (I.tells input.new) (O.tells output.new)))) }
         // It pulls at most once, and only after what had come before was answered, unless the output
         // took no more.
-        ensures pulls { Pulls (scene self.old worker.old (both (I.tells input.old) (O.tells output.old)))
+        ensures pulls { Pulls
+            (scene self.old worker.old (both (I.tells input.old) (O.tells output.old)))
             (scene self.new worker.new (both (I.tells input.new) (O.tells output.new))) }
         // It is still the same client's, on the same log.
         ensures same { (self.new.role ≡ self.old.role) × (worker.new.log ≡ worker.old.log) }
-        ensures closed { self.old.is_closed ≡ true → (result ≡ Ok State.Closed) × (self.new ≡ self.old) × (worker.new ≡ worker.old)
+        ensures closed { self.old.is_closed ≡ true → (result ≡ Ok State.Closed)
+            × (self.new ≡ self.old) × (worker.new ≡ worker.old)
             × (input.new ≡ input.old) × (output.new ≡ output.old) }
     {
         if self.is_closed {

@@ -27,7 +27,8 @@ pub(crate) fn put(
     is_held: bool,
     item: Item,
 ) -> Result<(), Fault>
-    ensures table { OnOk result (table_of_held held.new ≡ map.insert (table_of_held held.old) key.now item) }
+    ensures table { OnOk result
+        (table_of_held held.new ≡ map.insert (table_of_held held.old) key.now item) }
     ensures memory { IsOkUnless result Fault.Memory }
     ensures unchanged { OnErr result (held.new.entries ≡ held.old.entries) }
 {
@@ -93,7 +94,8 @@ pub(crate) fn shown_values(
     keys: &[Key],
     uniques: bool,
 ) -> Result<Vec<Value>, Fault>
-    ensures values { IfOk result (λ values. values.items ≡ filter_map (shown_at (table_of_held held.now) uniques) keys.now) }
+    ensures values { IfOk result
+        (λ values. values.items ≡ filter_map (shown_at (table_of_held held.now) uniques) keys.now) }
     ensures memory { IsOkUnless result Fault.Memory }
 {
     let mut values = Vec::new(alloc);

@@ -79,7 +79,8 @@ impl Items {
         // that it was opened with.
         ensures stands { OnOk result (StandsForMore self.old command.now self.new) }
         ensures answer { IfOk result (λ reply.
-            (opening : Limits) (list : List Command) → StandsFor opening list self.old → reply ≡ answer opening list command.now) }
+            (opening : Limits) (list : List Command) → StandsFor opening list self.old →
+            reply ≡ answer opening list command.now) }
 
         ensures takes_out { IsTakingOut command.now → IsOk result }
         ensures refused { is_refusal (next_reply self.old command.now) ≡ true → IsOk result }
@@ -186,9 +187,12 @@ impl Items {
     /// joined data, the quotas.
     fn store(&mut self, verb: Verb, key: &Key, flags: u32, block: &Data) -> Result<Reply, Fault>
         requires { self.old.last_unique < 2 ^ 64 - 1 }
-        ensures reply { IfOk result (λ reply. reply ≡ next_reply self.old (Store verb key.now flags block.now)) }
-        ensures state { OnOk result (self.new ≡ next_state self.old (Store verb key.now flags block.now)) }
-        ensures granted { OnErr result (is_refusal (next_reply self.old (Store verb key.now flags block.now)) ≡ false) }
+        ensures reply { IfOk result
+            (λ reply. reply ≡ next_reply self.old (Store verb key.now flags block.now)) }
+        ensures state { OnOk result
+            (self.new ≡ next_state self.old (Store verb key.now flags block.now)) }
+        ensures granted { OnErr result
+            (is_refusal (next_reply self.old (Store verb key.now flags block.now)) ≡ false) }
         ensures memory { IsOkUnless result Fault.Memory }
         ensures unchanged { OnErr result (self.new ≡ self.old) }
     {
@@ -224,7 +228,8 @@ impl Items {
         ensures joined { (flags : ℕ) → IfOk result (λ joined.
             joined ≡ joined_or_refusal self.now key.now flags (front.now ++ back.now)) }
         ensures granted { (flags : ℕ) → OnErr result (
-            joined_or_refusal self.now key.now flags (front.now ++ back.now) ≡ Ok (front.now ++ back.now)) }
+            joined_or_refusal self.now key.now flags (front.now ++ back.now)
+            ≡ Ok (front.now ++ back.now)) }
         ensures memory { IsOkUnless result Fault.Memory }
     {
         let len = front.as_bytes().len() + back.as_bytes().len();
@@ -246,9 +251,12 @@ impl Items {
         seen: u64,
     ) -> Result<Reply, Fault>
         requires { self.old.last_unique < 2 ^ 64 - 1 }
-        ensures reply { IfOk result (λ reply. reply ≡ next_reply self.old (Cas key.now flags block.now seen)) }
-        ensures state { OnOk result (self.new ≡ next_state self.old (Cas key.now flags block.now seen)) }
-        ensures granted { OnErr result (is_refusal (next_reply self.old (Cas key.now flags block.now seen)) ≡ false) }
+        ensures reply { IfOk result
+            (λ reply. reply ≡ next_reply self.old (Cas key.now flags block.now seen)) }
+        ensures state { OnOk result
+            (self.new ≡ next_state self.old (Cas key.now flags block.now seen)) }
+        ensures granted { OnErr result
+            (is_refusal (next_reply self.old (Cas key.now flags block.now seen)) ≡ false) }
         ensures memory { IsOkUnless result Fault.Memory }
         ensures unchanged { OnErr result (self.new ≡ self.old) }
     {
@@ -298,7 +306,8 @@ impl Items {
         requires { self.old.last_unique < 2 ^ 64 - 1 }
         ensures reply { IfOk result (λ reply. reply ≡ next_reply self.old (Incr key.now by)) }
         ensures state { OnOk result (self.new ≡ next_state self.old (Incr key.now by)) }
-        ensures granted { OnErr result (is_refusal (next_reply self.old (Incr key.now by)) ≡ false) }
+        ensures granted { OnErr result
+            (is_refusal (next_reply self.old (Incr key.now by)) ≡ false) }
         ensures memory { IsOkUnless result Fault.Memory }
         ensures unchanged { OnErr result (self.new ≡ self.old) }
     {
@@ -318,7 +327,8 @@ impl Items {
         requires { self.old.last_unique < 2 ^ 64 - 1 }
         ensures reply { IfOk result (λ reply. reply ≡ next_reply self.old (Decr key.now by)) }
         ensures state { OnOk result (self.new ≡ next_state self.old (Decr key.now by)) }
-        ensures granted { OnErr result (is_refusal (next_reply self.old (Decr key.now by)) ≡ false) }
+        ensures granted { OnErr result
+            (is_refusal (next_reply self.old (Decr key.now by)) ≡ false) }
         ensures memory { IsOkUnless result Fault.Memory }
         ensures unchanged { OnErr result (self.new ≡ self.old) }
     {
@@ -343,8 +353,10 @@ impl Items {
     ) -> Result<Reply, Fault>
         requires next { self.old.last_unique < 2 ^ 64 - 1 }
         requires weight { old_weight ≡ weight_at self.old.table key.now }
-        ensures reply { IfOk result (λ reply. reply ≡ (stored_in self.old key.now flags (decimal number) (Number number)).reply) }
-        ensures state { OnOk result (self.new ≡ left_by self.old (stored_in self.old key.now flags (decimal number) (Number number))) }
+        ensures reply { IfOk result
+            (λ reply. reply ≡ (stored_in self.old key.now flags (decimal number) (Number number)).reply) }
+        ensures state { OnOk result
+            (self.new ≡ left_by self.old (stored_in self.old key.now flags (decimal number) (Number number))) }
         ensures granted { OnErr result (allows self.old key.now flags (decimal number) ≡ true) }
         ensures memory { IsOkUnless result Fault.Memory }
         ensures unchanged { OnErr result (self.new ≡ self.old) }
@@ -367,8 +379,10 @@ impl Items {
     ) -> Result<Reply, Fault>
         requires next { self.old.last_unique < 2 ^ 64 - 1 }
         requires weight { old_weight ≡ weight_at self.old.table key.now }
-        ensures reply { IfOk result (λ reply. reply ≡ (stored_in self.old key.now flags block.now Stored).reply) }
-        ensures state { OnOk result (self.new ≡ left_by self.old (stored_in self.old key.now flags block.now Stored)) }
+        ensures reply { IfOk result
+            (λ reply. reply ≡ (stored_in self.old key.now flags block.now Stored).reply) }
+        ensures state { OnOk result
+            (self.new ≡ left_by self.old (stored_in self.old key.now flags block.now Stored)) }
         ensures granted { OnErr result (allows self.old key.now flags block.now ≡ true) }
         ensures memory { IsOkUnless result Fault.Memory }
         ensures unchanged { OnErr result (self.new ≡ self.old) }

@@ -50,15 +50,24 @@ pub fn take_effect(
     asker: Option<WorkerId>,
     found: Option<&Entry>,
 ) -> Result<Option<Reply>, Fault>
-    requires { (tenant : ℕ) (state : TableState) → slice_get tables.old.items tenant ≡ Some state → state.last_unique < 2 ^ 64 - 1 }
-    ensures reply { IfOk result (λ reply. (openings : List TableState) (log : List (Option Entry)) → EachStands openings log tables.old.items →
+    requires { (tenant : ℕ) (state : TableState) → slice_get tables.old.items tenant ≡ Some state →
+        state.last_unique < 2 ^ 64 - 1 }
+    ensures reply { IfOk result
+        (λ reply. (openings : List TableState) (log : List (Option Entry)) →
+        EachStands openings log tables.old.items →
         reply ≡ answer_for asker openings log (option_copied found.entry)) }
     // The same by these tables alone.
-    ensures answer { IfOk result (λ reply. reply ≡ reply_for asker tables.old.items (option_copied found.entry)) }
-    ensures tables { OnOk result (TakeEffect (option_copied found.entry) tables.old.items tables.new.items) }
-    ensures takes_out { IfSome (option_copied found.entry) (λ entry. IsTakingOut entry.command) → IsOk result }
-    ensures reads { IfSome (option_copied found.entry) (λ entry. IsRetrieval entry.command × (is_own asker entry ≡ false)) → IsOk result }
-    ensures refused { (openings : List TableState) (log : List (Option Entry)) → EachStands openings log tables.old.items → IsRefused openings log (option_copied found.entry) → IsOk result }
+    ensures answer { IfOk result
+        (λ reply. reply ≡ reply_for asker tables.old.items (option_copied found.entry)) }
+    ensures tables { OnOk result
+        (TakeEffect (option_copied found.entry) tables.old.items tables.new.items) }
+    ensures takes_out { IfSome (option_copied found.entry) (λ entry. IsTakingOut entry.command) →
+        IsOk result }
+    ensures reads { IfSome (option_copied found.entry)
+        (λ entry. IsRetrieval entry.command × (is_own asker entry ≡ false)) → IsOk result }
+    ensures refused { (openings : List TableState) (log : List (Option Entry)) →
+        EachStands openings log tables.old.items →
+        IsRefused openings log (option_copied found.entry) → IsOk result }
     ensures memory { IsOkUnless result Fault.Memory }
     ensures unchanged { OnErr result (tables.new.items ≡ tables.old.items) }
 {

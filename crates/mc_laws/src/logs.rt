@@ -15,16 +15,21 @@ ghost use Rattle.mc_model.specs.State.{TableState, next_reply};
 /// none, leaves them as they are.
 pub fn own_entries_alone_count()
     ensures nothing { (tenant : ℕ) → own tenant [] ≡ [] }
-    ensures own { (tenant : ℕ) (front back : List (Option Entry)) (entry : Entry) → entry.tenant ≡ tenant →
-        own tenant (front ++ Some entry ∷ back) ≡ own tenant front ++ entry.command ∷ own tenant back }
-    ensures others { (tenant : ℕ) (front back : List (Option Entry)) (entry : Option Entry) → IfSome entry (λ found. found.tenant ≢ tenant) →
+    ensures own { (tenant : ℕ) (front back : List (Option Entry)) (entry : Entry) →
+        entry.tenant ≡ tenant →
+        own tenant (front ++ Some entry ∷ back)
+        ≡ own tenant front ++ entry.command ∷ own tenant back }
+    ensures others { (tenant : ℕ) (front back : List (Option Entry)) (entry : Option Entry) →
+        IfSome entry (λ found. found.tenant ≢ tenant) →
         own tenant (front ++ entry ∷ back) ≡ own tenant (front ++ back) }
 {}
 
 /// The entry of a place counts if it has the ticket that stands there, and otherwise as absent.
 pub fn an_entry_counts_for_its_own_ticket()
-    ensures own { (seen : Sighting) (entry : Entry) → seen.entry ≡ Some entry → entry.ticket ≡ seen.ticket → entry_of seen ≡ Some entry }
-    ensures others { (seen : Sighting) (entry : Entry) → seen.entry ≡ Some entry → entry.ticket ≢ seen.ticket → entry_of seen ≡ None }
+    ensures own { (seen : Sighting) (entry : Entry) → seen.entry ≡ Some entry →
+        entry.ticket ≡ seen.ticket → entry_of seen ≡ Some entry }
+    ensures others { (seen : Sighting) (entry : Entry) → seen.entry ≡ Some entry →
+        entry.ticket ≢ seen.ticket → entry_of seen ≡ None }
     ensures absent { (seen : Sighting) → seen.entry ≡ None → entry_of seen ≡ None }
 {}
 
@@ -33,36 +38,53 @@ pub fn an_entry_counts_for_its_own_ticket()
 /// stands for its tenant's own commands again.
 pub fn a_log_is_replayed_in_order()
     ensures opened { (openings : List TableState) → EachStands openings [] openings }
-    ensures reply { (openings : List TableState) (log : List (Option Entry)) (entry : Entry) (tables : List TableState) → EachStands openings log tables →
-        reply_to openings log (Some entry) ≡ option_map (λ table. next_reply table entry.command) (slice_get tables entry.tenant) }
-    ensures stands { (openings : List TableState) (log : List (Option Entry)) (entry : Option Entry) (old new : List TableState) →
-        EachStands openings log old → TakeEffect entry old new → EachStands openings (log ++ entry ∷ []) new }
+    ensures reply { (openings : List TableState) (log : List (Option Entry)) (entry : Entry)
+        (tables : List TableState) → EachStands openings log tables →
+        reply_to openings log (Some entry)
+        ≡ option_map (λ table. next_reply table entry.command) (slice_get tables entry.tenant) }
+    ensures stands { (openings : List TableState) (log : List (Option Entry)) (entry : Option Entry)
+        (old new : List TableState) →
+        EachStands openings log old → TakeEffect entry old new →
+        EachStands openings (log ++ entry ∷ []) new }
 {}
 
 /// A log that is opened over a table goes on from it, whatever commands have led to that table:
 /// after the tenant's own commands of the log, the table and the replies are those after the
 /// earlier commands followed by these.
 pub fn a_log_goes_on_where_its_tables_stood()
-    ensures answer { (limits : Limits) (base : List Command) (own : List Command) (opening : TableState) (command : Command) → StandsFor limits base opening →
+    ensures answer { (limits : Limits) (base : List Command) (own : List Command)
+        (opening : TableState) (command : Command) → StandsFor limits base opening →
         answer_from opening own command ≡ answer limits (base ++ own) command }
-    ensures stands { (limits : Limits) (base : List Command) (own : List Command) (opening : TableState) → StandsFor limits base opening →
+    ensures stands { (limits : Limits) (base : List Command) (own : List Command)
+        (opening : TableState) → StandsFor limits base opening →
         StandsFor limits (base ++ own) (state_from opening own) }
-    ensures reply { (openings : List TableState) (log : List (Option Entry)) (entry : Entry) (limits : Limits) (base : List Command) (opening : TableState) →
+    ensures reply { (openings : List TableState) (log : List (Option Entry)) (entry : Entry)
+        (limits : Limits) (base : List Command) (opening : TableState) →
         slice_get openings entry.tenant ≡ Some opening → StandsFor limits base opening →
-        reply_to openings log (Some entry) ≡ Some (answer limits (base ++ own entry.tenant log) entry.command) }
-    ensures tables { (openings : List TableState) (log : List (Option Entry)) (tables : List TableState) (tenant : ℕ) (limits : Limits) (base : List Command) (opening : TableState) →
-        EachStands openings log tables → slice_get openings tenant ≡ Some opening → StandsFor limits base opening →
+        reply_to openings log (Some entry)
+        ≡ Some (answer limits (base ++ own entry.tenant log) entry.command) }
+    ensures tables { (openings : List TableState) (log : List (Option Entry))
+        (tables : List TableState) (tenant : ℕ) (limits : Limits) (base : List Command)
+        (opening : TableState) →
+        EachStands openings log tables → slice_get openings tenant ≡ Some opening →
+        StandsFor limits base opening →
         slice_get tables tenant ≡ Some (state_after limits (base ++ own tenant log)) }
 {}
 
 /// Another tenant's entry, or none, inserted anywhere into a log or removed from it, leaves a
 /// tenant's table and the replies to its commands as they are, whatever tables the others have.
 pub fn tenants_are_apart()
-    ensures table { (openings others : List TableState) (front back : List (Option Entry)) (entry : Option Entry) (with_it without : List TableState) (tenant : ℕ) →
-        IfSome entry (λ found. found.tenant ≢ tenant) → slice_get openings tenant ≡ slice_get others tenant →
-        EachStands openings (front ++ entry ∷ back) with_it → EachStands others (front ++ back) without →
+    ensures table { (openings others : List TableState) (front back : List (Option Entry))
+        (entry : Option Entry) (with_it without : List TableState) (tenant : ℕ) →
+        IfSome entry (λ found. found.tenant ≢ tenant) →
+        slice_get openings tenant ≡ slice_get others tenant →
+        EachStands openings (front ++ entry ∷ back) with_it →
+        EachStands others (front ++ back) without →
         slice_get with_it tenant ≡ slice_get without tenant }
-    ensures reply { (openings others : List TableState) (front back : List (Option Entry)) (entry : Option Entry) (next : Entry) →
-        IfSome entry (λ found. found.tenant ≢ next.tenant) → slice_get openings next.tenant ≡ slice_get others next.tenant →
-        reply_to openings (front ++ entry ∷ back) (Some next) ≡ reply_to others (front ++ back) (Some next) }
+    ensures reply { (openings others : List TableState) (front back : List (Option Entry))
+        (entry : Option Entry) (next : Entry) →
+        IfSome entry (λ found. found.tenant ≢ next.tenant) →
+        slice_get openings next.tenant ≡ slice_get others next.tenant →
+        reply_to openings (front ++ entry ∷ back) (Some next)
+        ≡ reply_to others (front ++ back) (Some next) }
 {}

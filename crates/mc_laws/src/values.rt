@@ -29,7 +29,8 @@ pub fn the_profiles_numbers()
 pub fn lawful_keys_are_plain()
     ensures { (bytes : List ℕ) →
         IsTrue (is_lawful_key bytes)
-        ↔ (((0 < length bytes) × (length bytes ≤ 250)) × All (λ byte. (32 < byte) × (byte ≢ 127)) bytes) }
+        ↔ (((0 < length bytes) × (length bytes ≤ 250))
+        × All (λ byte. (32 < byte) × (byte ≢ 127)) bytes) }
 {}
 
 /// Settings are valid if there are 1 to 16 workers, 1 to 1,048,576 places and 1 to 64 tenants, and
@@ -37,16 +38,20 @@ pub fn lawful_keys_are_plain()
 pub fn lawful_settings_are_in_range()
     ensures { (settings : Configuration) →
         IsLawful settings
-        ↔ (((1 ≤ settings.workers) × (settings.workers ≤ 16)) × ((1 ≤ settings.places) × (settings.places ≤ 1048576))
+        ↔ (((1 ≤ settings.workers) × (settings.workers ≤ 16))
+        × ((1 ≤ settings.places) × (settings.places ≤ 1048576))
         × ((1 ≤ length settings.tenants) × (length settings.tenants ≤ 64))
-        × All (λ limits. ((1 ≤ limits.items) × (limits.items ≤ 1048576)) × ((1 ≤ limits.bytes) × (limits.bytes ≤ 1073741824))) settings.tenants) }
+        × All (λ limits. ((1 ≤ limits.items) × (limits.items ≤ 1048576))
+        × ((1 ≤ limits.bytes) × (limits.bytes ≤ 1073741824))) settings.tenants) }
 {}
 
 /// A retrieval is a get of some keys and no other command; a command that only removes keys is a
 /// delete or a flush and no other.
 pub fn kinds_are_by_name()
-    ensures retrieval { (command : Command) → IsRetrieval command ↔ ((keys : KeyList) × (uniques : Bool) × (command ≡ Get keys uniques)) }
-    ensures takes_out { (command : Command) → IsTakingOut command ↔ (((key : Key) × (command ≡ Delete key)) ⊎ (command ≡ Flush)) }
+    ensures retrieval { (command : Command) → IsRetrieval command
+        ↔ ((keys : KeyList) × (uniques : Bool) × (command ≡ Get keys uniques)) }
+    ensures takes_out { (command : Command) → IsTakingOut command
+        ↔ (((key : Key) × (command ≡ Delete key)) ⊎ (command ≡ Flush)) }
 {}
 
 /// Two keys are equal exactly when their bytes are.

@@ -10,7 +10,8 @@ pub fn read_number(bytes: &[u8], limit: u64) -> Option<u64>
     ensures number { result ≡ number_up_to limit bytes.now }
 
     // The same in terms of std's `parse`, which would also accept a leading plus.
-    ensures numeral { SomeIff result (IsNumeral 10 bytes.now × (digits_value 10 bytes.now ≤ limit)) (digits_value 10 bytes.now) }
+    ensures numeral { SomeIff result (IsNumeral 10 bytes.now × (digits_value 10 bytes.now ≤ limit))
+        (digits_value 10 bytes.now) }
 {
     if bytes.is_empty() {
         return None;
@@ -21,7 +22,8 @@ pub fn read_number(bytes: &[u8], limit: u64) -> Option<u64>
 
 /// Returns the value of the digits, or `None` if a byte isn't a digit or the value doesn't fit.
 fn value_of_digits(bytes: &[u8]) -> Option<u64>
-    ensures { SomeIff result (AllDigits 10 bytes.now × (digits_value 10 bytes.now < 2 ^ 64)) (digits_value 10 bytes.now) }
+    ensures { SomeIff result (AllDigits 10 bytes.now × (digits_value 10 bytes.now < 2 ^ 64))
+        (digits_value 10 bytes.now) }
 {
     let mut value: u64 = 0;
     for byte in bytes {

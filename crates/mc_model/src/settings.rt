@@ -54,8 +54,11 @@ impl Settings {
     /// Returns the settings with these numbers. Returns `BadSettings` if one of them is out of
     /// range. Allocates nothing.
     pub fn check(workers: u64, places: u64, tenants: Vec<Limits>) -> Result<Settings, Fault>
-        ensures settings { IfOk result (λ settings. settings ≡ record { workers = workers; places = places; tenants = tenants.items }) }
-        ensures lawful { IsOk result ↔ IsLawful (record { workers = workers; places = places; tenants = tenants.items }) }
+        ensures settings { IfOk result
+            (λ settings. settings
+            ≡ record { workers = workers; places = places; tenants = tenants.items }) }
+        ensures lawful { IsOk result
+            ↔ IsLawful (record { workers = workers; places = places; tenants = tenants.items }) }
         ensures fault { IsOkUnless result Fault.BadSettings }
     {
         let counted = (1..=u64::from(WORKERS)).contains(&workers)

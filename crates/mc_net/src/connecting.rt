@@ -31,9 +31,11 @@ fn turns<I: Input, O: Output, G: Gate>(
     buffer: &mut [u8; PULL_BYTES],
 ) -> State
     requires { IsKnown conn.old.role worker.old }
-    ensures served { TakesOrStops (scene conn.old worker.old (both (I.tells input.old) (O.tells output.old)))
+    ensures served { TakesOrStops
+        (scene conn.old worker.old (both (I.tells input.old) (O.tells output.old)))
         (scene conn.new worker.new (both (I.tells input.new) (O.tells output.new))) }
-    ensures stands { Stands (scene conn.old worker.old (both (I.tells input.old) (O.tells output.old)))
+    ensures stands { Stands
+        (scene conn.old worker.old (both (I.tells input.old) (O.tells output.old)))
         (scene conn.new worker.new (both (I.tells input.new) (O.tells output.new))) result }
     ensures few { HasAtMost TURNS (I.tells input.old).events (I.tells input.new).events }
     ensures role { conn.new.role ≡ conn.old.role }
@@ -119,7 +121,8 @@ impl Connections {
         stops_short: bool,
     ) -> State
         requires { self.old.tenants ≡ length (tenants_of worker.old) }
-        ensures { ServesAt key result (standing worker.old self.old) (standing worker.new self.new) }
+        ensures { ServesAt key result (standing worker.old self.old)
+            (standing worker.new self.new) }
     {
         let Some(connection) = self.by_key.get_mut(key) else {
             return State::Idle;

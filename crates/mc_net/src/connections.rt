@@ -43,7 +43,9 @@ impl Connections {
     /// No connection, with room for all that there may be. Where memory runs out: `Memory`.
     pub(crate) fn new(alloc: Global, tenants: usize) -> Result<Connections, Halt>
         ensures tenants { IfOk result (λ connections. connections.tenants ≡ tenants) }
-        ensures new { IfOk result (λ connections. ((slab_len connections.by_key == 0) ≡ true) × (connections.ended.connections ≡ [])) }
+        ensures new { IfOk result
+            (λ connections. ((slab_len connections.by_key == 0) ≡ true)
+            × (connections.ended.connections ≡ [])) }
     {
         let mut by_key = Slab::new(alloc);
         by_key.reserve(MOST_CONNECTIONS)?;

@@ -56,7 +56,8 @@ impl EventLoop {
 
     /// Takes in what the acceptor left, but no more than so many. Answers the signal that stands behind them, and none where more may be left.
     fn admit_arrivals<R: Wait>(&mut self, rt: &R, mailbox: &Mailbox) -> Option<Signal>
-        ensures { (worker : Worker) → Works (standing_at worker self.old) (standing_at worker self.new) }
+        ensures { (worker : Worker) →
+            Works (standing_at worker self.old) (standing_at worker self.new) }
     {
         for _ in 0..ARRIVALS {
             match mailbox.next(rt) {

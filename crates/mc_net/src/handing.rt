@@ -51,7 +51,9 @@ pub fn accept_one<R: Wait, L: Listen, P: Receive<L::Stream>>(
     done: u64,
 ) -> Result<Accepted, Halt>
     requires { 0 < length places.now }
-    ensures { IfOk result (λ accepted. accepted ≡ Accepted.One → IsPassed L.accepted_by P.received listener.now places.now done) }
+    ensures { IfOk result
+        (λ accepted. accepted ≡ Accepted.One →
+        IsPassed L.accepted_by P.received listener.now places.now done) }
 {
     match listener.accept() {
         Ok(arrival) => {

@@ -9,5 +9,6 @@ ghost use Rattle.uc_worker.specs.declared.worker.Worker.{Worker};
 /// Over one log a connection is owed what its worker owes it in parts.
 pub fn one_log_is_owed_in_parts()
     ensures { (worker : Worker) (role : Role) (requests : List Request) (owed : List ℕ) →
-        OwesInLogs role (worker ∷ []) requests owed ↔ (to : Mark) × OwesInParts worker role requests owed to }
+        OwesInLogs role (worker ∷ []) requests owed ↔ (to : Mark)
+        × OwesInParts worker role requests owed to }
 {}

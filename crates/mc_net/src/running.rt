@@ -25,7 +25,8 @@ pub(crate) fn threads_of<'a, G: Gate + Drop>(
 ) -> Result<Vec<WorkerThread<'a, G>>, Halt>
     requires { FitTogether log.now workers.items gates.items event_loops.items }
     ensures workers { IfOk result (λ threads. workers_of threads.items ≡ workers.entry.items) }
-    ensures event_loops { IfOk result (λ threads. event_loops_of threads.items ≡ event_loops.items) }
+    ensures event_loops { IfOk result
+        (λ threads. event_loops_of threads.items ≡ event_loops.items) }
 {
     let mut worker_threads = Vec::with_capacity(alloc, workers.len())?;
     let mut gates = gates.into_iter();
@@ -123,7 +124,8 @@ pub(crate) fn parted<'a, G: Drop>(
     worker_threads: Vec<WorkerThread<'a, G>>,
 ) -> Result<(Vec<Returned<'a>>, Vec<EventLoop>), Halt>
     ensures back { IfOk result (λ pair. AllZip IsReturned worker_threads.entry.items pair.0.items) }
-    ensures event_loops { IfOk result (λ pair. pair.1.items ≡ event_loops_of worker_threads.entry.items) }
+    ensures event_loops { IfOk result
+        (λ pair. pair.1.items ≡ event_loops_of worker_threads.entry.items) }
 {
     let mut back = Vec::with_capacity(alloc, worker_threads.len())?;
     let mut event_loops = Vec::with_capacity(alloc, worker_threads.len())?;

@@ -51,10 +51,12 @@ pub fn serve<'a, R: Threads + Wait + Net + Sync, G: Gate + Send + Drop>(
 ) -> Result<Vec<Returned<'a>>, Fault>
     requires some { (0 < vec_len workers) × (0 < vec_len listeners) }
     requires logs { All (λ worker. worker.log.now ≡ log.now) workers.items }
-    requires tenants { All (λ listener. listener.0 < length log.now.settings.tenants) listeners.items }
+    requires tenants { All
+        (λ listener. listener.0 < length log.now.settings.tenants) listeners.items }
     requires gates { vec_len gates ≡ vec_len workers }
     // Each worker that comes back is the same one later on.
-    ensures back { IfOk result (λ back. AllZip Continues workers.entry.items (map worker_of back.items)) }
+    ensures back { IfOk result
+        (λ back. AllZip Continues workers.entry.items (map worker_of back.items)) }
     // It took arrivals in and served connections until none was left.
     ensures served { IfOk result (λ back. AllZip HasServed workers.entry.items back.items) }
     // Each connection that it took in has ended, and was sent what it is owed for the first requests
@@ -63,7 +65,8 @@ pub fn serve<'a, R: Threads + Wait + Net + Sync, G: Gate + Send + Drop>(
     // Each command that it announced is one request of one of these, in order, and none twice.
     ensures asked { IfOk result (λ back. AllZip HasBeenAsked workers.entry.items back.items) }
     // All are of the log still, so that they can meet.
-    ensures logs { IfOk result (λ back. All (λ worker. worker.log.now ≡ log.entry.now) (map worker_of back.items)) }
+    ensures logs { IfOk result
+        (λ back. All (λ worker. worker.log.now ≡ log.entry.now) (map worker_of back.items)) }
     ensures faults { IfErr result IsNetworkFault }
 {
     let tenants = log.settings().tenants().len();

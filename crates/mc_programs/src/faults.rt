@@ -16,7 +16,8 @@ pub(crate) fn tell_line<R: Wait, E: Output>(
     text: &[u8],
     errors: &mut E,
 ) -> Result<(), Fault>
-    ensures { PushesOrFails (program_line program.now text.now) (E.tells errors.old) (E.tells errors.new) }
+    ensures { PushesOrFails (program_line program.now text.now) (E.tells errors.old)
+        (E.tells errors.new) }
 {
     push_all(rt, program, errors)?;
     push_all(rt, b": ", errors)?;
@@ -26,7 +27,8 @@ pub(crate) fn tell_line<R: Wait, E: Output>(
 
 /// Says which fault ended a program. A failure of `errors` is passed over.
 pub fn tell_fault<R: Wait, E: Output>(rt: &R, program: &[u8], fault: Fault, errors: &mut E)
-    ensures { PushesOrFails (fault_line program.now fault) (E.tells errors.old) (E.tells errors.new) }
+    ensures { PushesOrFails (fault_line program.now fault) (E.tells errors.old)
+        (E.tells errors.new) }
 {
     let _ = tell_line(rt, program, fault_text(fault), errors);
 }
@@ -34,7 +36,8 @@ pub fn tell_fault<R: Wait, E: Output>(rt: &R, program: &[u8], fault: Fault, erro
 /// As `tell_fault`, and the status that the program ends with then.
 pub fn fail<R: Wait, E: Output>(rt: &R, program: &[u8], fault: Fault, errors: &mut E) -> u8
     ensures status { result ≡ 1 }
-    ensures told { PushesOrFails (fault_line program.now fault) (E.tells errors.old) (E.tells errors.new) }
+    ensures told { PushesOrFails (fault_line program.now fault) (E.tells errors.old)
+        (E.tells errors.new) }
 {
     tell_fault(rt, program, fault, errors);
     1

@@ -30,7 +30,8 @@ pub(crate) struct StdinOptions {
 impl StdinOptions {
     /// Whether the numbers are within their bounds.
     pub(crate) fn is_in_range(&self) -> bool
-        ensures { IsTrue result ↔ IsBetween 1 MAX_PLACES self.now.places × AreLawfulLimits self.now.limits }
+        ensures { IsTrue result ↔ IsBetween 1 MAX_PLACES self.now.places
+            × AreLawfulLimits self.now.limits }
     {
         (1..=MAX_PLACES).contains(&self.places) && self.limits.are_lawful()
     }

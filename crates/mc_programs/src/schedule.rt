@@ -169,7 +169,8 @@ pub fn run_schedule<R: Wait, I: Input, O: Output, E: Output>(
 ) -> u8
     // From the bytes that came in to the bytes that went out.
     ensures { Ends (map string_bytes words.items) result
-        (both (I.tells input.old) (O.tells output.old)) (both (I.tells input.new) (O.tells output.new))
+        (both (I.tells input.old) (O.tells output.old))
+        (both (I.tells input.new) (O.tells output.new))
         (E.tells errors.old) (E.tells errors.new) }
 {
     let options = match read_words(alloc, &words) {

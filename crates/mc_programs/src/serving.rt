@@ -20,7 +20,9 @@ use uc_worker::Worker;
 /// `BadSettings`.
 fn open_alone(alloc: Global, limits: Limits, places: u64) -> Result<(Log, Pass), Fault>
     ensures opened { IfOk result (λ opened. IsOpened limits places opened.0 opened.1) }
-    ensures faults { IfErr result (λ fault. (fault ≡ faults.Memory) ⊎ (fault ≡ faults.BadSettings) × ¬ (IsLawful (settings_alone limits places))) }
+    ensures faults { IfErr result
+        (λ fault. (fault ≡ faults.Memory) ⊎ (fault ≡ faults.BadSettings)
+        × ¬ (IsLawful (settings_alone limits places))) }
 {
     let mut tenants = Vec::new(alloc);
     tenants.push(limits)?;
@@ -70,8 +72,10 @@ pub(crate) fn serve_and_leave<R: Wait, I: Input, O: Output>(
     output: &mut O,
 ) -> Result<(), Fault>
     ensures outcome { MatchResult result
-        (λ _. Serves limits places (both (I.tells input.old) (O.tells output.old)) (both (I.tells input.new) (O.tells output.new)))
-        (Stops limits places (both (I.tells input.old) (O.tells output.old)) (both (I.tells input.new) (O.tells output.new))) }
+        (λ _. Serves limits places (both (I.tells input.old) (O.tells output.old))
+        (both (I.tells input.new) (O.tells output.new)))
+        (Stops limits places (both (I.tells input.old) (O.tells output.old))
+        (both (I.tells input.new) (O.tells output.new))) }
 {
     let (log, pass) = match open_alone(alloc, limits, places) {
         Ok(opened) => opened,
@@ -109,8 +113,10 @@ pub fn serve_client<R: Wait, I: Input, O: Output>(
 
     // From the bytes that came in to the bytes that went out, and which fault comes when.
     ensures outcome { MatchResult result
-        (λ _. Serves limits places (both (I.tells input.old) (O.tells output.old)) (both (I.tells input.new) (O.tells output.new)))
-        (Stops limits places (both (I.tells input.old) (O.tells output.old)) (both (I.tells input.new) (O.tells output.new))) }
+        (λ _. Serves limits places (both (I.tells input.old) (O.tells output.old))
+        (both (I.tells input.new) (O.tells output.new)))
+        (Stops limits places (both (I.tells input.old) (O.tells output.old))
+        (both (I.tells input.new) (O.tells output.new))) }
 {
     serve_and_leave(rt, alloc, limits, places, Memory::Freed, input, output)
 }

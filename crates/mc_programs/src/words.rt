@@ -88,7 +88,8 @@ pub fn answer_words<R: Wait, O: Output, E: Output>(
 
 /// The words after the program's name, of those that std gives. It fails as std does, or where memory runs out.
 pub fn words_after_name(alloc: Global, given: io::Result<Args>) -> io::Result<Vec<String>>
-    ensures starved { IfErr result (λ error. (given ≡ Err error) ⊎ (error_kind error ≡ StdOutOfMemory)) }
+    ensures starved { IfErr result
+        (λ error. (given ≡ Err error) ⊎ (error_kind error ≡ StdOutOfMemory)) }
 {
     let mut words = given?;
     let _name = words.next();
@@ -104,7 +105,8 @@ pub fn refuse_words<R: Wait, E: Output>(
     errors: &mut E,
 ) -> u8
     ensures { (error_kind error.now ≡ StdOutOfMemory) × (result ≡ 1)
-        × PushesOrFails (fault_line program.now Fault.Memory) (E.tells errors.old) (E.tells errors.new)
+        × PushesOrFails (fault_line program.now Fault.Memory) (E.tells errors.old)
+        (E.tells errors.new)
         ⊎ (error_kind error.now ≢ StdOutOfMemory) × (result ≡ 2)
         × PushesOrFails (unreadable_line program.now) (E.tells errors.old) (E.tells errors.new) }
 {

@@ -24,19 +24,22 @@ ghost use Rattle.mc_read.specs.Word.{is_zero, words};
 
 /// Every byte list has a reading.
 pub fn every_stream_reads()
-    ensures { (bytes : List ℕ) → (requests : List Request) × (rest : List ℕ) × Reads asked bytes requests rest }
+    ensures { (bytes : List ℕ) → (requests : List Request) × (rest : List ℕ)
+        × Reads asked bytes requests rest }
 {}
 
 /// A byte list has only one reading.
 pub fn a_stream_reads_one_way()
     ensures { (bytes : List ℕ) (requests others : List Request) (rest left : List ℕ) →
-        Reads asked bytes requests rest → Reads asked bytes others left → (requests ≡ others) × (rest ≡ left) }
+        Reads asked bytes requests rest → Reads asked bytes others left → (requests ≡ others)
+        × (rest ≡ left) }
 {}
 
 /// No request text is a proper prefix of another, and a text is that of one request.
 pub fn no_text_begins_another()
     ensures { (text more : List ℕ) (request other : Request) →
-        IsRequestText asked text request → IsRequestText asked (text ++ more) other → (more ≡ []) × (request ≡ other) }
+        IsRequestText asked text request → IsRequestText asked (text ++ more) other → (more ≡ [])
+        × (request ≡ other) }
 {}
 
 /// The numbers of the profile: the largest number of bytes in a line, and the largest readable
@@ -56,12 +59,15 @@ pub fn numbers_of_the_profile()
 pub fn each_command_can_be_sent()
     ensures store { (verb : Verb) (key : Key) (flags : ℕ) (block : Data) (quiet : Bool) →
         IsTrue (is_lawful_key key) → flags < 2 ^ 32 → length block ≤ 1048576 →
-        IsRequestText asked (sent (Store verb key flags block) quiet) (Logged (Store verb key flags block) quiet) }
+        IsRequestText asked (sent (Store verb key flags block) quiet)
+        (Logged (Store verb key flags block) quiet) }
     ensures cas { (key : Key) (flags : ℕ) (block : Data) (unique : ℕ) (quiet : Bool) →
         IsTrue (is_lawful_key key) → flags < 2 ^ 32 → length block ≤ 1048576 → unique < 2 ^ 64 →
-        IsRequestText asked (sent (Cas key flags block unique) quiet) (Logged (Cas key flags block unique) quiet) }
+        IsRequestText asked (sent (Cas key flags block unique) quiet)
+        (Logged (Cas key flags block unique) quiet) }
     ensures get { (keys : KeyList) (uniques : Bool) →
-        0 < length keys → All (λ key. IsTrue (is_lawful_key key)) keys → length (sent (Get keys uniques) false) ≤ 65537 →
+        0 < length keys → All (λ key. IsTrue (is_lawful_key key)) keys →
+        length (sent (Get keys uniques) false) ≤ 65537 →
         IsRequestText asked (sent (Get keys uniques) false) (Logged (Get keys uniques) false) }
     ensures delete { (key : Key) (quiet : Bool) → IsTrue (is_lawful_key key) →
         IsRequestText asked (sent (Delete key) quiet) (Logged (Delete key) quiet) }
@@ -76,32 +82,42 @@ pub fn each_command_can_be_sent()
 /// 1,048,576 bytes are taken off the stream and refused; and a length above 2,147,483,645 can't be
 /// read, so that the line alone is refused.
 pub fn too_long_is_refused()
-    ensures line { (text : List ℕ) → length text ≡ 65537 → IsUnbroken text → IsRequestText asked text TooLong }
+    ensures line { (text : List ℕ) → length text ≡ 65537 → IsUnbroken text →
+        IsRequestText asked text TooLong }
     ensures data { (verb : Verb) (key : Key) (flags : ℕ) (block : List ℕ) (quiet : Bool) →
-        IsTrue (is_lawful_key key) → flags < 2 ^ 32 → 1048576 < length block → length block ≤ 2147483645 →
-        IsRequestText asked (line_sent (verb_name verb ∷ key ∷ decimal flags ∷ codes "0" ∷ decimal (length block) ∷ noreply_if quiet) ++ block_sent block)
+        IsTrue (is_lawful_key key) → flags < 2 ^ 32 → 1048576 < length block →
+        length block ≤ 2147483645 →
+        IsRequestText asked
+        (line_sent (verb_name verb ∷ key ∷ decimal flags ∷ codes "0" ∷ decimal (length block) ∷ noreply_if quiet) ++ block_sent block)
         (Local (Refused E6) quiet) }
     ensures length { (verb : Verb) (key : Key) (flags size : ℕ) (quiet : Bool) →
         IsTrue (is_lawful_key key) → flags < 2 ^ 32 → 2147483645 < size → size < 2 ^ 64 →
-        IsRequestText asked (line_sent (verb_name verb ∷ key ∷ decimal flags ∷ codes "0" ∷ decimal size ∷ noreply_if quiet)) (Local (Refused E2) false) }
+        IsRequestText asked
+        (line_sent (verb_name verb ∷ key ∷ decimal flags ∷ codes "0" ∷ decimal size ∷ noreply_if quiet)) (Local (Refused E2) false) }
 {}
 
 /// Only valid commands are read: the keys are valid, and the numbers and the data within the
 /// profile. So each limit of the profile is exact, since up to it each command can be sent.
 pub fn only_lawful_commands_are_read()
-    ensures { (text : List ℕ) (command : Command) (quiet : Bool) → IsRequestText asked text (Logged command quiet) → IsLawfulCommand command }
+    ensures { (text : List ℕ) (command : Command) (quiet : Bool) →
+        IsRequestText asked text (Logged command quiet) → IsLawfulCommand command }
 {}
 
 /// No command expires: a line that becomes a command has an exptime of zero if it has one, except
 /// for `append` and `prepend`, which ignore it.
 pub fn no_command_expires()
-    ensures storage { (line body key flags exptime : List ℕ) (more : List (List ℕ)) (verb : Verb) (command : Command) (quiet : Bool) →
-        IsUnbroken line → words line ≡ verb_name verb ∷ key ∷ flags ∷ exptime ∷ more → verb ≢ Append → verb ≢ Prepend →
+    ensures storage { (line body key flags exptime : List ℕ) (more : List (List ℕ)) (verb : Verb)
+        (command : Command) (quiet : Bool) →
+        IsUnbroken line → words line ≡ verb_name verb ∷ key ∷ flags ∷ exptime ∷ more →
+        verb ≢ Append → verb ≢ Prepend →
         IsRequestText asked (line ++ 10 ∷ body) (Logged command quiet) → IsTrue (is_zero exptime) }
-    ensures cas { (line body key flags exptime : List ℕ) (more : List (List ℕ)) (command : Command) (quiet : Bool) →
+    ensures cas { (line body key flags exptime : List ℕ) (more : List (List ℕ)) (command : Command)
+        (quiet : Bool) →
         IsUnbroken line → words line ≡ codes "cas" ∷ key ∷ flags ∷ exptime ∷ more →
         IsRequestText asked (line ++ 10 ∷ body) (Logged command quiet) → IsTrue (is_zero exptime) }
-    ensures flush { (line body exptime : List ℕ) (more : List (List ℕ)) (command : Command) (quiet : Bool) →
-        IsUnbroken line → words line ≡ codes "flush_all" ∷ exptime ∷ more → exptime ≢ codes "noreply" →
+    ensures flush { (line body exptime : List ℕ) (more : List (List ℕ)) (command : Command)
+        (quiet : Bool) →
+        IsUnbroken line → words line ≡ codes "flush_all" ∷ exptime ∷ more →
+        exptime ≢ codes "noreply" →
         IsRequestText asked (line ++ 10 ∷ body) (Logged command quiet) → IsTrue (is_zero exptime) }
 {}

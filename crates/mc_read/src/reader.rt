@@ -166,7 +166,8 @@ fn read_line(
     line: usize,
 ) -> Result<(Option<Request>, State), Fault>
     requires { IsLineAt buffer.old line }
-    ensures answer { IfOk result (λ step. IsAnswer asked (Kept buffer.old) step.0 (held_in step.1 buffer.new)) }
+    ensures answer { IfOk result
+        (λ step. IsAnswer asked (Kept buffer.old) step.0 (held_in step.1 buffer.new)) }
     ensures state { IfOk result (λ step. IsStateOf asked step.1 buffer.new) }
     ensures end { IfOk result (λ step. IfSome step.0 (λ request. step.1 ≡ state_after request)) }
     ensures refused { (request : Request) (left : ℕ) → EndsInRefusal asked buffer.old request left →
@@ -220,13 +221,16 @@ fn next_line(
     searched: usize,
 ) -> Result<(Option<Request>, State), Fault>
     requires { IsSearched searched buffer.old }
-    ensures answer { IfOk result (λ step. IsAnswer asked (Kept buffer.old) step.0 (held_in step.1 buffer.new)) }
+    ensures answer { IfOk result
+        (λ step. IsAnswer asked (Kept buffer.old) step.0 (held_in step.1 buffer.new)) }
     ensures state { IfOk result (λ step. IsStateOf asked step.1 buffer.new) }
     ensures end { IfOk result (λ step. IfSome step.0 (λ request. step.1 ≡ state_after request)) }
     ensures refused { (request : Request) (left : ℕ) → EndsInRefusal asked buffer.old request left →
         IfOk result (λ step. held_in step.1 buffer.new ≡ Swallowing request left []) }
-    ensures unended { IsUnended buffer.old → result ≡ Ok (None, State.AwaitsLine (length buffer.old)) × (buffer.new ≡ buffer.old) }
-    ensures too_long { (text more : List ℕ) (request : Request) → buffer.old ≡ text ++ more → IsTooLongText text request →
+    ensures unended { IsUnended buffer.old →
+        result ≡ Ok (None, State.AwaitsLine (length buffer.old)) × (buffer.new ≡ buffer.old) }
+    ensures too_long { (text more : List ℕ) (request : Request) → buffer.old ≡ text ++ more →
+        IsTooLongText text request →
         result ≡ Ok (Some request, State.Ended) }
     ensures memory { IsOkUnless result Fault.Memory }
     ensures unchanged { OnErr result (buffer.new ≡ buffer.old) }
@@ -299,7 +303,8 @@ impl Reader {
         ensures unchanged { OnErr result (self.new.held ≡ self.old.held) }
 
         // Within a refused block, and after the end, it needs no memory.
-        ensures swallowed { (request : Request) (left : ℕ) → self.old.held ≡ Swallowing request left [] → length piece.now ≤ left →
+        ensures swallowed { (request : Request) (left : ℕ) →
+            self.old.held ≡ Swallowing request left [] → length piece.now ≤ left →
             IsOk result × (self.new.held ≡ Swallowing request (left - length piece.now) []) }
         ensures ended { self.old.held ≡ Ended → IsOk result × (self.new.held ≡ Ended) }
     {
@@ -326,19 +331,28 @@ impl Reader {
         // Whatever follows, what was held reads as the request and then as what is held now.
         // Without a request it reads as before, and there was no request in it.
         ensures answer { IfOk result (λ next. IsAnswer asked self.old.held next self.new.held) }
-        ensures end { IfOk result (λ next. IfSome next (λ request. OnTrue (ends_stream request) (self.new.held ≡ Ended))) }
+        ensures end { IfOk result
+            (λ next. IfSome next
+            (λ request. OnTrue (ends_stream request) (self.new.held ≡ Ended))) }
         ensures ended { self.old.held ≡ Ended → result ≡ Ok None × (self.new.held ≡ Ended) }
 
         // Of a refused block only the length is kept; until all of it has arrived, and then for its
         // request, no memory is needed.
         ensures refused { (bytes : List ℕ) (request : Request) (left : ℕ) →
-            self.old.held ≡ Kept bytes → EndsInRefusal asked bytes request left → OnOk result (self.new.held ≡ Swallowing request left []) }
-        ensures swallowing { (request : Request) (left : ℕ) → self.old.held ≡ Swallowing request left [] → 0 < left → result ≡ Ok None × (self.new.held ≡ self.old.held) }
-        ensures swallowed { (request : Request) (bytes : List ℕ) → self.old.held ≡ Swallowing request 0 bytes → result ≡ Ok (Some request) × (self.new.held ≡ Kept bytes) }
+            self.old.held ≡ Kept bytes → EndsInRefusal asked bytes request left →
+            OnOk result (self.new.held ≡ Swallowing request left []) }
+        ensures swallowing { (request : Request) (left : ℕ) →
+            self.old.held ≡ Swallowing request left [] → 0 < left → result ≡ Ok None
+            × (self.new.held ≡ self.old.held) }
+        ensures swallowed { (request : Request) (bytes : List ℕ) →
+            self.old.held ≡ Swallowing request 0 bytes → result ≡ Ok (Some request)
+            × (self.new.held ≡ Kept bytes) }
 
         // Nor is any needed if no line has ended yet, or if the line is too long.
-        ensures unended { (bytes : List ℕ) → self.old.held ≡ Kept bytes → IsUnended bytes → result ≡ Ok None × (self.new.held ≡ self.old.held) }
-        ensures too_long { (text more : List ℕ) (request : Request) → self.old.held ≡ Kept (text ++ more) → IsTooLongText text request →
+        ensures unended { (bytes : List ℕ) → self.old.held ≡ Kept bytes → IsUnended bytes →
+            result ≡ Ok None × (self.new.held ≡ self.old.held) }
+        ensures too_long { (text more : List ℕ) (request : Request) →
+            self.old.held ≡ Kept (text ++ more) → IsTooLongText text request →
             result ≡ Ok (Some request) × (self.new.held ≡ Ended) }
         ensures memory { IsOkUnless result Fault.Memory }
         ensures unchanged { OnErr result (self.new.held ≡ self.old.held) }

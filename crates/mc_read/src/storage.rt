@@ -97,7 +97,8 @@ impl StorageLine<'_> {
 /// Returns what a line of `set`, `add`, `replace`, `append` or `prepend` asks for, given the words
 /// after its name. Returns `Memory` if an allocation fails.
 pub fn ask_storage(alloc: Global, verb: Verb, arguments: &[&[u8]]) -> Result<Asked, Fault>
-    ensures asked { IfOk result (λ asked. asked ≡ asked_of_storage verb (map (λ word. word.now) arguments.now)) }
+    ensures asked { IfOk result
+        (λ asked. asked ≡ asked_of_storage verb (map (λ word. word.now) arguments.now)) }
     ensures lawful { IfOk result HasLawfulBlock }
     ensures memory { IsOkUnless result Fault.Memory }
 {
@@ -120,7 +121,8 @@ pub fn ask_storage(alloc: Global, verb: Verb, arguments: &[&[u8]]) -> Result<Ask
 /// Returns what a line of `cas` asks for, given the words after its name. Returns `Memory` if an
 /// allocation fails.
 pub fn ask_cas(alloc: Global, arguments: &[&[u8]]) -> Result<Asked, Fault>
-    ensures asked { IfOk result (λ asked. asked ≡ asked_of_cas (map (λ word. word.now) arguments.now)) }
+    ensures asked { IfOk result
+        (λ asked. asked ≡ asked_of_cas (map (λ word. word.now) arguments.now)) }
     ensures lawful { IfOk result HasLawfulBlock }
     ensures memory { IsOkUnless result Fault.Memory }
 {

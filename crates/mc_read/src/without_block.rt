@@ -26,8 +26,10 @@ fn logged(command: Command, quiet: bool) -> Asked
 /// Returns the keys of a retrieval, or `None` if a word isn't a valid key. Returns `Memory` if an
 /// allocation fails.
 fn read_keys(alloc: Global, words: &[&[u8]]) -> Result<Option<Vec<Key>>, Fault>
-    ensures lawful { IfOk result (λ keys. is_some keys ≡ list_all is_lawful_key (map (λ word. word.now) words.now)) }
-    ensures keys { IfOk result (λ keys. IfSome keys (λ keys. keys.items ≡ map (λ word. word.now) words.now)) }
+    ensures lawful { IfOk result
+        (λ keys. is_some keys ≡ list_all is_lawful_key (map (λ word. word.now) words.now)) }
+    ensures keys { IfOk result
+        (λ keys. IfSome keys (λ keys. keys.items ≡ map (λ word. word.now) words.now)) }
     ensures memory { IsOkUnless result Fault.Memory }
 {
     let mut keys = Vec::with_capacity(alloc, words.len())?;
@@ -43,7 +45,8 @@ fn read_keys(alloc: Global, words: &[&[u8]]) -> Result<Option<Vec<Key>>, Fault>
 /// Returns what a retrieval asks for, given the words after its name. Returns `Memory` if an
 /// allocation fails.
 pub fn ask_retrieval(alloc: Global, uniques: bool, arguments: &[&[u8]]) -> Result<Asked, Fault>
-    ensures asked { IfOk result (λ asked. asked ≡ asked_of_retrieval uniques (map (λ word. word.now) arguments.now)) }
+    ensures asked { IfOk result
+        (λ asked. asked ≡ asked_of_retrieval uniques (map (λ word. word.now) arguments.now)) }
     ensures memory { IsOkUnless result Fault.Memory }
 {
     if arguments.is_empty() {
@@ -60,7 +63,8 @@ pub fn ask_retrieval(alloc: Global, uniques: bool, arguments: &[&[u8]]) -> Resul
 
 /// Returns the deletion of a key, if the words after the key are valid.
 fn delete(alloc: Global, key: &[u8], are_lawful: bool, quiet: bool) -> Result<Asked, Fault>
-    ensures asked { IfOk result (λ asked. asked ≡ asked_after ((are_lawful, E2) ∷ (is_lawful_key key.now, E2) ∷ []) (Delete key.now) quiet) }
+    ensures asked { IfOk result
+        (λ asked. asked ≡ asked_after ((are_lawful, E2) ∷ (is_lawful_key key.now, E2) ∷ []) (Delete key.now) quiet) }
     ensures memory { IsOkUnless result Fault.Memory }
 {
     if !are_lawful {
@@ -74,7 +78,8 @@ fn delete(alloc: Global, key: &[u8], are_lawful: bool, quiet: bool) -> Result<As
 
 /// Returns what a deletion asks for, given the words after its name.
 fn ask_delete(alloc: Global, arguments: &[&[u8]]) -> Result<Asked, Fault>
-    ensures asked { IfOk result (λ asked. asked ≡ asked_of_delete (map (λ word. word.now) arguments.now)) }
+    ensures asked { IfOk result
+        (λ asked. asked ≡ asked_of_delete (map (λ word. word.now) arguments.now)) }
     ensures memory { IsOkUnless result Fault.Memory }
 {
     match arguments {
@@ -117,7 +122,8 @@ impl Change {
         is_lawful: bool,
         quiet: bool,
     ) -> Result<Asked, Fault>
-        ensures asked { IfOk result (λ asked. asked ≡ asked_of_delta self is_lawful key.now (number_up_to DELTA delta.now) quiet) }
+        ensures asked { IfOk result
+            (λ asked. asked ≡ asked_of_delta self is_lawful key.now (number_up_to DELTA delta.now) quiet) }
         ensures memory { IsOkUnless result Fault.Memory }
     {
         if !is_lawful {
@@ -135,7 +141,8 @@ impl Change {
 
 /// Returns what a line of `incr` or `decr` asks for, given the words after its name.
 fn ask_change(alloc: Global, change: Change, arguments: &[&[u8]]) -> Result<Asked, Fault>
-    ensures asked { IfOk result (λ asked. asked ≡ asked_of_change change (map (λ word. word.now) arguments.now)) }
+    ensures asked { IfOk result
+        (λ asked. asked ≡ asked_of_change change (map (λ word. word.now) arguments.now)) }
     ensures memory { IsOkUnless result Fault.Memory }
 {
     match arguments {
@@ -189,7 +196,8 @@ fn ask_name(request: Request, arguments: &[&[u8]]) -> Asked
 /// apart from the other names, since a function clears the stack space for what each of its calls
 /// returns.
 fn ask_others(alloc: Global, name: &[u8], arguments: &[&[u8]]) -> Result<Asked, Fault>
-    ensures asked { IfOk result (λ asked. asked ≡ asked_of_others name.now (map (λ word. word.now) arguments.now)) }
+    ensures asked { IfOk result
+        (λ asked. asked ≡ asked_of_others name.now (map (λ word. word.now) arguments.now)) }
     ensures lawful { IfOk result HasLawfulBlock }
     ensures memory { IsOkUnless result Fault.Memory }
 {
@@ -216,7 +224,8 @@ fn ask_others(alloc: Global, name: &[u8], arguments: &[&[u8]]) -> Result<Asked, 
 /// it. Returns `Memory` if an allocation fails.
 pub fn ask_without_block(alloc: Global, name: &[u8], arguments: &[&[u8]]) -> Result<Asked, Fault>
     requires { is_word name.now (codes "get") ≡ false }
-    ensures asked { IfOk result (λ asked. asked ≡ asked_without_block name.now (map (λ word. word.now) arguments.now)) }
+    ensures asked { IfOk result
+        (λ asked. asked ≡ asked_without_block name.now (map (λ word. word.now) arguments.now)) }
     ensures lawful { IfOk result HasLawfulBlock }
     ensures memory { IsOkUnless result Fault.Memory }
 {

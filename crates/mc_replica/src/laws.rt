@@ -16,11 +16,13 @@ pub fn replicas_agree(one: &Replica<'_>, other: &Replica<'_>)
         own tenant (entries one.now.history) ≡ own tenant (entries other.now.history) →
         slice_get one.now.openings tenant ≡ slice_get other.now.openings tenant →
         slice_get one.now.tables tenant ≡ slice_get other.now.tables tenant }
-    ensures whole { one.now.openings ≡ other.now.openings → one.now.history ≡ other.now.history → one.now.tables ≡ other.now.tables }
+    ensures whole { one.now.openings ≡ other.now.openings → one.now.history ≡ other.now.history →
+        one.now.tables ≡ other.now.tables }
     ensures replies { (entry : Entry) →
         own entry.tenant (entries one.now.history) ≡ own entry.tenant (entries other.now.history) →
         slice_get one.now.openings entry.tenant ≡ slice_get other.now.openings entry.tenant →
-        reply_to one.now.openings (entries one.now.history) (Some entry) ≡ reply_to other.now.openings (entries other.now.history) (Some entry) }
+        reply_to one.now.openings (entries one.now.history) (Some entry)
+        ≡ reply_to other.now.openings (entries other.now.history) (Some entry) }
 {
     // Their invariants say what their tables stand for.
     let _ = one.history();

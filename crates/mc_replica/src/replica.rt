@@ -58,7 +58,8 @@ impl<'a> Replica<'a> {
         ensures openings { IfOk result (λ replica. replica.openings ≡ empty_tables limits.now) }
         ensures history { IfOk result (λ replica. replica.history ≡ []) }
         ensures tables { IfOk result (λ replica. replica.tables ≡ empty_tables limits.now) }
-        ensures stands { IfOk result (λ replica. EachStands replica.openings (entries replica.history) replica.tables) }
+        ensures stands { IfOk result
+            (λ replica. EachStands replica.openings (entries replica.history) replica.tables) }
         ensures memory { IsOkUnless result Fault.Memory }
     {
         let history = Vec::with_capacity(alloc, places as usize)?;
@@ -81,7 +82,8 @@ impl<'a> Replica<'a> {
     pub fn replay(&mut self, seen: Seen<'a>) -> Result<Option<Reply>, Fault>
         requires { length self.old.history < self.old.places }
         ensures reply { IfOk result (λ reply.
-            reply ≡ answer_to self.old.worker self.old.openings (entries self.old.history) (entry_of seen.entry)) }
+            reply ≡ answer_to self.old.worker self.old.openings (entries self.old.history)
+            (entry_of seen.entry)) }
         ensures replays { Replays (Some self.old.worker) seen.entry self.old self.new result }
     {
         let worker = self.worker;
@@ -107,7 +109,8 @@ impl<'a> Replica<'a> {
     ) -> Result<Option<Reply>, Fault>
         requires { length self.old.history < self.old.places }
         ensures reply { IfOk result (λ reply.
-            reply ≡ answer_for asker self.old.openings (entries self.old.history) (entry_of seen.entry)) }
+            reply ≡ answer_for asker self.old.openings (entries self.old.history)
+            (entry_of seen.entry)) }
         ensures replays { Replays asker seen.entry self.old self.new result }
     {
         let reply = take_effect(&mut self.tables, asker, seen.entry())?;
@@ -137,7 +140,8 @@ impl<'a> Replica<'a> {
         requires long { length self.old.history ≡ length other.old.history }
         requires cells { SameCells self.old.history other.old.history }
         ensures equal { self.old.history ≡ other.old.history }
-        ensures tables { self.old.openings ≡ other.old.openings → self.old.tables ≡ other.old.tables }
+        ensures tables { self.old.openings ≡ other.old.openings →
+            self.old.tables ≡ other.old.tables }
         ensures one { self.new ≡ self.old }
         ensures two { other.new ≡ other.old }
     {
@@ -148,7 +152,9 @@ impl<'a> Replica<'a> {
     pub fn table(&self, tenant: TenantId) -> &Items
         requires { tenant < length self.now.tables }
         ensures table { slice_get self.now.tables tenant ≡ Some result.now }
-        ensures stands { Some result.now ≡ option_map (λ opening. state_from opening (own tenant (entries self.now.history))) (slice_get self.now.openings tenant) }
+        ensures stands { Some result.now
+            ≡ option_map (λ opening. state_from opening (own tenant (entries self.now.history)))
+            (slice_get self.now.openings tenant) }
     {
         &self.tables[usize::from(tenant.number())]
     }

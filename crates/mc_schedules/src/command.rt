@@ -50,7 +50,8 @@ fn read_data(alloc: Global, word: &[u8]) -> Result<Option<Data>, Fault>
 
 /// Returns the storage command of a key, flags and data, or `None` if a word can't be read.
 fn read_storage(alloc: Global, verb: Verb, arguments: &[&[u8]]) -> Result<Option<Command>, Fault>
-    ensures command { IfOk result (λ command. command ≡ storage_of verb (map (λ word. word.now) arguments.now)) }
+    ensures command { IfOk result
+        (λ command. command ≡ storage_of verb (map (λ word. word.now) arguments.now)) }
     ensures memory { IsOkUnless result Fault.Memory }
 {
     let [key, flags, block] = arguments else {
@@ -71,7 +72,8 @@ fn read_storage(alloc: Global, verb: Verb, arguments: &[&[u8]]) -> Result<Option
 
 /// Returns the check and set of a key, flags, a unique and data, or `None` if a word can't be read.
 fn read_cas(alloc: Global, arguments: &[&[u8]]) -> Result<Option<Command>, Fault>
-    ensures command { IfOk result (λ command. command ≡ cas_of (map (λ word. word.now) arguments.now)) }
+    ensures command { IfOk result
+        (λ command. command ≡ cas_of (map (λ word. word.now) arguments.now)) }
     ensures memory { IsOkUnless result Fault.Memory }
 {
     let [key, flags, unique, block] = arguments else {
@@ -93,8 +95,10 @@ fn read_cas(alloc: Global, arguments: &[&[u8]]) -> Result<Option<Command>, Fault
 /// Returns the keys of a retrieval, or `None` if a word isn't a valid key. Returns `Memory` if an
 /// allocation fails.
 fn read_keys(alloc: Global, words: &[&[u8]]) -> Result<Option<Vec<Key>>, Fault>
-    ensures lawful { IfOk result (λ keys. is_some keys ≡ list_all is_lawful_key (map (λ word. word.now) words.now)) }
-    ensures keys { IfOk result (λ keys. IfSome keys (λ keys. keys.items ≡ map (λ word. word.now) words.now)) }
+    ensures lawful { IfOk result
+        (λ keys. is_some keys ≡ list_all is_lawful_key (map (λ word. word.now) words.now)) }
+    ensures keys { IfOk result
+        (λ keys. IfSome keys (λ keys. keys.items ≡ map (λ word. word.now) words.now)) }
     ensures memory { IsOkUnless result Fault.Memory }
 {
     let mut keys = Vec::with_capacity(alloc, words.len())?;
@@ -113,7 +117,8 @@ fn read_retrieval(
     uniques: bool,
     arguments: &[&[u8]],
 ) -> Result<Option<Command>, Fault>
-    ensures command { IfOk result (λ command. command ≡ retrieval_of uniques (map (λ word. word.now) arguments.now)) }
+    ensures command { IfOk result
+        (λ command. command ≡ retrieval_of uniques (map (λ word. word.now) arguments.now)) }
     ensures memory { IsOkUnless result Fault.Memory }
 {
     let Some(keys) = read_keys(alloc, arguments)? else {
@@ -127,7 +132,8 @@ fn read_retrieval(
 
 /// Returns the deletion of a key, or `None` if it can't be read.
 fn read_deletion(alloc: Global, arguments: &[&[u8]]) -> Result<Option<Command>, Fault>
-    ensures command { IfOk result (λ command. command ≡ deletion_of (map (λ word. word.now) arguments.now)) }
+    ensures command { IfOk result
+        (λ command. command ≡ deletion_of (map (λ word. word.now) arguments.now)) }
     ensures memory { IsOkUnless result Fault.Memory }
 {
     let [key] = arguments else {
@@ -142,7 +148,8 @@ fn read_deletion(alloc: Global, arguments: &[&[u8]]) -> Result<Option<Command>, 
 /// Returns the key of a change, and by how much its number changes, or `None` if a word can't be
 /// read.
 fn read_change(alloc: Global, arguments: &[&[u8]]) -> Result<Option<(Key, u64)>, Fault>
-    ensures change { IfOk result (λ change. change ≡ change_of (map (λ word. word.now) arguments.now)) }
+    ensures change { IfOk result
+        (λ change. change ≡ change_of (map (λ word. word.now) arguments.now)) }
     ensures memory { IsOkUnless result Fault.Memory }
 {
     let [key, by] = arguments else {
@@ -169,7 +176,8 @@ fn read_flush(arguments: &[&[u8]]) -> Option<Command>
 /// Returns the command that the words say, or `None` if they say none. Returns `Memory` if an
 /// allocation fails.
 pub fn read_command(alloc: Global, found: &[&[u8]]) -> Result<Option<Command>, Fault>
-    ensures command { IfOk result (λ command. command ≡ command_of (map (λ word. word.now) found.now)) }
+    ensures command { IfOk result
+        (λ command. command ≡ command_of (map (λ word. word.now) found.now)) }
     ensures memory { IsOkUnless result Fault.Memory }
 {
     let Some((name, arguments)) = found.split_first() else {

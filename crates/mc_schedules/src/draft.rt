@@ -33,7 +33,8 @@ impl Draft {
 
     /// Returns whether a line that says this may follow.
     pub fn has_place_for(&self, said: &Said) -> bool
-        ensures { (before : List Statement) → IsDraftOf self.now before → result ≡ is_in_place before (Some said.now) }
+        ensures { (before : List Statement) → IsDraftOf self.now before →
+            result ≡ is_in_place before (Some said.now) }
     {
         match said {
             Said::Nothing => true,
@@ -64,7 +65,8 @@ impl Draft {
 
     /// Returns what all lines read as.
     pub fn finish(self) -> Reading
-        ensures { (before : List Statement) → IsDraftOf self before → read_as result ≡ listed (cores before) (tenants before) (items before) }
+        ensures { (before : List Statement) → IsDraftOf self before →
+            read_as result ≡ listed (cores before) (tenants before) (items before) }
     {
         let Self {
             core,

@@ -28,16 +28,21 @@ pub fn numbers_of_event_lists()
 /// What is true of all that event lists do.
 pub fn runs_of_event_lists()
     // What a list does is a run of the core, so that all that is true of every run is true of it.
-    ensures are_runs { (items : List Item) (old new : CoreState) (given : List Given) (end : Ending) → DoesAll items old new given end →
+    ensures are_runs { (items : List Item) (old new : CoreState) (given : List Given)
+        (end : Ending) → DoesAll items old new given end →
         (events : List Event) × Runs old events new given }
 
     // Each event that a worker needs decreases the number that it can need, so a submit ends.
-    ensures nearer { (core next : CoreState) (number : ℕ) (event : Event) (reply : Option Reply) → IsReachedCore core →
-        needed core number ≡ Some event → CoreStep core event next reply → most_needed next number < most_needed core number }
+    ensures nearer { (core next : CoreState) (number : ℕ) (event : Event) (reply : Option Reply) →
+        IsReachedCore core →
+        needed core number ≡ Some event → CoreStep core event next reply →
+        most_needed next number < most_needed core number }
     ensures few { (core : CoreState) (number : ℕ) → most_needed core number ≤ 3 * core.places + 2 }
 
     // A list has one outcome, unless it runs out of memory.
-    ensures one { (items : List Item) (old new other : CoreState) (given other_given : List Given) (end other_end : Ending) → IsReachedCore old →
-        DoesAll items old new given end → DoesAll items old other other_given other_end → ¬ RanOut end → ¬ RanOut other_end →
+    ensures one { (items : List Item) (old new other : CoreState) (given other_given : List Given)
+        (end other_end : Ending) → IsReachedCore old →
+        DoesAll items old new given end → DoesAll items old other other_given other_end →
+        ¬ RanOut end → ¬ RanOut other_end →
         (new ≡ other) × (given ≡ other_given) × (end ≡ other_end) }
 {}

@@ -54,7 +54,9 @@ pub fn draw_items(
     settings: &Settings,
     items: Vec<Item>,
 ) -> Result<(Vec<u8>, Outcome), Fault>
-    ensures outcome { IfOk result (λ drawn. DoesAll items.items (new_core settings.now) drawn.1.core drawn.1.replies.items drawn.1.fault) }
+    ensures outcome { IfOk result
+        (λ drawn. DoesAll items.items
+        (new_core settings.now) drawn.1.core drawn.1.replies.items drawn.1.fault) }
     ensures memory { IsOkUnless result Fault.Memory }
 {
     let mut picture = Picture::new(alloc, settings.workers())?;

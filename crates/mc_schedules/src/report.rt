@@ -16,7 +16,9 @@ impl Outcome {
     /// Returns the report of the run: its replies, unless `quiet`, the fault that ended it, the
     /// log, and the workers. Returns `Memory` if an allocation fails.
     pub fn report(&self, alloc: Global, quiet: bool) -> Result<Vec<u8>, Fault>
-        ensures text { IfOk result (λ text. text.items ≡ report quiet self.now.core self.now.replies.items self.now.fault) }
+        ensures text { IfOk result
+            (λ text. text.items
+            ≡ report quiet self.now.core self.now.replies.items self.now.fault) }
         ensures memory { IsOkUnless result Fault.Memory }
     {
         let mut out = Vec::new(alloc);
@@ -56,7 +58,8 @@ fn append_reply(
     text: &[u8],
     out: &mut Vec<u8>,
 ) -> Result<(), AllocError>
-    ensures text { OnOk result (out.new.items ≡ out.old.items ++ (codes "reply " ++ decimal worker ++ codes " " ++ decimal place ++ codes " " ++ flat_map escaped text.now ++ codes "\n")) }
+    ensures text { OnOk result
+        (out.new.items ≡ out.old.items ++ (codes "reply " ++ decimal worker ++ codes " " ++ decimal place ++ codes " " ++ flat_map escaped text.now ++ codes "\n")) }
 {
     let name = format!(in alloc; "reply {} {place} ", worker.number())?;
     out.extend_from_slice(name.as_bytes())?;
@@ -166,7 +169,8 @@ fn append_worker(
     worker: WorkerId,
     out: &mut Vec<u8>,
 ) -> Result<(), AllocError>
-    ensures text { OnOk result (out.new.items ≡ out.old.items ++ option_map_or (worker_line worker) (progress_by core.now worker) []) }
+    ensures text { OnOk result
+        (out.new.items ≡ out.old.items ++ option_map_or (worker_line worker) (progress_by core.now worker) []) }
 {
     match core.progress(worker) {
         Some(progress) => append_progress(alloc, worker.number(), &progress, out),

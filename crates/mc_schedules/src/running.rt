@@ -49,7 +49,9 @@ fn finish<W: Watch>(
     replies: &mut Vec<(WorkerId, u64, Reply)>,
     watch: &mut W,
 ) -> Result<(), Fault>
-    ensures { (events : ℕ) × Did (Finishes events line worker) line core.old core.new replies.old.items replies.new.items result }
+    ensures { (events : ℕ)
+        × Did (Finishes events line worker) line core.old core.new replies.old.items
+        replies.new.items result }
 {
     while let Some(event) = needed(core, worker) {
         take(core, line, event, replies, watch)?;
@@ -85,7 +87,8 @@ fn do_all<W: Watch>(
     replies: &mut Vec<(WorkerId, u64, Reply)>,
     watch: &mut W,
 ) -> Option<(u64, Fault)>
-    ensures { (given : List Given) × DoesAll items.items core.old core.new given result × (replies.new.items ≡ replies.old.items ++ given) }
+    ensures { (given : List Given) × DoesAll items.items core.old core.new given result
+        × (replies.new.items ≡ replies.old.items ++ given) }
 {
     for Item { line, action } in items {
         if let Err(fault) = act(core, line, action, replies, watch) {
@@ -104,7 +107,8 @@ pub fn run_items<W: Watch>(
     items: Vec<Item>,
     watch: &mut W,
 ) -> Result<Outcome, Fault>
-    ensures outcome { IfOk result (λ it. DoesAll items.items (new_core settings.now) it.core it.replies.items it.fault) }
+    ensures outcome { IfOk result
+        (λ it. DoesAll items.items (new_core settings.now) it.core it.replies.items it.fault) }
     ensures memory { IsOkUnless result Fault.Memory }
 {
     let mut core = Core::new(alloc, settings)?;

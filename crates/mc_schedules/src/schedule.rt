@@ -53,7 +53,8 @@ pub enum Reading {
 /// Returns what the lines read as, each without its line feed. Returns `Memory` if an allocation
 /// fails.
 fn read_lines(alloc: Global, lines: &[&[u8]]) -> Result<Reading, Fault>
-    ensures reading { IfOk result (λ read. read_as read ≡ read_lines (map (λ line. line.now) lines.now)) }
+    ensures reading { IfOk result
+        (λ read. read_as read ≡ read_lines (map (λ line. line.now) lines.now)) }
     ensures memory { IsOkUnless result Fault.Memory }
 {
     let mut draft = Draft::new(alloc);

@@ -9,14 +9,17 @@ use std::alloc::{AllocError, Global};
 /// Returns the pieces of the text that the byte separates, at least one. Returns `AllocError` if
 /// the allocation fails.
 pub fn pieces(alloc: Global, text: &[u8], byte: u8) -> Result<Vec<&[u8]>, AllocError>
-    ensures { IfOk result (λ found. map (λ piece. piece.now) found.items ≡ slice_split (λ one. one == byte) text.now) }
+    ensures { IfOk result
+        (λ found. map (λ piece. piece.now) found.items
+        ≡ slice_split (λ one. one == byte) text.now) }
 {
     text.split(|one| *one == byte).collect(alloc)
 }
 
 /// Returns the line's words, separated by runs of spaces. Returns `Memory` if an allocation fails.
 pub fn words(alloc: Global, line: &[u8]) -> Result<Vec<&[u8]>, Fault>
-    ensures words { IfOk result (λ found. map (λ word. word.now) found.items ≡ spaced_words line.now) }
+    ensures words { IfOk result
+        (λ found. map (λ word. word.now) found.items ≡ spaced_words line.now) }
     ensures memory { IsOkUnless result Fault.Memory }
 {
     let all = pieces(alloc, line, b' ')?;

@@ -22,7 +22,8 @@ pub(crate) fn open_workers<'a>(
         → IsNew log.now number pass }
     requires count { length passes.items ≡ log.now.settings.workers }
     ensures outcome { MatchResult result
-        (λ workers. AreWorkersOf log.now.settings log.now workers.items × All HasDoneNothing workers.items)
+        (λ workers. AreWorkersOf log.now.settings log.now workers.items
+        × All HasDoneNothing workers.items)
         (λ fault. fault ≡ faults.Memory) }
 {
     let mut workers = Vec::with_capacity(alloc, passes.len())?;

@@ -82,7 +82,8 @@ pub(crate) fn tell_done<R: Wait, O: Output>(
 
 /// Says that a tenant's address can't be listened at. A failure of `errors` is passed over. Takes no memory.
 pub(crate) fn tell_cannot_listen<R: Wait, E: Output>(rt: &R, name: &str, errors: &mut E)
-    ensures { PushesOrFails (cannot_listen_line name.now) (E.tells errors.old) (E.tells errors.new) }
+    ensures { PushesOrFails (cannot_listen_line name.now) (E.tells errors.old)
+        (E.tells errors.new) }
 {
     let _ = push_line(rt, b"wfmc: cannot listen ", name.as_bytes(), errors);
 }

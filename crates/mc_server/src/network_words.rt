@@ -109,7 +109,8 @@ fn read_tenants<'a>(alloc: Global, words: &[&'a str]) -> Result<Vec<Tenant<'a>>,
     ensures outcome { let texts = map (λ word. word.now) words.now in
         MatchResult result (λ tenants. AllZip IsOnly texts (map asked_of tenants.items))
         (λ fault. (fault ≡ faults.Memory)
-        ⊎ (fault ≡ faults.BadSettings) × ((others : List TenantAsked) → ¬ (AllZip Says texts others))) }
+        ⊎ (fault ≡ faults.BadSettings)
+        × ((others : List TenantAsked) → ¬ (AllZip Says texts others))) }
 {
     let mut tenants = Vec::new(alloc);
     for word in words {

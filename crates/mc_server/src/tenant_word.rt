@@ -50,9 +50,14 @@ fn read_number(text: &str) -> Option<u64>
 
 /// Cuts a word at its first `=`, and what follows at its first two commas.
 fn cut(word: &str) -> Option<Parts<'_>>
-    ensures whole { IfSome result (λ parts. word.now ≡ tenant_text parts.name.now parts.address.now parts.items.now parts.bytes.now) }
-    ensures only { (name address items bytes : List ℕ) → Lacks 61 name → Lacks 44 address → Lacks 44 items → word.now ≡ tenant_text name address items bytes
-        → IsSomeAnd result (λ parts. (parts.name.now ≡ name) × (parts.address.now ≡ address) × (parts.items.now ≡ items) × (parts.bytes.now ≡ bytes)) }
+    ensures whole { IfSome result
+        (λ parts. word.now
+        ≡ tenant_text parts.name.now parts.address.now parts.items.now parts.bytes.now) }
+    ensures only { (name address items bytes : List ℕ) → Lacks 61 name → Lacks 44 address →
+        Lacks 44 items → word.now ≡ tenant_text name address items bytes
+        → IsSomeAnd result
+        (λ parts. (parts.name.now ≡ name) × (parts.address.now ≡ address)
+        × (parts.items.now ≡ items) × (parts.bytes.now ≡ bytes)) }
 {
     let (name, rest) = word.split_once('=')?;
     let (address, rest) = rest.split_once(',')?;
@@ -68,7 +73,8 @@ fn cut(word: &str) -> Option<Parts<'_>>
 /// The tenant that a word says, or `None` where the word is not of a tenant's form.
 pub(crate) fn read_tenant(word: &str) -> Option<Tenant<'_>>
     ensures says { IfSome result (λ tenant. Says word.now (asked_of tenant)) }
-    ensures only { (asked : TenantAsked) → Says word.now asked → IsSomeAnd result (λ tenant. asked_of tenant ≡ asked) }
+    ensures only { (asked : TenantAsked) → Says word.now asked →
+        IsSomeAnd result (λ tenant. asked_of tenant ≡ asked) }
 {
     let parts = cut(word)?;
     if !is_name(parts.name) {

@@ -72,7 +72,8 @@ impl MemoryInput {
 
     /// Takes the next step, if one is left.
     fn next_step(&mut self) -> Option<InputStep>
-        ensures left { MatchOption result (self.old.steps ≡ []) (λ step. self.old.steps ≡ step ∷ self.new.steps) }
+        ensures left { MatchOption result (self.old.steps ≡ [])
+            (λ step. self.old.steps ≡ step ∷ self.new.steps) }
         ensures new { MatchOption result (self.new ≡ self.old) (λ step.
             self.new ≡ record self.old { steps = drop 1 self.old.steps }) }
     {
@@ -88,7 +89,8 @@ impl MemoryInput {
     fn give(&mut self, most: usize, buffer: &mut [u8]) -> Pull
         requires room { 0 < length buffer.old }
         requires some { 0 < most }
-        ensures answer { result ≡ bytes_or_end (min (min (length self.old.rest) most) (length buffer.old)) }
+        ensures answer { result
+            ≡ bytes_or_end (min (min (length self.old.rest) most) (length buffer.old)) }
         ensures rest { self.old.rest ≡ pulled_by result buffer.new ++ self.new.rest }
         ensures steps { self.new.steps ≡ self.old.steps }
         ensures event { self.new.events ≡ pull_event result buffer.new ∷ self.old.events }
@@ -118,7 +120,8 @@ impl Input for MemoryInput {
         ensures no_more { result ≡ Pull.Ended → self.new.rest ≡ [] }
 
         // What this one gives.
-        ensures answer { result ≡ pull_by self.old.steps (length self.old.rest) (length buffer.old) }
+        ensures answer { result
+            ≡ pull_by self.old.steps (length self.old.rest) (length buffer.old) }
         ensures rest { self.old.rest ≡ pulled_by result buffer.new ++ self.new.rest }
         ensures steps { self.new.steps ≡ drop 1 self.old.steps }
     {
@@ -188,7 +191,8 @@ impl MemoryOutput {
 
     /// Takes the next step, if one is left.
     fn next_step(&mut self) -> Option<OutputStep>
-        ensures left { MatchOption result (self.old.steps ≡ []) (λ step. self.old.steps ≡ step ∷ self.new.steps) }
+        ensures left { MatchOption result (self.old.steps ≡ [])
+            (λ step. self.old.steps ≡ step ∷ self.new.steps) }
         ensures new { MatchOption result (self.new ≡ self.old) (λ step.
             self.new ≡ record self.old { steps = drop 1 self.old.steps }) }
     {
@@ -211,7 +215,8 @@ impl Output for MemoryOutput {
         ensures event { self.new.events ≡ push_event result bytes.now ∷ self.old.events }
 
         // What this one takes, if there is memory for it.
-        ensures answer { (result ≡ push_by self.old.steps (length bytes.now)) ⊎ (result ≡ Push.Failed) }
+        ensures answer { (result ≡ push_by self.old.steps (length bytes.now))
+            ⊎ (result ≡ Push.Failed) }
         ensures steps { self.new.steps ≡ drop 1 self.old.steps }
     {
         let most = match self.next_step() {

@@ -22,7 +22,8 @@ pub enum Stop {
 pub fn push_front<O: Output>(bytes: &[u8], output: &mut O) -> (usize, Stop)
     ensures within { result.0 ≤ length bytes.now }
     ensures pushed { Pushes (O.tells output.old) (O.tells output.new) (take result.0 bytes.now) }
-    ensures stop { StopsAs result.1 result.0 (length bytes.now) (O.tells output.old) (O.tells output.new) }
+    ensures stop { StopsAs result.1 result.0 (length bytes.now) (O.tells output.old)
+        (O.tells output.new) }
 {
     let mut sent = 0;
     while sent < bytes.len() {

@@ -69,7 +69,8 @@ impl<R: Read> ReadInput<R> {
     /// Returns the input over this reader.
     pub fn new(reader: R) -> ReadInput<R>
         ensures reader { reader_of result ≡ reader }
-        ensures tells { read_of R.remaining result ≡ record { events = []; left = R.remaining reader } }
+        ensures tells { read_of R.remaining result
+            ≡ record { events = []; left = R.remaining reader } }
     {
         ReadInput::resume(reader, Tape::new())
     }
@@ -77,7 +78,8 @@ impl<R: Read> ReadInput<R> {
     /// Returns the input over this reader, whose pulls go on the tape that an earlier input left.
     pub fn resume(reader: R, tape: Tape) -> ReadInput<R>
         ensures reader { reader_of result ≡ reader }
-        ensures tells { read_of R.remaining result ≡ record { events = tape.events; left = R.remaining reader } }
+        ensures tells { read_of R.remaining result
+            ≡ record { events = tape.events; left = R.remaining reader } }
     {
         ReadInput { reader, tape }
     }
@@ -170,10 +172,12 @@ impl<W: Write> Output for WriteOutput<W> {
         // As for every output.
         requires { 0 < length bytes.now }
         ensures count { TakesAtMost (length bytes.now) result }
-        ensures event { (written_of self.new).events ≡ push_event result bytes.now ∷ (written_of self.old).events }
+        ensures event { (written_of self.new).events
+            ≡ push_event result bytes.now ∷ (written_of self.old).events }
 
         // If the writer reports its bytes.
-        ensures written { WritesTaken (W.contents (writer_of self.old)) (W.contents (writer_of self.new)) result bytes.now }
+        ensures written { WritesTaken (W.contents (writer_of self.old))
+            (W.contents (writer_of self.new)) result bytes.now }
     {
         let written = self.writer.write(bytes);
         let flushed = match written {

@@ -36,8 +36,10 @@ pub trait Input {
     fn pull(&mut self, buffer: &mut [u8]) -> Pull
         requires { 0 < length buffer.old }
         ensures count { GivesAtMost (length buffer.new) result }
-        ensures event { (tells self.new).events ≡ pull_event result buffer.new ∷ (tells self.old).events }
-        ensures rest { Consumes (tells self.old).left (tells self.new).left (pulled_by result buffer.new) }
+        ensures event { (tells self.new).events
+            ≡ pull_event result buffer.new ∷ (tells self.old).events }
+        ensures rest { Consumes (tells self.old).left (tells self.new).left
+            (pulled_by result buffer.new) }
         ensures no_more { result ≡ Pull.Ended → IsAtEnd (tells self.new).left };
 }
 
@@ -50,7 +52,8 @@ pub trait Output {
     fn push(&mut self, bytes: &[u8]) -> Push
         requires { 0 < length bytes.now }
         ensures count { TakesAtMost (length bytes.now) result }
-        ensures event { (tells self.new).events ≡ push_event result bytes.now ∷ (tells self.old).events };
+        ensures event { (tells self.new).events
+            ≡ push_event result bytes.now ∷ (tells self.old).events };
 }
 
 impl<I: Input> Input for &mut I {

@@ -160,7 +160,9 @@ pub(crate) fn opened(
     places: u64,
     quotas: &[Limits],
 ) -> Result<(Log, Vec<Pass>), Fault>
-    ensures { IfOk result (λ opened. (number : ℕ) (pass : _) → slice_get opened.1.items number ≡ Some pass → IsFresh opened.0 pass) }
+    ensures { IfOk result
+        (λ opened. (number : ℕ) (pass : _) → slice_get opened.1.items number ≡ Some pass →
+        IsFresh opened.0 pass) }
 {
     let quotas = Vec::from_slice(alloc, quotas)?;
     let settings = Settings::check(2, places, quotas)?;
@@ -170,7 +172,8 @@ pub(crate) fn opened(
 
 /// Returns the passes of worker 0 and worker 1.
 pub(crate) fn both_passes(log: &Log, mut passes: Vec<Pass>) -> Option<(Pass, Pass)>
-    requires { (number : ℕ) (pass : _) → slice_get passes.items number ≡ Some pass → IsFresh log.now pass }
+    requires { (number : ℕ) (pass : _) → slice_get passes.items number ≡ Some pass →
+        IsFresh log.now pass }
     ensures { IfSome result (λ pair. IsFresh log.now pair.0 × IsFresh log.now pair.1) }
 {
     let second = passes.pop()?;
@@ -185,7 +188,8 @@ pub(crate) fn one_line<'a>(
     passes: Vec<Pass>,
     ends: (MemoryInput, MemoryOutput),
 ) -> Result<Line<'a>, Fault>
-    requires { (number : ℕ) (pass : _) → slice_get passes.items number ≡ Some pass → IsFresh log.now pass }
+    requires { (number : ℕ) (pass : _) → slice_get passes.items number ≡ Some pass →
+        IsFresh log.now pass }
 {
     let Some((first, _idle)) = both_passes(log, passes) else {
         return Err(Fault::BadEvent);

@@ -121,7 +121,8 @@ fn both_lines<'a>(
     log: &'a Log,
     passes: Vec<Pass>,
 ) -> Result<(Line<'a>, Line<'a>), Fault>
-    requires { (number : ℕ) (pass : _) → slice_get passes.items number ≡ Some pass → IsFresh log.now pass }
+    requires { (number : ℕ) (pass : _) → slice_get passes.items number ≡ Some pass →
+        IsFresh log.now pass }
 {
     let Some((first, second)) = both_passes(log, passes) else {
         return Err(Fault::BadEvent);

@@ -57,7 +57,8 @@ fn open_workers<'a>(
     log: &'a Log,
     passes: Vec<Pass>,
 ) -> Result<Vec<Worker<'a>>, Fault>
-    requires { (number : ℕ) (pass : _) → slice_get passes.items number ≡ Some pass → IsNew log.now number pass }
+    requires { (number : ℕ) (pass : _) → slice_get passes.items number ≡ Some pass →
+        IsNew log.now number pass }
     ensures { IfOk result (λ workers. All (λ worker. worker.log.now ≡ log.now) workers.items) }
 {
     let mut workers = Vec::new(alloc);

@@ -79,7 +79,8 @@ fn append_reply(reply: &Reply, out: &mut Vec<u8>) -> Result<(), AllocError>
 fn append_values(values: &[Value], out: &mut Vec<u8>) -> Result<(), AllocError>
     ensures text { OnOk result (out.new.items ≡ out.old.items ++ flat_map value_text values.now) }
     ensures begun { StartsWith out.new.items out.old.items }
-    ensures room { vec_len out.old + length (flat_map value_text values.now) ≤ vec_capacity out.old → IsOk result }
+    ensures room { vec_len out.old + length
+        (flat_map value_text values.now) ≤ vec_capacity out.old → IsOk result }
     ensures capacity { vec_capacity out.old ≤ vec_capacity out.new }
 {
     for value in values {
@@ -93,7 +94,8 @@ fn append_values(values: &[Value], out: &mut Vec<u8>) -> Result<(), AllocError>
 fn append_line(value: &Value, out: &mut Vec<u8>) -> Result<(), AllocError>
     ensures text { OnOk result (out.new.items ≡ out.old.items ++ value_line value.now) }
     ensures begun { StartsWith out.new.items out.old.items }
-    ensures room { vec_len out.old + length (value_line value.now) ≤ vec_capacity out.old → IsOk result }
+    ensures room { vec_len out.old + length (value_line value.now) ≤ vec_capacity out.old →
+        IsOk result }
     ensures capacity { vec_capacity out.old ≤ vec_capacity out.new }
 {
     out.extend_from_slice(b"VALUE ")?;
@@ -108,9 +110,11 @@ fn append_line(value: &Value, out: &mut Vec<u8>) -> Result<(), AllocError>
 
 /// Appends the end of an item's line, and its data.
 fn append_block(block: &[u8], out: &mut Vec<u8>) -> Result<(), AllocError>
-    ensures text { OnOk result (out.new.items ≡ out.old.items ++ (codes "\r\n" ++ block.now ++ codes "\r\n")) }
+    ensures text { OnOk result
+        (out.new.items ≡ out.old.items ++ (codes "\r\n" ++ block.now ++ codes "\r\n")) }
     ensures begun { StartsWith out.new.items out.old.items }
-    ensures room { vec_len out.old + length (codes "\r\n" ++ block.now ++ codes "\r\n") ≤ vec_capacity out.old → IsOk result }
+    ensures room { vec_len out.old + length
+        (codes "\r\n" ++ block.now ++ codes "\r\n") ≤ vec_capacity out.old → IsOk result }
     ensures capacity { vec_capacity out.old ≤ vec_capacity out.new }
 {
     append_line_end(out)?;
@@ -135,7 +139,8 @@ fn append_line_end(out: &mut Vec<u8>) -> Result<(), AllocError>
 fn append_number(number: u64, out: &mut Vec<u8>) -> Result<(), AllocError>
     ensures text { OnOk result (out.new.items ≡ out.old.items ++ (codes " " ++ decimal number)) }
     ensures begun { StartsWith out.new.items out.old.items }
-    ensures room { vec_len out.old + length (codes " " ++ decimal number) ≤ vec_capacity out.old → IsOk result }
+    ensures room { vec_len out.old + length (codes " " ++ decimal number) ≤ vec_capacity out.old →
+        IsOk result }
     ensures capacity { vec_capacity out.old ≤ vec_capacity out.new }
 {
     out.push(b' ')?;

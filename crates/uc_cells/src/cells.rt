@@ -78,7 +78,8 @@ impl Cells {
     /// cell then. At either fault the entry is dropped. Putting an equal entry again isn't `Taken`.
     pub fn put(&self, alloc: Global, entry: Entry) -> Result<Seen<'_>, Fault>
         requires { HasCell self.now entry.ticket }
-        ensures put { IfOk result (λ seen. seen ≡ sighting entry.ticket (Some entry) (row_at self.now entry.ticket)) }
+        ensures put { IfOk result
+            (λ seen. seen ≡ sighting entry.ticket (Some entry) (row_at self.now entry.ticket)) }
         ensures faults { IfErr result (λ fault. (fault ≡ Fault.Memory) ⊎ (fault ≡ Fault.Taken)) }
     {
         let ticket = entry.ticket;

@@ -12,7 +12,8 @@ use std::alloc::Global;
 /// row, the tickets are equal.
 pub fn each_ticket_has_its_own_cell(cells: &Cells)
     ensures { (one : Ticket) (other : Ticket) → HasCell cells.now one → HasCell cells.now other →
-        row_place cells.now one ≡ row_place cells.now other → place_in_row one.number ≡ place_in_row other.number →
+        row_place cells.now one ≡ row_place cells.now other →
+        place_in_row one.number ≡ place_in_row other.number →
         one ≡ other }
 {
     let _ = cells;
@@ -22,7 +23,8 @@ pub fn each_ticket_has_its_own_cell(cells: &Cells)
 /// holds another value, and `Memory` if an allocation fails.
 pub fn what_was_put_is_seen(cells: &Cells, alloc: Global, entry: Entry) -> Result<Seen<'_>, Fault>
     requires { HasCell cells.now entry.ticket }
-    ensures put { IfOk result (λ seen. seen ≡ sighting entry.ticket (Some entry) (row_at cells.now entry.ticket)) }
+    ensures put { IfOk result
+        (λ seen. seen ≡ sighting entry.ticket (Some entry) (row_at cells.now entry.ticket)) }
     ensures faults { IfErr result (λ fault. (fault ≡ Fault.Memory) ⊎ (fault ≡ Fault.Taken)) }
 {
     let ticket = entry.ticket;

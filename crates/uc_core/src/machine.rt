@@ -151,7 +151,9 @@ impl Core {
 
 /// Returns the entry that was announced under the ticket, among what each worker announced.
 pub(crate) fn announced_under(entries: &[Vec<Entry>], ticket: Ticket) -> Option<&Entry>
-    ensures { option_copied result ≡ option_and_then (λ (announced : Vec Entry). slice_get announced.items ticket.number) (slice_get entries.now ticket.worker) }
+    ensures { option_copied result
+        ≡ option_and_then (λ (announced : Vec Entry). slice_get announced.items ticket.number)
+        (slice_get entries.now ticket.worker) }
 {
     let announced = entries.get(usize::from(ticket.worker.number()))?;
     announced.get(ticket.number as usize)

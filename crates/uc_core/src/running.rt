@@ -23,13 +23,17 @@ impl Core {
         replies: &mut Vec<(WorkerId, u64, Reply)>,
     ) -> Result<(), RunFault>
         ensures ran { (given : List Given) ×
-            Runs self.old (take (done events.now result) events.now) self.new given × (replies.new.items ≡ replies.old.items ++ given) }
-        ensures fault { IfErr result (λ it. (event : Event) × (slice_get events.now it.at ≡ Some event) × IsFaultOf self.new event it.fault) }
+            Runs self.old (take (done events.now result) events.now) self.new given
+            × (replies.new.items ≡ replies.old.items ++ given) }
+        ensures fault { IfErr result
+            (λ it. (event : Event) × (slice_get events.now it.at ≡ Some event)
+            × IsFaultOf self.new event it.fault) }
 
         // What follows for every run.
         ensures log { BeginsWith self.new.shown.decided self.old.shown.decided }
         ensures legal { IsLegal self.new.shown.decided }
-        ensures replies { RepliesAreAnswers self.new (drop (length replies.old.items) replies.new.items) }
+        ensures replies { RepliesAreAnswers self.new
+            (drop (length replies.old.items) replies.new.items) }
     {
         // The invariant says that some run has led here.
         let _ = &self.places;
@@ -50,7 +54,8 @@ impl Core {
         replies: &mut Vec<(WorkerId, u64, Reply)>,
     ) -> Result<(), Fault>
         ensures step { OnOk result ((reply : Option Reply) ×
-            CoreStep self.old event.now self.new reply × (replies.new.items ≡ replies.old.items ++ given_by self.old event.now reply)) }
+            CoreStep self.old event.now self.new reply
+            × (replies.new.items ≡ replies.old.items ++ given_by self.old event.now reply)) }
         ensures fault { IfErr result (λ fault. IsFaultOf self.old event.now fault) }
         ensures unchanged { OnErr result (self.new ≡ self.old) }
         ensures unanswered { OnErr result (replies.new.items ≡ replies.old.items) }

@@ -16,7 +16,8 @@ impl Core {
     /// nothing changes then.
     pub fn step(&mut self, event: Event) -> Result<Option<Reply>, Fault>
         ensures step { IfOk result (λ reply. CoreStep self.old event self.new reply) }
-        ensures refused { (fault : Fault) → refusal self.old event ≡ Some fault → result ≡ Err fault }
+        ensures refused { (fault : Fault) → refusal self.old event ≡ Some fault →
+            result ≡ Err fault }
         ensures memory { refusal self.old event ≡ None → IsOkUnless result Fault.Memory }
 
         // No event but an announcement or a replay needs memory.
@@ -43,8 +44,12 @@ impl Core {
     /// Does the same for the event's worker.
     fn check_for(&self, worker: &Worker, event: &Event) -> Result<(), Fault>
         requires { worker.now.learned ≤ length self.now.shown.decided }
-        ensures enabled { OnOk result (refusal_by self.now event.now (shown_worker self.now.shown.decided worker.now) (replay_of worker.now) ≡ None) }
-        ensures fault { IfErr result (λ fault. refusal_by self.now event.now (shown_worker self.now.shown.decided worker.now) (replay_of worker.now) ≡ Some fault) }
+        ensures enabled { OnOk result
+            (refusal_by self.now event.now (shown_worker self.now.shown.decided worker.now)
+            (replay_of worker.now) ≡ None) }
+        ensures fault { IfErr result
+            (λ fault. refusal_by self.now event.now (shown_worker self.now.shown.decided worker.now)
+            (replay_of worker.now) ≡ Some fault) }
     {
         let has_room = (worker.learned as u64) < self.places;
         match event {
@@ -96,7 +101,8 @@ impl Core {
     /// Announces the tenant's command under the worker's next ticket.
     fn announce(&mut self, number: u8, tenant: u8, command: Command) -> Result<(), Fault>
         requires { refusal self.old (Announce number tenant command) ≡ None }
-        ensures step { OnOk result (CoreStep self.old (Announce number tenant command) self.new None) }
+        ensures step { OnOk result
+            (CoreStep self.old (Announce number tenant command) self.new None) }
         ensures memory { IsOkUnless result Fault.Memory }
         ensures unchanged { OnErr result (self.new ≡ self.old) }
     {

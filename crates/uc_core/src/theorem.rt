@@ -43,7 +43,8 @@ pub fn laws()
 /// What is true of any two runs, of any workers, places and other tenants: if their logs agree for
 /// a tenant of each, all replies to that tenant's commands are equal in both.
 pub fn two_worlds()
-    ensures { OfEveryRun (λ core given. OfEveryRun (λ other other_given. AnswerAlike core given other other_given)) }
+    ensures { OfEveryRun
+        (λ core given. OfEveryRun (λ other other_given. AnswerAlike core given other other_given)) }
 {}
 
 /// What is true of every event. In any state that a run leads to it leads on only if it meets no

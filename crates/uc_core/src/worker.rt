@@ -57,8 +57,10 @@ impl Worker {
     /// Announces one more command.
     pub(crate) fn announce(&mut self)
         requires { self.old.announced < 2 ^ 64 - 1 }
-        ensures shown { (decided : List Ticket) → shown_worker decided self.new ≡ announce (shown_worker decided self.old) }
-        ensures order { (workers places : ℕ) (decided : List Ticket) → IsInOrder workers places decided self.old →
+        ensures shown { (decided : List Ticket) →
+            shown_worker decided self.new ≡ announce (shown_worker decided self.old) }
+        ensures order { (workers places : ℕ) (decided : List Ticket) →
+            IsInOrder workers places decided self.old →
             self.old.announced ≤ self.old.learned → IsInOrder workers places decided self.new }
         ensures replay { replay_of self.new ≡ replay_of self.old }
     {
@@ -72,10 +74,19 @@ impl Worker {
     /// worker's latest command, and `phase` otherwise.
     fn learn(&mut self, number: WorkerId, phase: Phase, ticket: Ticket)
         requires few { self.old.learned < 2 ^ 64 - 1 }
-        requires counts { (many : ℕ) → slice_get self.old.counts.items ticket.worker ≡ Some many → many ≤ self.old.learned }
-        ensures phase { self.new.phase ≡ (if is_latest_of number self.old.announced ticket then Idle else phase) }
-        ensures others { self.new ≡ record self.old { phase = self.new.phase; learned = self.old.learned + 1; counts = self.new.counts } }
-        ensures counts { (tickets : List Ticket) → AreCounts tickets self.old.counts.items → AreCounts (tickets ++ ticket ∷ []) self.new.counts.items }
+        requires counts { (many : ℕ) → slice_get self.old.counts.items ticket.worker ≡ Some many →
+            many ≤ self.old.learned }
+        ensures phase { self.new.phase
+            ≡ (if is_latest_of number self.old.announced ticket then Idle else phase) }
+        ensures others { self.new
+            ≡ record self.old {
+              phase = self.new.phase;
+              learned = self.old.learned + 1;
+              counts =
+                  self.new.counts;
+            } }
+        ensures counts { (tickets : List Ticket) → AreCounts tickets self.old.counts.items →
+            AreCounts (tickets ++ ticket ∷ []) self.new.counts.items }
         ensures workers { vec_len self.new.counts ≡ vec_len self.old.counts }
     {
         let is_latest = ticket.worker == number
@@ -92,8 +103,11 @@ impl Worker {
         requires few { length decided.now < 2 ^ 64 - 1 }
         requires learned { self.old.learned ≤ length decided.now }
         requires counts { AreCounts (take self.old.learned decided.now) self.old.counts.items }
-        ensures shown { shown_worker decided.now self.new ≡ read number (slice_get decided.now self.old.learned) (shown_worker decided.now self.old) }
-        ensures order { (workers places : ℕ) → IsInOrder workers places decided.now self.old → self.old.phase ≢ Looked →
+        ensures shown { shown_worker decided.now self.new
+            ≡ read number (slice_get decided.now self.old.learned)
+            (shown_worker decided.now self.old) }
+        ensures order { (workers places : ℕ) → IsInOrder workers places decided.now self.old →
+            self.old.phase ≢ Looked →
             IsInOrder workers places decided.now self.new }
         ensures replay { replay_of self.new ≡ replay_of self.old }
     {
@@ -110,9 +124,11 @@ impl Worker {
     /// them that it hasn't learned.
     pub(crate) fn look(&mut self, helped: WorkerId, announced: u64)
         requires { helped < vec_len self.old.counts }
-        ensures shown { (decided : List Ticket) → AreCounts (take self.old.learned decided) self.old.counts.items →
+        ensures shown { (decided : List Ticket) →
+            AreCounts (take self.old.learned decided) self.old.counts.items →
             shown_worker decided self.new ≡ look helped announced (shown_worker decided self.old) }
-        ensures order { (workers places : ℕ) (decided : List Ticket) → IsInOrder workers places decided self.old →
+        ensures order { (workers places : ℕ) (decided : List Ticket) →
+            IsInOrder workers places decided self.old →
             self.old.learned < places → IsInOrder workers places decided self.new }
         ensures replay { replay_of self.new ≡ replay_of self.old }
     {
@@ -132,15 +148,19 @@ impl Worker {
     /// there.
     pub(crate) fn propose(&mut self, number: WorkerId, decided: &mut Vec<Ticket>)
         requires learned { self.old.learned ≤ vec_len decided.old }
-        requires room { self.old.learned ≡ vec_len decided.old → vec_len decided.old < vec_capacity decided.old }
-        requires counts { AreCounts (take self.old.learned decided.old.items) self.old.counts.items }
+        requires room { self.old.learned ≡ vec_len decided.old →
+            vec_len decided.old < vec_capacity decided.old }
+        requires counts { AreCounts
+            (take self.old.learned decided.old.items) self.old.counts.items }
         requires proposals { self.old.proposals ≤ self.old.learned }
         ensures decided { decided.new.items ≡
             decided_with (proposal number (shown_worker decided.old.items self.old)) decided.old.items (slice_get decided.old.items self.old.learned) }
         ensures shown { shown_worker decided.new.items self.new ≡
-            propose number (slice_get decided.old.items self.old.learned) (shown_worker decided.old.items self.old) }
+            propose number (slice_get decided.old.items self.old.learned)
+            (shown_worker decided.old.items self.old) }
         ensures room { vec_capacity decided.new ≡ vec_capacity decided.old }
-        ensures order { (workers places : ℕ) → IsInOrder workers places decided.old.items self.old → IsInOrder workers places decided.new.items self.new }
+        ensures order { (workers places : ℕ) → IsInOrder workers places decided.old.items self.old →
+            IsInOrder workers places decided.new.items self.new }
         ensures replay { replay_of self.new ≡ replay_of self.old }
     {
         let ticket = decide(decided, self.learned, self.proposal(number));
@@ -151,7 +171,8 @@ impl Worker {
 
     /// Returns what it proposes: the ticket that it found, or its own latest.
     fn proposal(&self, number: WorkerId) -> Ticket
-        ensures { (decided : List Ticket) → result ≡ proposal number (shown_worker decided self.now) }
+        ensures { (decided : List Ticket) →
+            result ≡ proposal number (shown_worker decided self.now) }
     {
         match self.look {
             Some(ticket) => ticket,
@@ -170,12 +191,18 @@ impl Worker {
         found: Option<&Entry>,
     ) -> Result<Option<Reply>, Fault>
         requires few { self.old.replayed < 2 ^ 64 - 1 }
-        requires uniques { (tenant : ℕ) (state : TableState) → slice_get self.old.tables.items tenant ≡ Some state → state.last_unique ≤ self.old.replayed }
-        ensures reply { IfOk result (λ reply. reply ≡ reply_from number self.old.tables.items (option_copied found.entry)) }
+        requires uniques { (tenant : ℕ) (state : TableState) →
+            slice_get self.old.tables.items tenant ≡ Some state →
+            state.last_unique ≤ self.old.replayed }
+        ensures reply { IfOk result
+            (λ reply. reply ≡ reply_from number self.old.tables.items (option_copied found.entry)) }
         ensures replayed { OnOk result (self.new.replayed ≡ self.old.replayed + 1) }
-        ensures tables { OnOk result (TakeEffect (option_copied found.entry) self.old.tables.items self.new.tables.items) }
-        ensures shown { (decided : List Ticket) → shown_worker decided self.new ≡ shown_worker decided self.old }
-        ensures order { (workers places : ℕ) (decided : List Ticket) → IsInOrder workers places decided self.old → IsInOrder workers places decided self.new }
+        ensures tables { OnOk result
+            (TakeEffect (option_copied found.entry) self.old.tables.items self.new.tables.items) }
+        ensures shown { (decided : List Ticket) →
+            shown_worker decided self.new ≡ shown_worker decided self.old }
+        ensures order { (workers places : ℕ) (decided : List Ticket) →
+            IsInOrder workers places decided self.old → IsInOrder workers places decided self.new }
         ensures memory { IsOkUnless result Fault.Memory }
         ensures unchanged { OnErr result (replay_of self.new ≡ replay_of self.old) }
     {
@@ -186,8 +213,10 @@ impl Worker {
 
     /// Stops for good.
     pub(crate) fn stop(&mut self)
-        ensures shown { (decided : List Ticket) → shown_worker decided self.new ≡ stop (shown_worker decided self.old) }
-        ensures order { (workers places : ℕ) (decided : List Ticket) → IsInOrder workers places decided self.old → IsInOrder workers places decided self.new }
+        ensures shown { (decided : List Ticket) →
+            shown_worker decided self.new ≡ stop (shown_worker decided self.old) }
+        ensures order { (workers places : ℕ) (decided : List Ticket) →
+            IsInOrder workers places decided self.old → IsInOrder workers places decided self.new }
         ensures replay { replay_of self.new ≡ replay_of self.old }
     {
         self.phase = Phase::Stopped;
@@ -199,9 +228,11 @@ impl Worker {
 fn decide(decided: &mut Vec<Ticket>, place: usize, proposal: Ticket) -> Ticket
     requires place { place ≤ vec_len decided.old }
     requires room { place ≡ vec_len decided.old → vec_len decided.old < vec_capacity decided.old }
-    ensures decided { decided.new.items ≡ decided_with proposal decided.old.items (slice_get decided.old.items place) }
+    ensures decided { decided.new.items
+        ≡ decided_with proposal decided.old.items (slice_get decided.old.items place) }
     ensures found { result ≡ unwrap_or (slice_get decided.old.items place) proposal }
-    ensures learned { take (place + 1) decided.new.items ≡ take place decided.old.items ++ result ∷ [] }
+    ensures learned { take (place + 1) decided.new.items
+        ≡ take place decided.old.items ++ result ∷ [] }
     ensures within { place < vec_len decided.new }
     ensures grows { vec_len decided.old ≤ vec_len decided.new }
     ensures room { vec_capacity decided.new ≡ vec_capacity decided.old }

@@ -34,7 +34,8 @@ impl Pass {
 
 /// Returns a pass with each of these new seats, in order.
 fn passes_of(alloc: Global, seats: Vec<Idle>) -> Result<Vec<Pass>, Fault>
-    requires new { (number : ℕ) (seat : _) → slice_get seats.items number ≡ Some seat → known seat.desk ≡ new_seat (size_of seat.desk) (worker_of seat.desk) }
+    requires new { (number : ℕ) (seat : _) → slice_get seats.items number ≡ Some seat →
+        known seat.desk ≡ new_seat (size_of seat.desk) (worker_of seat.desk) }
     ensures count { IfOk result (λ passes. length passes.items ≡ length seats.items) }
     ensures passes { IfOk result (λ passes. AreMadeOf passes.items seats.items) }
     ensures memory { IsOkUnless result faults.Memory }
@@ -65,7 +66,9 @@ impl Log {
     pub fn open(alloc: Global, settings: &Settings) -> Result<(Log, Vec<Pass>), Fault>
         ensures settings { IfOk result (λ opened. opened.0.settings ≡ settings.now) }
         ensures count { IfOk result (λ opened. length opened.1.items ≡ settings.now.workers) }
-        ensures passes { IfOk result (λ opened. (number : ℕ) (pass : _) → slice_get opened.1.items number ≡ Some pass → IsNew opened.0 number pass) }
+        ensures passes { IfOk result
+            (λ opened. (number : ℕ) (pass : _) → slice_get opened.1.items number ≡ Some pass →
+            IsNew opened.0 number pass) }
         ensures memory { IsOkUnless result faults.Memory }
     {
         let workers = settings.workers() as u8;

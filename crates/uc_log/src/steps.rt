@@ -30,7 +30,9 @@ impl Log {
         ensures of { IsOf self.now pass.new }
         ensures announced { OnOk result (Announces (desk pass.old) (desk pass.new)) }
         // The cell of the announced ticket holds the tenant's command.
-        ensures put { OnOk result (own_sightings pass.new ≡ own_sightings pass.old ++ next_sighting self.now pass.old tenant command ∷ []) }
+        ensures put { OnOk result
+            (own_sightings pass.new
+            ≡ own_sightings pass.old ++ next_sighting self.now pass.old tenant command ∷ []) }
         ensures faults { IfErr result (λ fault. (fault ≡ faults.Memory) ⊎ (fault ≡ faults.Taken)) }
         ensures unchanged { OnErr result (pass.new ≡ pass.old) }
     {
@@ -57,7 +59,8 @@ impl Log {
     /// is its own. An empty place becomes the mark of a pending worker that has none.
     pub fn read(&self, pass: &mut Pass) -> Option<Ticket>
         requires of { IsOf self.now pass.old }
-        requires phase { ((state pass.old).phase ≡ phase.Idle) ⊎ ((state pass.old).phase ≡ phase.Pending) }
+        requires phase { ((state pass.old).phase ≡ phase.Idle)
+            ⊎ ((state pass.old).phase ≡ phase.Pending) }
         requires room { HasRoom (size pass.old) (state pass.old) }
         ensures read { Reads (desk pass.old) (desk pass.new) result }
         ensures kept { Keeps self.now pass.old pass.new }
@@ -104,9 +107,12 @@ impl Log {
     pub fn seen(&self, alloc: Global, pass: &mut Pass, place: usize) -> Result<Seen<'_>, Fault>
         requires of { IsOf self.now pass.old }
         requires learned { place < length (learned pass.old) }
-        ensures ticket { IfOk result (λ seen. slice_get (learned pass.old) place ≡ Some seen.ticket) }
+        ensures ticket { IfOk result
+            (λ seen. slice_get (learned pass.old) place ≡ Some seen.ticket) }
         ensures row { IfOk result (λ seen. seen.row ≡ row_of self.now seen.ticket) }
-        ensures own { IfOk result (λ seen. seen.ticket.worker ≡ worker pass.old → slice_get (own_sightings pass.old) seen.ticket.number ≡ Some seen) }
+        ensures own { IfOk result
+            (λ seen. seen.ticket.worker ≡ worker pass.old →
+            slice_get (own_sightings pass.old) seen.ticket.number ≡ Some seen) }
         ensures memory { IsOkUnless result faults.Memory }
         ensures same { pass.new ≡ pass.old }
     {

@@ -70,7 +70,8 @@ impl Numbers {
     /// Learns one more ticket. The worker becomes idle if the ticket is its own, and otherwise
     /// takes the given phase.
     pub(crate) fn learn(&mut self, ticket: &Ticket, phase: Phase)
-        requires counts { (length self.old.counts ≡ 16) × (slice_index self.old.counts ticket.now.worker < 2 ^ 32) }
+        requires counts { (length self.old.counts ≡ 16)
+            × (slice_index self.old.counts ticket.now.worker < 2 ^ 32) }
         requires small { (self.old.learned < 2 ^ 32) × (ticket.now.number < 2 ^ 32) }
         ensures { self.new ≡ learned_one self.old ticket.now phase }
     {

@@ -32,7 +32,8 @@ impl Desk {
     /// is its own. An empty place becomes the mark of a pending worker that has none.
     pub fn read(&mut self, places: &Places) -> Option<Ticket>
         requires place { IsSeatOf places.now self.old }
-        requires phase { ((state_of self.old).phase ≡ phase.Idle) ⊎ ((state_of self.old).phase ≡ phase.Pending) }
+        requires phase { ((state_of self.old).phase ≡ phase.Idle)
+            ⊎ ((state_of self.old).phase ≡ phase.Pending) }
         requires room { HasRoom (size_of self.old) (state_of self.old) }
         ensures { Reads self.old self.new result }
     {

@@ -11,7 +11,8 @@ use mc_model::Ticket;
 
 /// Returns the typed seat of a desk whose worker is between two steps.
 pub(crate) fn settled(desk: Desk) -> Seat
-    requires rests { ((state_of desk).phase ≡ phase.Idle) ⊎ ((state_of desk).phase ≡ phase.Pending) }
+    requires rests { ((state_of desk).phase ≡ phase.Idle)
+        ⊎ ((state_of desk).phase ≡ phase.Pending) }
     ensures desk { desk_of result ≡ desk }
     ensures idle { is_idle result ≡ true → (state_of desk).phase ≡ phase.Idle }
     ensures pending { is_idle result ≡ false → (state_of desk).phase ≡ phase.Pending }

@@ -42,8 +42,10 @@ pub fn open(alloc: Global, workers: u8, places: u64) -> Result<(Places, Vec<Idle
     requires workers { (0 < workers) × (workers ≤ WORKERS) }
     requires places { (0 < places) × (places ≤ MAX_PLACES) }
     ensures count { IfOk result (λ opened. length opened.1.items ≡ workers) }
-    ensures seats { IfOk result (λ opened. (worker : ℕ) (seat : _) → slice_get opened.1.items worker ≡ Some seat →
-        IsSeatOf opened.0 seat.desk × (known seat.desk ≡ new_seat (record { workers = workers; places = places }) worker)) }
+    ensures seats { IfOk result
+        (λ opened. (worker : ℕ) (seat : _) → slice_get opened.1.items worker ≡ Some seat →
+        IsSeatOf opened.0 seat.desk
+        × (known seat.desk ≡ new_seat (record { workers = workers; places = places }) worker)) }
     ensures memory { IsOkUnless result faults.Memory }
 {
     let words = blank(alloc, workers, places)?;
@@ -86,7 +88,8 @@ fn decided(
     first: usize,
     places: usize,
 ) -> Result<Vec<Ticket>, Fault>
-    requires wide { (first + places ≤ slots_len closed.now.words) × IsFull closed.now.words × (first + places < 2 ^ 32) }
+    requires wide { (first + places ≤ slots_len closed.now.words) × IsFull closed.now.words
+        × (first + places < 2 ^ 32) }
     requires tickets { AreTickets (slots_items closed.now.words) first places }
     ensures spelled { IfOk result (λ log. (tickets : List ticket.Ticket) →
         Spells (slots_items closed.now.words) first places tickets → log.items ≡ tickets) }
@@ -106,7 +109,8 @@ fn decided(
 /// Closes the words with one seat that is still open, and returns the log.
 fn close_with(alloc: Global, places: Places, desk: Desk) -> Result<Vec<Ticket>, Fault>
     requires { IsSeatOf places desk }
-    ensures log { IfOk result (λ tickets. (log : state.ShownState) × IsReached places.table.shared.key log
+    ensures log { IfOk result
+        (λ tickets. (log : state.ShownState) × IsReached places.table.shared.key log
         × (tickets.items ≡ log.decided) × IsPartOf places.table.shared.key log desk) }
     ensures memory { IsOkUnless result faults.Memory }
 {
@@ -124,7 +128,9 @@ fn close_with(alloc: Global, places: Places, desk: Desk) -> Result<Vec<Ticket>, 
 
 /// Closes the words without an open seat, and returns the log.
 fn close_bare(alloc: Global, places: Places) -> Result<Vec<Ticket>, Fault>
-    ensures log { IfOk result (λ tickets. (log : state.ShownState) × IsReached places.table.shared.key log × (tickets.items ≡ log.decided)) }
+    ensures log { IfOk result
+        (λ tickets. (log : state.ShownState) × IsReached places.table.shared.key log
+        × (tickets.items ≡ log.decided)) }
     ensures memory { IsOkUnless result faults.Memory }
 {
     let Places {
@@ -156,7 +162,8 @@ pub fn close(alloc: Global, places: Places, seats: Vec<Seat>) -> Result<Vec<Tick
         BeginsWith tickets.items (state_of (desk_of seat)).learned) }
     // It is the log of a reachable state, to which only other workers' events lead from the first
     // seat's last state.
-    ensures end { IfOk result (λ tickets. IsEnd places.table.shared.key tickets.items (slice_get seats.items 0)) }
+    ensures end { IfOk result
+        (λ tickets. IsEnd places.table.shared.key tickets.items (slice_get seats.items 0)) }
     ensures memory { IsOkUnless result faults.Memory }
 {
     match first_of(seats) {

@@ -29,7 +29,8 @@ fn run(places: &Places, first: Held, second: Held, steps: &[(usize, Move)]) -> O
 
 /// Returns the seats of worker 0 and worker 1.
 fn both_seats(places: &Places, mut seats: Vec<Idle>) -> Option<(Held, Held)>
-    requires { (worker : ℕ) (seat : _) → slice_get seats.items worker ≡ Some seat → IsSeatOf places.now seat.desk }
+    requires { (worker : ℕ) (seat : _) → slice_get seats.items worker ≡ Some seat →
+        IsSeatOf places.now seat.desk }
     ensures { IfSome result (λ pair. IsHeldAt places.now pair.0 × IsHeldAt places.now pair.1) }
 {
     let second = seats.pop()?;
@@ -39,7 +40,9 @@ fn both_seats(places: &Places, mut seats: Vec<Idle>) -> Option<(Held, Held)>
 
 /// Returns the seat alone, if the words can be closed with it.
 fn alone(alloc: Global, seat: Held) -> Result<Vec<Seat>, Fault>
-    ensures { IfOk result (λ seats. (first : _) → slice_get seats.items 0 ≡ Some first → desk_of first ≡ held_desk seat) }
+    ensures { IfOk result
+        (λ seats. (first : _) → slice_get seats.items 0 ≡ Some first →
+        desk_of first ≡ held_desk seat) }
 {
     let mut seats = Vec::new(alloc);
     let first = match seat {

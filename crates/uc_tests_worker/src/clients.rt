@@ -142,7 +142,9 @@ pub(crate) fn opened(
     places: u64,
     quotas: &[Limits],
 ) -> Result<(Log, Vec<Pass>), Fault>
-    ensures { IfOk result (λ opened. (number : ℕ) (pass : _) → slice_get opened.1.items number ≡ Some pass → IsFresh opened.0 pass) }
+    ensures { IfOk result
+        (λ opened. (number : ℕ) (pass : _) → slice_get opened.1.items number ≡ Some pass →
+        IsFresh opened.0 pass) }
 {
     let settings = settings_of(alloc, workers, places, quotas)?;
     let (log, passes) = Log::open(alloc, &settings)?;
@@ -151,7 +153,8 @@ pub(crate) fn opened(
 
 /// Returns the passes of worker 0 and worker 1.
 pub(crate) fn both_passes(log: &Log, mut passes: Vec<Pass>) -> Option<(Pass, Pass)>
-    requires { (number : ℕ) (pass : _) → slice_get passes.items number ≡ Some pass → IsFresh log.now pass }
+    requires { (number : ℕ) (pass : _) → slice_get passes.items number ≡ Some pass →
+        IsFresh log.now pass }
     ensures { IfSome result (λ pair. IsFresh log.now pair.0 × IsFresh log.now pair.1) }
 {
     let second = passes.pop()?;
@@ -165,7 +168,8 @@ pub(crate) fn both_clients<'a>(
     log: &'a Log,
     passes: Vec<Pass>,
 ) -> Result<(Client<'a>, Client<'a>), Fault>
-    requires { (number : ℕ) (pass : _) → slice_get passes.items number ≡ Some pass → IsFresh log.now pass }
+    requires { (number : ℕ) (pass : _) → slice_get passes.items number ≡ Some pass →
+        IsFresh log.now pass }
     ensures one { IfOk result (λ pair. pair.0.log.now ≡ log.now) }
     ensures two { IfOk result (λ pair. pair.1.log.now ≡ log.now) }
 {
@@ -183,7 +187,8 @@ pub(crate) fn clients_of<'a>(
     log: &'a Log,
     passes: Vec<Pass>,
 ) -> Result<Vec<Client<'a>>, Fault>
-    requires { (number : ℕ) (pass : _) → slice_get passes.items number ≡ Some pass → IsFresh log.now pass }
+    requires { (number : ℕ) (pass : _) → slice_get passes.items number ≡ Some pass →
+        IsFresh log.now pass }
     ensures { IfOk result (λ clients. All (λ client. client.log.now ≡ log.now) clients.items) }
 {
     let mut clients = Vec::new(alloc);

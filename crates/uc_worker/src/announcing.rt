@@ -21,7 +21,8 @@ pub(crate) fn settle<G: Gate>(log: &Log, pass: &mut Pass, gate: &mut G) -> bool
     requires rests { Rests (state pass.old).phase }
     ensures on { LearnsOn log.now pass.old pass.new }
     ensures outcome { MatchBool result ((state pass.new).phase ≡ phase.Idle) (RunsOut pass.new) }
-    ensures spent { (state pass.old).phase ≡ phase.Pending → length (learned pass.old) ≡ (size pass.old).places → result ≡ false }
+    ensures spent { (state pass.old).phase ≡ phase.Pending →
+        length (learned pass.old) ≡ (size pass.old).places → result ≡ false }
     ensures still { (state pass.old).phase ≡ phase.Idle → pass.new ≡ pass.old }
 {
     if pass.is_pending() {
@@ -50,7 +51,8 @@ pub(crate) fn decide_new<G: Gate>(
     ensures advances { Advances log.now pass.old pass.new }
     ensures outcome { MatchResult result (λ _. Decides log.now pass.old pass.new tenant command)
         (LeavesUndecided log.now pass.old pass.new tenant command) }
-    ensures spent { length (learned pass.old) ≡ (size pass.old).places → result ≡ Err faults.LogFull }
+    ensures spent { length (learned pass.old) ≡ (size pass.old).places →
+        result ≡ Err faults.LogFull }
 {
     if pass.is_full() {
         return Err(Fault::LogFull);

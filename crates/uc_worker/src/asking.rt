@@ -27,8 +27,10 @@ impl<'a> Worker<'a> {
     /// The tickets there are a legal list: a prefix of those that the worker has learned.
     pub fn history(&self) -> &[Seen<'a>]
         ensures history { result.now ≡ history_of self.now }
-        ensures follows { Follows self.now.log.now (history_of self.now) (seat_of self.now).state.learned }
-        ensures law { SeatLaw (seat_of self.now).size (seat_of self.now).worker (seat_of self.now).state }
+        ensures follows { Follows self.now.log.now (history_of self.now)
+            (seat_of self.now).state.learned }
+        ensures law { SeatLaw (seat_of self.now).size (seat_of self.now).worker
+            (seat_of self.now).state }
     {
         self.replica.history()
     }
@@ -36,7 +38,8 @@ impl<'a> Worker<'a> {
     /// Returns the tenant's table, as that tenant's own commands in the history leave it.
     pub fn table(&self, tenant: TenantId) -> &Items
         requires { tenant < length (tenants_of self.now) }
-        ensures { Some result.now ≡ option_map (λ opening. state_from opening (own tenant (entries (history_of self.now)))) (slice_get (openings_of self.now) tenant) }
+        ensures { Some result.now
+            ≡ option_map (λ opening. state_from opening (own tenant (entries (history_of self.now)))) (slice_get (openings_of self.now) tenant) }
     {
         // The contract of `history` says that there is a table for each tenant.
         let _ = self.replica.history();
@@ -46,7 +49,8 @@ impl<'a> Worker<'a> {
     /// Returns whether the worker has learned all places. If so, nothing more is ever logged for
     /// it.
     pub fn is_full(&self) -> bool
-        ensures full { result ≡ true → length (seat_of self.now).state.learned ≡ (seat_of self.now).size.places }
+        ensures full { result ≡ true →
+            length (seat_of self.now).state.learned ≡ (seat_of self.now).size.places }
         ensures room { result ≡ false → HasRoom (seat_of self.now).size (seat_of self.now).state }
     {
         self.pass.is_full()

@@ -15,7 +15,8 @@ fn read_on<G: Gate>(log: &Log, pass: &mut Pass, gate: &mut G) -> bool
     requires of { IsOf log.now pass.old }
     requires pending { (state pass.old).phase ≡ phase.Pending }
     ensures on { LearnsOn log.now pass.old pass.new }
-    ensures outcome { MatchBool result (Decided (seat pass.old) (seat pass.new)) (IsMarked pass.new) }
+    ensures outcome { MatchBool result (Decided (seat pass.old) (seat pass.new))
+        (IsMarked pass.new) }
 {
     for _place in pass.learned()..pass.places() {
         let found = log.read(pass);
@@ -37,7 +38,8 @@ fn propose_on<G: Gate>(log: &Log, pass: &mut Pass, gate: &mut G) -> bool
     requires pending { (state pass.old).phase ≡ phase.Pending }
     requires marked { (state pass.old).mark ≢ None }
     ensures on { LearnsOn log.now pass.old pass.new }
-    ensures outcome { MatchBool result (Decided (seat pass.old) (seat pass.new)) (RunsOut pass.new) }
+    ensures outcome { MatchBool result (Decided (seat pass.old) (seat pass.new))
+        (RunsOut pass.new) }
 {
     for _place in pass.learned()..pass.places() {
         log.look(pass);
@@ -57,7 +59,8 @@ pub(crate) fn decide<G: Gate>(log: &Log, pass: &mut Pass, gate: &mut G) -> bool
     requires of { IsOf log.now pass.old }
     requires pending { (state pass.old).phase ≡ phase.Pending }
     ensures on { LearnsOn log.now pass.old pass.new }
-    ensures outcome { MatchBool result (Decided (seat pass.old) (seat pass.new)) (RunsOut pass.new) }
+    ensures outcome { MatchBool result (Decided (seat pass.old) (seat pass.new))
+        (RunsOut pass.new) }
     ensures spent { length (learned pass.old) ≡ (size pass.old).places → result ≡ false }
 {
     if pass.is_full() {

@@ -55,8 +55,11 @@ impl<'a> Worker<'a> {
         ensures one { CatchesUp self.old self.new }
         ensures other { CatchesUp other.old other.new }
         ensures equal { OnOk result (history_of self.new ≡ history_of other.new) }
-        ensures tables { openings_of self.old ≡ openings_of other.old → OnOk result (tables_of self.new ≡ tables_of other.new) }
-        ensures all { OnOk result (IsUpToDate self.new × ((seat_of self.new).state.learned ≡ (seat_of other.new).state.learned)) }
+        ensures tables { openings_of self.old ≡ openings_of other.old →
+            OnOk result (tables_of self.new ≡ tables_of other.new) }
+        ensures all { OnOk result
+            (IsUpToDate self.new
+            × ((seat_of self.new).state.learned ≡ (seat_of other.new).state.learned)) }
         ensures memory { IsOkUnless result faults.Memory }
     {
         even(self.log, &mut self.pass, &mut other.pass);

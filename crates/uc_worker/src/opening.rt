@@ -24,7 +24,8 @@ impl<'a> Worker<'a> {
         ensures log { IfOk result (λ worker. worker.log.now ≡ log.now) }
         ensures seat { IfOk result (λ worker. seat_of worker ≡ seat pass) }
         ensures history { IfOk result (λ worker. history_of worker ≡ []) }
-        ensures openings { IfOk result (λ worker. openings_of worker ≡ empty_tables log.now.settings.tenants) }
+        ensures openings { IfOk result
+            (λ worker. openings_of worker ≡ empty_tables log.now.settings.tenants) }
         ensures memory { IsOkUnless result faults.Memory }
     {
         let settings = log.settings();

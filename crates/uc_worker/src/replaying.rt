@@ -40,17 +40,21 @@ impl<'a> Worker<'a> {
     /// Returns `Memory` if memory runs out; some of it may be replayed then.
     pub(crate) fn reply_last<G: Gate>(&mut self, gate: &mut G) -> Result<Reply, Fault>
         requires behind { length (history_of self.old) < length (learned self.old.pass) }
-        requires last { slice_get (learned self.old.pass) (length (learned self.old.pass) - 1) ≡ Some (last_entry self.old.pass).ticket }
+        requires last { slice_get (learned self.old.pass) (length (learned self.old.pass) - 1)
+            ≡ Some (last_entry self.old.pass).ticket }
         requires own { (last_entry self.old.pass).ticket.worker ≡ worker self.old.pass }
-        requires put { slice_get (own_sightings self.old.pass) (last_entry self.old.pass).ticket.number
+        requires put { slice_get (own_sightings self.old.pass)
+            (last_entry self.old.pass).ticket.number
             ≡ Some (sighting_of self.old.log.now (last_entry self.old.pass)) }
         requires tenant { (last_entry self.old.pass).tenant < length (openings_of self.old) }
         ensures replays { ReplaysMore self.old self.new }
         ensures all { OnOk result (length (history_of self.new) ≡ length (learned self.old.pass)) }
-        ensures stands { OnOk result (slice_get (history_of self.new) (length (learned self.old.pass) - 1)
+        ensures stands { OnOk result
+            (slice_get (history_of self.new) (length (learned self.old.pass) - 1)
             ≡ Some (sighting_of self.old.log.now (last_entry self.old.pass))) }
         ensures reply { IfOk result (λ reply. Some reply ≡ reply_to (openings_of self.old)
-            (entries (take (length (learned self.old.pass) - 1) (history_of self.new))) (Some (last_entry self.old.pass))) }
+            (entries (take (length (learned self.old.pass) - 1) (history_of self.new)))
+            (Some (last_entry self.old.pass))) }
         ensures memory { IsOkUnless result faults.Memory }
     {
         let place = self.pass.learned() - 1;

@@ -20,9 +20,12 @@ impl<'a> Worker<'a> {
         ensures catches { CatchesUp self.old self.new }
         ensures idle { OnOk result ((seat_of self.new).state.phase ≡ phase.Idle) }
         ensures all { OnOk result (IsUpToDate self.new) }
-        ensures faults { IfErr result (λ fault. ((fault ≡ faults.Memory) × ((seat_of self.new).state.phase ≡ phase.Idle))
-            ⊎ ((fault ≡ faults.LogFull) × IsFull self.new × ((seat_of self.new).state.phase ≡ phase.Pending))) }
-        ensures spent { (seat_of self.old).state.phase ≡ phase.Pending → IsFull self.old → result ≡ Err faults.LogFull }
+        ensures faults { IfErr result
+            (λ fault. ((fault ≡ faults.Memory) × ((seat_of self.new).state.phase ≡ phase.Idle))
+            ⊎ ((fault ≡ faults.LogFull) × IsFull self.new
+            × ((seat_of self.new).state.phase ≡ phase.Pending))) }
+        ensures spent { (seat_of self.old).state.phase ≡ phase.Pending → IsFull self.old →
+            result ≡ Err faults.LogFull }
         ensures still { (seat_of self.old).state.phase ≡ phase.Idle → IsUpToDate self.old →
             IsOk result × (self.new.pass ≡ self.old.pass) }
     {
@@ -47,9 +50,11 @@ impl<'a> Worker<'a> {
         ensures continues { Continues self.old self.new }
         ensures submits { IfOk result (λ answer. Submits self.old self.new tenant command answer) }
         ensures kept { OnErr result (AnnouncesAtMost self.old self.new tenant command) }
-        ensures faults { IfErr result (λ fault. Leaves fault (seat_of self.old) (seat_of self.new)) }
+        ensures faults { IfErr result
+            (λ fault. Leaves fault (seat_of self.old) (seat_of self.new)) }
         ensures spent { IsFull self.old → result ≡ Err faults.LogFull }
-        ensures spends { IfErr result (λ fault. fault ≡ faults.LogFull → IsUpToDate self.old → IsSpent self.new) }
+        ensures spends { IfErr result
+            (λ fault. fault ≡ faults.LogFull → IsUpToDate self.old → IsSpent self.new) }
     {
         decide_new(self.log, self.alloc, &mut self.pass, tenant, command, gate)?;
         let reply = self.reply_last(gate)?;
@@ -85,7 +90,8 @@ impl<'a> Worker<'a> {
         // With a fault, at most this command was announced.
         ensures kept { OnErr result (AnnouncesAtMost self.old self.new tenant command) }
         // What a fault leaves.
-        ensures faults { IfErr result (λ fault. Leaves fault (seat_of self.old) (seat_of self.new)) }
+        ensures faults { IfErr result
+            (λ fault. Leaves fault (seat_of self.old) (seat_of self.new)) }
         // Once a call has found the log full, each later call does.
         ensures spends { IfErr result (λ fault. fault ≡ faults.LogFull → IsSpent self.new) }
         ensures spent { IsSpent self.old → result ≡ Err faults.LogFull }
