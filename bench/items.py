@@ -1,80 +1,62 @@
 #!/usr/bin/env python3
 """Measures how the cost of a request grows with the keys held, and the memory of a stored item.
 
-The built mc_stdin (bench/stdin.sh builds it) is fed over pipes, and memcached, where it is there, over loopback. Data have 100
-bytes and keys 9, in no order. Each thing is measured several times, each time on a new process: printed are the median and
-the range. Every reply is compared with the bytes that are wanted.
+The built mc_stdin is fed over pipes, and memcached, where it is installed, over loopback. Data have 100 bytes and keys 9, in no order. Each
+figure is measured several times, each time on a new process: printed are the median and the range. Every reply is compared with the bytes
+that are wanted.
 """
 
 import os
+import pathlib
 import random
 import shutil
-import socket
-import statistics
 import subprocess
 import sys
 import threading
 import time
 
-PROGRAM = "crates/mc_stdin/out/mc_stdin"
-PORT = 11411
+sys.path.insert(0, str(pathlib.Path(__file__).parents[1] / "tests"))
+from harness import repository, servers
+from harness.client import connect
+from harness.measures import median_and_range
+from harness.processes import Process
+
+PROGRAM = repository.program("mc_stdin")
 RUNS = 5
 BLOCK = b"v" * 100
 
 
-class Stdin:
-    """mc_stdin behind two pipes."""
+class Stdin(Process):
+    """mc_stdin over two pipes."""
 
     name = "mc_stdin"
 
     def __init__(self, places):
-        self.process = subprocess.Popen(
-            [PROGRAM, "--places", str(places)], stdin=subprocess.PIPE, stdout=subprocess.PIPE, bufsize=0
-        )
-        self.write = self.process.stdin.write
-        self.read = self.process.stdout.read
-
-    def close(self):
-        self.process.stdin.close()
-        self.process.wait()
-        self.process.stdout.close()
+        words = [PROGRAM, "--places", str(places)]
+        super().__init__(words, stdin=subprocess.PIPE, stdout=subprocess.PIPE, bufsize=0)
+        self.write, self.read = self.process.stdin.write, self.process.stdout.read
 
 
-class Memcached:
-    """A memcached of its own, and one connection to it."""
+class Memcached(servers.Memcached):
+    """memcached, and one connection to it."""
 
     name = "memcached"
 
     def __init__(self, places):
-        words = ["memcached", "-u", "nobody", "-l", "127.0.0.1", "-p", str(PORT), "-m", "64"]
-        self.process = subprocess.Popen(words)
-        for _ in range(100):
-            try:
-                self.connection = socket.create_connection(("127.0.0.1", PORT))
-                break
-            except ConnectionRefusedError:
-                time.sleep(0.05)
-        else:
-            sys.exit(f"nothing listens on port {PORT}")
-        self.connection.setsockopt(socket.IPPROTO_TCP, socket.TCP_NODELAY, 1)
-        self.write = self.connection.send
-        self.read = self.connection.recv
-
-    def close(self):
-        self.connection.close()
-        self.process.terminate()
-        self.process.wait()
+        super().__init__("-m", "64")
+        self.connection = connect(self.port)
+        self.write, self.read = self.connection.send, self.connection.recv
 
 
 def keys(count):
-    """So many distinct keys, in no order, and the same ones each time."""
+    """This many distinct keys, in no order, and the same ones each time."""
     numbers = list(range(count))
     random.Random(1).shuffle(numbers)
     return [b"key%06d" % number for number in numbers]
 
 
 def some(held, count):
-    """So many of the keys, each as likely as another."""
+    """This many of the keys, each as likely as another."""
     return random.Random(2).choices(held, k=count)
 
 
@@ -90,7 +72,7 @@ def gets(named):
 
 
 def exchange(server, requests, wanted):
-    """Sends all requests without waiting for replies, and answers the seconds until the last reply was there."""
+    """Sends all requests without waiting for replies, and returns the seconds until the last reply was there."""
 
     def send():
         rest = memoryview(requests)
@@ -114,50 +96,36 @@ def exchange(server, requests, wanted):
     return seconds
 
 
-def resident(server):
-    """The bytes of the process's memory that are in use."""
-    with open(f"/proc/{server.process.pid}/statm") as statm:
-        return int(statm.read().split()[1]) * os.sysconf("SC_PAGE_SIZE")
-
-
-def median_and_range(figures, form):
-    return f"{form % statistics.median(figures)} ({form % min(figures)} to {form % max(figures)})"
-
-
 def rates(kind, phases):
     """Requests a second of the last phase."""
     commands = [requests.count(b"key") for requests, _ in phases]
     found = []
     for _ in range(RUNS):
-        server = kind(sum(commands))
-        seconds = [exchange(server, *phase) for phase in phases]
+        with kind(sum(commands)) as server:
+            seconds = [exchange(server, *phase) for phase in phases]
         found.append(commands[-1] / seconds[-1])
-        server.close()
     return found
 
 
 def memory(kind, named):
-    """The bytes that a set of these keys took, behind 10,000 sets of distinct keys."""
+    """The bytes that a set of these keys took, after 10,000 sets of distinct keys."""
     found = []
     for _ in range(RUNS):
-        server = kind(10000 + len(named))
-        exchange(server, *sets(keys(60000)[:10000]))
-        before = resident(server)
-        exchange(server, *sets(named))
-        found.append((resident(server) - before) / len(named))
-        server.close()
+        with kind(10000 + len(named)) as server:
+            exchange(server, *sets(keys(60000)[:10000]))
+            before = server.resident()
+            exchange(server, *sets(named))
+            found.append((server.resident() - before) / len(named))
     return found
 
 
 def main():
-    os.chdir(os.path.join(os.path.dirname(os.path.abspath(__file__)), ".."))
-    if not os.path.exists(PROGRAM):
-        sys.exit(f"{PROGRAM} isn't built: make run")
+    repository.enter(PROGRAM)
     kinds = [Stdin]
     if shutil.which("memcached"):
         kinds.append(Memcached)
     else:
-        print("memcached is missing, so it was not measured: apt-get install memcached", file=sys.stderr)
+        print("memcached isn't installed, so it isn't measured", file=sys.stderr)
     print("requests a second: median and range of %d runs; the load at the start was %.1f" % (RUNS, os.getloadavg()[0]))
     distinct = keys(60000)
     few, many = keys(1000), keys(50000)
@@ -172,7 +140,7 @@ def main():
     for what, phases in rows:
         for kind in kinds:
             print(f"{what:32} {kind.name:10} {median_and_range(rates(kind, phases), '%.0f')}", flush=True)
-    print("bytes of memory a set, of 50,000 sets behind 10,000 others")
+    print("bytes of memory a set, of 50,000 sets after 10,000 others")
     for what, named in (("of keys not held yet", distinct[10000:]), ("of keys held", some(distinct[:10000], 50000))):
         for kind in kinds:
             print(f"{what:32} {kind.name:10} {median_and_range(memory(kind, named), '%.1f')}", flush=True)

@@ -1,4 +1,4 @@
-/* Loads a memcached over loopback: some connections, each with so many requests sent at once and the next when all their replies are
+/* Loads a memcached over loopback: some connections, each with DEPTH requests sent at once and the next when all their replies are
  * there. Prints requests a second, and the median and the 99th percentile of the time from a send to its last reply, in microseconds.
  *
  * load PORT[,PORT...] CONNECTIONS DEPTH REQUESTS: the connections go to the ports in turn. 95 in 100 requests are gets of one of 1,000

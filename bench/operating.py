@@ -1,13 +1,12 @@
 #!/usr/bin/env python3
 """Prints the tables that docs/OPERATING.md shows of wfmc as built: what it takes in memory at the start, for each command, item and
 connection; what clients are answered when the log is full; what one reply of gigabytes costs without and with a limit on the process,
-and what its neighbours feel; a client that doesn't read; and the line that each mistake prints.
+and what its neighbours notice; a client that doesn't read; and the line that each mistake prints.
 
 Usage: bench/operating.py [BINARY [TABLE...]]; the binary is crates/wfmc/out/wfmc and all tables are printed where none is named.
-It takes some minutes, up to 4 GB of memory and ports of the system's choice, and ends what it starts.
+It takes some minutes, up to 4 GB of memory and free ports, and ends what it starts.
 """
 
-import os
 import pathlib
 import signal
 import socket
@@ -15,12 +14,23 @@ import subprocess
 import sys
 import time
 
-sys.path.insert(0, str(pathlib.Path(__file__).parent))
-from served import Client, Pace, Served
+sys.path.insert(0, str(pathlib.Path(__file__).parents[1] / "tests"))
+from harness import repository
+from harness.client import Client
+from harness.measures import Probe
+from harness.servers import LARGE, Server
 
-PROGRAM = "crates/wfmc/out/wfmc"
+PROGRAM = repository.program("wfmc")
 MEBIBYTE = 1 << 20
 PLACES = ["--places", "1048576"]
+
+
+def serve(options=(), tenants=("a",), quotas=LARGE, **limits):
+    """A started server whose workers are there."""
+    server = Server(PROGRAM, options, dict.fromkeys(tenants, quotas), **limits)
+    if tenants and server.is_ready:
+        server.await_workers(tenants[0])
+    return server
 
 
 def heading(text):
@@ -53,7 +63,7 @@ def a_set(key, size, tail=b""):
 
 
 def pieces(request, count, step=100):
-    """A request so many times, in pieces with their numbers of requests: a function of the number where it is one."""
+    """Many requests, in pieces with their numbers of requests; `request` may be a function of the request's number."""
     make = request if callable(request) else lambda _: request
     for first in range(0, count, step):
         here = range(first, min(first + step, count))
@@ -66,14 +76,14 @@ def show_start():
     table("workers", "places", "tenants", "resident", "address space", "descriptors", "threads")
     for workers, places, tenants in [(1, 65536, 1), (2, 65536, 2), (2, 1048576, 2), (4, 1048576, 2), (16, 1048576, 2), (16, 1048576, 64)]:
         options = ["--workers", str(workers), "--places", str(places)]
-        with Served(PROGRAM, options, names(tenants), (1000, 1_000_000)) as server:
-            server_row = mebibytes(server.resident()), mebibytes(server.figure("VmSize")), server.descriptors(), server.figure("Threads")
+        with serve(options, names(tenants), (1000, 1_000_000)) as server:
+            server_row = mebibytes(server.resident()), mebibytes(server.address_space()), server.descriptors(), server.threads()
             row(workers, f"{places:,}", tenants, *server_row)
 
 
 def growth(workers, request, count, lines, before):
     """By how many bytes resident memory grows a request, once all workers have replayed it."""
-    with Served(PROGRAM, ["--workers", str(workers), *PLACES]) as server:
+    with serve(["--workers", str(workers), *PLACES]) as server:
         with server.client(worker=0) as client:
             if before:
                 client.line(before)
@@ -111,12 +121,12 @@ def show_connections():
     heading("connections: bytes of the process's memory for each of 500, without the kernel's own")
     table("what it does", "bytes")
     for what, sent, taken in [
-        ("idle behind a `get`", b"get -\r\n", b"END\r\n"),
-        ("idle behind a `set` of 1,000,000 bytes", a_set(b"k", 1_000_000), b"STORED\r\n"),
+        ("idle after a `get`", b"get -\r\n", b"END\r\n"),
+        ("idle after a `set` of 1,000,000 bytes", a_set(b"k", 1_000_000), b"STORED\r\n"),
         ("in the middle of a block of 1,000,000 bytes", a_set(b"k", 1_000_000)[:-10], None),
-        ("idle behind a reply of 1,000,000 bytes", b"get big\r\n", b"END\r\n"),
+        ("idle after a reply of 1,000,000 bytes", b"get big\r\n", b"END\r\n"),
     ]:
-        with Served(PROGRAM, ["--workers", "1"]) as server:
+        with serve(["--workers", "1"]) as server:
             with server.client() as client:
                 client.ask(a_set(b"big", 1_000_000), b"\r\n")
                 once = per_command(server, client, sent, taken)
@@ -149,7 +159,7 @@ def show_lag():
     heading("lag: a worker whose connections were silent, at its next command")
     table("commands since", "milliseconds until it is answered", "the one after")
     for count in (1000, 100_000, 1_000_000):
-        with Served(PROGRAM, ["--workers", "2", *PLACES]) as server:
+        with serve(["--workers", "2", *PLACES]) as server:
             with server.client(worker=0) as busy, server.client(worker=1) as silent:
                 silent.ask(b"get -\r\n", b"END\r\n")
                 busy.stream(pieces(a_set(b"0123456789abcdef", 100), count), 1)
@@ -171,17 +181,17 @@ REQUESTS = [
     (b"version\r\n", "`version`"),
     (b"stats\r\n", "`stats`, or any other name"),
     (b"set b 0 60 1\r\nx\r\n", "`set` with an exptime"),
-    (b"get \x01\r\n", "`get` of an unlawful key"),
+    (b"get \x01\r\n", "`get` of a malformed key"),
 ]
 
 
 def show_full():
-    heading("full: what is answered before and behind the last place of the log")
+    heading("full: what is answered before and after the last place of the log")
     table("request", "before", "log full")
     for request, what in REQUESTS:
         lines = []
         for fills in (0, 20):
-            with Served(PROGRAM, ["--places", "20"]) as server, server.client() as client:
+            with serve(["--places", "20"]) as server, server.client() as client:
                 client.line(b"set a 0 0 1\r\nx\r\n")
                 client.line(b"set n 0 0 1\r\n1\r\n")
                 for _ in range(fills):
@@ -199,18 +209,18 @@ def show_replies():
     heading("replies: one line `get b b b ...` over an item of 1 MiB, no limit; others ask for a small item meanwhile")
     table("names", "reply, MiB", "memory at its greatest, MiB more", "MiB kept afterwards", "seconds", "the longest wait at the same worker, ms", "at the other, ms")
     for count in (1, 10, 100, 1000):
-        with Served(PROGRAM, ["--workers", "2", *PLACES]) as server:
-            paces, hog = others_and_hog(server)
+        with serve(["--workers", "2", *PLACES]) as server:
+            probes, hog = others_and_hog(server)
             server.forget_peak()
             then = server.resident()
             began = time.monotonic()
             hog.send(many_names(count) + b"quit\r\n")
-            size, _ = hog.count()
+            size, _ = hog.drain()
             took = time.monotonic() - began
             more = server.peak() - then
             time.sleep(0.5)
             kept = server.resident() - then
-            (_, _, same, wrong), (_, _, other, also_wrong) = (pace.stop() for pace in paces)
+            (_, same, wrong), (_, other, also_wrong) = (probe.stop() for probe in probes)
             assert not wrong and not also_wrong, (wrong, also_wrong)
             row(f"{count:,}", mebibytes(size), mebibytes(more), mebibytes(kept), f"{took:.2f}", f"{same:,.0f}", f"{other:,.0f}")
 
@@ -221,42 +231,42 @@ def others_and_hog(server):
         first.ask(a_set(b"small", 10), b"\r\n")
         first.ask(a_set(b"b", MEBIBYTE), b"\r\n")
     server.catch_up()
-    paces = [Pace(server.client(worker=worker)) for worker in (0, 1)]
+    probes = [Probe(server.client(worker=worker)) for worker in (0, 1)]
     hog = server.client(worker=0)
     time.sleep(0.3)
-    return paces, hog
+    return probes, hog
 
 
 def start_size(options, tenants=("a",)):
-    with Served(PROGRAM, options, tenants) as server:
-        return server.figure("VmSize")
+    with serve(options, tenants) as server:
+        return server.address_space()
 
 
 def show_limits():
-    """The same under a limit on the address space, the start's size and so much more; three such clients one after another."""
+    """The same under a limit on the address space, the start's size and this much more; three such clients one after another."""
     heading("limits: a reply of 3,000 MiB under a limit on the address space (`prlimit --as`, `LimitAS=`)")
     options = ["--workers", "2", *PLACES]
     least = start_size(options)
     table("limit: MiB above the start", "what each of three such clients gets", "MiB resident then, at most", "neighbours' longest wait, ms", "wfmc afterwards")
     for more in (64, 256, 1024):
-        with Served(PROGRAM, options, address_space=least + more * MEBIBYTE) as server:
-            paces, hog = others_and_hog(server)
+        with serve(options, address_space=least + more * MEBIBYTE) as server:
+            probes, hog = others_and_hog(server)
             gets = []
             for _ in range(3):
                 hog.send(many_names(3000))
-                size, last = hog.count()
-                gets.append("`SERVER_ERROR out of memory`, closed" if last.endswith(b"SERVER_ERROR out of memory\r\n") else f"closed behind {size:,} bytes")
+                size, last = hog.drain()
+                gets.append("`SERVER_ERROR out of memory`, closed" if last.endswith(b"SERVER_ERROR out of memory\r\n") else f"closed after {size:,} bytes")
                 hog = server.client(worker=0)
-            waits = [pace.stop() for pace in paces]
-            wrong = [it for wait in waits for it in wait[3]]
-            after = "serves" if server.is_alive() and not wrong and server.client().line(b"version\r\n").startswith("VERSION") else f"{wrong} {server.end()}"
-            row(more, "; ".join(sorted(set(gets))), mebibytes(server.peak()) if server.is_alive() else "", f"{max(wait[2] for wait in waits):,.0f}", after)
+            waits = [probe.stop() for probe in probes]
+            wrong = [it for wait in waits for it in wait[2]]
+            after = "serves" if server.is_running() and not wrong and server.client().line(b"version\r\n").startswith("VERSION") else f"{wrong} {server.end()}"
+            row(more, "; ".join(sorted(set(gets))), mebibytes(server.peak()) if server.is_running() else "", f"{max(wait[1] for wait in waits):,.0f}", after)
 
 
 def show_used():
     """One tenant's commands take all memory that is allowed; then another's, one connection after another, at each worker by turns."""
     heading("used: one tenant sets 1 MiB again and again until it is refused, 400 MiB of address space allowed; then another asks by new connections")
-    with Served(PROGRAM, ["--workers", "2", *PLACES], ("a", "b"), address_space=400 * MEBIBYTE) as server:
+    with serve(["--workers", "2", *PLACES], ("a", "b"), address_space=400 * MEBIBYTE) as server:
         sets, counts = 0, {}
         with server.client("a", worker=0) as greedy:
             while (line := greedy.line(a_set(b"big", MEBIBYTE))) == "STORED":
@@ -265,23 +275,23 @@ def show_used():
             with server.client("b") as other:
                 said = " ".join(other.line(b"set k 0 0 1\r\ny\r\n").split()[:4])
             counts[said] = counts.get(said, 0) + 1
-        table("sets until it is refused", "told then", "100 small sets of the other tenant", "wfmc afterwards")
+        table("sets until it is refused", "the reply then", "100 small sets of the other tenant", "wfmc afterwards")
         answers = ", ".join(f"{count} `{said}`" for said, count in counts.items())
         row(sets, f"`{line}`, closed", answers, "serves" if server.client("b").line(b"version\r\n").startswith("VERSION") else server.end())
 
 
 def paced(wait):
     """The median and the longest wait of a client, or what came in place of an answer."""
-    _, median, longest, wrong = wait
+    median, longest, wrong = wait
     return wrong[0].decode(errors="replace") if wrong else f"{median:.2f}, {longest:.1f}"
 
 
 def show_slow():
-    """Clients that ask for much and read nothing, and others beside them."""
+    """Clients that ask for much and read nothing, and others next to them."""
     heading("slow: clients that ask for 100 MiB in 1,000 `get`s of 100 KiB each and read nothing, others asking meanwhile")
-    table("such clients", "MiB resident more for each", "answers beside them at the same worker: median, longest, ms", "at the other: median, longest, ms", "processor use, in 100")
+    table("such clients", "MiB resident more for each", "replies next to them at the same worker: median, longest, ms", "at the other: median, longest, ms", "processor use, in 100")
     for count in (0, 1, 10, 100):
-        with Served(PROGRAM, ["--workers", "2", *PLACES]) as server:
+        with serve(["--workers", "2", *PLACES]) as server:
             with server.client(worker=0) as first:
                 first.ask(a_set(b"small", 10), b"\r\n")
                 first.ask(a_set(b"large", 100 << 10), b"\r\n")
@@ -292,24 +302,24 @@ def show_slow():
                 client.send(b"get large\r\n" * 1000)
             time.sleep(3)
             more = (server.resident() - then) / max(count, 1)
-            paces = [Pace(server.client(worker=worker)) for worker in (0, 1)]
-            began = server.processor()
+            probes = [Probe(server.client(worker=worker)) for worker in (0, 1)]
+            began = server.processor_seconds()
             time.sleep(3)
-            used = 100 * (server.processor() - began) / 3
-            waits = [pace.stop() for pace in paces]
+            used = 100 * (server.processor_seconds() - began) / 3
+            waits = [probe.stop() for probe in probes]
             row(count, mebibytes(more) if count else "-", *(paced(wait) for wait in waits), f"{used:.0f}")
             for client in slow:
                 client.close()
 
 
 def lines_of(words, **limits):
-    """How it ends by these words, and what stands on standard error then; behind "ready" too, where it has come so far."""
-    with Served(PROGRAM, words, (), **limits) as server:
+    """How it ends by these words, and what is on standard error then; after "ready", where it has come so far."""
+    with serve(words, (), **limits) as server:
         try:
             status = server.process.wait(timeout=20)
         except subprocess.TimeoutExpired:
             return "goes on", []
-        front = ["ready"] if "ready\n" in server.lines else []
+        front = ["ready"] if server.is_ready else []
         return status, front + server.process.stderr.read().decode().splitlines()
 
 
@@ -353,9 +363,9 @@ def show_errors():
 
 
 def show_descriptors():
-    """So many clients connect that no descriptor is left, and then one leaves."""
+    """Clients connect until no descriptor is left, and then one leaves."""
     heading("descriptors: 64 are allowed, and 80 clients connect to 2 workers and 1 tenant")
-    with Served(PROGRAM, ["--workers", "2"], descriptors=64) as server:
+    with serve(["--workers", "2"], descriptors=64) as server:
         clients = [server.client() for _ in range(80)]
         answered = 0
         for client in clients:
@@ -364,29 +374,29 @@ def show_descriptors():
                 answered += client.line(b"version\r\n").startswith("VERSION")
             except TimeoutError:
                 pass
-        began = server.processor()
+        began = server.processor_seconds()
         time.sleep(2)
-        used = 100 * (server.processor() - began) / 2
+        used = 100 * (server.processor_seconds() - began) / 2
         waiting = clients[answered]
         clients[0].close()
         waiting.socket.settimeout(5)
         waited = waiting.socket.recv(100)
         table("answered", "wait without an answer", "processor use meanwhile, in 100", "the first that waits, once another has left", "wfmc afterwards")
-        row(answered, 80 - answered, f"{used:.1f}", f"`{waited.decode().strip()}`", "serves" if server.is_alive() else server.end())
+        row(answered, 80 - answered, f"{used:.1f}", f"`{waited.decode().strip()}`", "serves" if server.is_running() else server.end())
 
 
 def show_signals():
     heading("signals: how it ends with a client connected, and whether a new one can listen at the same port at once")
     table("signal", "status", "on standard error", "the client", "a new wfmc at the same port")
     for how in (signal.SIGTERM, signal.SIGINT, signal.SIGHUP):
-        with Served(PROGRAM) as server, server.client() as client:
+        with serve() as server, server.client() as client:
             client.line(b"set a 0 0 1\r\nx\r\n")
-            status, errors = server.end(how)
+            status, _, errors = server.end(how)
             left = client.line(b"get a\r\n")
             words = [f"a=127.0.0.1:{server.ports['a']},1000,1000"]
-            with Served(PROGRAM, words, ()) as new:
-                listens = "listens, with an empty table" if new.lines and Client(server.ports["a"]).line(b"get a\r\n") == "END" else new.end()
-            row(how.name, status, errors or "nothing", left, listens)
+            with serve(words, ()) as new:
+                listens = "listens, with an empty table" if new.is_ready and Client(server.ports["a"]).line(b"get a\r\n") == "END" else new.end()
+            row(how.name, status, errors.decode() or "nothing", left, listens)
 
 
 TABLES = {name[5:]: show for name, show in list(globals().items()) if name.startswith("show_")}
@@ -394,11 +404,8 @@ TABLES = {name[5:]: show for name, show in list(globals().items()) if name.start
 
 def main():
     global PROGRAM
-    os.chdir(pathlib.Path(__file__).parent.parent)
-    if len(sys.argv) > 1:
-        PROGRAM = sys.argv[1]
-    if not os.access(PROGRAM, os.X_OK):
-        sys.exit(f"{PROGRAM} isn't built: make build")
+    PROGRAM = sys.argv[1] if len(sys.argv) > 1 else PROGRAM
+    repository.enter(PROGRAM)
     unknown = [name for name in sys.argv[2:] if name not in TABLES]
     if unknown:
         sys.exit(f"no table {unknown[0]}; there are {', '.join(TABLES)}")

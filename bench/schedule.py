@@ -1,18 +1,20 @@
 #!/usr/bin/env python3
 """Measures how the time of mc_schedule grows with its event list.
 
-Builds mc_schedule and runs lists of an eighth of the most bytes, a quarter, a half and all of them, of some kinds. Printed are the events
-(those of a submit counted one by one), the median and the range of some runs in milliseconds, and the nanoseconds of an event. A run in
-which an event met a fault ends the script.
+Runs lists of an eighth of the most bytes, a quarter, a half and all of them, of some kinds. Printed are the events (those of a submit
+counted one by one), the median and the range of some runs in milliseconds, and the nanoseconds of an event. A fault ends the script.
 """
 
-import os
+import pathlib
 import statistics
 import subprocess
 import sys
 import time
 
-PROGRAM = "crates/mc_schedule/out/mc_schedule"
+sys.path.insert(0, str(pathlib.Path(__file__).parents[1] / "tests"))
+from harness import repository
+
+PROGRAM = repository.program("mc_schedule")
 BYTES = 1_048_576
 RUNS = 7
 
@@ -44,7 +46,7 @@ def run(listed, *words):
 
 
 def events_of(listed):
-    """How many lines the picture has, but for the one above them."""
+    """How many lines the picture has, without its heading."""
     return run(listed, "--picture", "--quiet").partition(b"\n\n")[0].count(b"\n")
 
 
@@ -56,8 +58,7 @@ def milliseconds(listed):
 
 
 def main():
-    os.chdir(os.path.join(os.path.dirname(os.path.abspath(__file__)), ".."))
-    subprocess.run(["tools/prove.sh", "mc_schedule"], check=True, stdout=sys.stderr)
+    repository.enter(PROGRAM)
     print(f"{'kind':<32} {'bytes':>8} {'events':>8} {'ms':>7} {'range':>15} {'ns an event':>12}")
     for kind, (workers, line_of) in KINDS.items():
         for part in (8, 4, 2, 1):

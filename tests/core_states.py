@@ -1,9 +1,11 @@
 #!/usr/bin/env python3
-"""Counts the states of a small core, apart from the core's code and definitions.
+"""Counts the reachable states of a small core, apart from the core's code and definitions.
+
+On purpose it uses nothing of oracle/core.py: the number has to come from a second, shorter formulation of the transitions.
 
 A state is what each worker shows (phase, places learned and replayed, mark, proposals, commands announced), how many places
-were decided as it announced its latest command, how many commands the one at whom it has looked had announced, and the decided
-places. The test `every_state_of_a_small_core_is_sound` of mc_tests_core finds as many; here stands where its number comes from.
+were decided when it announced its latest command, how many commands the worker it has looked at had announced, and the decided
+places. The test `every_state_of_a_small_core_is_sound` of mc_tests_core finds the same number.
 """
 
 import sys
@@ -13,7 +15,7 @@ IDLE, PENDING, LOOKED, STOPPED = range(4)
 
 
 def moves(workers, log, places):
-    """Every state that one event leads to."""
+    """Every state that one transition leads to."""
     count = len(workers)
     for who, worker in enumerate(workers):
         phase, learned, replayed, mark, looked_at, proposals, announced, decided_then = worker
@@ -46,7 +48,7 @@ def moves(workers, log, places):
 
 
 def states(count, places):
-    """How many states a core of so many workers and places has."""
+    """How many states a core of this many workers and places has."""
     opening = ((IDLE, 0, 0, None, 0, 0, 0, 0),) * count, ()
     seen, waiting = {opening}, deque([opening])
     while waiting:

@@ -1,19 +1,19 @@
 #!/usr/bin/env bash
-# The gate: the kit's own (every proof from nothing, the edits of must-fail/, the tests, the programs on their stored runs), and
-# then the built programs on their worked rows, wfmc over sockets, orders of what its clients saw, a round of the attack, and whether the
-# picture of the crates and the documents that are written from the sources are up to date. The last line is 'N passed, M failed', of all together.
+# The gate: the kit's own (every proof from nothing, the mutants of must-fail/, the tests, the programs on their stored runs), and then the
+# built programs on their golden tests, wfmc over sockets, whether its clients' histories are linearizable, a round of the fuzzer, and whether
+# the picture of the crates and the generated documents are up to date. The last line is 'N passed, M failed', in total.
 set -euo pipefail
 cd "$(dirname "$0")/.."
 
 folder=$(mktemp -d)
 trap 'rm -rf "$folder"' EXIT
 
-# Everything as it comes but for the last line, which is kept for the sum.
+# Passes on all lines but the last, which is kept for the total.
 all_but_last() { awk -v last="$1" 'NR > 1 { print held; fflush() } { held = $0 } END { print held >last }'; }
 
 failed=0
 sums=()
-# Runs a command, whose last line is kept for the sum.
+# Runs a command, whose last line is kept for the total.
 count() {
     local sum=$folder/${#sums[@]}
     sums+=("$sum")
@@ -25,18 +25,18 @@ passes() {
 }
 
 count rt ci
-echo "the built programs on their worked rows"
+echo "the golden tests of the built programs"
 count tests/programs.sh
 for binary in wfmc wfmc.by-rattle; do
     echo "$binary over sockets"
     count python3 tests/network.py "crates/wfmc/out/$binary"
 done
-echo "one order explains what clients of wfmc saw"
-count python3 tests/orders.py --self-test
-count python3 tests/orders.py 20
-echo "a round of the attack on wfmc"
-count python3 tests/attack.py --seed 77 --round 3
-echo "the picture of the crates, and the documents that are written from the sources"
+echo "the histories of wfmc's clients are linearizable"
+count python3 tests/linearizability.py --self-test
+count python3 tests/linearizability.py 20
+echo "a round of the fuzzer on wfmc"
+count python3 tests/fuzz.py --seed 77 --round 3
+echo "the picture of the crates, and the generated documents"
 count passes tools/picture.py --check
 count passes python3 tools/promises.py --check
 count passes python3 tools/reading.py --check

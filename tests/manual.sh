@@ -1,8 +1,8 @@
 #!/usr/bin/env bash
-# Checks the manual pages against the built programs: each page is set without a warning, has the sections that are expected, names each
-# option of the program's --help with its bounds and default and none besides, names its version, and points to pages that are there;
-# and the examples of the programs over standard input print what the page says. Options and numbers are looked at without man, too.
-# Prints a line for what goes wrong; the last line is 'N passed, M failed'.
+# Checks the manual pages against the built programs: each page is set without a warning, has the expected sections, names each option of
+# the program's --help with its bounds and default and no other, names its version, and points to pages that exist; and the examples of the
+# programs over standard input print what the page says. Options and numbers are checked without man, too.
+# Prints a line for each failure; the last line is 'N passed, M failed'.
 set -euo pipefail
 cd "$(dirname "$0")/.."
 
@@ -11,7 +11,7 @@ trap 'rm -rf "$folder"' EXIT
 passed=0
 failed=0
 
-# Counts a check by the status of the words behind its name.
+# Counts a check by the status of the command after its name.
 check() {
     local what=$1
     shift
@@ -41,7 +41,7 @@ has_sections() {
     done
 }
 
-# The options, long and short, that stand in the page's list of options; and those of the program's help.
+# The options, long and short, in the page's list of options; and those of the program's help.
 options_of_page() { sed -n '/^\.SH OPTIONS/,/^\.SH OUTPUT/p' "$1" | grep -A1 '^\.TP' | sed 's/\\-/-/g' | grep -oE -- '(^|[ "])--?[a-zA-Z]+' | tr -d ' "' | sort -u; }
 options_of_help() { "$1" --help | sed -n '/^Options:/,/^$/p' | grep -oE -- '(^|[ ,])--?[a-zA-Z]+' | tr -d ' ,' | sort -u; }
 has_the_options() {
@@ -55,7 +55,7 @@ has_no_other_option() {
     ! sed 's/\\-/-/g' "$1" | grep -oE -- '--[a-z]+' | sort -u | grep -vxF -f <(options_of_help "$2"; echo --now; echo --as)
 }
 
-# The words behind each option of the help that bound it: the page has each of these numbers under the option.
+# The page has under each option the numbers that the help says of it.
 has_the_bounds() {
     local line option number said
     while IFS= read -r line; do
@@ -77,7 +77,7 @@ points_to_pages() {
     done
 }
 
-# Runs what stands behind '$ ' in the first example, and compares it with the lines below.
+# Runs what follows '$ ' in the first example, and compares its output with the lines below.
 example_is_true() {
     local path=$PATH:$PWD/crates/mc_stdin/out:$PWD/crates/mc_schedule/out
     sed -n '/^\.EX/,/^\.EE/p;/^\.EE/q' "$1" | grep -v '^\.E' | sed 's/\\e/\\/g; s/\\-/-/g' >"$folder/example"

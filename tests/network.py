@@ -1,14 +1,15 @@
 #!/usr/bin/env python3
-"""Tries wfmc, as built, over sockets on loopback; its word is the program, where it isn't crates/wfmc/out/wfmc.
+"""Tests wfmc, as built, over sockets on loopback: network.py [BINARY].
 
-Every worked row of mc_stdin that is served (tests/rows/mc_stdin): its input over one connection, whole and, where it is short, a
-byte at a time, by 1 and by 4 workers; the bytes that come back must be the row's. Then clients that others must not feel: one that
-closes in the middle of a block, one that resets, one that never reads, more connections than a worker takes, two tenants with the
-same key, 500 commands of 8 clients at once. And clients whom nobody may forget: the process is stopped until many have come, asked or
-gone, and then goes on; a worker is busy meanwhile, or descriptors are scarce. Where no client is left, all is given back, and no thread
-wakes. Prints a line for what goes wrong; the last line is 'N passed, M failed'.
+Every golden test of mc_stdin that a server can answer (tests/rows/mc_stdin): its input over one connection, whole and, where it is short, a
+byte at a time, by 1 and by 4 workers; the bytes that come back must be the same. Then clients that others must not notice: one that closes
+in the middle of a block, one that resets, one that never reads, more connections than a worker takes, two tenants with the same key, 500
+commands of 8 clients at once. And clients that nobody may forget: the process is stopped until many have connected, asked or left, and then
+goes on, while a worker is busy, or descriptors are scarce. Where no client is left, everything is given back, and no thread wakes.
+Prints a line for each failure; the last line is 'N passed, M failed'.
 """
 
+import concurrent.futures
 import contextlib
 import os
 import pathlib
@@ -21,62 +22,39 @@ import sys
 import threading
 import time
 
-from serving import SECONDS, Server, reset
+from harness import repository
+from harness.client import exchange, reset
+from harness.results import Results
+from harness.servers import Server, free_port
 
-PROGRAM = sys.argv[1] if len(sys.argv) > 1 else "crates/wfmc/out/wfmc"
+PROGRAM = sys.argv[1] if len(sys.argv) > 1 else repository.program("wfmc")
 SHORT = 4096
 PATIENCE = 20
 VERSION = b"VERSION 1.0.0\r\n"
-results = []
+results = Results()
+check = results.check
 
 
-def received(client, pieces):
-    """Takes in all bytes up to the end, or to a reset, and says which it was."""
-    try:
-        while piece := client.recv(1 << 16):
-            pieces.append(piece)
-        return "end"
-    except ConnectionResetError:
-        return "reset"
+def in_steps(sent, step):
+    """The bytes in pieces of this size, or whole."""
+    return [sent[at : at + step] for at in range(0, len(sent), step)] if step else [sent]
 
 
-def talk(server, name, sent, step=None):
-    """What comes back for these bytes, which are followed by the end, and how that ends; nothing where it doesn't end."""
-    with server.connect(name) as client:
-        pieces, ends = [], []
-        reader = threading.Thread(target=lambda: ends.append(received(client, pieces)))
-        reader.start()
-        try:
-            for at in range(0, len(sent), step or max(len(sent), 1)):
-                client.sendall(sent[at : at + (step or len(sent))])
-            client.shutdown(socket.SHUT_WR)
-        except OSError:
-            pass  # the server has ended the stream, as after quit
-        reader.join(SECONDS)
-        return b"".join(pieces), ends[0] if ends else None
-
-
-def answer(server, name, sent):
-    """What comes back for these bytes, up to the end."""
-    replies, end = talk(server, name, sent)
-    return replies if end == "end" else None
+def answer(server, tenant, sent):
+    """The replies to these bytes, up to the end of the stream; `None` where it ends another way."""
+    replies, ending = exchange(server.ports[tenant], [sent])
+    return replies if ending == "end" else None
 
 
 def is_served(sent, wanted, replies, end):
-    """Where bytes come behind a request that ends the stream, the system may reset the connection, whose last replies are lost then."""
+    """Whether replies are right. Where bytes follow a request that ends the stream, the system may reset the connection and lose replies."""
     if end == "reset":
         return (b"quit\r\n" in sent or b"a" * 65537 in sent) and wanted.startswith(replies)
     return end == "end" and replies == wanted
 
 
-def check(what, holds):
-    results.append(bool(holds))
-    if not holds:
-        print(f"wrong: {what}", flush=True)
-
-
 def options_of(words):
-    """The words for wfmc, and a tenant's quotas, of a row's words; nothing where the row isn't served."""
+    """The options of wfmc and the quotas of a tenant for a golden test's words; `None` where a server has no such options."""
     places, items, size = "65536", "1048576", "67108864"
     rest = [it for word in words for it in word.split("=")]
     while rest:
@@ -90,70 +68,78 @@ def options_of(words):
     return ["--places", places], (items, size)
 
 
-def rows():
+def golden_tests():
     for row in sorted(pathlib.Path("tests/rows/mc_stdin").iterdir()):
         options = options_of((row / "words").read_text().split("\n")[:-1] if (row / "words").stat().st_size else [])
         if options and (row / "status").read_text().strip() == "0":
             yield row.name, *options, (row / "input").read_bytes(), (row / "output").read_bytes()
 
 
-def check_rows():
-    for name, options, quotas, sent, wanted in rows():
+def check_golden_tests():
+    for name, options, quotas, sent, wanted in golden_tests():
         for workers in ("1", "4"):
             for step in [None, 1] if len(sent) <= SHORT else [None]:
                 with Server(PROGRAM, ["--workers", workers, *options], {"a": quotas}) as server:
-                    check(f"{name}, {workers} workers, {'whole' if step is None else 'by bytes'}", is_served(sent, wanted, *talk(server, "a", sent, step)))
+                    check(f"{name}, {workers} workers, {'whole' if step is None else 'by bytes'}", is_served(sent, wanted, *exchange(server.ports["a"], in_steps(sent, step))))
 
 
 LARGE = (1000, 100_000_000)
 MEGABYTE = 1_000_000
-# So many keys of a get make a worker busy: those of an item of a megabyte, and those of no item.
+# Gets of this many keys keep a worker busy: of an item of a megabyte, and of no item.
 BLOCKS = 100
 MISSES = 30_000
 
 
 def ask(server, name, request=b"version\r\n"):
-    """A client that has asked."""
+    """A client that has sent a request."""
     client = server.connect(name, PATIENCE)
     client.sendall(request)
     return client
 
 
-def is_told(client, wanted=VERSION):
-    """Whether these bytes are what comes next."""
-    told = bytearray()
+def is_answered(client, wanted=VERSION):
+    """Whether these bytes come next."""
+    received = bytearray()
     try:
-        while len(told) < len(wanted) and (piece := client.recv(len(wanted) - len(told))):
-            told += piece
+        while len(received) < len(wanted) and (piece := client.recv(len(wanted) - len(received))):
+            received += piece
     except OSError:
         pass
-    return told == wanted
+    return received == wanted
 
 
-def are_told(clients, wanted=VERSION):
-    return all(is_told(client, wanted) for client in clients)
+def are_answered(clients, wanted=VERSION):
+    return all(is_answered(client, wanted) for client in clients)
 
 
 def is_ended(client):
-    """Whether the end is what comes next."""
+    """Whether the end comes next."""
     try:
         return client.recv(1) == b""
     except OSError:
         return False
 
 
+def is_closed(client):
+    """Whether the stream ends or is reset without another byte."""
+    try:
+        return client.recv(1) == b""
+    except ConnectionResetError:
+        return True
+
+
 @contextlib.contextmanager
-def held(server):
-    """The process stands still meanwhile; what clients do waits in the system, and is there at once when it goes on."""
-    os.kill(server.process.pid, signal.SIGSTOP)
+def stopped(server):
+    """Stops the process for a block; what clients do waits in the system, and arrives together when it goes on."""
+    os.kill(server.pid, signal.SIGSTOP)
     try:
         yield
     finally:
-        os.kill(server.process.pid, signal.SIGCONT)
+        os.kill(server.pid, signal.SIGCONT)
 
 
 def waiting_room():
-    """How many connections may wait at a listener."""
+    """How many connections may wait for a listener to accept them."""
     return int(pathlib.Path("/proc/sys/net/core/somaxconn").read_text())
 
 
@@ -166,19 +152,13 @@ def get_of_many(count):
     return b"get" + b" k" * count + b"\r\n"
 
 
-def switches(server):
-    """How often the threads of a server have been switched."""
-    lines = [line for task in pathlib.Path(f"/proc/{server.process.pid}/task").iterdir() for line in (task / "status").read_text().split("\n")]
-    return sum(int(line.split()[1]) for line in lines if "ctxt_switches" in line)
-
-
 def rests(server, descriptors, wakes=0):
-    """Whether it comes to have so many descriptors, and then to need no processor for a while, nor to wake more often than so."""
+    """Whether it comes down to this many descriptors, then uses no processor for a while, and wakes no more often than this."""
     until = time.monotonic() + PATIENCE
     while time.monotonic() < until:
-        switched, used = switches(server), server.processor()
+        switched, used = server.context_switches(), server.processor_seconds()
         time.sleep(0.3)
-        if switches(server) - switched <= wakes and server.processor() - used < 0.1 and server.descriptors() == descriptors:
+        if server.context_switches() - switched <= wakes and server.processor_seconds() - used < 0.1 and server.descriptors() == descriptors:
             return True
     return False
 
@@ -187,11 +167,10 @@ def check_tenants():
     with Server(PROGRAM, ["--connections", "2"], {"a": LARGE, "b": LARGE}) as server:
         check("the first tenant's", answer(server, "a", b"set a 0 0 1\r\nx\r\ngets a\r\nquit\r\n") == b"STORED\r\nVALUE a 0 1 1\r\nx\r\nEND\r\n")
         check("the second tenant's", answer(server, "b", b"gets a\r\nset a 0 0 1\r\ny\r\ngets a\r\nquit\r\n") == b"END\r\nSTORED\r\nVALUE a 0 1 1\r\ny\r\nEND\r\n")
-        out, errors = server.process.communicate(timeout=SECONDS)
-        check("the end", (out, errors, server.process.returncode) == (b"done 5\n", b"", 0))
+        check("the end", server.wait() == (0, b"done 5\n", b""))
 
 
-def check_others_unfelt():
+def check_others_unnoticed():
     """One worker, so that all clients share it."""
     with Server(PROGRAM, ["--workers", "1"], {"a": LARGE}) as server:
         check("a first client", answer(server, "a", b"version\r\n") == VERSION)
@@ -211,7 +190,7 @@ def check_others_unfelt():
                 lazy.send(b"get big\r\n" * 100)
         except BlockingIOError:
             pass
-        check("beside a client that never reads", answer(server, "a", b"get k\r\nget big\r\nquit\r\n") == b"END\r\nVALUE big 0 100000\r\n" + block + b"\r\nEND\r\n")
+        check("next to a client that never reads", answer(server, "a", b"get k\r\nget big\r\nquit\r\n") == b"END\r\nVALUE big 0 100000\r\n" + block + b"\r\nEND\r\n")
         lazy.close()
         check("after it", answer(server, "a", b"get k\r\n") == b"END\r\n")
         check("nobody is left, and it rests", rests(server, descriptors))
@@ -228,11 +207,11 @@ def check_too_many():
     with Server(PROGRAM, ["--workers", "1"], {"a": LARGE}) as server:
         store_block(server)
         busy = server.connect("a")
-        with held(server):
+        with stopped(server):
             busy.sendall(get_of_many(BLOCKS))
             clients = [ask(server, "a", b"get l\r\n") for _ in range(1023)]
             last = server.connect("a")
-        check("1,024 connections", are_told(clients, b"END\r\n"))
+        check("1,024 connections", are_answered(clients, b"END\r\n"))
         check("one more", last.recv(100) == b"")
         clients[0].close()
         clients[1].sendall(b"get l\r\n")
@@ -249,11 +228,11 @@ def check_crowd():
         return
     for name, another in ("ab", "ba"):
         with Server(PROGRAM, ["--workers", "1"], {"a": LARGE, "b": LARGE}) as server:
-            check("a client before a crowd", is_told(ask(server, name)))
-            with held(server):
+            check("a client before a crowd", is_answered(ask(server, name)))
+            with stopped(server):
                 crowd = [server.connect(name, PATIENCE) for _ in range(1_500)]
                 other = ask(server, another)
-            check("another tenant's client behind a crowd", is_told(other))
+            check("another tenant's client after a crowd", is_answered(other))
             for client in crowd:
                 client.close()
 
@@ -263,15 +242,15 @@ def check_at_once():
     with Server(PROGRAM, ["--workers", "1"], {"a": LARGE, "b": LARGE}) as server:
         check("a first client", answer(server, "a", b"version\r\n") == VERSION)
         descriptors = server.descriptors()
-        with held(server):
+        with stopped(server):
             clients = [ask(server, "ab"[number % 2]) for number in range(100)]
-        check("clients that come at once", are_told(clients))
-        with held(server):
+        check("clients that come at once", are_answered(clients))
+        with stopped(server):
             for client in clients:
                 client.sendall(b"version\r\n")
-        check("clients that ask at once", are_told(clients))
+        check("clients that ask at once", are_answered(clients))
         check("idle clients, and it rests", rests(server, descriptors + 100))
-        with held(server):
+        with stopped(server):
             for number, client in enumerate(clients):
                 client.sendall(b"set k 0 0 5\r\nab") if number % 3 else client.sendall(b"version\r\n")
                 reset(client) if number % 2 else client.close()
@@ -285,17 +264,17 @@ def check_much_at_once():
         request = b"set k 0 0 50000\r\n" + b"k" * 50_000 + b"\r\n"
         for client in clients:
             client.sendall(request * 10)
-        check("clients that send much", are_told(clients, b"STORED\r\n" * 10))
-        with held(server):
+        check("clients that send much", are_answered(clients, b"STORED\r\n" * 10))
+        with stopped(server):
             for client in clients:
                 client.sendall(request * 3)
-        check("clients that send much at once", are_told(clients, b"STORED\r\n" * 3))
-        with held(server):
+        check("clients that send much at once", are_answered(clients, b"STORED\r\n" * 3))
+        with stopped(server):
             for client in clients:
                 client.sendall(request * 3)
                 client.shutdown(socket.SHUT_WR)
-        check("clients that come meanwhile", all(is_told(ask(server, "a")) for _ in range(20)))
-        check("clients beside whom others come", are_told(clients, b"STORED\r\n" * 3))
+        check("clients that come meanwhile", all(is_answered(ask(server, "a")) for _ in range(20)))
+        check("clients next to whom others come", are_answered(clients, b"STORED\r\n" * 3))
         check("their ends", all(is_ended(client) for client in clients))
 
 
@@ -304,16 +283,16 @@ def check_busy_worker():
     with Server(PROGRAM, ["--workers", "1"], {"a": LARGE, "b": LARGE}) as server:
         store_block(server)
         busy, others = server.connect("a", PATIENCE), [ask(server, "b") for _ in range(20)]
-        check("clients before the worker is busy", are_told(others))
-        with held(server):
+        check("clients before the worker is busy", are_answered(others))
+        with stopped(server):
             busy.sendall(get_of_many(BLOCKS))
             more = [ask(server, "b") for _ in range(300)]
         time.sleep(0.01)
         for client in others:
             client.sendall(b"version\r\n")
-        check("clients that come to a busy worker", are_told(more))
-        check("clients that ask a busy worker", are_told(others))
-        check("a reply that is read late", is_told(busy, (b"VALUE k 0 %d\r\n%s\r\n" % (MEGABYTE, b"k" * MEGABYTE)) * BLOCKS + b"END\r\n"))
+        check("clients that come to a busy worker", are_answered(more))
+        check("clients that ask a busy worker", are_answered(others))
+        check("a reply that is read late", is_answered(busy, (b"VALUE k 0 %d\r\n%s\r\n" % (MEGABYTE, b"k" * MEGABYTE)) * BLOCKS + b"END\r\n"))
 
 
 def check_flood():
@@ -329,7 +308,7 @@ def check_flood():
         thread = threading.Thread(target=flood)
         thread.start()
         time.sleep(0.1)
-        check("beside a flood", is_told(ask(server, "b")))
+        check("next to a flood", is_answered(ask(server, "b")))
         is_over.set()
         reset(flooding)
         thread.join()
@@ -340,59 +319,54 @@ def check_few_descriptors():
     with Server(PROGRAM, ["--workers", "1"], {"a": LARGE, "b": LARGE}) as server:
         check("a client before descriptors are scarce", answer(server, "a", b"version\r\n") == VERSION)
         least, most = server.descriptors(), server.descriptors() + 4
-        resource.prlimit(server.process.pid, resource.RLIMIT_NOFILE, (most, most))
+        resource.prlimit(server.pid, resource.RLIMIT_NOFILE, (most, most))
         waiting, other = [ask(server, "a") for _ in range(8)], ask(server, "b")
         check("descriptors are scarce, and it rests", rests(server, most, wakes=20))
         until, wrong = time.monotonic() + PATIENCE, 0
         while not select.select([other], [], [], random.random() / 10)[0] and time.monotonic() < until:
             first = waiting.pop(0)
-            wrong += not is_told(first)
+            wrong += not is_answered(first)
             first.close()
             waiting.append(ask(server, "a"))
-        check("another tenant's client, where descriptors are scarce", time.monotonic() < until and is_told(other))
+        check("another tenant's client, where descriptors are scarce", time.monotonic() < until and is_answered(other))
         other.close()
         for client in waiting:
-            wrong += not is_told(client)
+            wrong += not is_answered(client)
             client.close()
         check("each of the others", wrong == 0)
         check("descriptors are there again, and it rests", rests(server, least))
 
 
 def check_gone_arrivals():
-    """While a worker is busy, more clients come and go than a worker takes; one that comes behind them is served."""
+    """While a worker is busy, more clients come and go than a worker takes; one that comes after them is served."""
     if waiting_room() < 3_100:
         print("connections that are gone aren't tried: too few may wait here")
         return
     with Server(PROGRAM, ["--workers", "1"], {"a": LARGE}) as server:
         store_block(server)
         busy = server.connect("a", PATIENCE)
-        with held(server):
+        with stopped(server):
             busy.sendall(get_of_many(BLOCKS))
             for _ in range(3_000):
                 reset(server.connect("a", PATIENCE))
             client = ask(server, "a")
-        check("a client behind those that are gone", is_told(client))
+        check("a client after those that are gone", is_answered(client))
 
 
 def check_last():
     """As many clients come at once as are to be served, and one more."""
     with Server(PROGRAM, ["--connections", "20"], {"a": LARGE}) as server:
-        with held(server):
+        with stopped(server):
             clients = [ask(server, "a", b"version\r\nquit\r\n") for _ in range(21)]
-        check("as many as are to be served", are_told(clients[:20]))
-        pieces = []
-        received(clients[20], pieces)
-        check("one more than are to be served", pieces == [])
-        check("the end behind them", server.end() == (0, b"done 0\n", b""))
+        check("as many as are to be served", are_answered(clients[:20]))
+        check("one more than are to be served", is_closed(clients[20]))
+        check("the end after them", server.wait() == (0, b"done 0\n", b""))
 
 
 def check_early():
     """A client that comes as soon as somebody listens, maybe before the workers are there."""
     for _ in range(3):
-        with socket.socket() as free:
-            free.bind(("127.0.0.1", 0))
-            port = free.getsockname()[1]
-        clients = []
+        port, clients = free_port(), []
 
         def come():
             until = time.monotonic() + PATIENCE
@@ -404,23 +378,31 @@ def check_early():
 
         thread = threading.Thread(target=come)
         thread.start()
-        with Server(PROGRAM, ["--workers", "16"], {"a": LARGE}, port=port):
+        with Server(PROGRAM, ["--workers", "16"], {"a": LARGE}, ports={"a": port}):
             thread.join()
-            check("an early client", are_told(clients) and clients)
+            check("an early client", are_answered(clients) and clients)
 
 
 def follows_soon(client):
-    """Two replies to a client that isn't quick to acknowledge, sent one after the other since a pull takes one request in: whether the second doesn't wait."""
+    """Whether the second of two replies doesn't wait for a client that acknowledges late. One pull takes in one request, so they are sent apart."""
     client.setsockopt(socket.IPPROTO_TCP, socket.TCP_QUICKACK, 0)
     client.sendall(b"version\r\n".rjust(16_384) + b"version\r\n")
-    first, begun = is_told(client), time.monotonic()
-    return first and is_told(client) and time.monotonic() - begun < 0.02
+    first, begun = is_answered(client), time.monotonic()
+    return first and is_answered(client) and time.monotonic() - begun < 0.02
 
 
 def check_no_delay():
     with Server(PROGRAM, ["--workers", "1"], {"a": LARGE}) as server:
         client = server.connect("a", PATIENCE)
-        check("a reply right behind another", any(follows_soon(client) for _ in range(20)))
+        check("a reply right after another", any(follows_soon(client) for _ in range(20)))
+
+
+def check_client(number, replies):
+    """A client of `check_together` reads what it wrote, and its numbers grow."""
+    lines = (replies or b"").split(b"\r\n")
+    values, counts = lines[2:-1:5], [int(count) for count in lines[4:-1:5]]
+    check(f"client {number} reads what it wrote", values == [b"%04d" % at for at in range(500)])
+    check(f"client {number} counts up", counts == sorted(set(counts)) and len(counts) == 500)
 
 
 def check_together():
@@ -428,35 +410,23 @@ def check_together():
     with Server(PROGRAM, ["--workers", "4"], {"a": LARGE, "b": LARGE}) as server:
         for name in "ab":
             answer(server, name, b"set n 0 0 1\r\n0\r\n")
-        replies = {}
 
         def client(number):
-            name = "ab"[number % 2]
-            sent = b"".join(b"set k%d 0 0 4\r\n%04d\r\nget k%d\r\nincr n 1\r\n" % (number, at, number) for at in range(500))
-            replies[number] = answer(server, name, sent)
+            requests = (b"set k%d 0 0 4\r\n%04d\r\nget k%d\r\nincr n 1\r\n" % (number, at, number) for at in range(500))
+            return answer(server, "ab"[number % 2], b"".join(requests))
 
-        threads = [threading.Thread(target=client, args=(number,)) for number in range(8)]
-        for thread in threads:
-            thread.start()
-        for thread in threads:
-            thread.join()
-        for number in range(8):
-            lines = (replies[number] or b"").split(b"\r\n")
-            values = lines[2:-1:5]
-            counts = [int(count) for count in lines[4:-1:5]]
-            check(f"client {number} reads what it wrote", values == [b"%04d" % at for at in range(500)])
-            check(f"client {number} counts up", counts == sorted(set(counts)) and len(counts) == 500)
+        with concurrent.futures.ThreadPoolExecutor(8) as pool:
+            for number, replies in enumerate(pool.map(client, range(8))):
+                check_client(number, replies)
         for name in "ab":
             check(f"tenant {name} counts all", answer(server, name, b"get n\r\n") == b"VALUE n 0 4\r\n2000\r\nEND\r\n")
 
 
 def main():
-    os.chdir(pathlib.Path(__file__).parent.parent)
-    if not os.access(PROGRAM, os.X_OK):
-        sys.exit(f"{PROGRAM} isn't built: make serve builds it")
-    check_rows()
+    repository.enter(PROGRAM)
+    check_golden_tests()
     check_tenants()
-    check_others_unfelt()
+    check_others_unnoticed()
     check_too_many()
     check_crowd()
     check_at_once()
@@ -469,8 +439,7 @@ def main():
     check_early()
     check_no_delay()
     check_together()
-    print(f"{sum(results)} passed, {len(results) - sum(results)} failed")
-    sys.exit(0 if all(results) else 1)
+    results.finish()
 
 
 main()

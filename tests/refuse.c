@@ -1,6 +1,6 @@
 /* Refuses one allocation of a program: the one whose number, from 1, is in REFUSED; with ONWARD set all later ones too. With
    COUNTED set it prints at the end how many there were, and the number of the first that asked for a MB or more. Threads are counted
-   together. Preloaded into a built program by allocations.py and network_allocations.py; no part of any program of this repository. */
+   together. Preloaded into a built program by allocation_failures.py; no part of any program of this repository. */
 #define _GNU_SOURCE
 #include <dlfcn.h>
 #include <errno.h>

@@ -1,234 +1,24 @@
 #!/usr/bin/env python3
 """Which law each wrong definition of the shared log breaks: the table of docs/QUESTIONS.md.
 
-The definitions of the log and of the core are told here once more, one method each, and the laws as tests of a run. A wrong definition
-overrides a method, code and definition being wrong alike. It is taken through random runs of small cores; the names of the laws that
-turn out false are printed. That none is false on these runs proves nothing; that one is false shows that it can't be proved. The tables
-have one key and four commands. The real definitions must break no law, each of the `WRONG` ones one at least, and the `EQUAL` ones none.
+The definitions are those of oracle/core.py, one method each, and the laws are tests of a run. A wrong definition replaces a method, so that
+code and definition are wrong alike. It is taken through random runs of small cores, and the names of the laws that turn out false are
+printed. That none is false on these runs proves nothing; that one is false shows that it can't be proved. The right definitions must break
+no law, each of the `WRONG` ones at least one, and the `EQUAL` ones none. The last line is 'N passed, M failed'.
 """
 
+import dataclasses
 import random
 import sys
-from typing import NamedTuple
 
-IDLE, PENDING, LOOKED, STOPPED = "idle", "pending", "looked", "stopped"
-COMMANDS = ["set", "add", "get", "flush"]
+from oracle.core import FULL, IDLE, LOOKED, PENDING, STOPPED, Definitions, Entry, Event, Worker, at, with_at
+from oracle.protocol import NOT_STORED, OK, STORED
+from oracle.table import Table
+
+SET, ADD, GETS, FLUSH = (b"set", b"a", 0, b"x", 0), (b"add", b"a", 0, b"x", 0), (b"gets", (b"a",)), (b"flush_all",)
+COMMANDS = [SET, ADD, GETS, FLUSH]
+QUOTAS = [(1, 100), (2, 100)]
 RUNS, EVENTS = 60, 40
-
-
-class Worker(NamedTuple):
-    phase: str = IDLE
-    announced: int = 0
-    learned: tuple = ()
-    mark: object = None
-    look: object = None
-    proposals: int = 0
-
-
-class Entry(NamedTuple):
-    ticket: tuple
-    tenant: int
-    command: str
-
-
-class Table(NamedTuple):
-    quota: int
-    item: object = None
-    unique: int = 0
-
-
-class Replay(NamedTuple):
-    replayed: int
-    tables: tuple
-
-
-class Core(NamedTuple):
-    places: int
-    openings: tuple
-    decided: tuple
-    workers: tuple
-    entries: tuple
-    replays: tuple
-
-
-class Event(NamedTuple):
-    kind: str
-    worker: int
-    tenant: int = 0
-    command: str = ""
-
-
-def at(items, place):
-    """What stands at the place, if there is one."""
-    return items[place] if 0 <= place < len(items) else None
-
-
-def with_at(items, place, item):
-    return items[:place] + (item,) + items[place + 1 :] if 0 <= place < len(items) else items
-
-
-class Definitions:
-    """The definitions, by the names that they have in specs/."""
-
-    def count(self, number, tickets):
-        return sum(1 for worker, _ in tickets if worker == number)
-
-    def is_legal(self, tickets):
-        return all(self.count(worker, tickets[:place]) == number for place, (worker, number) in enumerate(tickets))
-
-    def stands_before(self, end, ticket, tickets):
-        return ticket in tickets[:end]
-
-    def announce(self, worker):
-        return worker._replace(phase=PENDING, announced=worker.announced + 1, mark=None, proposals=0)
-
-    def is_latest(self, number, worker, ticket):
-        return ticket == (number, worker.announced - 1)
-
-    def learn(self, number, phase, ticket, worker):
-        phase = IDLE if self.is_latest(number, worker, ticket) else phase
-        return worker._replace(phase=phase, learned=worker.learned + (ticket,))
-
-    def marked(self, phase, mark, place):
-        return place if phase == PENDING and mark is None else mark
-
-    def read(self, number, found, worker):
-        if found is not None:
-            return self.learn(number, worker.phase, found, worker)
-        return worker._replace(mark=self.marked(worker.phase, worker.mark, len(worker.learned)))
-
-    def look(self, helped, announced, worker, core):
-        known = self.count(helped, worker.learned)
-        return worker._replace(phase=LOOKED, look=(helped, known) if known < announced else None)
-
-    def proposal(self, number, worker):
-        return worker.look if worker.look is not None else (number, max(0, worker.announced - 1))
-
-    def propose(self, number, found, worker):
-        ticket = found if found is not None else self.proposal(number, worker)
-        return self.learn(number, PENDING, ticket, worker)._replace(look=None, proposals=worker.proposals + 1)
-
-    def stop(self, worker):
-        return worker._replace(phase=STOPPED)
-
-    def turn(self, core, worker):
-        return len(worker.learned) % len(core.workers)
-
-    def decided_with(self, proposal, core, place):
-        return core.decided if place < len(core.decided) else core.decided + (proposal,)
-
-    def conditions(self, core, event, worker, replay):
-        """The conditions of an event in their order, each with the fault of its failing."""
-        room = len(worker.learned) < core.places
-        if event.kind == "announce":
-            return [(worker.phase == IDLE, "bad"), (event.tenant < len(core.openings), "bad"), (room, "full")]
-        if event.kind == "read":
-            return [(worker.phase in (IDLE, PENDING), "bad"), (room, "bad")]
-        if event.kind == "look":
-            return [(worker.phase == PENDING, "bad"), (room, "full"), (worker.mark is not None, "bad")]
-        if event.kind == "propose":
-            return [(worker.phase == LOOKED, "bad")]
-        if event.kind == "replay":
-            return [(worker.phase != STOPPED, "bad"), (replay.replayed < len(worker.learned), "bad")]
-        return [(worker.phase != STOPPED, "bad")]
-
-    def refusal(self, core, event):
-        worker, replay = at(core.workers, event.worker), at(core.replays, event.worker)
-        if worker is None:
-            return "bad"
-        return next((fault for is_met, fault in self.conditions(core, event, worker, replay) if not is_met), None)
-
-    def is_enabled(self, core, event):
-        """Where the step leads on, which is told apart from the fault."""
-        return self.refusal(core, event) is None
-
-    def announced_entry(self, core, event):
-        return Entry((event.worker, core.workers[event.worker].announced), event.tenant, event.command)
-
-    def with_entry(self, entries, entry):
-        return with_at(entries, entry.ticket[0], entries[entry.ticket[0]] + (entry,))
-
-    def step(self, core, event):
-        """The next core and the reply, or nothing."""
-        if not self.is_enabled(core, event):
-            return None
-        number, worker = event.worker, core.workers[event.worker]
-        if event.kind == "replay":
-            return self.replay(core, number)
-        if event.kind == "announce":
-            core = core._replace(entries=self.with_entry(core.entries, self.announced_entry(core, event)))
-            is_now = self.announce(worker)
-        elif event.kind == "read":
-            is_now = self.read(number, at(core.decided, len(worker.learned)), worker)
-        elif event.kind == "look":
-            helped = self.turn(core, worker)
-            is_now = self.look(helped, core.workers[helped].announced, worker, core)
-        elif event.kind == "propose":
-            is_now = self.propose(number, at(core.decided, len(worker.learned)), worker)
-            core = core._replace(decided=self.decided_with(self.proposal(number, worker), core, len(worker.learned)))
-        else:
-            is_now = self.stop(worker)
-        return core._replace(workers=with_at(core.workers, number, is_now)), None
-
-    def replay(self, core, number):
-        replay = core.replays[number]
-        entry = at(self.log_of(core), replay.replayed)
-        tables = self.take_effect(number, entry, replay.tables)
-        replays = with_at(core.replays, number, Replay(replay.replayed + 1, tables))
-        return core._replace(replays=replays), self.reply_from(number, replay.tables, entry)
-
-    def effect(self, table, command):
-        if command == "set" or command == "add" and table.item is None:
-            return table.unique + 1, "STORED"
-        if command == "add":
-            return table.item, "NOT_STORED"
-        return (table.item, ("VALUE", table.item)) if command == "get" else (None, "OK")
-
-    def is_acceptance(self, reply):
-        return reply == "STORED"
-
-    def next_state(self, table, command):
-        item, reply = self.effect(table, command)
-        return Table(table.quota, item, table.unique + (1 if self.is_acceptance(reply) else 0))
-
-    def state_after(self, quota, commands):
-        table = Table(quota)
-        for command in commands:
-            table = self.next_state(table, command)
-        return table
-
-    def answer(self, quota, commands, command):
-        return self.effect(self.state_after(quota, commands), command)[1]
-
-    def own_command(self, tenant, entry):
-        return entry.command if entry is not None and entry.tenant == tenant else None
-
-    def own(self, tenant, log):
-        found = (self.own_command(tenant, entry) for entry in log)
-        return tuple(command for command in found if command is not None)
-
-    def take_effect(self, number, entry, tables):
-        taken = ((table, self.own_command(tenant, entry)) for tenant, table in enumerate(tables))
-        return tuple(table if command is None else self.next_state(table, command) for table, command in taken)
-
-    def reply_from(self, number, tables, entry):
-        if entry is None or entry.ticket[0] != number or entry.tenant >= len(tables):
-            return None
-        return self.effect(tables[entry.tenant], entry.command)[1]
-
-    def new_core(self, workers, places, openings):
-        opened = Replay(0, tuple(Table(quota) for quota in openings))
-        return Core(places, openings, (), (Worker(),) * workers, ((),) * workers, (opened,) * workers)
-
-    def entry_under(self, core, ticket):
-        announced = at(core.entries, ticket[0])
-        return None if announced is None else at(announced, ticket[1])
-
-    def log_of(self, core):
-        return tuple(self.entry_under(core, ticket) for ticket in core.decided)
-
-    def given_by(self, core, event, reply):
-        return () if reply is None else ((event.worker, core.replays[event.worker].replayed, reply),)
 
 
 class Run:
@@ -288,10 +78,10 @@ class Run:
                 "stop": worker.phase != STOPPED,
             }
             for kind, free in may.items():
-                told = self.it.refusal(self.core, Event(kind, number, 0, "get"))
-                self.wants(not free or told is None, "events_lead_one_way: free")
+                refusal = self.it.refusal(self.core, Event(kind, number, 0, GETS))
+                self.wants(not free or refusal is None, "events_lead_one_way: free")
                 if kind == "announce" and worker.phase == IDLE and not room:
-                    self.wants(told == "full", "events_lead_one_way: free")
+                    self.wants(refusal == FULL, "events_lead_one_way: free")
 
     def look_at_log(self):
         it, core = self.it, self.core
@@ -329,10 +119,10 @@ class Run:
             if is_there and entry.tenant < len(core.openings):
                 before = it.own(entry.tenant, log[:place])
                 self.wants(reply == it.answer(core.openings[entry.tenant], before, entry.command), "laws: replies")
-        told = {(worker, place) for worker, place, _ in self.given}
+        answered = {(worker, place) for worker, place, _ in self.given}
         for number, replay in enumerate(core.replays):
             for place in range(min(replay.replayed, len(core.decided))):
-                self.wants(core.decided[place][0] != number or (number, place) in told, "laws: answered")
+                self.wants(core.decided[place][0] != number or (number, place) in answered, "laws: answered")
 
     def look_at_workers(self):
         it, core, count = self.it, self.core, len(self.core.workers)
@@ -385,7 +175,7 @@ class Run:
             proposals = sum(event.kind == "propose" for event in mine[last:])
             self.wants(proposals <= count + 1, "runs_do_what_is_asked: proposed")
 
-    def tell(self, worlds):
+    def note_replies(self, worlds):
         """Notes each reply under all that it may rest on; another run's must be the same."""
         it, core, log = self.it, self.core, self.it.log_of(self.core)
         for _, place, reply in self.given:
@@ -395,25 +185,28 @@ class Run:
                 self.wants(worlds.setdefault((core.openings[entry.tenant], upto), reply) == reply, "two_worlds")
 
 
+NAMED = {"": (), "get": GETS, "flush": FLUSH}
+
+
 def row(definitions, settings, text):
-    """A worked run, or nothing where an event doesn't lead on."""
+    """The run of some events, or `None` where an event isn't enabled."""
     run = Run(definitions, settings)
     words = (line.split() for line in text.split(","))
-    events = [Event(kind, int(worker), int((more + ["0"])[0]), (more + ["", ""])[1]) for kind, worker, *more in words]
+    events = [Event(kind, int(worker), int((more + ["0"])[0]), NAMED[(more + ["", ""])[1]]) for kind, worker, *more in words]
     return run if all(run.take(event) for event in events) else None
 
 
 def broken_rows(definitions):
     """The rows of uc_core/proofs."""
     broken = set()
-    helped = row(definitions, (2, 8, (1,)), "announce 0 0 get,stop 0,announce 1 0 get,read 1,look 1,propose 1,look 1,propose 1")
+    helped = row(definitions, (2, 8, tuple(QUOTAS[:1])), "announce 0 0 get,stop 0,announce 1 0 get,read 1,look 1,propose 1,look 1,propose 1")
     waiting = Worker(STOPPED, 1)
     done = Worker(IDLE, 1, ((0, 0), (1, 0)), 0, None, 2)
     if helped is None or helped.core.workers != (waiting, done):
         broken.add("row: helped_after_stop")
     text = "announce 0 0 flush,announce 1 1 get,read 1,look 1,propose 1,look 1,propose 1,replay 1,replay 1,read 0,replay 0,stop 0"
-    both = row(definitions, (2, 4, (1, 2)), text)
-    if both is None or both.given != ((1, 1, ("VALUE", None)), (0, 0, "OK")) or both.core.decided != ((0, 0), (1, 0)):
+    both = row(definitions, (2, 4, tuple(QUOTAS)), text)
+    if both is None or both.given != ((1, 1, b"END\r\n"), (0, 0, OK)) or both.core.decided != ((0, 0), (1, 0)):
         broken.add("row: two_are_answered")
     if definitions.is_legal(((0, 0), (0, 0))):
         broken.add("row: twice_is_not_legal")
@@ -435,10 +228,10 @@ def broken_logs(definitions, rng):
         if definitions.own(tenant, front + [entry] + back) != (parts if mine else definitions.own(tenant, front + back)):
             broken.add("mc_laws: own_entries_alone_count")
         commands = [rng.choice(COMMANDS) for _ in range(rng.randrange(5))]
-        was, command = definitions.state_after(1, commands), rng.choice(COMMANDS)
-        item, reply = definitions.effect(was, command)
-        now = definitions.state_after(1, commands + [command])
-        if now != Table(1, item, was.unique + (reply == "STORED")):
+        was, command = definitions.state_after(QUOTAS[0], commands), rng.choice(COMMANDS)
+        then, reply = was.after(command)
+        now = definitions.state_after(QUOTAS[0], commands + [command])
+        if now != dataclasses.replace(then, changes=was.changes + (reply == STORED)):
             broken.add("mc_laws: commands_act_in_order")
     return broken
 
@@ -448,7 +241,7 @@ def broken_by(definitions):
     rng, worlds = random.Random(1991), {}
     broken = broken_rows(definitions) | broken_logs(definitions, rng)
     for _ in range(RUNS):
-        tenants = tuple(rng.choice([1, 2]) for _ in range(rng.randint(1, 2)))
+        tenants = tuple(rng.choice(QUOTAS) for _ in range(rng.randint(1, 2)))
         run = Run(definitions, (rng.randint(1, 3), rng.randint(2, 7), tenants))
         for _ in range(EVENTS):
             workers = range(len(run.core.workers) + 1)
@@ -458,7 +251,7 @@ def broken_by(definitions):
             rng.shuffle(asked)
             if not any(run.take(event) for event in asked):
                 break
-        run.tell(worlds)
+        run.note_replies(worlds)
         broken |= run.broken
     return broken
 
@@ -490,6 +283,10 @@ def forbids(condition):
     return lambda self, core, event, worker, replay: [(condition(event), "bad")] + Definitions.conditions(
         self, core, event, worker, replay
     )
+
+
+def with_refused_changes(table, reply):
+    return dataclasses.replace(table, changes=table.changes + (reply == NOT_STORED))
 
 
 def has_room(core, worker):
@@ -587,7 +384,7 @@ wrong(
 )
 wrong(
     "reply: from the opening tables",
-    reply_from=lambda self, number, tables, entry: RIGHT.reply_from(number, tuple(Table(table.quota) for table in tables), entry),
+    reply_from=lambda self, number, tables, entry: RIGHT.reply_from(number, tuple(Table(table.most_items, table.most_bytes) for table in tables), entry),
 )
 wrong(
     "reply: given under worker 0",
@@ -598,7 +395,7 @@ wrong(
     given_by=lambda self, core, event, reply: tuple((who, place + 1, it) for who, place, it in RIGHT.given_by(core, event, reply)),
 )
 wrong("announced: under tenant 0 always", announced_entry=lambda self, core, event: RIGHT.announced_entry(core, event)._replace(tenant=0))
-wrong("announced: a flush always", announced_entry=lambda self, core, event: RIGHT.announced_entry(core, event)._replace(command="flush"))
+wrong("announced: a flush always", announced_entry=lambda self, core, event: RIGHT.announced_entry(core, event)._replace(command=FLUSH))
 wrong(
     "announced: over the commands before",
     with_entry=lambda self, entries, entry: (
@@ -620,11 +417,11 @@ wrong(
 )
 wrong(
     "own: an absent entry is tenant 0's",
-    own_command=lambda self, tenant, entry: "flush" if entry is None and tenant == 0 else RIGHT.own_command(tenant, entry),
+    own_command=lambda self, tenant, entry: FLUSH if entry is None and tenant == 0 else RIGHT.own_command(tenant, entry),
 )
 wrong("own: every tenant's", own_command=lambda self, tenant, entry: entry and entry.command)
 wrong("own: backwards", own=lambda self, tenant, log: RIGHT.own(tenant, log)[::-1])
-wrong("changes: of refused commands", is_acceptance=lambda self, reply: reply in ("STORED", "NOT_STORED"))
+wrong("changes: of refused commands", next_state=lambda self, table, command: with_refused_changes(*table.after(command)))
 wrong(
     "legal: at least the number",
     is_legal=lambda self, tickets: all(self.count(worker, tickets[:place]) >= number for place, (worker, number) in enumerate(tickets)),
@@ -637,13 +434,14 @@ equal("learn: idle at any ticket of its own", is_latest=lambda self, number, wor
 
 
 def main():
-    wrong_ones = 0
-    for name, definitions in {"the definitions": Definitions, **EQUAL, **WRONG}.items():
+    failed = 0
+    everything = {"the definitions": Definitions, **EQUAL, **WRONG}
+    for name, definitions in everything.items():
         broken = broken_by(definitions())
-        wrong_ones += bool(broken) != (name in WRONG)
-        print(f"{name}: {'; '.join(sorted(broken)) or 'nothing is false'}")
-    print(f"{len(WRONG)} wrong definitions, {wrong_ones} that are judged wrongly")
-    return 1 if wrong_ones else 0
+        failed += bool(broken) != (name in WRONG)
+        print(f"{name}: {'; '.join(sorted(broken)) or 'nothing is false'}", flush=True)
+    print(f"{len(everything) - failed} passed, {failed} failed")
+    return 1 if failed else 0
 
 
 if __name__ == "__main__":

@@ -2,7 +2,7 @@
 # Installs the built programs, their manual pages, the unit of systemd with its defaults file, and the documents; or takes exactly
 # these out again, by the list that the installing left among the documents.
 # Usage: tools/install.sh install|uninstall, with PREFIX (/usr/local), SYSCONFDIR (/etc) and DESTDIR (none) in the environment.
-# A defaults file that stands there already is kept, and one that was changed isn't taken out; either is said.
+# A defaults file that exists is kept, and one that was changed isn't removed; either is reported.
 set -euo pipefail
 cd "$(dirname "$0")/.."
 

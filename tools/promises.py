@@ -24,7 +24,7 @@ a call asks of its caller, `ensures` what it promises; `.old` and `.new` are wha
 function with an empty body: its contract is all there is to it. The `ghost` lines of a type are its invariants and what contracts see of it, those of an implementation what it makes of its trait;
 none of them exists at run time. Definitions of Rattle's std aren't listed. [DEFINITIONS.md](DEFINITIONS.md) explains those of this repository.
 
-A mutant is a small change of the code, which the prover must reject. The gate tries the first set at each run, `make edits` the full set.
+A mutant is a small change of the code, which the prover must reject. The gate tries the first set at each run, `make mutants` the full set.
 """
 
 

@@ -1,6 +1,6 @@
 #!/usr/bin/env bash
-# Tries twemproxy over three instances of wfmc for two tenants, by tools/proxy.yml at free ports: keys go to all three, tenants are apart,
-# one instance is stopped and started again, with auto_eject_hosts off and on (tools/clients/proxied.py).
+# Tests twemproxy over three instances of wfmc for two tenants, by tools/proxy.yml on free ports: keys go to all three, tenants are isolated,
+# one instance is stopped and started again, with auto_eject_hosts off and on (tools/compatibility/proxied.py).
 # Usage: tools/proxy.sh [WFMC]. Installs nutcracker and python3-pymemcache where it may. The last line is 'N passed, M failed'.
 set -euo pipefail
 cd "$(dirname "$0")/.."
@@ -19,4 +19,4 @@ if [ -n "$missing" ]; then
 fi
 program=${1:-crates/wfmc/out/wfmc}
 [ -x "$program" ] || { echo "$program isn't built: make serve builds it" >&2; exit 1; }
-exec /usr/bin/python3 -B tools/clients/proxied.py "$program"
+exec /usr/bin/python3 -B tools/compatibility/proxied.py "$program"

@@ -1,5 +1,5 @@
 //! A call that runs out of memory says so, and leaves the cell as it was.
-//! `tests/cell_allocations.py` refuses each allocation of these tests in turn: if it is one of the
+//! `tests/allocation_failures.py` refuses each allocation of these tests in turn: if it is one of the
 //! call's own, the test ends with `TOLD` instead of going on.
 ghost use Rattle.uc_cells.specs.Cells.{HasCell};
 

@@ -1,0 +1,112 @@
+#!/usr/bin/env python3
+"""Loads wfmc over loopback, compared with memcached, by turns, each started anew for each run: wfmc.py [RUNS].
+
+50 connections with one request at a time, and 8 connections with 32; 95 in 100 are gets, of 1,000 keys with data of 100 bytes
+(bench/load.c); with 1 and 2 workers or threads. Prints for each the median of RUNS (5) runs: requests a second, the median and the 99th
+percentile of the time to a reply (or to the last of 32) in microseconds, the server's processor time a request in microseconds; and the
+server's system calls a request, of a run by itself. Then wfmc with 1, 8 and 64 tenants. wfmc's log has 1,048,576 places, which bounds a
+run. Needs memcached, gcc and strace.
+"""
+
+import os
+import pathlib
+import signal
+import subprocess
+import sys
+import tempfile
+
+sys.path.insert(0, str(pathlib.Path(__file__).parents[1] / "tests"))
+from harness import repository
+from harness.measures import medians
+from harness.servers import Memcached, Server
+
+PROGRAM = repository.program("wfmc")
+QUOTAS = (100_000, 100_000_000)
+SHAPES = [(50, 1, 400_000), (8, 32, 900_000)]
+TRACED = 64_000
+SET_BEFORE = 1_000
+
+
+def build_load(folder):
+    """The program that loads a server."""
+    path = f"{folder}/load"
+    subprocess.run(["gcc", "-O2", "-o", path, "bench/load.c"], check=True)
+    return path
+
+
+def load(program, ports, shape):
+    """Loads a server: requests a second, and the median and 99th percentile of the time to a reply."""
+    words = [program, ",".join(map(str, ports)), *map(str, shape)]
+    return [float(word) for word in subprocess.run(words, capture_output=True, text=True, check=True).stdout.split()]
+
+
+def start(which, threads, tenants=1, before=()):
+    """A server with this many threads, and its ports; `before` are the words of a tool that runs it."""
+    if which == "memcached":
+        server = Memcached("-t", str(threads), before=before)
+        return server, [server.port]
+    words = [*before, PROGRAM]
+    options = [*words[1:], "--workers", str(threads), "--places", "1048576"]
+    server = Server(words[0], options, {f"t{number}": QUOTAS for number in range(tenants)})
+    return server, list(server.ports.values())
+
+
+def run(program, which, threads, tenants, shape):
+    """One run: requests a second, median, 99th percentile, and the processor time a request."""
+    server, ports = start(which, threads, tenants)
+    with server:
+        figures = load(program, ports, shape)
+        return [*figures, server.processor_seconds() / shape[2] * 1e6]
+
+
+def system_calls(program, folder, which, threads, shape):
+    """The system calls a request of a server that is traced."""
+    counted = pathlib.Path(folder, "calls")
+    server, ports = start(which, threads, before=["strace", "-f", "-c", "-o", str(counted)])
+    with server:
+        load(program, ports, (*shape[:2], TRACED))
+        for child in server.children():
+            os.kill(child, signal.SIGTERM)
+        server.wait()
+    total = next(line for line in counted.read_text().splitlines() if line.endswith("total"))
+    return float(total.split()[3]) / (TRACED + SET_BEFORE)
+
+
+def row(what, *cells):
+    print(f"{what:34} {cells[0]:>12} " + " ".join(f"{cell:>8}" for cell in cells[1:]), flush=True)
+
+
+def cells_of(runs):
+    rate, *times, processor = medians(runs)
+    return f"{rate:,.0f}", *(f"{time:.0f}" for time in times), f"{processor:.2f}"
+
+
+def compare(program, folder, runs):
+    """wfmc and memcached by turns."""
+    for shape in SHAPES:
+        for threads in (1, 2):
+            found = {"wfmc": [], "memcached": []}
+            for _ in range(runs):
+                for which, figures in found.items():
+                    figures.append(run(program, which, threads, 1, shape))
+            for which, figures in found.items():
+                calls = system_calls(program, folder, which, threads, shape)
+                row(f"{which}, {threads} threads, {shape[0]} x {shape[1]}", *cells_of(figures), f"{calls:.2f}")
+
+
+def main():
+    runs = int(sys.argv[1]) if len(sys.argv) > 1 else 5
+    repository.enter(PROGRAM)
+    repository.require("memcached", "gcc", "strace")
+    with tempfile.TemporaryDirectory() as folder:
+        program = build_load(folder)
+        row(f"median of {runs} runs", "requests/s", "median", "p99", "CPU us", "calls")
+        compare(program, folder, runs)
+        for tenants in (1, 8, 64):
+            figures = [run(program, "wfmc", 2, tenants, (64, 1, 400_000)) for _ in range(runs)]
+            row(f"wfmc, 2 threads, {tenants} tenants, 64 x 1", *cells_of(figures), "-")
+    print(f"the load at the end was {os.getloadavg()[0]:.1f}")
+
+
+if __name__ == "__main__":
+    main()

@@ -1,0 +1,371 @@
+#!/usr/bin/env python3
+"""Injects allocation failures: allocation_failures.py [CASE...] [--every N], with the cases mc_stdin, mc_schedule, wfmc and cells.
+
+A program is run over and over, each allocation refused in turn, alone and with all later ones (tests/refuse.c, which needs gcc); --every N
+refuses one allocation in N. How a run may end is said at the `judge` of its case. A hang, a signal or a wrong byte is a failure. Prints how the runs
+ended, and a line for each failure; the last line is 'N passed, M failed'.
+"""
+
+import argparse
+import collections
+import concurrent.futures
+import functools
+import re
+import subprocess
+
+from harness import preload, repository
+from harness.client import Exchange, connect
+from harness.results import Results
+from harness.servers import Server
+from oracle import protocol
+from oracle.replies import prefixes
+from oracle.schedule import expected
+from oracle.table import Table
+
+SECONDS = 60
+MODES = {"one": {}, "all from one on": {"ONWARD": "1"}}
+results = Results()
+
+
+def fed(words, stream, environment):
+    """Runs a program over a stream: status, output and standard error."""
+    ended = subprocess.run(words, input=stream, capture_output=True, env=environment, timeout=SECONDS)
+    return ended.returncode, ended.stdout, ended.stderr
+
+
+def counts_of(errors):
+    """How many allocations there were, and the number of the first large one, as the library prints them."""
+    return [int(count) for count in errors.split()[-2:]]
+
+
+def sweep(what, run, judge, environment, numbers, threads=4):
+    """Runs with each of these allocations refused; for each mode how the runs ended, by the allocation's number.
+
+    `judge` returns how a run ended, in a few words, and whether it may end so.
+    """
+    with concurrent.futures.ThreadPoolExecutor(threads) as pool:
+        for mode, more in MODES.items():
+            runs = {number: pool.submit(run, {**environment, "REFUSED": str(number), **more}) for number in numbers}
+            ends = {}
+            for number, ended in runs.items():
+                ends[number], holds = judge(ended.result(), mode)
+                results.check(f"{what}, allocation {number} refused, {mode}", holds, ends[number])
+            kinds = collections.Counter(end.partition(":")[0] for end in ends.values())
+            print(f"{what}, {mode} refused: " + ", ".join(f"{kinds[end]} {end}" for end in sorted(kinds)), flush=True)
+            yield mode, ends
+
+
+STDIN = [repository.program("mc_stdin"), "--items", "2", "--bytes", "3100"]
+REQUESTS = [
+    b"set a 5 0 3\r\nabc\r\n",
+    b"get a b\r\n",
+    b"add a 0 0 1\r\nx\r\n",
+    b"add b 0 0 2\r\n10\r\n",
+    b"replace c 0 0 1\r\nx\r\n",
+    b"append a 9 60 2\r\nde\r\n",
+    b"prepend a 9 0 1\r\n>\r\n",
+    b"gets a\r\n",
+    b"cas a 7 0 3 4\r\nnew\r\n",
+    b"cas a 7 0 3 4\r\nold\r\n",
+    b"cas c 7 0 1 4\r\nx\r\n",
+    b"incr b 5\r\n",
+    b"decr b 6\r\n",
+    b"incr a 1\r\n",
+    b"incr b x\r\n",
+    b"set c 0 0 1\r\nx\r\n",
+    b"add c 0 0 1\r\nx\r\n",
+    b"append a 0 0 3095\r\n" + 3095 * b"z" + b"\r\n",
+    b"cas a 0 0 3098 7\r\n" + 3098 * b"z" + b"\r\n",
+    b"cas a 0 0 3098 5\r\n" + 3098 * b"z" + b"\r\n",
+    b"set a 0 0 3097\r\n" + 3097 * b"n" + b"\r\n",
+    b"incr b 1\r\n",
+    b"gets b\r\n",
+    b"set a 0 1 3\r\nget\r\n",
+    b"set a 0 0 1 noreply\r\ny\r\n",
+    b"delete a\r\n",
+    b"delete a 0\r\n",
+    b"set k 0 0 3000\r\n" + 3000 * b"z" + b"\r\n",
+    b"get k k k\r\n",
+    b"stats\r\n",
+    b"flush_all\r\n",
+    b"get b\r\n",
+    b"version\r\n",
+    b"quit\r\n",
+]
+REPLIES = list(prefixes(Table(2, 3100), protocol.requests(b"".join(REQUESTS))))
+
+
+def at_once(environment):
+    """All requests in one piece."""
+    return fed(STDIN, b"".join(REQUESTS), environment)
+
+
+def by_turns(environment):
+    """Each request after the reply to the one before."""
+    received, pipe = b"", subprocess.PIPE
+    with subprocess.Popen(STDIN, stdin=pipe, stdout=pipe, stderr=pipe, env=environment, bufsize=0) as program:
+        for request, wanted in zip(REQUESTS, REPLIES[1:]):
+            try:
+                program.stdin.write(request)
+            except BrokenPipeError:
+                break
+            while len(received) < len(wanted) and (piece := program.stdout.read(len(wanted) - len(received))):
+                received += piece
+            if received != wanted:
+                break
+        output, errors = program.communicate(timeout=SECONDS)
+    return program.returncode, received + output, errors
+
+
+def judge_stdin(ended, _mode):
+    """A run ends well, with all replies; or it writes the first of them, complete and in order, then "SERVER_ERROR out of memory", reports
+    the fault on standard error and ends with status 1; or it ends with status 1 and no reply, while it reads its words."""
+    status, received, errors = ended
+    if ended == (0, REPLIES[-1], b""):
+        return "ended well", True
+    if status == 1 and errors == b"mc_stdin: out of memory\n" and received.endswith(protocol.STARVED):
+        before = received[: -len(protocol.STARVED)]
+        return ("refused after replies" if before else "refused before any reply"), before in REPLIES
+    if status == 1 and received == b"":
+        return "refused in its words", True
+    return f"another end: {status}, {received[-200:]!r}, {errors!r}", False
+
+
+def try_stdin(environment, every):
+    """From the allocation on that reserves the history, which is the first large one, the client has to be answered."""
+    for what, run in (("mc_stdin at once", at_once), ("mc_stdin by turns", by_turns)):
+        count, opening = counts_of(run({**environment, "COUNTED": "1"})[2])
+        numbers = sorted({*range(1, count + 2, every), opening, count + 1})
+        for mode, ends in sweep(what, run, judge_stdin, environment, numbers):
+            results.check(f"{what}: the opening, {mode}", ends[opening] == "refused before any reply", ends[opening])
+            later = {end for number, end in ends.items() if number >= opening}
+            results.check(f"{what}: the client is answered from the opening on, {mode}", "refused in its words" not in later)
+            results.check(f"{what}: a refusal after replies, {mode}", "refused after replies" in later)
+            results.check(f"{what}: nothing refused, {mode}", ends[count + 1] == "ended well", ends[count + 1])
+
+
+SCHEDULE = repository.program("mc_schedule")
+LIST = b"""\
+core 3 16
+tenant 2 200
+tenant 1 9
+submit 2 1 set a 0 q
+submit 1 0 set a 5 abc
+announce 0 0 append a 0 de
+stop 0
+submit 1 0 gets a b
+submit 2 1 set b 0 q
+submit 2 1 incr a 1
+announce 1 0 cas a 7 2 new
+read 1
+read 1
+read 1
+read 1
+look 1
+propose 1
+replay 1
+replay 1
+replay 1
+replay 1
+submit 2 0 get a
+submit 2 0 flush_all
+"""
+WELL = expected(LIST, collections.Counter())
+REPORT = rb"((?:reply .*\n)*)fault (\d+) out of memory\nlog( \(\d+,\d+\))*\n(worker \d .*\n){3}"
+
+# The lines, from 1, of which some event can need memory.
+NEEDY = {number for number, line in enumerate(LIST.splitlines(), 1) if re.match(rb"submit|announce|replay", line)}
+
+
+def without_picture(output):
+    """The report alone: a picture comes first, and an empty line."""
+    return output.partition(b"\n\n")[2] if output.startswith(b"   line ") else output
+
+
+def judge_schedule(well, ended, _mode):
+    """A run ends well, with the whole report; or it prints nothing and reports the fault on standard error, with status 1; or an event ran out
+    of memory, and the report has the replies before it, that fault at a line that announces or replays, the log and the workers, with
+    status 1 and nothing on standard error."""
+    status, output, errors = ended
+    if ended == (0, well, b""):
+        return "ended well", True
+    if ended == (1, b"", b"mc_schedule: out of memory\n"):
+        return "refused, with nothing printed", True
+    report = re.fullmatch(REPORT, without_picture(output))
+    if status == 1 and errors == b"" and report and WELL.replies.startswith(report[1]) and int(report[2]) in NEEDY:
+        return "refused at an event", True
+    return f"another end: {status}, {output!r}, {errors!r}", False
+
+
+def try_schedule(environment, every):
+    for words in ([], ["--picture"]):
+
+        def run(environment, words=words):
+            return fed([SCHEDULE, *words], LIST, environment)
+
+        what = " ".join(["mc_schedule", *words])
+        status, well, counted = run({**environment, "COUNTED": "1"})
+        count, _ = counts_of(counted)
+        results.check(f"{what}: with all memory", status == 0 and without_picture(well) == WELL.replies + WELL.report, well)
+        numbers = sorted({*range(1, count + 2, every), count + 1})
+        for mode, ends in sweep(what, run, functools.partial(judge_schedule, well), environment, numbers):
+            results.check(f"{what}: nothing refused, {mode}", ends[count + 1] == "ended well", ends[count + 1])
+            # The report of a fault needs memory too.
+            if not words and mode == "one":
+                results.check(f"{what}: a refusal at an event", "refused at an event" in ends.values())
+
+
+WFMC = repository.program("wfmc")
+CLIENTS = 4
+QUOTAS = (3, 60_000)
+OPTIONS = ["--workers", "2", "--places", "300", "--connections", str(CLIENTS + 1)]
+
+
+def stream_of(number):
+    """A client's requests, over keys of its own, with some that are answered without the log."""
+    key = b"key%d" % number
+    block = b"z" * (3_000 + number)
+    return [
+        b"set %s 5 0 3\r\nabc\r\n" % key,
+        b"get %s nothing\r\n" % key,
+        b"append %s 0 0 2\r\nde\r\n" % key,
+        b"set %s 0 0 %d\r\n%s\r\n" % (key, len(block), block),
+        b"get %s %s %s\r\n" % (key, key, key),
+        b"set %s 0 0 2\r\n10\r\n" % key,
+        b"incr %s 5\r\n" % key,
+        b"delete %s\r\n" % key,
+        b"set %s 0 0 70000\r\n%s\r\n" % (key, b"q" * 70_000),
+        b"stats\r\n",
+        b"add %s 0 0 1\r\nx\r\n" % key,
+        b"get %s\r\n" % key,
+    ]
+
+
+def replies_of(number):
+    """What a client's whole replies come to, one after another."""
+    return list(prefixes(Table(*QUOTAS), protocol.requests(b"".join(stream_of(number)))))
+
+
+def client(port, number):
+    """Sends each request after the reply to the one before; what was received, and how it ended."""
+    try:
+        exchange = Exchange(connect(port, SECONDS), SECONDS)
+    except OSError as error:
+        return b"", f"no connection: {error}"
+    for piece, wanted in zip(stream_of(number), replies_of(number)[1:]):
+        exchange.send(piece)
+        exchange.wait_for(len(wanted))
+        if exchange.ending:
+            exchange.close()
+            return bytes(exchange.received), exchange.ending
+    return exchange.finish(), exchange.ending
+
+
+def judge_client(number, received, ending):
+    """How a client was served: "served", "refused", "closed", or what is wrong."""
+    fronts = replies_of(number)
+    if received == fronts[-1] and ending == "end":
+        return "served"
+    if received.endswith(protocol.STARVED) and received[: -len(protocol.STARVED)] in fronts:
+        return "refused"
+    if received in fronts and ending in ("end", "reset"):
+        return "closed"
+    return f"{ending}, {len(received)} bytes, the last {received[-80:]!r}"
+
+
+def serve_clients(environment):
+    """Two workers serve clients of two tenants at once, one connection each, until as many as --connections says have come and gone. Returns how
+    wfmc ended, and how each of its clients was served; the last client comes when the others have left."""
+    with Server(WFMC, OPTIONS, {"a": QUOTAS, "b": QUOTAS}, environment=environment) as server:
+        served = []
+        if len(server.ports) == 2:
+            with concurrent.futures.ThreadPoolExecutor(CLIENTS) as pool:
+                answers = list(pool.map(lambda number: client(server.ports["ab"[number % 2]], number), range(CLIENTS)))
+            answers.append(client(server.ports["a"], CLIENTS))
+            served = [judge_client(number, *answer) for number, answer in enumerate(answers)]
+        try:
+            return server.wait(SECONDS), served
+        except subprocess.TimeoutExpired:
+            return (None, b"", b"it didn't end"), served
+
+
+def judge_wfmc(ended, mode):
+    """Either wfmc ends by itself, with the one line `wfmc: out of memory` on standard error and status 1; or it goes on, and ends well: then
+    each client received complete replies in order, up to its end or to `SERVER_ERROR out of memory`, or it was closed without a byte. Where
+    one allocation was refused, at most one client was refused or closed. Threads allocate in another order in each run, so no more is asked."""
+    (status, output, errors), served = ended
+    wrong = [one for one in served if one not in ("served", "refused", "closed")]
+    if status == 1 and errors == b"wfmc: out of memory\n":
+        return "ended by itself", all(one.startswith(("no connection", "late", "reset", "end")) for one in wrong)
+    if status == 0 and output.startswith(b"done ") and not errors:
+        few = sum(one != "served" for one in served) <= 1 or mode != "one"
+        return ("ended well" if all(one == "served" for one in served) else "refused a client"), few and not wrong
+    return f"another end: {status}, {output!r}, {errors!r}, {served}", False
+
+
+def try_wfmc(environment, every):
+    (status, _, counted), served = serve_clients({**environment, "COUNTED": "1"})
+    count = counts_of(counted)[0]
+    results.check("wfmc: all clients are served", status == 0 and count > 100 and served == ["served"] * (CLIENTS + 1), served)
+    for _ in sweep("wfmc", serve_clients, judge_wfmc, environment, range(1, count + 20, every), threads=6):
+        pass
+
+
+CELLS = "crates/uc_tests_cells"
+TOLD = "the call told want of memory, and wrote nothing"
+
+# How often each test's call allocates: a row of cells (its list, its box), and the box of the value.
+ASKS = {"memory::a_put_tells_want_of_memory": 3, "memory::a_sighting_tells_want_of_memory": 3}
+MOST = 60
+
+
+def ends_of(refused):
+    """How each test ended where the allocation of this number was refused."""
+    words = ["rt", "try", "--test", "--fail-alloc", str(refused)]
+    ran = subprocess.run(words, cwd=CELLS, capture_output=True, text=True, timeout=600)
+    ends = {}
+    for part in re.split(r"^test (?=\S+ \.\.\. )", ran.stdout + ran.stderr, flags=re.MULTILINE)[1:]:
+        name = part.split()[0]
+        error = re.search(r"^\s*error: (.*)$", part, re.MULTILINE)
+        if name in ASKS:
+            ends[name] = "ok" if part.split()[2] == "ok" else error.group(1).strip('"') if error else part
+    return ends
+
+
+def try_cells(_environment, _every):
+    """The tests of uc_tests_cells on running out of memory, whose allocations `rt` refuses. Each of them ends well, or runs out of memory before
+    its call, or says that the call reported it and wrote nothing (`TOLD`, the text in crates/uc_tests_cells/src/memory.rt). Any other end is
+    wrong: above all `Taken` in place of `Memory`, or a cell that was written to."""
+    repository.require("rt")
+    refusals = collections.Counter()
+    for refused in range(1, MOST + 1):
+        ends = ends_of(refused)
+        for name in ASKS:
+            end = ends.get(name, "it didn't run")
+            refusals[name] += end == TOLD
+            results.check(f"{name}, allocation {refused} refused", end in ("ok", "Memory", TOLD), end)
+        if ends == dict.fromkeys(ASKS, "ok"):
+            break
+    for name, asks in ASKS.items():
+        results.check(f"{name}: refused {refusals[name]} times, not {asks}", refusals[name] == asks)
+
+
+CASES = {"mc_stdin": try_stdin, "mc_schedule": try_schedule, "wfmc": try_wfmc, "cells": try_cells}
+
+
+def main():
+    parser = argparse.ArgumentParser(description=__doc__.split("\n")[0])
+    parser.add_argument("cases", nargs="*", metavar="CASE", help=", ".join(CASES))
+    parser.add_argument("--every", type=int, default=1, metavar="N", help="refuse one allocation in N")
+    asked = parser.parse_args()
+    cases = asked.cases or list(CASES)
+    if unknown := set(cases) - set(CASES):
+        parser.error(f"no case {unknown.pop()}")
+    repository.enter(*(repository.program(case) for case in cases if case != "cells"))
+    with preload.library(preload.REFUSE) as environment:
+        for case in cases:
+            CASES[case](environment, asked.every)
+    results.finish()
+
+
+main()

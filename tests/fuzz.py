@@ -1,0 +1,524 @@
+#!/usr/bin/env python3
+"""Fuzzes wfmc, as built, over sockets on loopback: fuzz.py [SECONDS] [BINARY] [--seed N] [--round N].
+
+For this many seconds (60) it runs rounds, each with a server and tenants of its own, and all of these at once:
+- tenants with one connection after another, random and mutated streams in random pieces: the replies byte for byte as the oracle has them;
+- tenants with several connections, each over keys of its own: the same, but a unique may be any number;
+- connections that are killed at any byte: what they received is right, and what they leave is what some first part of their stream gives;
+- a reader and a writer that are slow, clients that send without reading, hundreds of connects and closes;
+- and a steady client among them, whose longest wait is printed: above 10 seconds is a failure.
+After each round every descriptor has to be given back, and the processor to rest. Before the rounds: a load that is repeated leaves the memory
+where it was; more connections than there may be descriptors are served one after another; connections that came and went close no other tenant's,
+and those that come and go without end keep no other waiting; a quiet connection keeps nothing of its large replies; where the system refuses
+threads the server ends; and gets whose replies no memory holds end their own connections alone, under a limit (RLIMIT_AS).
+Replay a round with --seed N --round M. Prints a line for each failure; the last line is 'N passed, M failed'.
+"""
+
+import argparse
+import concurrent.futures
+import errno
+import os
+import random
+import resource
+import select
+import socket
+import subprocess
+import time
+
+from generators import StreamGenerator, mutated, pieces
+from harness import repository
+from harness.client import Exchange, connect, exchange, reset
+from harness.results import Results
+from harness.servers import Server
+from oracle import protocol
+from oracle.replies import Replies
+from oracle.table import Table
+
+LATE = 10.0
+ROUND_SECONDS = 3.0
+LARGE = (1_000_000, 1_000_000_000)
+QUOTAS = ((1, 60), (3, 300), (4, 70_000), (1_000, 2_000_000), LARGE)
+VERSION = b"VERSION 1.0.0\r\n"
+
+
+def fault_of(received, ending, asked, replies):
+    """What is wrong with a connection's replies, or `None`. After a request that ends the stream the system may reset it, and lose replies."""
+    if ending == "late" or (ending == "reset" and not (asked and asked[-1].ends_stream)):
+        return f"ended by {ending} after {len(received)} bytes"
+    index = replies.first_wrong(asked)
+    if index is None:
+        return None
+    request = asked[index] if index < len(asked) else "no request"
+    return f"request {index} of {len(asked)}, {str(request)[:300]}: replies go on with {received[replies.at :][:120]!r}"
+
+
+def solo(port, seed, quotas):
+    """One connection after another; the tenant's table is known throughout."""
+    chance, table, is_full, found = random.Random(seed), Table(*quotas), False, []
+    generator = StreamGenerator(chance)
+    for session in range(6):
+        stream = generator.stream(chance.randrange(1, 120))
+        if chance.random() < 0.5:
+            stream = mutated(chance, stream)
+        received, ending = exchange(port, pieces(chance, stream))
+        replies = Replies(table, received, is_full, is_cut=ending == "reset")
+        wrong = fault_of(received, ending, protocol.requests(stream), replies)
+        found.append(("one connection at a time", wrong and f"session {session}: {wrong}"))
+        is_full = replies.is_full
+        if wrong:
+            break
+    return found
+
+
+def shared(port, seed, number):
+    """One of several connections of a tenant, over keys of its own."""
+    chance = random.Random(seed)
+    stream = StreamGenerator(chance, b"%d:" % number).stream(200)
+    received, ending = exchange(port, pieces(chance, stream))
+    replies = Replies(Table(*LARGE), received, masks_uniques=True)
+    return [("several connections of a tenant", fault_of(received, ending, protocol.requests(stream), replies))]
+
+
+def killed(port, seed, number):
+    """A connection that is cut off at any byte. Returns what it sent too."""
+    chance = random.Random(seed)
+    stream = StreamGenerator(chance, b"%d:" % number).stream(60)
+    sent = stream[: chance.randrange(len(stream) + 1)]
+    client = Exchange(connect(port))
+    for piece in pieces(chance, sent):
+        client.send(piece)
+    asked, table = protocol.requests(sent), Table(*LARGE)
+    answers = [(table.reply(request), request.is_quiet) for request in asked]
+    owed = sum(len(reply) for reply, is_quiet in answers if not is_quiet)
+    client.until = time.monotonic() + 1  # where the log is full the replies are shorter
+    client.wait_for(chance.choice((0, 0, 1, owed // 2)) if owed else 0)
+    received, ending = bytes(client.received), client.ending
+    reset(client.connection) if chance.random() < 0.5 else client.close()
+    replies = Replies(Table(*LARGE), received, is_cut=True, masks_uniques=True)
+    # After a request that ends the stream the server may have closed it first.
+    is_early = ending in ("end", "reset") and not (asked and asked[-1].ends_stream)
+    wrong = f"ended by {ending}" if is_early else fault_of(received, None, asked, replies)
+    return [("killed at any byte", wrong)], (number, seed, sent)
+
+
+def leaves(port, left):
+    """Whether what a killed connection leaves is what some first part of its stream gives."""
+    number, seed, sent = left
+    show = StreamGenerator(random.Random(seed), b"%d:" % number).show_all()
+    shown, _ = exchange(port, [show])
+    table = Table(*LARGE)
+    asked = protocol.requests(show)[0].command
+    fronts = [table.answer(asked)]
+    for request in protocol.requests(sent):
+        if request.command:
+            table.answer(request.command)
+            fronts.append(table.answer(asked))
+    wrong = None if shown in (*fronts, protocol.LOG_FULL) else f"what it left is no first part's: {shown[:200]!r}"
+    return [("what killed connections leave", wrong)]
+
+
+def slow_reader(port, seed):
+    """Asks for much, and reads it slowly through a small buffer."""
+    block = random.Random(seed).randbytes(100_000)
+    client = socket.socket()
+    client.setsockopt(socket.SOL_SOCKET, socket.SO_RCVBUF, 4_096)
+    client.settimeout(60)
+    client.connect(("127.0.0.1", port))
+    client.sendall(b"set slow%d 0 0 100000\r\n%s\r\n" % (seed, block) + b"get slow%d\r\n" % seed * 60 + b"quit\r\n")
+    received, until = bytearray(), time.monotonic() + ROUND_SECONDS
+    while piece := client.recv(20_000):
+        received += piece
+        time.sleep(0.005 if time.monotonic() < until else 0)
+    client.close()
+    wanted = protocol.STORED + (b"VALUE slow%d 0 100000\r\n" % seed + block + b"\r\nEND\r\n") * 60
+    full = protocol.LOG_FULL in (received[: len(protocol.LOG_FULL)], received[-len(protocol.LOG_FULL) :])
+    return [("a slow reader", None if received == wanted or full else f"{len(received)} bytes in place of {len(wanted)}, or others")]
+
+
+def slow_writer(port, seed):
+    """Sends by single bytes."""
+    chance = random.Random(seed)
+    stream = StreamGenerator(chance, b"slow:").stream(20, most=100)[:3_000]
+    client = Exchange(connect(port))
+    for at in range(len(stream)):
+        client.send(stream[at : at + 1])
+        time.sleep(0.0005)
+    received = client.finish()
+    replies = Replies(Table(*LARGE), received, masks_uniques=True)
+    return [("a slow writer", fault_of(received, client.ending, protocol.requests(stream), replies))]
+
+
+def flood(port, seed):
+    """Sends and never reads; is closed at last, by a reset or not."""
+    chance, until = random.Random(seed), time.monotonic() + ROUND_SECONDS
+    client = connect(port)
+    data = chance.choice((b"version\r\n", b"get big\r\n", b"x" * 5_000 + b"\r\n", b"set f 0 0 900000\r\n" + b"y" * 900_000 + b"xx")) * 50
+    client.settimeout(0.2)
+    sent = 0
+    while time.monotonic() < until:
+        try:
+            sent += client.send(data[sent % len(data) :])
+        except TimeoutError:
+            pass
+        except OSError as error:
+            return [("a flood", f"its connection ended: {error}")]
+    reset(client) if chance.random() < 0.5 else client.close()
+    return [("a flood", None)]
+
+
+def storm(port, seed):
+    """Connects and closes, with a byte or a reply or nothing between; each connection that asks is answered."""
+    chance, wrong = random.Random(seed), None
+    for _ in range(300):
+        client = connect(port)
+        kind = chance.random()
+        if kind < 0.4:
+            client.sendall(b"version\r\n")
+            if client.recv(100) != VERSION:
+                wrong = "a connection wasn't answered"
+        elif kind < 0.6:
+            client.sendall(chance.choice((b"v", b"set a 0 0 10\r\nabc", b"get a\r\n" * 100)))
+        reset(client) if chance.random() < 0.3 else client.close()
+    return [("connects and closes", wrong)]
+
+
+def steady(port, _seed):
+    """A client whose requests come one at a time, some over a connection made for them. Gives its longest wait too."""
+    until, longest, wrong = time.monotonic() + ROUND_SECONDS, 0.0, None
+    client = connect(port)
+    while time.monotonic() < until:
+        for visitor in (client, connect(port)):
+            begun = time.monotonic()
+            visitor.sendall(b"version\r\n")
+            if visitor.recv(100) != VERSION:
+                wrong = "another answer"
+            longest = max(longest, time.monotonic() - begun)
+        visitor.close()
+        time.sleep(0.01)
+    client.close()
+    if longest > LATE:
+        wrong = f"it waited {longest:.1f} seconds"
+    return [("a steady client", wrong)], longest
+
+
+def at_rest(server, workers):
+    """How many descriptors and threads a server has once all its workers have served and nobody is connected."""
+    for _ in range(workers):
+        exchange(next(iter(server.ports.values())), [b"version\r\n"])
+    time.sleep(0.1)
+    return server.descriptors(), server.threads()
+
+
+def settled(server, base):
+    """What a server still holds or does, a while after all its clients are gone: wrong words, or nothing. What waits at its listeners then
+    is accepted and closed first, which takes its time on a busy machine."""
+    until = time.monotonic() + LATE
+    while True:
+        used = server.processor_seconds()
+        time.sleep(0.5)
+        used, now = server.processor_seconds() - used, (server.descriptors(), server.threads())
+        if now == base and used <= 0.1:
+            return None
+        if time.monotonic() > until:
+            break
+    if now != base:
+        return f"descriptors and threads were {base}, and are {now}"
+    return f"the idle server used {used:.2f} seconds of a processor in half a second"
+
+
+class Round:
+    """A server and all who talk to it at once, all made from one seed."""
+
+    def __init__(self, program, seed):
+        self.program = program
+        chance = random.Random(seed)
+        self.workers = chance.choice((1, 1, 2, 2, 3, 4, 8, 16))
+        self.options = ["--workers", str(self.workers), "--places"]
+        self.options += [str(chance.choice((65_536, 65_536, 1_048_576, chance.randrange(1, 4_000))))]
+        self.tenants = {f"solo{number}": chance.choice(QUOTAS) for number in range(5)}
+        self.tenants |= dict.fromkeys(("shared", "killed", "noise", "steady"), LARGE)
+        self.seeds = chance
+
+    def calls(self, ports):
+        """Each one who talks: a function and its words."""
+        seed = lambda: self.seeds.randrange(1 << 30)  # noqa: E731
+        for name, quotas in self.tenants.items():
+            if name.startswith("solo"):
+                yield solo, (ports[name], seed(), quotas)
+        yield from ((shared, (ports["shared"], seed(), number)) for number in range(4))
+        yield from ((killed, (ports["killed"], seed(), number)) for number in range(24))
+        for disturber in (slow_reader, slow_writer, flood, flood, storm, storm):
+            yield disturber, (ports["noise"], seed())
+        yield steady, (ports["steady"], 0)
+
+    def run(self, pool):
+        """All that was found, as pairs of what was tried and what is wrong, and the steady client's longest wait."""
+        with Server(self.program, self.options, self.tenants) as server:
+            base = at_rest(server, self.workers)
+            calls = list(self.calls(server.ports))
+            answers = [(call, pool.submit(attempt, *call)) for call in reversed(calls)]
+            found, left, longest = [], [], 0.0
+            for (call, _), answer in answers:
+                more, extra = answer.result()
+                found += more
+                if call is killed and extra:
+                    left.append(extra)
+                elif call is steady and extra:
+                    longest = extra
+            found.append(("all is given back", settled(server, base)))
+            for one in left:
+                found += leaves(server.ports["killed"], one)
+            if not server.is_running():
+                found.append(("it still runs", f"it has ended: {server.end()}"))
+            return found, longest
+
+
+def attempt(call, words):
+    """What a call found, or its fault as a finding."""
+    try:
+        answer = call(*words)
+    except Exception as error:  # whatever it is, it is a finding
+        return [(call.__name__, f"{type(error).__name__}: {error}")], None
+    return answer if isinstance(answer, tuple) else (answer, None)
+
+
+def load(server, seed):
+    """A load that comes again, of requests that need no place: the log is full."""
+    for call in (storm, slow_writer, solo_of_refusals, flood_of_gets):
+        attempt(call, (server.ports["a"], seed))
+
+
+def solo_of_refusals(port, seed):
+    chance = random.Random(seed)
+    for _ in range(20):
+        exchange(port, pieces(chance, mutated(chance, StreamGenerator(chance).stream(100))))
+
+
+def flood_of_gets(port, _seed):
+    """A reply of 30 MB, which isn't read."""
+    client = connect(port)
+    client.sendall(b"version\r\n" * 100_000)
+    client.recv(1)
+    client.close()
+
+
+def check_flat(program):
+    """The memory after a load that comes for the sixth time is that after the second."""
+    with Server(program, ["--workers", "2", "--places", "2000"], {"a": LARGE}) as server:
+        base = at_rest(server, 2)
+        exchange(server.ports["a"], [b"get a\r\n" * 2_001])
+        sizes = []
+        for turn in range(6):
+            load(server, turn % 2)
+            wrong = settled(server, base)
+            sizes.append(server.resident() >> 10)
+        grown = sizes[5] - sizes[1]
+        print(f"memory under a load that comes again: {', '.join(map(str, sizes))} KB", flush=True)
+        yield "descriptors and threads after it", wrong
+        yield "memory after it", f"it grew by {grown} KB" if grown > 4_096 else None
+
+
+def check_few_descriptors(program):
+    """More connections than the process may have descriptors: those that it has are served, and the others once these have gone."""
+    with Server(program, ["--workers", "2"], {"a": LARGE, "b": LARGE}) as server:
+        descriptors, _ = at_rest(server, 2)
+        resource.prlimit(server.pid, resource.RLIMIT_NOFILE, (descriptors + 20, descriptors + 20))
+        clients = [connect(server.ports["ab"[number % 2]], LATE) for number in range(60)]
+        for client in clients:
+            client.sendall(b"version\r\n")
+        time.sleep(0.5)
+        used = server.processor_seconds()
+        time.sleep(1)
+        used = server.processor_seconds() - used
+        yield "too few descriptors, and it rests", f"{used:.2f} seconds of a processor in one" if used > 0.2 else None
+        unanswered = len(clients) - answered(clients)
+        yield "too few descriptors, and each is served in the end", f"{unanswered} of 60 weren't" if unanswered else None
+
+
+def answered(clients):
+    """How many clients were sent the version; each leaves then, which makes room for others."""
+    count, waiting = 0, list(clients)
+    while waiting and (ready := select.select(waiting, [], [], LATE)[0]):
+        for client in ready:
+            count += client.recv(100) == VERSION
+            client.close()
+            waiting.remove(client)
+    for client in waiting:
+        client.close()
+    return count
+
+
+def check_dead_arrivals(program):
+    """While a worker is busy with one tenant, more connections of that tenant come and go than a worker takes; another tenant's is served after them."""
+    with Server(program, ["--workers", "1"], {"a": LARGE, "b": LARGE}) as server:
+        exchange(server.ports["a"], [b"set k 0 0 1048576\r\n" + b"k" * 1_048_576 + b"\r\n"])
+        busy = connect(server.ports["a"])
+        busy.sendall(b"get" + b" k" * 500 + b"\r\n")
+        for _ in range(1_500):
+            reset(connect(server.ports["a"]))
+        client = connect(server.ports["b"])
+        client.sendall(b"version\r\n")
+        busy.close()
+        try:
+            reply = client.recv(100)
+        except OSError as error:
+            reply = f"{error}"
+        client.close()
+        yield "after connections that came and went", None if reply == VERSION else f"another tenant's client received {reply!r}"
+
+
+def rush(port):
+    """Connects and resets without end, and waits for none of it, until nobody listens."""
+    until, waiting = time.monotonic() + 3 * LATE, []
+    while time.monotonic() < until:
+        client = socket.socket()
+        client.setblocking(False)
+        if client.connect_ex(("127.0.0.1", port)) == errno.ECONNREFUSED:
+            break
+        waiting.append(client)
+        if len(waiting) > 100:
+            reset(waiting.pop(0))
+
+
+def check_rush(program, pool):
+    """Next to a tenant whose clients connect and go without end another tenant's new clients are answered."""
+    with Server(program, ["--workers", "2"], {"a": LARGE, "b": LARGE}) as server:
+        for _ in range(3):
+            pool.submit(rush, server.ports["a"])
+        time.sleep(0.5)
+        found, longest = attempt(steady, (server.ports["b"], 0))
+    if longest is not None:
+        print(f"next to connects without end another tenant's clients waited {longest * 1000:.0f} ms at most", flush=True)
+    yield from ((f"next to connects without end: {what}", wrong) for what, wrong in found)
+
+
+def check_quiet_connections(program):
+    """Connections that once had a reply of 8 MB, and sent a block of 1 MB, and then are quiet: what is kept for them."""
+    with Server(program, ["--workers", "2"], {"a": LARGE}) as server:
+        exchange(server.ports["a"], [b"set b 0 0 1048576\r\n" + b"b" * 1_048_576 + b"\r\n"])
+        clients = [connect(server.ports["a"]) for _ in range(20)]
+        for client in clients[:2]:
+            large_reply(client)
+        before = server.resident()
+        for client in clients[2:]:
+            large_reply(client)
+        kept = (server.resident() - before) / 18 / (1 << 20)
+        print(f"a quiet connection that once had a reply of 8 MB keeps {kept:.1f} MB", flush=True)
+        yield "quiet connections", f"each keeps {kept:.1f} MB of a reply that was sent" if kept > 2.5 else None
+        for client in clients:
+            client.close()
+
+
+def large_reply(client):
+    client.sendall(b"get b b b b b b b b\r\n")
+    left = 8 * len(b"VALUE b 0 1048576\r\n\r\n") + (8 << 20) + len(b"END\r\n")
+    while left and (piece := client.recv(left)):
+        left -= len(piece)
+
+
+def check_refused_threads(program):
+    """Threads of which the system refuses some, since no memory holds the stacks that they ask for: the server ends, and has served nobody."""
+    limits = 'ulimit -s 1048576 && ulimit -v 2500000 && exec "$@"'
+    with Server("sh", ["-c", limits, "sh", program, "--workers", "4"], {"a": LARGE}) as server:
+        clients = [connect(server.ports["a"], 3 * LATE) for _ in range(4)]
+        for client in clients:
+            client.sendall(b"version\r\n")
+        served = sum(is_served(client) for client in clients)
+        yield "refused threads, and nobody is served", f"{served} of 4 were" if served else None
+        try:
+            ended = server.wait(LATE)
+        except subprocess.TimeoutExpired:
+            ended = "not at all"
+        yield "refused threads, and it ends", None if ended == (1, b"", b"wfmc: out of memory\n") else f"ended: {ended}"
+
+
+def is_served(client):
+    try:
+        return client.recv(100) == VERSION
+    except OSError:
+        return False
+    finally:
+        client.close()
+
+
+def greedy(port):
+    """Asks for a reply of 6 GB, which ends in an error or in a close."""
+    client, last, count = connect(port, 120), b"", 0
+    try:
+        client.sendall(b"get" + b" b" * 6_000 + b"\r\n")
+        while piece := client.recv(1 << 20):
+            count += len(piece)
+            last = (last + piece)[-100:]
+    except ConnectionResetError:
+        return [("a get that no memory holds", None)]
+    except TimeoutError:
+        return [("a get that no memory holds", f"nothing came for 120 seconds, after {count} bytes")]
+    finally:
+        client.close()
+    return [("a get that no memory holds", None if last in (b"", protocol.STARVED) else f"{count} bytes, the last {last!r}")]
+
+
+def calm(port, seed):
+    """Another tenant's clients meanwhile."""
+    chance, until, found = random.Random(seed), time.monotonic() + 2 * ROUND_SECONDS, []
+    table, generator = Table(*LARGE), StreamGenerator(chance)
+    while time.monotonic() < until and not any(wrong for _, wrong in found):
+        stream = generator.stream(20, most=2_000)
+        received, ending = exchange(port, pieces(chance, stream))
+        replies = Replies(table, received, is_cut=ending == "reset")
+        found.append(("another tenant meanwhile", fault_of(received, ending, protocol.requests(stream), replies)))
+    return found[-1:]
+
+
+def check_starved(program, pool, workers):
+    """Gets of one tenant whose replies are far above the memory that the process may have, next to another tenant."""
+    with Server(program, ["--workers", str(workers)], {"greedy": LARGE, "calm": LARGE}) as server:
+        limit = server.address_space() + (900 << 20)
+        resource.prlimit(server.pid, resource.RLIMIT_AS, (limit, limit))
+        stored, _ = exchange(server.ports["greedy"], [b"set b 0 0 1048576\r\n" + b"b" * 1_048_576 + b"\r\n"])
+        yield f"{workers} workers: an item of 1 MB", None if stored == protocol.STORED else f"{stored!r}"
+        calls = [(calm, (server.ports["calm"], 7))] + [(greedy, (server.ports["greedy"],))] * 4
+        for answer in [pool.submit(attempt, *call) for call in calls]:
+            yield from ((f"{workers} workers: {what}", wrong) for what, wrong in answer.result()[0])
+        again, _ = exchange(server.ports["greedy"], [b"get b\r\n"])
+        yield f"{workers} workers: the same tenant after it", None if again.endswith(b"b\r\nEND\r\n") else f"{again[:100]!r}"
+        yield f"{workers} workers: it still runs", None if server.is_running() else f"{server.end()}"
+
+
+def words():
+    parser = argparse.ArgumentParser(description=__doc__.split("\n")[0])
+    parser.add_argument("seconds", nargs="?", type=float, default=60.0)
+    parser.add_argument("program", nargs="?", default=repository.program("wfmc"))
+    parser.add_argument("--seed", type=int, default=int.from_bytes(os.urandom(3), "big"))
+    parser.add_argument("--round", type=int, help="this round alone")
+    return parser.parse_intermixed_args()
+
+
+def rounds(asked, pool):
+    """Rounds until the time is over, or the one that is asked for."""
+    until, number, longest = time.monotonic() + asked.seconds, asked.round or 0, 0.0
+    while number == (asked.round or 0) or (asked.round is None and time.monotonic() < until):
+        found, waited = Round(asked.program, f"{asked.seed}/{number}").run(pool)
+        longest = max(longest, waited)
+        yield from ((f"--seed {asked.seed} --round {number}: {what}", wrong) for what, wrong in found)
+        number += 1
+    print(f"{number - (asked.round or 0)} rounds; the steady client waited {longest * 1000:.0f} ms at most", flush=True)
+
+
+def main():
+    asked, results = words(), Results()
+    repository.enter(asked.program)
+    print(f"--seed {asked.seed}", flush=True)
+    with concurrent.futures.ProcessPoolExecutor(48) as pool:
+        parts = [rounds(asked, pool)]
+        if asked.round is None:
+            alone = (check_flat, check_few_descriptors, check_dead_arrivals, check_quiet_connections, check_refused_threads)
+            others = [check_rush(asked.program, pool), *(check_starved(asked.program, pool, workers) for workers in (1, 3))]
+            parts = [*(part(asked.program) for part in alone), *others, *parts]
+        for part in parts:
+            for what, wrong in part:
+                results.check(what, wrong is None, wrong)
+    results.finish()
+
+
+main()

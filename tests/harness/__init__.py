@@ -1,0 +1,10 @@
+"""What the scripts of tests/, bench/ and tools/ share.
+
+- `repository`: where the built programs are
+- `results`: counts checks, and prints the last line 'N passed, M failed'
+- `processes`: a started process, with its memory and processor time
+- `servers`: wfmc, memcached and a relay, each on free ports
+- `client`: connections
+- `measures`: medians, and how long a client waits
+- `preload`: libraries that refuse or count a program's allocations
+"""

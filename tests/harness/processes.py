@@ -1,0 +1,83 @@
+"""A process that a script starts."""
+
+import os
+import signal
+import subprocess
+
+SECONDS = 60
+TICKS = os.sysconf("SC_CLK_TCK")
+
+
+class Process:
+    """A started process, and what /proc says of it. It is killed at the end of its block."""
+
+    def __init__(self, words, **settings):
+        self.process = subprocess.Popen(words, **settings)
+        self.pid = self.process.pid
+
+    def is_running(self):
+        return self.process.poll() is None
+
+    def figure(self, name):
+        """A figure of /proc/PID/status, in bytes where it has a unit; 0 where there is none."""
+        with open(f"/proc/{self.pid}/status", encoding="ascii") as status:
+            for line in status:
+                if line.startswith(name + ":"):
+                    value, *unit = line.split()[1:3]
+                    return int(value) << (10 if unit else 0)
+        return 0
+
+    def resident(self):
+        return self.figure("VmRSS")
+
+    def peak(self):
+        """The most resident memory since the start, or since `forget_peak`."""
+        return self.figure("VmHWM")
+
+    def forget_peak(self):
+        with open(f"/proc/{self.pid}/clear_refs", "w", encoding="ascii") as references:
+            references.write("5")
+
+    def address_space(self):
+        return self.figure("VmSize")
+
+    def descriptors(self):
+        return len(os.listdir(f"/proc/{self.pid}/fd"))
+
+    def threads(self):
+        return len(os.listdir(f"/proc/{self.pid}/task"))
+
+    def children(self):
+        with open(f"/proc/{self.pid}/task/{self.pid}/children", encoding="ascii") as children:
+            return [int(child) for child in children.read().split()]
+
+    def processor_seconds(self):
+        """The processor time it has used, with the kernel's."""
+        with open(f"/proc/{self.pid}/stat", encoding="ascii") as stat:
+            fields = stat.read().rpartition(")")[2].split()
+        return (int(fields[11]) + int(fields[12])) / TICKS
+
+    def context_switches(self):
+        """How often its threads have been switched."""
+        total = 0
+        for task in os.listdir(f"/proc/{self.pid}/task"):
+            with open(f"/proc/{self.pid}/task/{task}/status", encoding="ascii") as status:
+                total += sum(int(line.split()[1]) for line in status if "ctxt_switches" in line)
+        return total
+
+    def wait(self, seconds=SECONDS):
+        """Its status, output and standard error, once it has ended by itself."""
+        output, errors = self.process.communicate(timeout=seconds)
+        return self.process.returncode, output, errors
+
+    def end(self, how=signal.SIGKILL):
+        """Ends it by a signal; its status, output and standard error."""
+        if self.is_running():
+            self.process.send_signal(how)
+        return self.wait()
+
+    def __enter__(self):
+        return self
+
+    def __exit__(self, *_):
+        self.end()

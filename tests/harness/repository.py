@@ -1,0 +1,31 @@
+"""Where the repository and its built programs are."""
+
+import os
+import pathlib
+import shutil
+import sys
+
+ROOT = pathlib.Path(__file__).resolve().parents[2]
+
+
+def program(name):
+    """The path of a built program, from the root of the repository."""
+    return f"crates/{name}/out/{name}"
+
+
+def enter(*programs):
+    """Goes to the root of the repository, and ends the script where one of these programs isn't built."""
+    os.chdir(ROOT)
+    for path in programs:
+        if not os.access(path, os.X_OK):
+            sys.exit(f"{path} isn't built: make build builds the programs, and make bench crates/benches")
+
+
+def require(*tools):
+    """Ends the script where one of these tools is missing."""
+    for tool in tools:
+        if not shutil.which(tool):
+            sys.exit(f"{tool} is missing; Debian's package {PACKAGES.get(tool, tool)} has it")
+
+
+PACKAGES = {"perf": "linux-perf", "memccat": "libmemcached-tools"}

@@ -1,0 +1,118 @@
+"""Servers on free ports of loopback: wfmc, memcached, and a relay that starts a program for each connection."""
+
+import contextlib
+import os
+import pathlib
+import pwd
+import resource
+import socket
+import subprocess
+import sys
+import tempfile
+import time
+
+from .client import Client, connect
+from .processes import SECONDS, Process
+
+LARGE = (1_048_576, 1_073_741_824)
+
+
+class Server(Process):
+    """wfmc with these options, for tenants of these quotas; under limits on its address space or descriptors where given."""
+
+    def __init__(self, program, options=(), tenants=None, ports=None, environment=None, address_space=None, descriptors=None):
+        def limit():
+            if address_space:
+                resource.setrlimit(resource.RLIMIT_AS, (address_space, address_space))
+            if descriptors:
+                resource.setrlimit(resource.RLIMIT_NOFILE, (descriptors, descriptors))
+
+        tenants, ports = {"a": LARGE} if tenants is None else tenants, ports or {}
+        words = [f"{name}=127.0.0.1:{ports.get(name, 0)},{items},{size}" for name, (items, size) in tenants.items()]
+        pipes = {"stdin": subprocess.DEVNULL, "stdout": subprocess.PIPE, "stderr": subprocess.PIPE}
+        super().__init__([program, *options, *words], env=environment, preexec_fn=limit, **pipes)
+        self.workers = int(options[options.index("--workers") + 1]) if "--workers" in options else 2
+        self.accepted = 0
+        self.ports, self.is_ready = {}, False
+        self._read_ports()
+
+    def _read_ports(self):
+        for line in self.process.stdout:
+            said, name, address, *_ = line.decode().split() + ["", "", ""]
+            self.is_ready = said == "ready"
+            if said != "listening":
+                return
+            self.ports[name] = int(address.rpartition(":")[2])
+
+    def addresses(self):
+        """The words `NAME=ADDRESS` of its tenants."""
+        if not self.is_ready:
+            sys.exit(f"wfmc doesn't serve: {self.end()[2].decode().strip()}")
+        return [f"{name}=127.0.0.1:{port}" for name, port in self.ports.items()]
+
+    def connect(self, tenant, seconds=SECONDS):
+        return connect(self.ports[tenant], seconds)
+
+    def client(self, tenant="a", worker=None, receive_buffer=None):
+        """A connection of this worker, where all are made by this call: connections are handed to the workers in turn."""
+        while worker is not None and self.accepted % self.workers != worker:
+            self.client(tenant).close()
+        self.accepted += 1
+        return Client(self.ports[tenant], receive_buffer)
+
+    def await_workers(self, tenant="a"):
+        """Waits for a first answer, since the workers' tables are made after the server says that it is ready."""
+        with self.client(tenant) as client:
+            client.line(b"version\r\n")
+
+    def catch_up(self):
+        """Has each worker replay the whole log, as it does with its next command."""
+        for worker in range(self.workers):
+            with self.client(worker=worker) as client:
+                client.ask(b"get -\r\n", b"END\r\n")
+
+
+def wait_for(holds, what):
+    """Waits until a condition holds, or ends the script."""
+    until = time.monotonic() + SECONDS
+    while not holds():
+        if time.monotonic() > until:
+            sys.exit(f"{what} doesn't listen")
+        time.sleep(0.02)
+
+
+def listens(port):
+    with contextlib.suppress(OSError), socket.create_connection(("127.0.0.1", port), timeout=1):
+        return True
+
+
+def free_port():
+    with socket.socket() as stream:
+        stream.bind(("127.0.0.1", 0))
+        return stream.getsockname()[1]
+
+
+class Memcached(Process):
+    """memcached with these options, at a port of the system's choice, which it writes to a file."""
+
+    def __init__(self, *options, before=()):
+        user = [] if os.getuid() else ["-u", "nobody"]
+        with tempfile.TemporaryDirectory() as folder:
+            if user:
+                os.chown(folder, pwd.getpwnam("nobody").pw_uid, -1)
+            file = pathlib.Path(folder, "ports")
+            environment = {**os.environ, "MEMCACHED_PORT_FILENAME": str(file)}
+            words = [*before, "memcached", *user, "-U", "0", "-l", "127.0.0.1", "-p", "-1", *options]
+            super().__init__(words, env=environment, stdout=subprocess.DEVNULL, stderr=subprocess.DEVNULL)
+            wait_for(lambda: file.exists() and file.read_text().startswith("TCP INET: ") and file.read_text().endswith("\n"), "memcached")
+            self.port = int(file.read_text().split()[2])
+
+
+class Relay(Process):
+    """A port at which socat connects each client to this address of its own, such as a program that it starts."""
+
+    def __init__(self, address):
+        self.port = free_port()
+        listen = f"TCP-LISTEN:{self.port},bind=127.0.0.1,reuseaddr,fork,nodelay"
+        super().__init__(["socat", "-t", str(SECONDS), listen, address], stderr=subprocess.DEVNULL)
+        wait_for(lambda: not self.is_running() or listens(self.port), "socat")

@@ -1,0 +1,301 @@
+#!/usr/bin/env python3
+"""Tests that each tenant's history is linearizable: linearizability.py [SECONDS] [BINARY] [--seed N] | --self-test.
+
+For this many seconds (60) it starts wfmc with 1 to 4 workers, or 16, and for each of several tenants clients at once, each a process with a
+connection of its own. They send commands over the same few keys, some ahead of replies, and note when each was sent and answered. Then
+linearizability_checker.py looks for one order of a tenant's commands that explains all replies and puts no command before another that was
+answered when it was sent, so a client reads its own writes too. `--self-test` tests the checker instead: histories made wrong on purpose
+must be refused, and right ones accepted. The last line is 'N passed, M failed'.
+"""
+
+import argparse
+import multiprocessing
+import os
+import random
+import threading
+import time
+
+import linearizability_checker as checker
+from harness import repository
+from harness.client import connect
+from harness.processes import SECONDS
+from harness.results import Results
+from harness.servers import Server
+from linearizability_checker import Call
+from oracle import protocol
+from oracle.table import Table
+
+EPOCHS = 40
+KEYS = (b"a", b"b", b"c", b"n")
+QUOTAS = ((1_000, 1_000_000), (1_000, 1_000_000), (3, 1_000_000), (1_000, 60))
+STOPPED = "another client stopped"
+results = Results()
+check = results.check
+
+
+class Client:
+    """A connection over the tenant's keys, and its calls."""
+
+    def __init__(self, port, number, seed):
+        self.number = number
+        self.chance = random.Random(seed)
+        self.socket = connect(port)
+        self.received = bytearray()
+        self.calls = []
+        self.count = 0
+        self.uniques = {}
+
+    def data(self):
+        """Data that no other command puts."""
+        self.count += 1
+        return b"%d.%d" % (self.number, self.count)
+
+    def some_keys(self):
+        return b" ".join(self.chance.sample(KEYS, self.chance.choice((1, 1, 2, 4))))
+
+    def request(self):
+        chance, key = self.chance, self.chance.choice(KEYS)
+        kind, quiet = chance.random(), b" noreply" if self.chance.random() < 0.08 else b""
+        if kind < 0.35:
+            return b"%s %s\r\n" % (chance.choice((b"get", b"gets", b"gets")), self.some_keys())
+        if kind < 0.47:
+            return b"%s n %d%s\r\n" % (chance.choice((b"incr", b"incr", b"decr")), chance.randrange(1, 5), quiet)
+        if kind < 0.57:
+            return b"delete %s%s\r\n" % (key, quiet)
+        if kind < 0.59:
+            return b"flush_all%s\r\n" % quiet
+        if kind < 0.67 and self.uniques:
+            key, unique = chance.choice(sorted(self.uniques.items()))
+            data = self.data()
+            return b"cas %s 0 0 %d %d%s\r\n%s\r\n" % (key, len(data), unique, quiet, data)
+        data = self.data() if key != b"n" or kind > 0.97 else b"%d" % chance.randrange(100)
+        name = chance.choice((b"set", b"set", b"set", b"add", b"add", b"replace", b"append", b"prepend"))
+        return b"%s %s 0 0 %d%s\r\n%s\r\n" % (name, key, len(data), quiet, data)
+
+    def ask(self, stream):
+        """Sends requests together, and notes when each was answered."""
+        asked = protocol.requests(stream)
+        sent = time.monotonic()
+        self.socket.sendall(stream)
+        for request in asked:
+            reply = b"" if request.is_quiet else self.reply(request.command)
+            call = Call(self.number, sent, time.monotonic(), request.command, reply, request.is_quiet)
+            self.calls.append(call)
+            if request.command[0] == b"gets":
+                self.uniques.update({key: unique for key, _, unique in checker.values(reply)[0]})
+
+    def reply(self, command):
+        while (end := checker.reply_end(command, self.received, 0)) is None:
+            piece = self.socket.recv(1 << 16)
+            if not piece:
+                raise EOFError(f"the connection ended after {bytes(self.received)!r}")
+            self.received += piece
+        reply = bytes(self.received[:end])
+        del self.received[:end]
+        return reply
+
+
+def run_client(port, number, seed, barrier, pipe):
+    """Sends some requests, then stops together with the others while the first client reads all keys; and again."""
+    try:
+        client = Client(port, number, seed)
+        for _ in range(EPOCHS):
+            barrier.wait(SECONDS)
+            for _ in range(client.chance.randrange(1, 5)):
+                client.ask(b"".join(client.request() for _ in range(client.chance.choice((1, 1, 1, 2, 4)))))
+            barrier.wait(SECONDS)
+            if number == 0:
+                client.ask(b"gets %s\r\n" % b" ".join(KEYS))
+        pipe.send(client.calls)
+    except threading.BrokenBarrierError:
+        pipe.send(STOPPED)
+    except Exception as error:  # whatever it is, the history is missing
+        barrier.abort()
+        pipe.send(f"{type(error).__name__}: {error}")
+
+
+def start_clients(port, seed, count):
+    """Starts processes with a client each; a tenant's clients stop together. The barrier is returned to keep its memory alive."""
+    barrier, clients = multiprocessing.Barrier(count), []
+    for number in range(count):
+        ours, theirs = multiprocessing.Pipe(duplex=False)
+        process = multiprocessing.Process(target=run_client, args=(port, number, f"{seed}/{number}", barrier, theirs), daemon=True)
+        process.start()
+        theirs.close()
+        clients.append((process, ours))
+    return barrier, clients
+
+
+def collect(clients):
+    """The history of a tenant, or what went wrong."""
+    history, faults = [], []
+    for process, pipe in clients:
+        try:
+            part = pipe.recv() if pipe.poll(2 * SECONDS) else "a client didn't end"
+        except EOFError:
+            part = "a client ended"
+        process.kill()
+        process.join()
+        if isinstance(part, str):
+            faults.append(part)
+        else:
+            history += part
+    return ", ".join(fault for fault in faults if fault != STOPPED) or STOPPED if faults else history
+
+
+def run(program, seed):
+    """Runs a server, and clients of several tenants at once; each tenant's history, and what ran."""
+    chance = random.Random(seed)
+    workers = chance.choice((1, 2, 2, 3, 4, 4, 16))
+    tenants = {f"t{number}": chance.choice(QUOTAS) for number in range(chance.choice((1, 2, 3)))}
+    # When the log becomes full is known to a tenant that is alone.
+    places = chance.randrange(1, 500) if len(tenants) == 1 else 65_536
+    with Server(program, ["--workers", str(workers), "--places", str(places)], tenants) as server:
+        begun = [start_clients(port, f"{seed}/{name}", chance.choice((3, 4, 5))) for name, port in server.ports.items()]
+        for (name, quotas), (_, clients) in zip(tenants.items(), begun):
+            yield f"{workers} workers, {places} places, tenant {name}, {len(clients)} clients", Table(*quotas), places, collect(clients)
+
+
+def check_histories(program, seconds, seed):
+    until, number, calls, most = time.monotonic() + seconds, 0, 0, 0.0
+    while number == 0 or time.monotonic() < until:
+        for what, table, places, history in run(program, f"{seed}/{number}"):
+            if isinstance(history, str):
+                check(f"--seed {seed}, run {number}, {what}: {history}", False)
+                continue
+            search = checker.Search(history, table, places)
+            holds = search.succeeds()
+            check(f"--seed {seed}, run {number}, {what}: no order explains {len(history)} calls; {search.furthest()}", holds)
+            calls += len(history)
+            most = max(most, search.steps / len(history))
+        number += 1
+    print(f"{calls} calls in {number} runs; {most:.1f} steps a call at most", flush=True)
+
+
+def call(client, sent, answered, text, reply):
+    """A call, by what is sent and what comes back."""
+    (request,) = protocol.requests(text)
+    return Call(client, sent, answered, request.command, reply, request.is_quiet)
+
+
+def put(name, key, data):
+    return b"%s %s 0 0 %d\r\n%s\r\n" % (name, key, len(data), data)
+
+
+def shown(key, data, unique=None):
+    tail = b"" if unique is None else b" %d" % unique
+    return b"VALUE %s 0 %d%s\r\n%s\r\n" % (key, len(data), tail, data)
+
+
+SET_1, SET_2, GET_A = put(b"set", b"a", b"1"), put(b"set", b"a", b"2"), b"get a\r\n"
+STORED, END = protocol.STORED, b"END\r\n"
+IS_1, IS_2 = shown(b"a", b"1") + END, shown(b"a", b"2") + END
+FIRST = call(0, 0, 1, SET_1, STORED)
+
+# Histories, each with whether it is linearizable: client, sent at, answered at, text and reply of each call.
+HISTORIES = {
+    "a read of the last write": (True, [FIRST, call(1, 2, 3, GET_A, IS_1)]),
+    "a read during a write, of the old": (True, [FIRST, call(0, 2, 5, SET_2, STORED), call(1, 3, 4, GET_A, IS_1)]),
+    "a read during a write, of the new": (True, [FIRST, call(0, 2, 5, SET_2, STORED), call(1, 3, 4, GET_A, IS_2)]),
+    "a stale read": (False, [FIRST, call(0, 2, 3, SET_2, STORED), call(1, 4, 5, GET_A, IS_1)]),
+    "a lost write": (False, [FIRST, call(1, 2, 3, GET_A, END)]),
+    "a write that nobody sent": (False, [FIRST, call(1, 2, 3, GET_A, IS_2)]),
+    "two adds at once, one of which stored": (True, [call(0, 0, 3, put(b"add", b"a", b"1"), STORED), call(1, 1, 2, put(b"add", b"a", b"2"), protocol.NOT_STORED)]),
+    "two adds that both stored": (False, [call(0, 0, 3, put(b"add", b"a", b"1"), STORED), call(1, 1, 2, put(b"add", b"a", b"2"), STORED)]),
+    "two adds that both didn't": (False, [call(0, 0, 3, put(b"add", b"a", b"1"), protocol.NOT_STORED), call(1, 1, 2, put(b"add", b"a", b"2"), protocol.NOT_STORED)]),
+    "two incrs at once, the later call first": (True, [FIRST, call(0, 2, 5, b"incr a 1\r\n", b"3\r\n"), call(1, 3, 4, b"incr a 1\r\n", b"2\r\n")]),
+    "an incr that counted twice": (False, [FIRST, call(0, 2, 3, b"incr a 1\r\n", b"3\r\n")]),
+    "two incrs that gave the same": (False, [FIRST, call(0, 2, 5, b"incr a 1\r\n", b"2\r\n"), call(1, 3, 4, b"incr a 1\r\n", b"2\r\n")]),
+    "incrs against the times": (False, [FIRST, call(0, 2, 3, b"incr a 1\r\n", b"3\r\n"), call(1, 4, 5, b"incr a 1\r\n", b"2\r\n")]),
+    "its own write isn't read": (False, [FIRST, call(0, 2, 9, SET_2, STORED), call(0, 2, 9, GET_A, IS_1)]),
+    "two readers who see two writes in two orders": (
+        False,
+        [call(0, 0, 9, SET_1, STORED), call(1, 0, 9, SET_2, STORED), call(2, 1, 2, GET_A, IS_1), call(2, 3, 4, GET_A, IS_2), call(3, 1, 2, GET_A, IS_2), call(3, 3, 4, GET_A, IS_1)],
+    ),
+    "a unique of the order": (True, [FIRST, call(0, 2, 3, put(b"set", b"b", b"3"), STORED), call(1, 4, 5, b"gets a b\r\n", shown(b"a", b"1", 1) + shown(b"b", b"3", 2) + END)]),
+    "uniques against the order": (False, [FIRST, call(0, 2, 3, put(b"set", b"b", b"3"), STORED), call(1, 4, 5, b"gets a b\r\n", shown(b"a", b"1", 2) + shown(b"b", b"3", 1) + END)]),
+    "a unique that was used twice": (False, [FIRST, call(0, 2, 3, put(b"set", b"b", b"3"), STORED), call(1, 4, 5, b"gets a b\r\n", shown(b"a", b"1", 1) + shown(b"b", b"3", 1) + END)]),
+    "a cas by an old unique that stored": (False, [FIRST, call(0, 2, 3, SET_2, STORED), call(1, 4, 5, b"cas a 0 0 1 1\r\nx\r\n", STORED)]),
+    "two deletes of one item": (False, [FIRST, call(0, 2, 5, b"delete a\r\n", protocol.DELETED), call(1, 3, 4, b"delete a\r\n", protocol.DELETED)]),
+    "an item after a flush": (False, [FIRST, call(0, 2, 3, b"flush_all\r\n", protocol.OK), call(1, 4, 5, GET_A, IS_1)]),
+    "the second of two writes and not the first": (False, [call(0, 0, 1, SET_1, STORED), call(0, 2, 3, put(b"set", b"b", b"3"), STORED), call(1, 2, 9, b"get a b\r\n", shown(b"b", b"3") + END)]),
+    "a quiet write that came late": (True, [FIRST, call(0, 2, 2, b"set a 0 0 1 noreply\r\n2\r\n", b""), call(1, 3, 4, GET_A, IS_1), call(0, 3, 9, GET_A, IS_2)]),
+    "a quiet write that never came": (False, [FIRST, call(0, 2, 2, b"set a 0 0 1 noreply\r\n2\r\n", b""), call(0, 3, 4, GET_A, IS_1)]),
+}  # fmt: skip
+
+
+class PretendedClient(Client):
+    """A client whose requests a table answers at once, at invented times."""
+
+    def __init__(self, number, seed):
+        self.number, self.chance, self.count, self.uniques = number, random.Random(seed), 0, {}
+
+
+def pretended_history(seed):
+    """A linearizable history: each call takes effect at a moment of its own between its two times."""
+    chance, table, history = random.Random(seed), Table(1_000, 1_000_000), []
+    clients = [PretendedClient(number, f"{seed}/{number}") for number in range(4)]
+    ends = [0.0] * len(clients)
+    for moment in range(120):
+        number = chance.randrange(len(clients))
+        (request,) = protocol.requests(clients[number].request())
+        reply = table.answer(request.command)
+        if request.command[0] == b"gets":
+            clients[number].uniques.update({key: unique for key, _, unique in checker.values(reply)[0]})
+        sent = max(ends[number], moment - chance.random() * 4)
+        ends[number] = moment + chance.random() * 0.9
+        history.append(Call(number, sent, ends[number], request.command, b"" if request.is_quiet else reply, request.is_quiet))
+    last = Call(0, 200, 201, (b"gets", KEYS), table.answer((b"gets", KEYS)))
+    return [*history, last]
+
+
+def spoiled(history):
+    """The history without a change that a later `gets` shows."""
+    shown_data = {data for one in history if one.command[0] == b"gets" for _, data, _ in checker.values(one.reply)[0] if b"." in data}
+    for index, one in enumerate(history):
+        if one.command[0] in (b"set", b"add", b"replace", b"cas") and one.command[3] in shown_data:
+            return history[:index] + history[index + 1 :]
+    return None
+
+
+def check_full():
+    """A log with one place is full for the next command, and for none before it."""
+    full = call(1, 2, 3, GET_A, protocol.LOG_FULL)
+    check("self-test: full in time", checker.is_linearizable([FIRST, full], places=1))
+    check("self-test: full too early", not checker.is_linearizable([FIRST, full], places=2))
+    check("self-test: full too late", not checker.is_linearizable([FIRST, call(1, 2, 3, GET_A, IS_1), call(1, 4, 5, GET_A, protocol.LOG_FULL)], places=1))
+
+
+def self_test():
+    check_full()
+    for what, (wanted, history) in HISTORIES.items():
+        check(f"self-test: {what}", checker.is_linearizable(history) == wanted)
+    for seed in range(60):
+        history = pretended_history(seed)
+        check(f"self-test: a right history, {seed}", checker.is_linearizable(history))
+        wrong = spoiled(history)
+        if wrong:
+            check(f"self-test: a change is left out, {seed}", not checker.is_linearizable(wrong))
+
+
+def words():
+    parser = argparse.ArgumentParser(description=__doc__.split("\n")[0])
+    parser.add_argument("seconds", nargs="?", type=float, default=60.0)
+    parser.add_argument("program", nargs="?", default=repository.program("wfmc"))
+    parser.add_argument("--seed", type=int, default=int.from_bytes(os.urandom(3), "big"))
+    parser.add_argument("--self-test", action="store_true", help="tests the checker itself")
+    return parser.parse_intermixed_args()
+
+
+def main():
+    asked = words()
+    if asked.self_test:
+        self_test()
+    else:
+        repository.enter(asked.program)
+        print(f"--seed {asked.seed}", flush=True)
+        check_histories(asked.program, asked.seconds, asked.seed)
+    results.finish()
+
+
+main()
