@@ -1,4 +1,5 @@
--- For whom a worker has announced its commands, while its connections stand among those of a worker and once they have ended.
+-- For whom a worker has announced its commands, while its connections are there and once they have
+-- ended.
 use Rattle.std.proofs.Common.{◌≡◌, ◌≢◌, ◌⊎◌, ℕ, zero, suc, ◌+◌, ◌<◌, ◌≤◌, false, true, List, [], ◌∷◌, ◌++◌, length, slice_get, Option, Some, None, arith, refl, sym, ap, subst, ◌∙◌, inl, inr, ⊎_elim, append_assoc, append-nil, length-append}
 use Rattle.std.specs.List.{AllZip}
 use Rattle.std.proofs.lemmas.Option.{none-some, same_Some, slice_get_within}
@@ -60,7 +61,7 @@ module _ {X : Type 0} where
   at_others : (each : ℕ → X) (key : ℕ) (x : X) (number : ℕ) → number ≢ key → with_at each key x number ≡ each number
   at_others each key x number not = picks_other number key x (each number) (same_key number key) not
 
--- a worker, what stands under each key, and what has ended
+-- a worker, the connection under each key, and what has ended
 record View : Type 0 where
   worker : Worker
   live : ℕ → Option Connection
@@ -72,13 +73,14 @@ view worker live ended = record { worker = worker; live = live; ended = ended }
 abbrev view_of : Standing → View
 view_of standing = view standing.worker (connection_at standing.connections) standing.connections.ended.connections
 
--- all that came of a connection reads as these requests at first, and then, where no fault has closed it, as what it holds
+-- all that came of a connection reads as these requests at first, and then, if no fault has closed
+-- it, as what it holds
 abbrev HasTaken : Connection → List Request → Type 0
 HasTaken connection requests =
     (more : List ℕ) (all : List Request) → ReadsAs (lines_of connection.conn.role) (came_of connection ++ more) all →
     (others : List Request) × (all ≡ requests ++ others) × (connection.conn.is_closed ≡ false → HoldsOn (holding_of connection.conn) more others)
 
--- who asked: the connection under a key, or the one before which so many had ended
+-- who asked: the connection under a key, or the one before which this many had ended
 data Who : Type 0 where
   stands_under : ℕ → Who
   ended_after : ℕ → Who
@@ -105,7 +107,7 @@ record Asking (from : ℕ) (v : View) : Type 0 where
   found : (number : ℕ) → from ≤ number → number < length (announced_of v.worker) → Found v taken number (asker number) (request number)
   in_order : (one two : ℕ) → from ≤ one → one < two → two < length (announced_of v.worker) → asker one ≡ asker two → request one < request two
 
--- what a connection's turns have taken more, and announced
+-- what a connection's turns have taken and announced
 record Step (before after : Worker) (old new : Connection) (taken : List Request) : Type 0 where
   onward : Continues before after
   role : new.conn.role ≡ old.conn.role
@@ -166,7 +168,7 @@ step_later before after old new state taken later opened had =
     (λ stopped. step_stopping before after old new taken later.role opened had stopped.0 stopped.1)
     later.served
 
--- what was announced stays so
+-- what was announced stays announced
 announced_on : (before after : Worker) → Continues before after → (number tenant : ℕ) (command : _) → slice_get (announced_of before) number ≡ Some (own_sighting before number tenant command) →
     slice_get (announced_of after) number ≡ Some (own_sighting after number tenant command)
 announced_on before after on number tenant command at =
@@ -204,7 +206,7 @@ was_asked_on before after on ended number asker request asked = record {
   asks = asked.asks;
 }
 
--- a number is below another, or so much above
+-- a number is below another, or above it by some number
 below_or_above : (number high : ℕ) → (number < high) ⊎ ((i : ℕ) × (number ≡ high + i))
 below_or_above zero zero = inr (0, omega arith)
 below_or_above zero (suc high) = inl (omega arith)
@@ -444,7 +446,7 @@ same_view : (worker other : Worker) (live : ℕ → Option Connection) (now : �
     ((key : ℕ) → now key ≡ live key) → past ≡ ended → view worker live ended ≡ view other now past
 same_view worker other live now ended past one two three = λ i. view (sym one i) (λ key. sym (two key) i) (sym three i)
 
--- what stands under every key after one has changed
+-- the connection under every key after one has changed
 changed_live : (live now : ℕ → Option Connection) (key : ℕ) (slot : Option Connection) → now key ≡ slot → ((other : ℕ) → other ≢ key → now other ≡ live other) →
     (other : ℕ) → now other ≡ with_at live key slot other
 changed_live live now key slot changed others other =
@@ -516,7 +518,7 @@ asking_first standing new = record {
   in_order = λ one two low less high same. let no : ⊥ = omega (arith, low, less, high) in absurd no;
 }
 
--- with no connection any more all who asked have ended
+-- once no connection is left, all who asked have ended
 module _ (from : ℕ) (v : View) (asking : Asking from v) (nobody : (key : ℕ) → v.live key ≡ None) where
   is_ended : (number : ℕ) (who : Who) (request : ℕ) → Found v asking.taken number who request → who ≡ ended_after (number_of who)
   is_ended number (ended_after asker) request found = refl

@@ -1,4 +1,5 @@
--- What every connection has come to, while it stands among those of a worker and once it has ended: turn by turn, whatever the worker takes for others in between.
+-- What every connection has come to, while it is among those of a worker and once it has ended:
+-- turn by turn, whatever the worker does for others in between.
 use Rattle.std.proofs.Common.{◌≡◌, ◌≢◌, ◌⊎◌, ℕ, ◌+◌, zero, suc, cond, Bool, true, false, List, [], ◌∷◌, ◌++◌, Option, Some, None, All, count_by, is_some, slice_index_or, inl, inr, ⊎_elim, refl, sym, ap, subst, ◌∙◌, arith, append-nil, append_assoc}
 use Rattle.std.specs.Bool.{MatchBool}
 use Rattle.std.specs.List.{AllZip, list_any}
@@ -57,7 +58,8 @@ whole_of role came requests holding reads none =
     let all : ReadsAs (lines_of role) (came ++ []) (requests ++ []) = (reads [] (requests ++ [])).1 ([], refl, nothing) in
     subst (λ (bytes : List ℕ). ReadsAs (lines_of role) bytes requests) (append-nil came) (subst (ReadsAs (lines_of role) (came ++ [])) (append-nil requests) all)
 
--- a connection that no fault has closed: what it has taken and was sent, and what it holds of the rest
+-- a connection that no fault has closed: what it has taken and was sent, and what it holds of the
+-- rest
 pub record Lives (worker : Worker) (connection : Connection) : Type 0 where
   pub going : connection.conn.is_closed ≡ false
   unfailed : FailedSoOften connection 0 0
@@ -163,7 +165,7 @@ lives_fresh worker connection arrival fresh = record {
   end = λ is. let no : false ≡ true = sym fresh.going.0 ∙ is in cc;
 }
 
--- what all that came reads as, said of what had come earlier and then of all behind it
+-- what all that came reads as, given for what had come earlier and then for all that came after it
 pub reads_from_earlier : (old new : Connection) (came more : List ℕ) (all : List Request) → new.conn.role ≡ old.conn.role → came_of new ≡ came_of old ++ came →
     ReadsAs (lines_of new.conn.role) (came_of new ++ more) all → ReadsAs (lines_of old.conn.role) (came_of old ++ (came ++ more)) all
 reads_from_earlier old new came more all role pulled reads =
@@ -206,7 +208,8 @@ module _ (before after : Worker) (old new : Connection) (role : new.conn.role �
     end = end_seen _ _ new.conn.has_ended old.conn.has_ended (scene_of old before).streams.input (scene_of new after).streams.input takes.end lives.end;
   }
 
-  -- Up to a fault. The output then is told of apart, since words about the fault may have been sent behind it.
+  -- Up to a fault. The output is treated apart, since words about the fault may have been sent
+  -- after it.
   module _ (fault : Fault) (between : Outflow)
       (breaks : Breaks (scene_of old before) (scene new.conn after (both (record { events = new.received.events; left = None }) between)) fault) where
     abbrev owed_then : List ℕ
@@ -240,7 +243,7 @@ module _ (before after : Worker) (old new : Connection) (role : new.conn.role �
       ending = inr (record { fault = cause; why = why; sent = subst (λ (owed : List ℕ). BeginsWith (owed ++ words_of cause) (sent_of new)) all_queued sent });
     }
 
-    -- what was told of it, if anything was
+    -- what was told about it, if anything was
     module _ (told_to : Outflow) (said : told_to ≡ record { events = new.sent.events }) where
       -- nothing was told
       untold : told_to ≡ between → BeginsWith ((moved between.events ++ queue_of new.conn) ++ []) (sent_of new)
@@ -351,7 +354,7 @@ steps_at before after state (Some old) None lives (last, past, later, closed) =
           (all_on before.worker after.worker on before.connections.ended.connections all));
     }
 
--- what stands among those of a worker lives, and what has ended was answered
+-- each connection of a worker lives, and each that has ended was answered
 pub record IsSound (standing : Standing) : Type 0 where
   pub lives : (key : ℕ) (connection : Connection) → connection_at standing.connections key ≡ Some connection → Lives standing.worker connection
   ended : All (AnsweredBy standing.worker) standing.connections.ended.connections
@@ -397,7 +400,7 @@ sound_working first _ sound (goes_on between last works step) =
     let so_far = sound_working first between sound works in
     ⊎_elim (sound_taking between last so_far) (sound_serving between last so_far) step
 
--- without a connection nothing stands under any key
+-- without a connection there is none under any key
 pub nothing_at : {X : Type 0} (slots : List (Option X)) → count_by is_some slots ≡ 0 → (key : ℕ) → slice_index_or slots key None ≡ None
 nothing_at [] none key = refl
 nothing_at (None ∷ slots) none zero = refl

@@ -88,7 +88,7 @@ module _ (worker : Worker) (role : Role) where
   behind_demand from high request requests (Says said) bytes Later comes later (rest, are, more) =
       behind_one from.number high request requests (later from rest more)
 
-  -- the numbers of what is owed, and then those of the requests behind it
+  -- the numbers of what is owed, and then those of the requests after it
   pub owed_numbers : (from to : Mark) (high : ℕ) (requests tail : List Request) (bytes : List ℕ) → Owes worker role from requests bytes to →
       Numbers worker role to.number high tail → Numbers worker role from.number high (requests ++ tail)
   owed_numbers from to high [] tail bytes owes numbers = subst (λ (low : ℕ). Numbers worker role low high tail) owes.1 numbers

@@ -14,7 +14,7 @@ use Rattle.mc_net.specs.Running.{HasRun, HasServedAt, HaveRun, HaveServedAt, IsN
 use Rattle.mc_net.specs.Working.{HasServed, HasWorked, standing_at}
 use Rattle.mc_net.proofs.Workings.{works_onward}
 
--- what stands before the rest
+-- what comes before the rest
 pub taken_whole : {A : Type 0} (n : ℕ) (all rest : List A) → n ≡ length all → take n (all ++ rest) ≡ all
 taken_whole n all rest is = rw is (take-append_seam all rest)
 
@@ -30,7 +30,7 @@ pub one_more_loop : {G : Type 0} (worker_threads : List (WorkerThread G)) (worke
 one_more_loop [] worker_thread left = refl
 one_more_loop (first ∷ worker_threads) worker_thread left = ap (λ (list : List EventLoop). first.event_loop ∷ list) (one_more_loop worker_threads worker_thread left)
 
--- a worker that came back of a loop that has ended well
+-- a worker that came back from a loop that has ended well
 served_at : {G : Type 0} (old new : WorkerThread G) (back : Returned) → HasRun old new → IsReturned new back → HasServedAt old.worker old.event_loop back new.event_loop
 served_at {G} old new back run is = record {
   worked = subst (λ (worker : Worker). HasWorked (standing_at old.worker old.event_loop) (standing_at worker new.event_loop)) (sym is.worker)
@@ -55,7 +55,7 @@ pub have_served_at : {G : Type 0} (old new : List (WorkerThread G)) (back : List
     HaveServedAt (workers_of old) (event_loops_of old) back (event_loops_of new)
 have_served_at old new back run = all_served_at old new back run.long run.each
 
--- a worker that came back of a new event loop
+-- a worker that came back from a new event loop
 pub served_anew : (tenants : ℕ) (workers : List Worker) (before : List EventLoop) (back : List Returned) (after : List EventLoop) →
     HaveServedAt workers before back after → All (IsNewLoop tenants) before → AllZip HasServed workers back
 served_anew tenants _ _ _ _ no_more new = tt
@@ -78,7 +78,7 @@ all_onward [] (back ∷ backs) all = absurd all
 all_onward (worker ∷ workers) [] all = absurd all
 all_onward (worker ∷ workers) (back ∷ backs) all = (all.0.onward, all_onward workers backs all.1)
 
--- workers that have gone onward are of the log that they were of
+-- workers that have gone on are still of the log that they were of
 pub all_of : (log : Log) (old new : List Worker) → AllZip Continues old new → All (λ (worker : Worker). worker.log.now ≡ log) old → All (λ (worker : Worker). worker.log.now ≡ log) new
 all_of log old new onward of = λ i d inside.
     let within : i < length old = rw (length_all_zip Continues old new onward) inside in

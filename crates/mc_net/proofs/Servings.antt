@@ -1,4 +1,4 @@
--- What a turn leaves of its connection, turns behind turns, and whether a connection stays.
+-- What a turn leaves of its connection, turns after turns, and whether a connection stays.
 use Rattle.std.proofs.Common.{◌≡◌, ◌≢◌, ◌⊎◌, ℕ, ◌+◌, ◌≤◌, ◌∷◌, length, ap, arith, Bool, true, false, Option, Some, None, Result, Ok, Err, IsSome, ⊎_elim, inl, inr, refl, sym, subst, ◌∙◌}
 use Rattle.std.proofs.lemmas.Option.{same_Some}
 use Rattle.slab.specs.Slab.{Updates, get, with_value}
@@ -37,7 +37,7 @@ stands_going a b Closed opened once turns = inr turns.state_is
 stands_going a b Idle opened once turns = record { going = not_ended b opened turns.state_is.0; between = a; earlier = takes_self a; once = once; last = turns }
 stands_going a b Busy opened once turns = record { going = not_ended b opened turns.state_is.0; between = a; earlier = takes_self a; once = once; last = turns }
 
--- the state that a turn answered
+-- the state that a turn returned
 abbrev pub state_answered : Result State Fault → State
 state_answered (Ok state) = state
 state_answered (Err fault) = Closed
@@ -82,7 +82,7 @@ served_onward a b =
     (λ (takes : Takes a b). takes.taken.onward)
     (λ (stopped : (fault : Fault) × Stops a b fault). stopped.1.breaks.taken.onward)
 
--- turns behind turns without a fault
+-- turns after turns without a fault
 pub served_later : (a b c : Scene) → Takes a b → TakesOrStops b c → TakesOrStops a c
 served_later a b c one two =
     ⊎_elim

@@ -1,4 +1,4 @@
--- Work behind work, one connection at a time.
+-- Work after work, one connection at a time.
 use Rattle.std.proofs.Common.{◌≡◌, ◌⊎◌, ℕ, length, Option, Some, None, IfSome, IfNone, ap, inl, inr, refl, sym, subst, ◌∙◌, ⊎_elim}
 use Rattle.uc_worker.specs.Going.{Continues}
 use Rattle.uc_worker.proofs.Going.{continues_self, continues_through}
@@ -16,11 +16,11 @@ pub works_trans : (a b c : Standing) → Works a b → Works b c → Works a c
 works_trans a b _ one begins = one
 works_trans a b _ one (goes_on between last two step) = goes_on between last (works_trans a b between one two) step
 
--- the connection under a key was served, behind other work
+-- the connection under a key was served, after other work
 pub works_serving : (first before after : Standing) (key : ℕ) (state : State) → Works first before → ServesAt key state before after → Works first after
 works_serving first before after key state works serves = goes_on before after works (inr (record { key = key; state = state; serves = serves }))
 
--- an arrival was taken in or not, behind other work
+-- an arrival was admitted or not, after other work
 pub works_admitting : (first : Standing) (worker : Worker) (connections after : Connections) (arrival : Arrival _) (result : Option ℕ) → Works first (standing worker connections) →
     IfSome result (Admits connections after arrival) → IfNone result (after ≡ connections) → Works first (standing worker after)
 works_admitting first worker connections after arrival None works admits same =
@@ -53,7 +53,7 @@ works_tenants first _ begins = refl
 works_tenants first _ (goes_on between last works step) =
     ⊎_elim (λ (taken : TakesIn between last). taken.admits.tenants) (λ (one : ServesOne between last). one.serves.tenants) step ∙ works_tenants first between works
 
--- the connections are for its log's tenants still
+-- the connections are still for the tenants of the worker's log
 pub works_known : (first last : Standing) → Works first last → first.connections.tenants ≡ length (tenants_of first.worker) →
     last.connections.tenants ≡ length (tenants_of last.worker)
 works_known first last works known =

@@ -1,4 +1,5 @@
--- For whom a worker announces commands. After memcached's doc/protocol.txt, "Protocol": commands are what clients send, in order, on their connections.
+-- For whom a worker announces commands. After memcached's doc/protocol.txt, "Protocol": commands
+-- are what clients send, in order, on their connections.
 use Rattle.std.specs.Prelude.{◌≡◌, ◌⊎◌, ℕ, ◌<◌, ◌≤◌, Bool, List, [], ◌∷◌, ◌++◌, length, Some, slice_get}
 use Rattle.mc_conn.specs.Held.{lines_of}
 use Rattle.mc_conn.specs.Onward.{own_sighting}
@@ -17,7 +18,8 @@ use Rattle.uc_worker.specs.Worker.{announced_of}
 abbrev pub Asks : Connection → ℕ → Request → Type 0
 Asks connection number request = (more : List ℕ) (all : List Request) → ReadsAs (lines_of connection.conn.role) (came_of connection ++ more) all → slice_get all number ≡ Some request
 
--- The request, on a connection of this role, logs a command of a tenant, which the worker announced under this number.
+-- The request, on a connection of this role, logs a command of a tenant, which the worker announced
+-- under this number.
 pub record IsLogged (worker : Worker) (role : Role) (request : Request) (number : ℕ) : Type 0 where
   pub tenant : ℕ
   pub command : Command
@@ -25,7 +27,8 @@ pub record IsLogged (worker : Worker) (role : Role) (request : Request) (number 
   pub logs : demand_of role request ≡ Logs tenant command quiet
   pub announced : slice_get (announced_of worker) number ≡ Some (own_sighting worker number tenant command)
 
--- The worker's command of this number was announced for the connection before which so many had ended: that one's request of this number logs it.
+-- The worker's command of this number was announced for the connection before which `asker` others
+-- had ended: that connection's request of the number `request` logs it.
 pub record WasAsked (worker : Worker) (ended : List Connection) (number asker request : ℕ) : Type 0 where
   pub connection : Connection
   pub later : List Connection
@@ -36,12 +39,12 @@ pub record WasAsked (worker : Worker) (ended : List Connection) (number asker re
   pub logged : IsLogged worker connection.conn.role asked number
   pub asks : Asks connection request asked
 
--- Which command: of which of the logs, and under which number of the worker there.
+-- A command: which of the logs it is on, and the number under which that log's worker announced it.
 pub record Announcement : Type 0 where
   pub log : ℕ
   pub number : ℕ
 
--- the worker of that log has announced it, since it was the one that stands there before
+-- the worker, which is on the command's log in `after`, has announced the command since `before`
 pub record IsAnnounced (before after : List Worker) (which : Announcement) (worker : Worker) : Type 0 where
   pub first : Worker
   pub was : slice_get before which.log ≡ Some first
@@ -49,12 +52,14 @@ pub record IsAnnounced (before after : List Worker) (which : Announcement) (work
   pub since : length (announced_of first) ≤ which.number
   pub by_now : which.number < length (announced_of worker)
 
--- one was announced before the other: in an earlier log, or under an earlier number
+-- one was announced before the other: on an earlier log, or under an earlier number
 abbrev pub IsEarlier : Announcement → Announcement → Type 0
 IsEarlier one two = (one.log < two.log) ⊎ (one.log ≡ two.log) × (one.number < two.number)
 
--- Workers came from where they stood before to where they stand after, one after another, each on the next log. Each command that they have announced since was
--- asked for by one connection that they served, and those of one connection were announced in the order in which it asked: so no request was carried out twice.
+-- Workers went from `before` to `after`, one after another, each on the next log. Each command that
+-- they have announced meanwhile was asked for by one connection that they served, and those of one
+-- connection were announced in the order in which it asked for them: so no request was carried out
+-- twice.
 pub record HaveBeenAsked (before after : List Worker) (ended : List Connection) : Type 0 where
   pub asker : Announcement → ℕ
   pub request : Announcement → ℕ
@@ -63,6 +68,6 @@ pub record HaveBeenAsked (before after : List Worker) (ended : List Connection) 
   pub in_order : (one two : Announcement) (first second : Worker) → IsAnnounced before after one first → IsAnnounced before after two second →
       IsEarlier one two → asker one ≡ asker two → request one < request two
 
--- so of a worker that came back, on one log
+-- the same for a worker that came back, on one log
 abbrev pub HasBeenAsked : Worker → Returned → Type 0
 HasBeenAsked worker back = HaveBeenAsked (worker ∷ []) (back.worker ∷ []) back.ended.connections

@@ -3,22 +3,23 @@ use Rattle.std.specs.Prelude.{◌≡◌, ℕ, ◌%◌, List, Some, slice_get, le
 use Rattle.mc_net.specs.declared.listener.Arrival.{Arrival}
 use Rattle.mc_net.specs.declared.listener.TenantListener.{TenantListener}
 
--- the number of the place whose turn it is after so many streams
+-- the number of the place that receives the next stream after `done` streams, round-robin
 abbrev pub turn_of : ℕ → ℕ → ℕ
 turn_of done places = done % places
 
--- a stream that the listener accepted has come for the listener's tenant
+-- the arrival is a stream that the listener accepted, for the listener's tenant
 pub record IsOf {L S : Type 0} (accepted_by : L → S → Type 0) (listener : TenantListener L) (arrival : Arrival S) : Type 0 where
   pub tenant : arrival.tenant ≡ listener.tenant
   pub accepted : accepted_by listener.socket arrival.stream
 
--- the place whose turn it is has received the arrival
+-- the place that is next after `done` streams has received the arrival
 pub record IsHanded {P S : Type 0} (received : P → Arrival S → Type 0) (places : List P) (done : ℕ) (arrival : Arrival S) : Type 0 where
   pub place : P
   pub turn : slice_get places (turn_of done (length places)) ≡ Some place
   pub has : received place arrival
 
--- a stream that the listener accepted was handed, as the listener's tenant's, to the place whose turn it is
+-- a stream that the listener accepted was handed, as one of the listener's tenant, to the place
+-- that is next
 pub record IsPassed {L P S : Type 0} (accepted_by : L → S → Type 0) (received : P → Arrival S → Type 0) (listener : TenantListener L) (places : List P) (done : ℕ) : Type 0 where
   pub arrival : Arrival S
   pub of : IsOf accepted_by listener arrival

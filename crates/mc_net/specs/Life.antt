@@ -1,5 +1,6 @@
--- What a connection was sent for what came, from its first byte to its last. After memcached's doc/protocol.txt, "Protocol": a connection is a stream of
--- request texts, each answered in order. That they are answered over a log which many share is Herlihy's construction (Wait-Free
+-- What a connection was sent for what came, from its first byte to its last. After memcached's
+-- doc/protocol.txt, "Protocol": a connection is a stream of request texts, each answered in order.
+-- That they are answered over a log which many share is Herlihy's construction (Wait-Free
 -- Synchronization, TOPLAS 1991).
 use Rattle.std.specs.List.{list_any}
 use Rattle.std.specs.Prelude.{◌≡◌, ◌⊎◌, ℕ, ◌≤◌, true, List, [], ◌∷◌, ◌++◌, All}
@@ -30,52 +31,59 @@ sent_of connection = moved connection.sent.events
 abbrev pub IsBehind : Mark → Mark → Type 0
 IsBehind one two = (one.number ≤ two.number) × (one.place ≤ two.place)
 
--- What is owed for requests of this role that a worker took in parts, each behind the one before: between two parts it may have taken others' requests.
+-- What is owed for requests of this role that a worker took in parts, each after the one before:
+-- between two parts it may have taken requests of other connections.
 pub data OwesInParts (worker : Worker) (role : Role) : List Request → List ℕ → Mark → Type 0 where
   none_yet : OwesInParts worker role [] [] first_mark
   and_then : (requests more : List Request) (bytes others : List ℕ) (to from last : Mark) → OwesInParts worker role requests bytes to →
       IsBehind to from → Owes worker role from more others last → OwesInParts worker role (requests ++ more) (bytes ++ others) last
 
--- The same over logs that followed one another, by the worker of each: the first of them took the first requests in parts, and the others all others.
+-- The same over logs that followed one another, each with its own worker: the worker of the first
+-- log took the first requests in parts, and those of the other logs took the rest.
 pub data OwesInLogs (role : Role) : List Worker → List Request → List ℕ → Type 0 where
   no_log : OwesInLogs role [] [] []
   next_log : (worker : Worker) (workers : List Worker) (requests more : List Request) (bytes others : List ℕ) (to : Mark) → OwesInParts worker role requests bytes to →
       OwesInLogs role workers more others → OwesInLogs role (worker ∷ workers) (requests ++ more) (bytes ++ others)
 
--- how often reads of the connection's stream have failed, and writes
+-- how often reads of the connection's stream have failed, and how often writes have
 abbrev pub FailedSoOften : Connection → ℕ → ℕ → Type 0
 FailedSoOften connection reads writes = (failures connection.received.events ≡ reads) × (failures connection.sent.events ≡ writes)
 
--- no fault: all that came, up to its end or to a request that ends the stream, reads as these requests, and all that is owed was sent
+-- no fault: all that came, up to its end or to a request that ends the stream, reads as these
+-- requests, and all that is owed was sent
 pub record EndsWithoutFault (connection : Connection) (requests : List Request) (owed : List ℕ) : Type 0 where
   pub unfailed : FailedSoOften connection 0 0
   pub end : (has_ended connection.received.events ≡ true) ⊎ (list_any ends_stream requests ≡ true)
   pub whole : ReadsAs (lines_of connection.conn.role) (came_of connection) requests
   pub sent : sent_of connection ≡ owed
 
--- What a connection's stream has of a fault that ended it: one read has failed, or one write. Where memory ran out no read has; of writes nothing is
--- said then, since those that tell it may fail.
+-- What a connection's stream shows of the fault that ended it: one read has failed, or one write.
+-- If memory ran out no read has failed; nothing is said about writes then, since those that report
+-- it may fail.
 abbrev pub HasFault : ConnFault → Connection → Type 0
 HasFault OutOfMemory connection = failures connection.received.events ≡ 0
 HasFault CellTaken connection = FailedSoOften connection 0 0
 HasFault InputFailed connection = FailedSoOften connection 1 0
 HasFault OutputFailed connection = FailedSoOften connection 0 1
 
--- what is told of a fault
+-- what the client is told about a fault
 abbrev pub words_of : ConnFault → List ℕ
 words_of OutOfMemory = text (Refused E11)
 words_of CellTaken = []
 words_of InputFailed = []
 words_of OutputFailed = []
 
--- a fault: a front was sent of what is owed and then of what is told
+-- a fault: what was sent is a prefix of what is owed followed by what the client is told
 pub record IsCut (connection : Connection) (owed : List ℕ) : Type 0 where
   pub fault : ConnFault
   pub why : HasFault fault connection
   pub sent : BeginsWith (owed ++ words_of fault) (sent_of connection)
 
--- A connection's whole life, which these workers served one after another. Its first requests, whatever more might have come, were taken in order, and are
--- answered over the history of the worker that took each, at its own place by its own tenant's commands before that; what was sent is what is owed for these.
+-- A connection's whole life, in which these workers served it one after another. Its first
+-- requests, whatever more might have come, were taken in order, and each is answered over the
+-- history of the worker that took it, at its own place, after its own tenant's commands before that
+-- place. What was sent is what is owed for these, or after a fault a prefix of that followed by
+-- what the client is told.
 pub record WasAnswered (workers : List Worker) (connection : Connection) : Type 0 where
   pub requests : List Request
   pub owed : List ℕ
@@ -83,6 +91,6 @@ pub record WasAnswered (workers : List Worker) (connection : Connection) : Type 
   pub owes : OwesInLogs connection.conn.role workers requests owed
   pub ending : EndsWithoutFault connection requests owed ⊎ IsCut connection owed
 
--- so of each connection that a worker has served, on one log
+-- the same for each connection that a worker has served, on one log
 abbrev pub HasAnswered : Returned → Type 0
 HasAnswered back = All (WasAnswered (back.worker ∷ [])) back.ended.connections

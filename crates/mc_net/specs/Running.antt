@@ -24,42 +24,44 @@ event_loops_of worker_threads = map (λ worker_thread. worker_thread.event_loop)
 abbrev pub worker_of : Returned → Worker
 worker_of back = back.worker
 
--- the event loop is for a log of so many tenants
+-- the event loop is for a log of this many tenants
 abbrev pub IsFor : ℕ → EventLoop → Type 0
 IsFor tenants event_loop = event_loop.ready.connections.tenants ≡ tenants
 
--- and nothing was served at it yet
+-- the event loop is for a log of this many tenants, and has served nothing yet
 abbrev pub IsNewLoop : ℕ → EventLoop → Type 0
 IsNewLoop tenants event_loop = IsNewFor tenants event_loop.ready.connections
 
--- each worker is of the log, and there are a gate and an event loop for it, for the tenants of that log
+-- each worker is of the log, and there are a gate and an event loop for each, for the log's tenants
 pub record FitTogether {G : Type 0} (log : Log) (workers : List Worker) (gates : List G) (event_loops : List EventLoop) : Type 0 where
   pub logs : All (λ (worker : Worker). worker.log.now ≡ log) workers
   pub a_gate_each : length gates ≡ length workers
   pub a_loop_each : length event_loops ≡ length workers
   pub tenants : All (IsFor (length log.settings.tenants)) event_loops
 
--- where a thread's loop has ended well, its worker has worked until no connection was left
+-- if a thread's loop has ended well, its worker has worked until no connection was left
 abbrev pub HasRun : {G : Type 0} → WorkerThread G → WorkerThread G → Type 0
 HasRun old new = IfOk new.outcome (λ _. HasWorked (standing_at old.worker old.event_loop) (standing_at new.worker new.event_loop))
 
--- so of each
+-- the same for each thread
 pub record HaveRun {G : Type 0} (old new : List (WorkerThread G)) : Type 0 where
   pub long : length new ≡ length old
   pub each : (i : ℕ) (d : WorkerThread G) → i < length old → HasRun (slice_index_or old i d) (slice_index_or new i d)
 
--- what came back of a worker's thread: its worker, and the connections that it has served; its loop has ended well
+-- what came back from a worker's thread: its worker, and the connections that it has served; its
+-- loop has ended well
 pub record IsReturned {G : Type 0} (worker_thread : WorkerThread G) (back : Returned) : Type 0 where
   pub worker : back.worker ≡ worker_thread.worker
   pub ended : back.ended ≡ worker_thread.event_loop.ready.connections.ended
   pub well : worker_thread.outcome ≡ Ok tt
 
--- a worker came back of an event loop that it had served until no connection was left, with those that have ended there
+-- a worker came back from an event loop that it had served until no connection was left, with the
+-- connections that have ended there
 pub record HasServedAt (worker : Worker) (before : EventLoop) (back : Returned) (after : EventLoop) : Type 0 where
   pub worked : HasWorked (standing_at worker before) (standing_at back.worker after)
   pub ended : back.ended ≡ after.ready.connections.ended
 
--- so each, at the event loop of its place
+-- the same for each worker, at the event loop of its index
 pub data HaveServedAt : List Worker → List EventLoop → List Returned → List EventLoop → Type 0 where
   no_more : HaveServedAt [] [] [] []
   one_more : (worker : Worker) (before : EventLoop) (back : Returned) (after : EventLoop) (workers : List Worker) (befores : List EventLoop)

@@ -24,7 +24,8 @@ use Rattle.uc_worker.specs.declared.worker.Worker.{Worker}
 abbrev pub connection_at : Connections → ℕ → Option Connection
 connection_at connections key = get connections.by_key key
 
--- all that a turn sees of a connection: what the reads and the writes of its stream did so far is on its tapes
+-- all that a turn sees of a connection; its tapes tell what the reads and the writes of its stream
+-- have done so far
 abbrev pub scene_of : Connection → Worker → Scene
 scene_of connection worker =
     scene connection.conn worker (both (record { events = connection.received.events; left = None }) (record { events = connection.sent.events }))
@@ -38,7 +39,7 @@ pub record IsNewConnection (connection : Connection) (arrival : Arrival _) : Typ
   pub going : (connection.conn.has_ended ≡ false) × (connection.conn.is_over ≡ false) × (connection.conn.is_closed ≡ false)
   pub tapes : (connection.received.events ≡ []) × (connection.sent.events ≡ [])
 
--- the arrival's connection stands under a key that was free, and every other key is as it was
+-- the arrival's connection is under a key that was free, and every other key is unchanged
 pub record Admits (before after : Connections) (arrival : Arrival _) (key : ℕ) : Type 0 where
   pub vacant : connection_at before key ≡ None
   pub connection : Connection
@@ -47,8 +48,9 @@ pub record Admits (before after : Connections) (arrival : Arrival _) (key : ℕ)
   pub ended : after.ended ≡ before.ended
   pub tenants : after.tenants ≡ before.tenants
 
--- A connection was served over its streams: bytes came, the requests that they read as were taken, and what was sent and what is queued
--- then is what was queued and what is owed for them; or a fault stopped this, and has closed the connection for good.
+-- A connection was served over its streams: bytes came, the requests that they read as were taken,
+-- and what was sent followed by what is queued is what was queued before followed by what is owed
+-- for them; or a fault stopped this, and has closed the connection for good.
 abbrev pub TakesOrStops : Scene → Scene → Type 0
 TakesOrStops before after =
     Takes before after ⊎ (fault : Fault) × Stops before after fault
@@ -57,7 +59,7 @@ TakesOrStops before after =
 abbrev pub HasEnded : Conn → Type 0
 HasEnded conn = (conn.is_closed ≡ true) ⊎ IsDone conn
 
--- turns without a fault that haven't ended the connection, the last of which answered this state
+-- turns without a fault that haven't ended the connection, the last of which returned this state
 pub record Stays (before after : Scene) (state : State) : Type 0 where
   pub going : ¬ (HasEnded after.conn)
   pub between : Scene
@@ -65,17 +67,19 @@ pub record Stays (before after : Scene) (state : State) : Type 0 where
   pub once : PullsOnce between.streams.input after.streams.input
   pub last : Turns between after state
 
--- how a connection stands after its turns: it has ended; or it hasn't, and the last of them found nothing to do, or did something
+-- what a connection's state after its turns means: it has ended; or it hasn't, and the last of them
+-- found nothing to do, or did something
 abbrev pub Stands : Scene → Scene → State → Type 0
 Stands before after Closed = HasEnded after.conn
 Stands before after Idle = Stays before after Idle
 Stands before after Busy = Stays before after Busy
 
--- so many pulls or pushes more at most
+-- there are at most this many more pulls or pushes
 abbrev pub HasAtMost : ℕ → List Event → List Event → Type 0
 HasAtMost most before after = length after ≤ most + length before
 
--- The same connection later on: the worker served it, from what its tapes had to what they have, by few pulls, and it stands as the state says.
+-- The same connection later on: the worker served it, from what its tapes had to what they have,
+-- with few pulls, and it is in the state that the turns returned.
 pub record IsServedLater (before after : Worker) (old new : Connection) (state : State) : Type 0 where
   pub stream : new.stream ≡ old.stream
   pub role : new.conn.role ≡ old.conn.role
@@ -83,20 +87,21 @@ pub record IsServedLater (before after : Worker) (old new : Connection) (state :
   pub stands : Stands (scene_of old before) (scene_of new after) state
   pub few : HasAtMost TURNS old.received.events new.received.events
 
--- What was served stays, and stands as the state says; or it has ended, and is the latest of those that have; where nothing is, nothing was done.
--- The last two lists are those that had ended before, and that have now.
+-- A connection that was served stays, and is in this state; or it has ended, and is the latest of
+-- those that have; and if there was none, nothing was done. The lists are those that had ended
+-- before and those that have now, and the options the connection before and now.
 abbrev pub Becomes : {C : Type 0} → (C → C → State → Type 0) → Type 0 → State → List C → List C → Option C → Option C → Type 0
 Becomes Later Still state before after None new = (new ≡ None) × Still × (state ≡ Idle) × (after ≡ before)
 Becomes Later Still state before after (Some old) (Some new) = Later old new state × (state ≢ Closed) × (after ≡ before)
 Becomes Later Still state before after (Some old) None = (last : _) × (after ≡ last ∷ before) × Later old last Closed × (state ≡ Closed)
 
--- this became of the connection under this key, and every other key is as it was
+-- this became of the connection under this key, and every other key is unchanged
 pub record ChangesAt (Step : Option Connection → Option Connection → Type 0) (before after : Connections) (key : ℕ) : Type 0 where
   pub becomes : Step (connection_at before key) (connection_at after key)
   pub others : (other : ℕ) → other ≢ key → connection_at after other ≡ connection_at before other
   pub tenants : after.tenants ≡ before.tenants
 
--- the fault as which a loop's end before its time is told
+-- the fault as which a loop's early end is reported
 abbrev pub fault_of : Halt → Fault
 fault_of GrowthRefused = Memory
 fault_of Poll = Input

@@ -22,14 +22,14 @@ standing worker connections = record { worker = worker; connections = connection
 abbrev pub standing_at : Worker → EventLoop → Standing
 standing_at worker event_loop = standing worker event_loop.ready.connections
 
--- an arrival was taken in, which is nothing to the worker
+-- an arrival was admitted, which leaves the worker unchanged
 pub record TakesIn (before after : Standing) : Type 0 where
   pub worker : after.worker ≡ before.worker
   pub arrival : Arrival _
   pub key : ℕ
   pub admits : Admits before.connections after.connections arrival key
 
--- the connection under the key was served, if there was one, and stands as the state says
+-- the connection under the key was served, if there was one, and is in this state
 abbrev pub ServesAt : ℕ → State → Standing → Standing → Type 0
 ServesAt key state before after =
     ChangesAt (Becomes (IsServedLater before.worker after.worker) (after.worker ≡ before.worker) state before.connections.ended.connections after.connections.ended.connections)
@@ -41,21 +41,22 @@ pub record ServesOne (before after : Standing) : Type 0 where
   pub state : State
   pub serves : ServesAt key state before after
 
--- Arrivals were taken in and connections served, one after another. What stands last and what has ended are actual, and so are their
--- tapes: each is what a first connection, or an arrival, became by being served.
+-- Arrivals were admitted and connections served, one after another. The connections that are left,
+-- those that have ended, and their tapes are genuine: each is what one of the first connections, or
+-- an arrival, became by being served.
 pub data Works (first : Standing) : Standing → Type 0 where
   begins : Works first first
   goes_on : (between last : Standing) → Works first between → TakesIn between last ⊎ ServesOne between last → Works first last
 
--- no connection stands
+-- there is no connection
 abbrev pub IsEmpty : Connections → Type 0
 IsEmpty connections = (slab_len connections.by_key == 0) ≡ true
 
--- and none has ended
+-- there is no connection, and none has ended
 abbrev pub IsUnused : Connections → Type 0
 IsUnused connections = IsEmpty connections × (connections.ended.connections ≡ [])
 
--- and each is to be of one of so many tenants
+-- there is no connection, none has ended, and each is to be of one of this many tenants
 abbrev pub IsNewFor : ℕ → Connections → Type 0
 IsNewFor tenants connections = (connections.tenants ≡ tenants) × IsUnused connections
 
@@ -64,7 +65,8 @@ pub record HasWorked (before after : Standing) : Type 0 where
   pub works : Works before after
   pub over : IsEmpty after.connections
 
--- a worker came back later on, behind connections that it had taken in and served until each had ended: those on what it brought back
+-- a worker came back later on, after it had admitted connections and served them until each had
+-- ended; it brought back those that have ended
 pub record HasServed (worker : Worker) (back : Returned) : Type 0 where
   pub onward : Continues worker back.worker
   pub first : Connections

@@ -9,37 +9,41 @@ use std::alloc::Global;
 use std::sync::Wait;
 use std::time::Duration;
 
-/// How many events a poll of the acceptor tells of at most.
+/// How many events a poll of the acceptor reports at most.
 const EVENTS: usize = 64;
 
-/// How many streams are accepted at one listener in a round at most, so that the others have their turn soon.
+/// How many streams are accepted at one listener in a round at most, so that the other listeners
+/// are served soon.
 const ACCEPTS: u32 = 64;
 
-/// How long a listener that failed is left alone, in milliseconds.
+/// How long the acceptor waits at most before it retries a listener that failed, in milliseconds.
 const PAUSE_MILLIS: u64 = 50;
 
-/// How long the workers' loops have to begin: so many polls of a millisecond in which nothing comes.
+/// How long the workers' loops have to begin: this many polls of a millisecond in which no event
+/// comes.
 const POLLS_TO_BEGIN: u64 = 10_000;
 
-/// The listeners, and what waits at them.
+/// The listeners, and the poll that reports their streams.
 #[derive(Drop)]
 pub(crate) struct Acceptor {
     listeners: Vec<TenantListener<TcpListener>>,
     poll: Poll,
     events: Events,
-    // How many streams have been accepted, and how many are to be: with 0 there is no end.
+    // How many streams have been accepted, and how many are to be; 0 for no end.
     done: u64,
     most: u64,
-    // How many rounds there were: each begins at the listener behind the one at which the last began.
+    // How many rounds there were. Each begins one listener after the one at which the last began.
     rounds: usize,
-    // Some listener failed, and is to be asked again though no event tells of it.
+    // A listener failed, and is to be retried even if no event reports it.
     is_troubled: bool,
-    // More may wait at some listener, which is to be asked again at once.
+    // More streams may be waiting at a listener, which is to be asked again at once.
     has_more: bool,
 }
 
 impl Acceptor {
-    /// The acceptor of these listeners, which has accepted nothing.
+    /// Returns an acceptor of these listeners that has accepted nothing.
+    ///
+    /// Returns `Memory` if memory runs out, and `Poll` if a listener can't be registered.
     pub(crate) fn new(
         alloc: Global,
         poll: Poll,
@@ -72,7 +76,10 @@ impl Acceptor {
         self.most > 0 && self.done >= self.most
     }
 
-    /// Accepts what waits at one listener, but no more than so many. One that fails, or at which more may wait, is to be asked again.
+    /// Accepts the streams that wait at one listener, `ACCEPTS` at most.
+    ///
+    /// A listener that fails, or at which more may be waiting, is noted to be asked again. Returns
+    /// the errors of `accept_one`.
     fn accept_waiting<R: Wait>(
         &mut self,
         rt: &R,
@@ -99,7 +106,8 @@ impl Acceptor {
         Ok(())
     }
 
-    /// How long a poll waits for an event: where a listener failed only for so long, and not at all where more may wait.
+    /// Returns how long a poll may wait: not at all if more streams may be waiting, `PAUSE_MILLIS`
+    /// if a listener failed, and otherwise until an event comes.
     fn timeout(&self) -> Option<Duration> {
         if self.has_more {
             return Some(Duration::ZERO);
@@ -108,7 +116,10 @@ impl Acceptor {
             .then_some(Duration::from_millis(PAUSE_MILLIS))
     }
 
-    /// Polls once, and accepts at each listener of which an event tells, or at all where one is to be asked again.
+    /// Polls once, and accepts at each listener for which there is an event, or at all of them if
+    /// one is to be asked again.
+    ///
+    /// Returns `Poll` if the poll fails, and the errors of `accept_one`.
     fn poll_and_accept<R: Wait>(&mut self, rt: &R, mailboxes: &Mailboxes) -> Result<(), Halt> {
         let timeout = self.timeout();
         if self.poll.poll(&mut self.events, timeout).is_err() {
@@ -133,8 +144,12 @@ impl Acceptor {
         Ok(())
     }
 
-    /// Waits until every worker's loop has begun, so that no stream is handed to a thread that never runs. Where one doesn't in good
-    /// time, as where the system refuses its thread: `Memory`. An event that comes meanwhile is not lost: all listeners are asked first.
+    /// Waits until every worker's loop has begun, so that no stream is handed to a thread that
+    /// never runs.
+    ///
+    /// An event that comes meanwhile isn't lost, since all listeners are asked first. Returns
+    /// `Memory` if a loop doesn't begin in time, for example because the system refuses its thread,
+    /// and `Poll` if a poll fails.
     fn await_workers<R: Wait>(&mut self, rt: &R, mailboxes: &Mailboxes) -> Result<(), Halt> {
         let pause = Duration::from_millis(1);
         self.has_more = true;
@@ -156,8 +171,11 @@ impl Acceptor {
         unreachable!()
     }
 
-    /// Accepts until so many streams were handed over, or another loop has failed, and tells the workers that no more come. Nothing is
-    /// accepted before all workers are there.
+    /// Accepts until `most` streams were handed over or another loop has failed, and then signals
+    /// to the workers that no more come. Accepts nothing before all workers' loops have begun.
+    ///
+    /// Returns the errors of `await_workers` and `poll_and_accept`, and `Poll` if a worker can't be
+    /// woken.
     fn accept_all<R: Wait>(&mut self, rt: &R, mailboxes: &Mailboxes) -> Result<(), Halt> {
         self.await_workers(rt, mailboxes)?;
         for _ in rt.forever() {
@@ -169,7 +187,9 @@ impl Acceptor {
         unreachable!()
     }
 
-    /// The acceptor's loop. Where it fails, all others are told to end.
+    /// Runs the acceptor's loop. If it fails, all other loops are signalled to end.
+    ///
+    /// Returns the errors of `accept_all`.
     pub(crate) fn run<R: Wait>(&mut self, rt: &R, mailboxes: &Mailboxes) -> Result<(), Halt> {
         let outcome = self.accept_all(rt, mailboxes);
         if outcome.is_err() {

@@ -1,4 +1,4 @@
-//! A worker takes connections in and serves them.
+//! How a worker admits connections and serves them.
 ghost use Rattle.std.specs.Prelude.{◌≡◌, ◌<◌, length, IfNone, IfSome};
 ghost use Rattle.mc_conn.specs.Owed.{IsKnown};
 ghost use Rattle.mc_conn.specs.Turn.{scene};
@@ -18,10 +18,12 @@ use std::alloc::Global;
 use std::mem;
 use uc_worker::{Gate, Worker};
 
-/// How many turns a connection has for one event at most, so that others have theirs soon: a turn takes at most a buffer of bytes.
+/// How many turns a connection gets for one event at most, so that the others get theirs soon: a
+/// turn takes at most a buffer of bytes.
 const TURNS: u32 = 4;
 
-/// Turns, until nothing is left to do or so many were made, or a fault has ended the connection. Says how it stands then.
+/// Makes turns until nothing is left to do, `TURNS` were made, or a fault has ended the connection.
+/// Returns the connection's state afterwards.
 fn turns<I: Input, O: Output, G: Gate>(
     conn: &mut Conn,
     worker: &mut Worker<'_>,
@@ -51,7 +53,7 @@ fn turns<I: Input, O: Output, G: Gate>(
 }
 
 impl Connection {
-    /// Turns over the connection's stream. Says how the connection stands then.
+    /// Makes turns over the connection's stream. Returns the connection's state afterwards.
     fn serve<G: Gate>(
         &mut self,
         worker: &mut Worker<'_>,
@@ -80,8 +82,10 @@ impl Connection {
 }
 
 impl Connections {
-    /// Takes an arrival in, under the key that it answers, which tells of its events. Where there are as many as may be, the stream can't be watched,
-    /// or the log has no such tenant, it is closed without a byte. Needs no memory.
+    /// Admits an arrival as a connection. Returns its key, which is also the token of its events.
+    ///
+    /// Closes the stream without sending a byte and returns `None` if there are `MOST_CONNECTIONS`
+    /// already, the stream can't be registered, or the log has no such tenant. Needs no memory.
     pub(crate) fn admit(
         &mut self,
         alloc: Global,
@@ -92,7 +96,7 @@ impl Connections {
         ensures same { IfNone result (self.new ≡ self.old) }
     {
         let Arrival { tenant, mut stream } = arrival;
-        // What comes out of a queue under a lock isn't known to be of this log.
+        // The queue is behind a lock, so nothing is proved about what comes out of it.
         let is_known = usize::from(tenant.number()) < self.tenants;
         if self.by_key.len() >= MOST_CONNECTIONS || !is_known {
             return None;
@@ -111,7 +115,8 @@ impl Connections {
         Some(self.by_key.insert_reserved(connection))
     }
 
-    /// Serves the connection under a key, if there is one, and says how it stands then. Where it has ended it is taken out and closed.
+    /// Serves the connection under a key, if there is one, and returns its state afterwards. If it
+    /// has ended it is removed and closed.
     pub(crate) fn serve<G: Gate>(
         &mut self,
         worker: &mut Worker<'_>,

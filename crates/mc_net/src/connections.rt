@@ -16,31 +16,33 @@ use std::alloc::Global;
 /// How many connections a worker has at most.
 pub(crate) const MOST_CONNECTIONS: usize = 1_024;
 
-/// A stream, and what is kept of its requests and replies.
+/// A stream, and what is held of its requests and replies.
 #[derive(Drop)]
 pub(crate) struct Connection {
     pub(crate) stream: TcpStream,
     pub(crate) conn: Conn,
-    /// What the reads of the stream did, for clauses alone.
+    /// What the reads of the stream did; for contracts only.
     pub(crate) received: Tape,
-    /// What its writes did, for clauses alone.
+    /// What its writes did; for contracts only.
     pub(crate) sent: Tape,
 }
 
-/// The connections of a worker under their keys, each of a role that the log has.
+/// The connections of a worker by key, each of a role that the log has.
 #[derive(Drop)]
 pub(crate) struct Connections {
     pub(crate) by_key: Slab<Connection>,
     /// How many tenants the log has.
     pub(crate) tenants: usize,
-    /// The connections that have ended, and stand here no more.
+    /// The connections that have ended and were removed.
     pub(crate) ended: Ended,
     ghost room: { MOST_CONNECTIONS ≤ by_key.capacity },
     ghost known: { (key : ℕ) (connection : _) → get by_key key ≡ Some connection → IsAmong connection.conn.role tenants } by { Prim.hlevel (props, IsAmong-prop) },
 }
 
 impl Connections {
-    /// No connection, with room for all that there may be. Where memory runs out: `Memory`.
+    /// Returns an empty set of connections, with room for `MOST_CONNECTIONS`.
+    ///
+    /// Returns `Memory` if memory runs out.
     pub(crate) fn new(alloc: Global, tenants: usize) -> Result<Connections, Halt>
         ensures tenants { IfOk result (λ connections. connections.tenants ≡ tenants) }
         ensures new { IfOk result

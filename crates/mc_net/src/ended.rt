@@ -1,4 +1,4 @@
-//! The connections that have ended, for clauses alone.
+//! The connections that have ended, for contracts only.
 ghost use Rattle.mc_net.specs.declared.connections.Connection.{Connection};
 ghost use Rattle.std.specs.Borrow.{ftrue};
 ghost use Rattle.std.specs.Prelude.{◌≡◌, List, [], ◌∷◌};
@@ -6,8 +6,8 @@ ghost use Rattle.std.specs.Prelude.{◌≡◌, List, [], ◌∷◌};
 use crate::connections::Connection;
 use std::marker::Model;
 
-/// Every connection of a worker that has ended, as it was then, the latest first. It takes no memory, and its methods do nothing at run time.
-/// Only this crate writes on it.
+/// Every connection of a worker that has ended, as it was then, the latest first. It takes no
+/// memory, and its methods do nothing at run time. Only this crate writes on it.
 #[derive(Drop)]
 pub struct Ended {
     pub ghost connections: { List Connection },
@@ -18,21 +18,21 @@ impl Model for Ended {
 }
 
 impl Ended {
-    /// None has ended yet.
+    /// Returns an empty list: none has ended yet.
     pub(crate) fn new() -> Ended
         ensures { result ≡ record { connections = [] } }
     {
         Ended {}
     }
 
-    /// This one has ended too.
+    /// Returns the list with this connection as the latest.
     pub(crate) fn and(&self, _connection: &Connection) -> Ended
         ensures { result ≡ record { connections = _connection.now ∷ self.now.connections } }
     {
         Ended {}
     }
 
-    /// The same once more.
+    /// Returns a copy.
     pub(crate) fn again(&self) -> Ended
         ensures { result ≡ record { connections = self.now.connections } }
     {

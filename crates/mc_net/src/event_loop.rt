@@ -1,4 +1,4 @@
-//! A worker's loop.
+//! A worker's event loop.
 ghost use Rattle.std.specs.Prelude.{◌≡◌, length, IfOk};
 ghost use Rattle.mc_net.specs.Working.{HasWorked, IsNewFor, Works, standing_at};
 ghost use Rattle.uc_worker.specs.Worker.{tenants_of};
@@ -14,14 +14,14 @@ use std::sync::Wait;
 use std::time::Duration;
 use uc_worker::{Gate, Worker};
 
-/// How many events a poll of a worker tells of at most.
+/// How many events a poll of a worker reports at most.
 const EVENTS: usize = 256;
 
-/// How many arrivals a worker takes in between two polls: fewer than a poll tells of events, so that connections whose clients are gone
-/// already make room for those that come behind them.
+/// How many arrivals a worker admits between two polls: fewer than a poll reports events, so that
+/// connections whose clients are already gone make room for later ones.
 const ARRIVALS: u32 = 64;
 
-/// What a worker's loop works with: its connections, and the poll that tells of them.
+/// What a worker's event loop works with: its connections, and the poll that reports their events.
 #[derive(Drop)]
 pub(crate) struct EventLoop {
     pub(crate) ready: ReadyQueue,
@@ -30,7 +30,9 @@ pub(crate) struct EventLoop {
     alloc: Global,
 }
 
-/// Waits for events, or only looks for them where it isn't to wait.
+/// Waits for events, or only checks for them if `waits` is false.
+///
+/// Returns `Poll` if the poll fails.
 fn poll_events(poll: &mut Poll, events: &mut Events, waits: bool) -> Result<(), Halt> {
     let timeout = if waits { None } else { Some(Duration::ZERO) };
     match poll.poll(events, timeout) {
@@ -40,7 +42,9 @@ fn poll_events(poll: &mut Poll, events: &mut Events, waits: bool) -> Result<(), 
 }
 
 impl EventLoop {
-    /// An event loop with no connection, for a log of so many tenants. Where memory runs out: `Memory`.
+    /// Returns an event loop without connections, for a log of this many tenants.
+    ///
+    /// Returns `Memory` if memory runs out.
     pub(crate) fn new(alloc: Global, poll: Poll, tenants: usize) -> Result<EventLoop, Halt>
         ensures { IfOk result (λ event_loop. IsNewFor tenants event_loop.ready.connections) }
     {
@@ -54,7 +58,9 @@ impl EventLoop {
         })
     }
 
-    /// Takes in what the acceptor left, but no more than so many. Answers the signal that stands behind them, and none where more may be left.
+    /// Admits the arrivals that the acceptor left, `ARRIVALS` at most.
+    ///
+    /// Returns the signal that follows them, or `None` if more may be left.
     fn admit_arrivals<R: Wait>(&mut self, rt: &R, mailbox: &Mailbox) -> Option<Signal>
         ensures { (worker : Worker) →
             Works (standing_at worker self.old) (standing_at worker self.new) }
@@ -71,8 +77,11 @@ impl EventLoop {
         None
     }
 
-    /// Serves what the acceptor leaves in the mailbox, until no more comes and every connection has ended. Where memory runs out: `Memory`;
-    /// where a poll fails: `Poll`; where another loop has failed: `Elsewhere`, and the connections are closed.
+    /// Serves the streams that the acceptor leaves in the mailbox, until no more come and every
+    /// connection has ended.
+    ///
+    /// Returns `Memory` if memory runs out, and `Poll` if a poll fails. Returns `Elsewhere` if
+    /// another loop has failed; this loop's connections are closed then.
     pub(crate) fn run<R: Wait, G: Gate>(
         &mut self,
         rt: &R,
@@ -96,7 +105,7 @@ impl EventLoop {
             if signal == Some(Signal::Closed) && self.ready.connections.is_empty() {
                 return Ok(());
             }
-            // More may be left in the mailbox, or somebody is to be served without an event.
+            // More may be left in the mailbox, or a connection is to be served without an event.
             let waits = signal.is_some() && self.ready.may_wait();
             poll_events(&mut self.poll, &mut self.events, waits)?;
             let is_woken = self

@@ -1,4 +1,5 @@
-//! Where streams come in, and the event loops that serve them. No worker is part of it, so that connections outlive who serves them.
+//! Where streams come in, and the event loops that serve them. No worker is part of it, so that
+//! connections outlive the workers that serve them.
 ghost use Rattle.std.specs.Prelude.{◌≡◌, ◌<◌, All, IfOk, vec_len};
 ghost use Rattle.mc_net.specs.Running.{FitTogether, HaveServedAt, IsNewLoop, listeners_of};
 
@@ -20,7 +21,8 @@ use std::thread::Threads;
 use uc_log::Log;
 use uc_worker::{Gate, Worker};
 
-/// The acceptor at its listeners, the event loops with their connections, and the mailbox of each.
+/// The acceptor with its listeners, the event loops with their connections, and each loop's
+/// mailbox.
 #[derive(Drop)]
 pub(crate) struct Front {
     acceptor: Acceptor,
@@ -28,7 +30,9 @@ pub(crate) struct Front {
     pub(crate) event_loops: Vec<EventLoop>,
 }
 
-/// A poll, and the mailbox that wakes it. Where one can't be made: `Poll`.
+/// Returns a poll, and the mailbox that wakes it.
+///
+/// Returns `Poll` if either can't be made.
 fn new_poll<R: Net>(rt: &R, alloc: Global) -> Result<(Poll, Mailbox), Halt> {
     let Ok(poll) = Poll::new(rt) else {
         return Err(Halt::Poll);
@@ -39,7 +43,9 @@ fn new_poll<R: Net>(rt: &R, alloc: Global) -> Result<(Poll, Mailbox), Halt> {
     }
 }
 
-/// So many event loops for a log of so many tenants, and the mailbox of each.
+/// Returns `count` event loops for a log of this many tenants, and the mailbox of each.
+///
+/// Returns `Memory` if memory runs out, and `Poll` if a poll or a mailbox can't be made.
 fn new_event_loops<R: Net>(
     rt: &R,
     alloc: Global,
@@ -60,7 +66,9 @@ fn new_event_loops<R: Net>(
     Ok((mailboxes, event_loops))
 }
 
-/// These listeners with their tenants, in their order. Where memory runs out: `Memory`.
+/// Returns these listeners with their tenants, in order.
+///
+/// Returns `Memory` if memory runs out.
 fn tenant_listeners(
     alloc: Global,
     listeners: Vec<(TenantId, TcpListener)>,
@@ -75,8 +83,11 @@ fn tenant_listeners(
 }
 
 impl Front {
-    /// The front of these listeners, at which so many streams are to be accepted (with 0 there is no end), for so many workers of a log
-    /// of so many tenants.
+    /// Returns the front of these listeners, for this many workers of a log of this many tenants.
+    /// It is to accept `connections` streams; 0 for no end.
+    ///
+    /// Returns `Memory` if memory runs out, and `Poll` if a poll or a mailbox can't be made or a
+    /// listener can't be registered.
     pub(crate) fn new<R: Net>(
         rt: &R,
         alloc: Global,
@@ -104,8 +115,12 @@ impl Front {
         })
     }
 
-    /// Has these workers of the log serve, each at the event loop of its place and in a thread of its own where one can be made, until no
-    /// stream is to come and every connection has ended. Gives the workers back in their order. Where it fails, the connections are closed.
+    /// Lets these workers of the log serve, each at the event loop of its index and in a thread of
+    /// its own if one can be made, until no more streams are to come and every connection has
+    /// ended. Returns the workers in their order.
+    ///
+    /// Returns the error of the loop that failed, and `Memory` if memory runs out; the connections
+    /// are closed then.
     pub(crate) fn run<'a, R: Threads + Wait + Sync, G: Gate + Send + Drop>(
         &mut self,
         rt: &R,

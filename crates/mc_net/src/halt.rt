@@ -1,4 +1,4 @@
-//! Why a loop ends before its time.
+//! Why a loop ends early.
 ghost use Rattle.std.specs.Prelude.{◌≡◌};
 ghost use Rattle.mc_net.specs.Serving.{fault_of};
 ghost use Rattle.mc_net.specs.declared.halt.Halt.TheVariants.{Memory};
@@ -6,14 +6,14 @@ ghost use Rattle.mc_net.specs.declared.halt.Halt.TheVariants.{Memory};
 use mc_model::Fault;
 use std::alloc::{AllocError, AllocFailed};
 
-/// Why a loop ends before its time.
+/// Why a loop ends early.
 #[derive(Clone, Copy, Debug, PartialEq, Eq)]
 pub enum Halt {
-    /// A growth outside a connection was refused.
+    /// Memory ran out outside a connection, or a worker's loop didn't begin in time.
     Memory,
-    /// A poll can't be made or failed, or what wakes one did.
+    /// A poll or its waker couldn't be made or failed, or a listener couldn't be registered.
     Poll,
-    /// Another loop has ended before its time.
+    /// Another loop has ended early.
     Elsewhere,
 }
 

@@ -1,4 +1,4 @@
-//! Streams go to the workers in turn.
+//! Streams are handed to the workers round-robin.
 ghost use Rattle.std.specs.Prelude.{◌≡◌, ◌<◌, length, IfOk, OnOk};
 ghost use Rattle.mc_net.specs.declared.listener.Arrival.{Arrival};
 ghost use Rattle.mc_net.specs.Handing.{IsHanded, IsPassed};
@@ -18,7 +18,9 @@ pub trait Receive<S> {
         ensures { OnOk result (received self.now arrival) };
 }
 
-/// Hands an arrival to the place whose turn it is after so many, and to no other. Fails as the place does.
+/// Hands an arrival to the place that is next after `done` streams, round-robin, and to no other.
+///
+/// Returns the errors of `Receive::receive`.
 pub fn hand_over<R: Wait, S, P: Receive<S>>(
     rt: &R,
     places: &[P],
@@ -32,18 +34,20 @@ pub fn hand_over<R: Wait, S, P: Receive<S>>(
     places[turn].receive(rt, arrival)
 }
 
-/// What came of an attempt to accept.
+/// The outcome of an attempt to accept a stream.
 #[derive(Clone, Copy, Debug, PartialEq, Eq)]
 pub enum Accepted {
     /// A stream was handed over.
     One,
-    /// None waits.
+    /// No stream is waiting.
     None,
     /// The listener failed.
     Failed,
 }
 
-/// Accepts a stream, and hands it over. Fails as the place does that is to receive it.
+/// Accepts a stream, and hands it over.
+///
+/// Returns the errors of `hand_over`.
 pub fn accept_one<R: Wait, L: Listen, P: Receive<L::Stream>>(
     rt: &R,
     listener: &TenantListener<L>,

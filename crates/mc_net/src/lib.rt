@@ -1,7 +1,11 @@
-//! The network: an acceptor takes the streams of each tenant's listeners and hands them to workers in turn, each worker in a thread of its
-//! own serves its connections until they end, and the workers come back. `specs/Handing.antt` says which stream goes where,
-//! `specs/Serving.antt` what becomes of a connection that is served, `specs/Working.antt` what a round leaves of a worker's connections,
-//! `specs/Life.antt` what a connection was sent from its first byte to its last, and `specs/Asking.antt` for whom commands are announced.
+//! The network: an acceptor takes the streams of each tenant's listeners and hands them to the
+//! workers round-robin; each worker serves its connections in a thread of its own until they end;
+//! and then the workers come back. Begin with `serve`.
+//!
+//! `specs/Handing.antt` says which stream goes where, `specs/Serving.antt` what becomes of a
+//! connection that is served, `specs/Working.antt` what a round leaves of a worker's connections,
+//! `specs/Life.antt` what a connection was sent from its first byte to its last, and
+//! `specs/Asking.antt` for whom commands are announced.
 #![tactic(auto)]
 
 pub use ended::Ended;

@@ -13,7 +13,9 @@ pub trait Listen {
     /// The stream is one that this listener accepted.
     ghost accepted_by: { Self → Self.Stream → Type 0 };
 
-    /// Accepts a stream, or answers `WouldBlock` where none waits.
+    /// Accepts a stream.
+    ///
+    /// Returns an error of the kind `WouldBlock` if none is waiting.
     fn accept_stream(&self) -> io::Result<Self::Stream>
         ensures { IfOk result (λ stream. accepted_by self.now stream) };
 }
@@ -21,25 +23,26 @@ pub trait Listen {
 impl Listen for TcpListener {
     type Stream = TcpStream;
 
-    // Nothing is known of the system's streams.
+    // Nothing is proved about the system's streams.
     ghost accepted_by = { λ _ _. ⊤ };
 
     fn accept_stream(&self) -> io::Result<TcpStream> {
         let (stream, _) = self.accept()?;
-        // Without it a reply may wait for an acknowledgement; where it is refused no byte is another.
+        // Without it a reply may wait for an acknowledgement. If it is refused, the bytes are still
+        // the same.
         let _ = stream.set_nodelay(true);
         Ok(stream)
     }
 }
 
-/// A listener, and the tenant whose its streams are.
+/// A listener, and the tenant that owns its streams.
 #[derive(Drop)]
 pub struct TenantListener<L> {
     pub tenant: TenantId,
     pub socket: L,
 }
 
-/// A stream, and the tenant whose it is.
+/// A stream, and the tenant that owns it.
 #[derive(Drop)]
 pub struct Arrival<S> {
     pub tenant: TenantId,
@@ -47,7 +50,9 @@ pub struct Arrival<S> {
 }
 
 impl<L: Listen> TenantListener<L> {
-    /// Accepts a stream for the listener's tenant. Fails as the listener does.
+    /// Accepts a stream for the listener's tenant.
+    ///
+    /// Returns the listener's errors.
     pub fn accept(&self) -> io::Result<Arrival<L::Stream>>
         ensures { IfOk result (IsOf L.accepted_by self.now) }
     {

@@ -1,4 +1,4 @@
-//! Where the acceptor leaves streams for a worker, and how loops are told to end.
+//! Where the acceptor leaves streams for a worker, and how loops are signalled to end.
 ghost use Rattle.std.specs.Prelude.{◌<◌, ⊤, OnOk, vec_len};
 
 use crate::halt::Halt;
@@ -11,17 +11,17 @@ use std::collections::VecDeque;
 use std::io;
 use std::sync::{Mutex, Wait};
 
-/// The token of what wakes a poll: no key, and no listener's number.
+/// The token of a poll's waker, which is no key and no listener's number.
 pub(crate) const WAKER: Token = Token(usize::MAX);
 
-/// What a loop is told. It comes in this order, and none is taken back.
+/// What a loop is signalled. Signals come in this order, and none is taken back.
 #[derive(Clone, Copy, Debug, PartialEq, Eq, PartialOrd, Ord)]
 pub(crate) enum Signal {
-    /// Its thread hasn't begun yet.
+    /// The loop hasn't begun yet.
     Starting,
-    /// More may come.
+    /// More streams may come.
     Open,
-    /// No more comes.
+    /// No more streams come.
     Closed,
     /// Another loop has failed, and this one is to end.
     Halted,
@@ -33,7 +33,8 @@ struct Inbox {
     signal: Signal,
 }
 
-/// A loop's queue and signal under a lock, and what wakes its poll. Nothing comes into the acceptor's queue.
+/// A loop's queue and signal under a lock, and the waker of its poll. The acceptor's queue stays
+/// empty.
 #[derive(Drop)]
 pub(crate) struct Mailbox {
     inbox: Mutex<Inbox>,
@@ -49,7 +50,9 @@ fn wake(waker: &Waker) -> Result<(), Halt> {
 }
 
 impl Mailbox {
-    /// An empty queue for the loop whose poll has this registry.
+    /// Returns an empty mailbox for the loop whose poll has this registry.
+    ///
+    /// Returns the system's error if no waker can be made.
     pub(crate) fn new(alloc: Global, registry: &Registry) -> io::Result<Mailbox> {
         let inbox = Inbox {
             arrivals: VecDeque::new(alloc),
@@ -61,12 +64,14 @@ impl Mailbox {
         })
     }
 
-    /// What the loop was told last.
+    /// Returns the last signal.
     pub(crate) fn signal<R: Wait>(&self, rt: &R) -> Signal {
         self.inbox.lock(rt).signal
     }
 
-    /// What stands first in the queue, which leaves it. Where nothing does, or the loop is to end: its signal.
+    /// Takes the first arrival out of the queue.
+    ///
+    /// Returns the signal as an error if the queue is empty or the loop is to end.
     pub(crate) fn next<R: Wait>(&self, rt: &R) -> Result<Arrival<TcpStream>, Signal> {
         let mut guard = self.inbox.lock(rt);
         let inbox = &mut *guard;
@@ -79,7 +84,7 @@ impl Mailbox {
         }
     }
 
-    /// Sets the signal, where it is a later one.
+    /// Sets the signal, unless it is already at a later one.
     pub(crate) fn raise<R: Wait>(&self, rt: &R, signal: Signal) {
         let mut guard = self.inbox.lock(rt);
         let inbox = &mut *guard;
@@ -88,7 +93,9 @@ impl Mailbox {
         }
     }
 
-    /// Sets the signal, and wakes the loop.
+    /// Sets the signal as `raise` does, and wakes the loop.
+    ///
+    /// Returns `Poll` if the loop can't be woken.
     pub(crate) fn tell<R: Wait>(&self, rt: &R, signal: Signal) -> Result<(), Halt> {
         self.raise(rt, signal);
         wake(&self.waker)
@@ -96,10 +103,13 @@ impl Mailbox {
 }
 
 impl Receive<TcpStream> for Mailbox {
-    // Nothing is known of what stands behind a lock.
+    // Nothing is proved about what is behind a lock.
     ghost received = { λ _ _. ⊤ };
 
-    /// Puts an arrival into the queue, and wakes the worker. One for which the queue can't grow is closed: it ends nobody else.
+    /// Puts an arrival into the queue, and wakes the worker.
+    ///
+    /// If the queue can't grow the stream is closed; no other is affected. Returns `Poll` if the
+    /// worker can't be woken.
     fn receive<R: Wait>(&self, rt: &R, arrival: Arrival<TcpStream>) -> Result<(), Halt>
         ensures { OnOk result ⊤ }
     {
@@ -110,7 +120,7 @@ impl Receive<TcpStream> for Mailbox {
     }
 }
 
-/// The mailboxes of all loops, of one worker at least.
+/// The mailboxes of the acceptor and of at least one worker.
 #[derive(Drop)]
 pub(crate) struct Mailboxes {
     /// One for each worker.
@@ -120,23 +130,26 @@ pub(crate) struct Mailboxes {
 }
 
 impl Mailboxes {
-    /// Whether every worker's loop has begun, or is to end.
+    /// Returns whether every worker's loop has begun or is to end.
     pub(crate) fn has_begun<R: Wait>(&self, rt: &R) -> bool {
         self.of_workers
             .iter()
             .all(|mailbox| mailbox.signal(rt) != Signal::Starting)
     }
 
-    /// Tells all loops to end, after one has failed: first the acceptor, so that it accepts nothing more.
+    /// Signals all loops to end, after one has failed. The acceptor comes first, so that it accepts
+    /// nothing more.
     pub(crate) fn halt<R: Wait>(&self, rt: &R) {
-        // Where nothing wakes a loop, its next event does.
+        // A loop that can't be woken sees the signal at its next event.
         let _ = self.of_acceptor.tell(rt, Signal::Halted);
         for mailbox in &self.of_workers {
             let _ = mailbox.tell(rt, Signal::Halted);
         }
     }
 
-    /// Tells all workers.
+    /// Sends a signal to all workers.
+    ///
+    /// Returns `Poll` if one of them can't be woken; those after it aren't signalled then.
     pub(crate) fn tell_workers<R: Wait>(&self, rt: &R, signal: Signal) -> Result<(), Halt> {
         for mailbox in &self.of_workers {
             mailbox.tell(rt, signal)?;

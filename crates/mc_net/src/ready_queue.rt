@@ -1,4 +1,4 @@
-//! Whose turn it is among the connections of a worker.
+//! Which of a worker's connections are served next.
 ghost use Rattle.std.specs.Prelude.{◌≡◌, length, IfOk};
 ghost use Rattle.mc_net.specs.Working.{IsNewFor, Works, standing};
 ghost use Rattle.uc_worker.specs.Worker.{tenants_of};
@@ -13,23 +13,26 @@ use std::alloc::Global;
 use std::mem;
 use uc_worker::{Gate, Worker};
 
-/// The connections of a worker, and the keys of those that are to be served again though no event tells of them.
+/// The connections of a worker, and the keys of those that are to be served again even if no event
+/// comes for them.
 #[derive(Drop)]
 pub(crate) struct ReadyQueue {
     pub(crate) connections: Connections,
     again: Vec<usize>,
-    // The keys of the next round, while those of this one are served.
+    // The keys of the next round, collected while those of this round are served.
     next: Vec<usize>,
 }
 
-/// Whether a read that gives less than its buffer takes ends the reads of an event: not where the peer has closed, for no later event
-/// tells of the end.
+/// Returns whether a read that fills less than its buffer is the last one for an event. After the
+/// peer has closed it isn't, since no later event reports the end.
 fn stops_short(event: &Event) -> bool {
     !event.is_read_closed() && !event.is_error()
 }
 
 impl ReadyQueue {
-    /// No connection, for a log of so many tenants. Where memory runs out: `Memory`.
+    /// Returns a queue without connections, for a log of this many tenants.
+    ///
+    /// Returns `Memory` if memory runs out.
     pub(crate) fn new(alloc: Global, tenants: usize) -> Result<ReadyQueue, Halt>
         ensures { IfOk result (λ ready. IsNewFor tenants ready.connections) }
     {
@@ -45,12 +48,15 @@ impl ReadyQueue {
         })
     }
 
-    /// Whether nobody is to be served before an event comes.
+    /// Returns whether the worker may block in `poll`: no connection is to be served before an
+    /// event comes.
     pub(crate) fn may_wait(&self) -> bool {
         self.again.is_empty()
     }
 
-    /// Serves a connection, and notes its key where it is to be served again.
+    /// Serves the connection under a key, and queues the key if it is to be served again.
+    ///
+    /// Returns `Memory` if memory runs out.
     fn serve<G: Gate>(
         &mut self,
         worker: &mut Worker<'_>,
@@ -72,8 +78,11 @@ impl ReadyQueue {
         Ok(self.next.push(key)?)
     }
 
-    /// A round: serves those that are to be served again, and those of which an event tells, but not those that are in the next round. Says
-    /// whether the acceptor has woken the worker. Where memory runs out: `Memory`.
+    /// Makes a round: serves the connections that are to be served again, and then those for which
+    /// there is an event, except those that are already queued for the next round. Returns whether
+    /// the acceptor has woken the worker.
+    ///
+    /// Returns `Memory` if memory runs out.
     pub(crate) fn serve_round<G: Gate>(
         &mut self,
         worker: &mut Worker<'_>,

@@ -15,7 +15,9 @@ use std::thread::{Threads, join_mut};
 use uc_log::Log;
 use uc_worker::{Gate, Worker};
 
-/// These workers, each with the gate and the event loop of its place.
+/// Returns these workers, each with the gate and the event loop of its index.
+///
+/// Returns `Memory` if memory runs out.
 pub(crate) fn threads_of<'a, G: Gate + Drop>(
     alloc: Global,
     log: &'a Log,
@@ -49,7 +51,8 @@ pub(crate) fn threads_of<'a, G: Gate + Drop>(
 }
 
 impl<G: Gate> WorkerThread<'_, G> {
-    /// Runs the event loop at the mailbox of its number. Where it fails, all others are told to end.
+    /// Runs the event loop with the mailbox of this number. If it fails, all other loops are
+    /// signalled to end.
     fn run<R: Wait>(&mut self, rt: &R, mailboxes: &Mailboxes, number: usize)
         ensures { HasRun self.old self.new }
     {
@@ -70,7 +73,7 @@ impl<G: Gate> WorkerThread<'_, G> {
     }
 }
 
-/// Each worker in a thread of its own. Where no thread can be made, one after another.
+/// Runs each worker in a thread of its own, or one after another if no thread can be made.
 fn run_workers<'a, R: Threads + Wait + Sync, G: Gate + Send>(
     rt: &R,
     mailboxes: &Mailboxes,
@@ -89,8 +92,10 @@ fn run_workers<'a, R: Threads + Wait + Sync, G: Gate + Send>(
     );
 }
 
-/// All loops, until each has ended: the workers beside the acceptor. Where no thread can be made the acceptor is first, and ends as no
-/// worker's loop begins. Fails as the acceptor does.
+/// Runs all loops until each has ended: the workers' next to the acceptor's.
+///
+/// If no thread can be made the acceptor runs first, and fails since no worker's loop begins.
+/// Returns the acceptor's errors.
 pub(crate) fn run_all<'a, R: Threads + Wait + Sync, G: Gate + Send>(
     rt: &R,
     mailboxes: &Mailboxes,
@@ -107,7 +112,7 @@ pub(crate) fn run_all<'a, R: Threads + Wait + Sync, G: Gate + Send>(
     outcome
 }
 
-/// Fails as the first loop that failed by itself, if one did.
+/// Returns the error of the first loop that failed by itself, if one did.
 pub(crate) fn first_failure<G>(worker_threads: &[WorkerThread<'_, G>]) -> Result<(), Halt> {
     for worker_thread in worker_threads {
         match worker_thread.outcome {
@@ -118,7 +123,9 @@ pub(crate) fn first_failure<G>(worker_threads: &[WorkerThread<'_, G>]) -> Result
     Ok(())
 }
 
-/// What came back of these threads, and their event loops, in their order. Where a loop ended before its time: as the first that did.
+/// Returns what came back from these threads, and their event loops, in order.
+///
+/// Returns the error of the first loop that ended early, and `Memory` if memory runs out.
 pub(crate) fn parted<'a, G: Drop>(
     alloc: Global,
     worker_threads: Vec<WorkerThread<'a, G>>,

@@ -19,7 +19,9 @@ use std::thread::Threads;
 use uc_log::Log;
 use uc_worker::{Gate, Worker};
 
-/// The workers of those that came back, in their order. Where memory runs out: `Memory`.
+/// Returns the workers of those that came back, in order.
+///
+/// Returns an error if memory runs out.
 pub fn into_workers<'a>(
     alloc: Global,
     back: Vec<Returned<'a>>,
@@ -33,13 +35,18 @@ pub fn into_workers<'a>(
     Ok(workers)
 }
 
-/// Serves the tenants' listeners by these workers of the log, each in a thread of its own where one can be made. A stream is a connection
-/// of its listener's tenant, and goes to the worker whose turn it is. With `connections` above 0 it ends once so many streams were accepted
-/// and all have ended, and gives the workers back in their order, each with the connections that it has served; with 0 it doesn't end. A fault
-/// of a connection ends that one alone.
-/// Nothing is accepted before every worker's loop has begun. Where one doesn't begin within ten seconds, as where the system refuses its
-/// thread, or a growth outside a connection and the queues is refused: `Memory`. Where a poll can't be made or fails: `Input`. All loops are
-/// ended then.
+/// Serves the tenants' listeners with these workers of the log, each in a thread of its own if one
+/// can be made.
+///
+/// A stream is a connection of its listener's tenant, and streams go to the workers round-robin.
+/// With `connections` above 0, serving ends once this many streams were accepted and all of them
+/// have ended: the workers are returned in their order, each with the connections that it has
+/// served. With 0 it doesn't end. A fault of a connection ends that one alone.
+///
+/// Nothing is accepted before every worker's loop has begun. Returns `Memory` if one doesn't begin
+/// within about ten seconds, for example because the system refuses its thread, or if memory runs
+/// out outside a connection and the queues. Returns `Input` if a poll or its waker can't be made or
+/// fails, or a listener can't be registered. All loops have ended then.
 pub fn serve<'a, R: Threads + Wait + Net + Sync, G: Gate + Send + Drop>(
     rt: &R,
     alloc: Global,
@@ -54,17 +61,18 @@ pub fn serve<'a, R: Threads + Wait + Net + Sync, G: Gate + Send + Drop>(
     requires tenants { All
         (λ listener. listener.0 < length log.now.settings.tenants) listeners.items }
     requires gates { vec_len gates ≡ vec_len workers }
-    // Each worker that comes back is the same one later on.
+    // Each worker that comes back is the same one, later on.
     ensures back { IfOk result
         (λ back. AllZip Continues workers.entry.items (map worker_of back.items)) }
-    // It took arrivals in and served connections until none was left.
+    // It admitted arrivals and served connections until none was left.
     ensures served { IfOk result (λ back. AllZip HasServed workers.entry.items back.items) }
-    // Each connection that it took in has ended, and was sent what it is owed for the first requests
-    // that its bytes read as; without a fault, for all of them.
+    // Each connection that it admitted has ended, and was sent what it is owed for all requests
+    // that its bytes read as; after a fault, a prefix of what it is owed for the first of them
+    // followed by what it is told about the fault.
     ensures answered { IfOk result (λ back. All HasAnswered back.items) }
     // Each command that it announced is one request of one of these, in order, and none twice.
     ensures asked { IfOk result (λ back. AllZip HasBeenAsked workers.entry.items back.items) }
-    // All are of the log still, so that they can meet.
+    // All workers are still of the log, so that they can meet.
     ensures logs { IfOk result
         (λ back. All (λ worker. worker.log.now ≡ log.entry.now) (map worker_of back.items)) }
     ensures faults { IfErr result IsNetworkFault }

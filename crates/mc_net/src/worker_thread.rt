@@ -7,7 +7,7 @@ use crate::event_loop::EventLoop;
 use crate::halt::Halt;
 use uc_worker::Worker;
 
-/// A worker with its gate and its event loop, and how its loop ended.
+/// A worker with its gate and its event loop, and how the loop ended.
 #[derive(Drop)]
 pub(crate) struct WorkerThread<'a, G> {
     pub(crate) worker: Worker<'a>,
@@ -17,7 +17,7 @@ pub(crate) struct WorkerThread<'a, G> {
     ghost tenants: { event_loop.ready.connections.tenants ≡ length (tenants_of worker) },
 }
 
-/// A worker that has come back from its loop, and the connections that it has served.
+/// A worker that has come back from its loop, with the connections that it has served.
 #[derive(Drop)]
 pub struct Returned<'a> {
     pub worker: Worker<'a>,

@@ -1,4 +1,4 @@
--- How the answer to words that ask for no service bears out what clap's definitions say of the words.
+-- How the answer to words that ask for no service agrees with clap's definitions of the words.
 use Rattle.std.proofs.Common.{◌≡◌, ◌≢◌, ◌⊎◌, inl, inr, ⊎_elim, List, ℕ, refl}
 use Rattle.clap.specs.Simple.{App}
 use Rattle.clap.specs.Walk.{Text}
@@ -11,14 +11,14 @@ shown_there : (kind : ErrorKind) → IsShown kind → kind ≢ OutOfMemory
 shown_there kind shown starved = ⊎_elim (λ help. cc) (λ version. cc) shown
 
 module _ (app : App) (words : List Text) (kind : ErrorKind) (failed : (kind ≡ OutOfMemory) ⊎ IsAnswered app words kind) where
-  -- clap names the kind for these words, where memory didn't run out
+  -- clap names the kind for these words, if memory didn't run out
   is_answered : kind ≢ OutOfMemory → IsAnswered app words kind
   is_answered there = ⊎_elim (λ starved. absurd (there starved)) (λ among. among) failed
 
   asks_to_show : IsShown kind → AsksToShow app words
   asks_to_show shown = (kind, is_answered (shown_there kind shown), shown)
 
-  -- a fault kept help, the version or a mistake from being told
+  -- a fault kept help, the version or a mistake from being reported
   fails_to_show : (program : List ℕ) (input : Inflow) (before after errors_before errors : Outflow)
       → FailsToAnswer program kind before after errors_before errors → FailsToShow program app words (both input before) (both input after) errors_before errors
   fails_to_show program input before after errors_before errors fails = record {
@@ -28,7 +28,7 @@ module _ (app : App) (words : List Text) (kind : ErrorKind) (failed : (kind ≡ 
     told = fails.told;
   }
 
-  -- help or the version was shown, or a fault was told, or a mistake
+  -- help or the version was shown, or a fault or a mistake was reported
   pub answered : (program : List ℕ) (status : ℕ) (input : Inflow) (before after errors_before errors : Outflow) → AnswersWords program kind status before after errors_before errors →
       (status ≡ 0) × Shows app words (both input before) (both input after) × (errors ≡ errors_before)
       ⊎ (status ≡ 1) × FailsToShow program app words (both input before) (both input after) errors_before errors

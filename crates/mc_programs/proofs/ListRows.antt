@@ -1,4 +1,5 @@
--- Worked rows of mc_schedule, tried on the definitions: what its words ask for, and the line on a bad line.
+-- Worked rows of mc_schedule, checked against the definitions: what its words ask for, and the line
+-- for a bad line.
 use Rattle.std.specs.Prelude.{codes}
 use Rattle.std.proofs.Common.{◌≡◌, true, false, [], ◌∷◌, refl}
 use Rattle.std.specs.Fmt.{digits}

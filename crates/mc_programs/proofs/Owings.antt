@@ -13,7 +13,7 @@ use Rattle.mc_write.specs.Text.{text}
 behind : (text others rest more : List ℕ) → others ≡ rest ++ more → text ++ others ≡ (text ++ rest) ++ more
 behind text others rest more is = ap (λ it. text ++ it) is ∙ sym (append_assoc text rest more)
 
--- what is owed for the first requests stands first in what is owed for all
+-- what is owed for the first requests is the beginning of what is owed for all
 pub owed-more : (limits : Limits) (base : List Command) (places : ℕ) (applied : List Command) (first second : List Request) →
     (more : List ℕ) × (owed_after limits base places applied (first ++ second) ≡ owed_after limits base places applied first ++ more)
 owed-more limits base places applied [] second = (owed_after limits base places applied second, refl)

@@ -1,4 +1,4 @@
--- What the answer to a list says of the words, where they ask for the answer's options.
+-- What the answer to a list says about the words, if they ask for the answer's options.
 use Rattle.std.proofs.Common.{◌≡◌, ◌∙◌, ◌++◌, inl, inr, ⊎_elim, ℕ, List, Some, None, ap}
 use Rattle.clap.specs.Walk.{Text}
 use Rattle.mc_model.specs.declared.fault.Fault.TheVariants as fault

@@ -1,4 +1,4 @@
--- Worked rows, tried on the definitions: reply text, and what is owed where no table is asked.
+-- Worked rows, checked against the definitions: reply text, and what is owed if no table is asked.
 use Rattle.std.specs.Prelude.{codes}
 use Rattle.std.proofs.Common.{◌≡◌, true, false, [], ◌∷◌, refl}
 use Rattle.mc_model.specs.declared.command.Command.TheVariants.{Get, Store}
@@ -21,7 +21,7 @@ use Rattle.mc_write.specs.Text.{text}
 no_item : text (Values []) ≡ codes "END\r\n"
 no_item = refl
 
--- the quotas where the words don't say
+-- the default quotas
 abbrev plenty : Limits
 plenty = record { items = 1048576; bytes = 67108864 }
 

@@ -44,7 +44,7 @@ use Rattle.uc_places.specs.declared.view.View.{View}
 use Rattle.mc_conn.specs.declared.conn.Conn.{Conn}
 use Rattle.mc_programs.specs.Opening.{IsOpened, RefusesToOpen}
 
--- a list's front taken off both sides
+-- a list's prefix taken off both sides
 same_behind : {X : Type 0} (front one two : List X) → front ++ one ≡ front ++ two → one ≡ two
 same_behind [] one two same = same
 same_behind (x ∷ front) one two same = same_behind front one two (ap rest_of same)
@@ -57,7 +57,7 @@ nothing_in : {X : Type 0} (list : List X) → length list ≡ 0 → list ≡ []
 nothing_in [] none = refl
 nothing_in (x ∷ list) none = absurd (omega (arith, none))
 
--- where one list is the other with more behind, and the other way round, nothing is behind
+-- if each of two lists is the other followed by more, nothing more follows
 both_ways : {X : Type 0} (one two more rest : List X) → one ≡ two ++ more → two ≡ one ++ rest → two ≡ one
 both_ways one two more rest first second =
     second ∙ (ap (λ list. one ++ list) (nothing_in rest (omega (arith, ap length first, ap length second, length-append two more, length-append one rest))) ∙ append-nil one)
@@ -73,7 +73,7 @@ no_text_empty text more request is empty =
 reads_nothing : ReadsAs asked [] []
 reads_nothing = ([], (refl, no_text_empty))
 
--- a connection on which nothing has come, and the one worker of a log that nothing was put into
+-- a connection on which nothing has come, and the one worker of a log into which nothing was put
 pub record Begins (limits : Limits) (places : ℕ) (start : Scene) : Type 0 where
   pub role : start.conn.role ≡ Tenant 0
   pub holding : holding_of start.conn ≡ nothing_held (Tenant 0)
@@ -122,7 +122,7 @@ module _ (limits : Limits) (places : ℕ) (start : Scene) (begins : Begins limit
       let is = owes_in_order limits [] places worker alone requests bytes mark first in
       (is, record { worker = worker; alone = alone; mark = mark; owes = subst (λ it. Owes worker (Tenant 0) first_mark requests it mark) is first })
 
-  -- what was sent, where nothing is queued at the end
+  -- what was sent, if nothing is queued at the end
   sent_is : (conn : _) (sent owes : List ℕ) → sent ++ queue_of conn ≡ queue_of start.conn ++ owes → queue_of conn ≡ [] → sent ≡ owes
   sent_is conn sent owes bytes empty =
       sym (append-nil sent) ∙ (ap (λ queue. sent ++ queue) (sym empty) ∙ (bytes ∙ ap (λ queue. queue ++ owes) begins.queue))
@@ -250,7 +250,7 @@ module _ (limits : Limits) (places : ℕ) (start : Scene) (begins : Begins limit
     owed_is : breaks.taken.sent ++ queue_of after.conn ≡ owed limits places breaks.taken.requests
     owed_is = breaks.taken.bytes ∙ (ap (λ queue. queue ++ breaks.taken.owed) begins.queue ∙ all_answers.0)
 
-    -- what is told behind was pushed in part
+    -- what is told afterwards was pushed in part
     in_part : (output : Outflow) (told sent unsent : List ℕ) → owed limits places breaks.taken.requests ++ told ≡ sent ++ unsent → Pushes start.streams.output output sent →
         PullsLate start (scene after.conn after.worker (both after.streams.input output)) → (part : ServesInPart limits places start.streams (both after.streams.input output) told) × (part.unsent ≡ unsent)
     unfolding all_comes
@@ -273,7 +273,7 @@ module _ (limits : Limits) (places : ℕ) (start : Scene) (begins : Begins limit
     pub untold : PullsLate start after → ServesInPart limits places start.streams after.streams []
     untold late = (in_part after.streams.output [] breaks.taken.sent (queue_of after.conn) (append-nil (owed limits places breaks.taken.requests) ∙ sym owed_is) breaks.taken.pushed late).0
 
-  -- memory ran out, and that is told behind
+  -- memory ran out, and that is told afterwards
   starved : (fault : Fault) (after : Scene) (output : Outflow) → Breaks start after fault → NeitherFails start.streams after.streams →
       PushesAtOnce (queue_of after.conn ++ text (Refused E11)) after.streams.output output →
       PullsLate start (scene after.conn after.worker (both after.streams.input output)) → ServesUntilStarved limits places start.streams (both after.streams.input output)
@@ -332,7 +332,7 @@ module _ (limits : Limits) (places : ℕ) (start : Scene) (begins : Begins limit
       })
       late
 
-  -- what a fault leaves where nothing was told of it
+  -- what a fault leaves if nothing was told about it
   module _ (fault : Fault) (after : Scene) (told_from : Outflow) (breaks : Breaks start (scene after.conn after.worker (both after.streams.input told_from)) fault)
       (late : PullsLate start after) where
     abbrev before_told : Scene
@@ -408,7 +408,7 @@ opened_alone limits places log passes rest pass settings tenants none popped cou
     let one : tenants ≡ limits ∷ [] = filled ∙ ap (λ list. list ++ limits ∷ []) empty in
     (same ∙ (is ∙ ap (λ list. record { workers = 1; places = places; tenants = list }) one), new 0 pass first)
 
--- no log could be opened: that memory ran out is told, or the settings aren't lawful
+-- no log could be opened: memory ran out, which is reported, or the settings are out of range
 pub refused : (limits : Limits) (places : ℕ) (fault answered : Fault) (input : Inflow) (before after : Outflow) → answered ≡ fault →
     (fault ≡ Memory) ⊎ (fault ≡ BadSettings) × ¬ (IsLawful (settings_alone limits places)) → RefusesToOpen fault before after →
     Stops limits places (both input before) (both input after) answered

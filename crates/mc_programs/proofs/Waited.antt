@@ -8,7 +8,7 @@ use Rattle.mc_stream.specs.Pushed.{front_more, front_only}
 use Rattle.mc_stream.specs.Pushing.{PushesOrFails}
 use Rattle.mc_stream.specs.Stream.{Outflow}
 
--- the bytes were told, as far as the output took them
+-- the bytes were pushed, as far as the output took them
 pub told : (result : Result (Unit {0}) Fault) (bytes : List ℕ) (before after : Outflow) → MatchResult result (λ _. PushesAll bytes before after) (FailsToPush bytes before after)
     → PushesOrFails bytes before after
 told (Ok done) bytes before after all = inl (all.went, all.unfailed)

@@ -1,9 +1,9 @@
--- What a program says on standard error of the fault that ended it; this project's profile.
+-- What a program prints on standard error about the fault that ended it; this project's profile.
 use Rattle.std.specs.Prelude.{List, ℕ, ◌++◌, codes}
 use Rattle.mc_model.specs.declared.fault.Fault.{Fault}
 use Rattle.mc_write.specs.Faults.{fault_text}
 
--- the line of a program with this text
+-- a program's line with this text
 abbrev pub program_line : List ℕ → List ℕ → List ℕ
 program_line program text = program ++ (codes ": " ++ (text ++ codes "\n"))
 

@@ -1,4 +1,5 @@
--- What mc_schedule does for the words of its command line and the bytes that come; this project's profile.
+-- What mc_schedule does for the words of its command line and the bytes that come; this project's
+-- profile.
 use Rattle.std.specs.Io.KnownBytes.{Consumes, IsAtEnd}
 use Rattle.std.specs.Prelude.{◌≡◌, ◌⊎◌, ℕ, ◌+◌, ◌<◌, Bool, true, false, List, [], ◌++◌, length, Some, None, codes, decimal}
 use Rattle.clap.specs.Faults.{fault_of}
@@ -44,8 +45,8 @@ pub record Receives (bytes : List ℕ) (before after : Inflow) : Type 0 where
 abbrev pub settings_of : Listed → Configuration
 settings_of list = record { workers = list.workers; places = list.places; tenants = list.tenants }
 
--- The bytes that came read as a list in lawful settings, whose run ended so; this text is its report, after a picture where the words ask
--- for one.
+-- The bytes that came read as a list whose settings are within their bounds, and its run ended so;
+-- this text is its report, after a picture if the words ask for one.
 pub record Ran (words : List Text) (before after : Inflow) (end : Ending) (text : List ℕ) : Type 0 where
   pub taken : fault_of schedule_app words ≡ []
   pub bytes : List ℕ
@@ -68,25 +69,25 @@ Reports words before after end = (text : List ℕ) × Ran words before.input aft
 abbrev pub EndsWell : List Text → Streams → Streams → Type 0
 EndsWell words before after = Reports words before after None ⊎ Shows schedule_app words before after
 
--- what the input did where a fault kept its bytes from being received or answered
+-- what the input did if a fault kept its bytes from being received or answered
 abbrev pub StopsReading : Inflow → Inflow → Fault → Type 0
 StopsReading before after fault =
     (fault ≡ Memory) × IsUnfailedInput before after ⊎ (fault ≡ Input) × (failures after.events ≡ failures before.events + 1)
 
--- What was read and pushed before a fault of the program: where memory ran out, or the input failed, nothing was pushed; where the output
--- failed, a front of the text of a run.
+-- What was read and pushed before a fault of the program: if memory ran out or the input failed,
+-- nothing was pushed; if the output failed, a prefix of the text of a run was.
 abbrev pub StopsReporting : List Text → Streams → Streams → Fault → Type 0
 StopsReporting words before after fault =
     StopsReading before.input after.input fault × (after.output ≡ before.output)
     ⊎ ((end : Ending) × (text : List ℕ) × Ran words before.input after.input end text × FailsToPush text before.output after.output fault)
 
--- A fault of the program kept it from reporting, and was told.
+-- A fault of the program kept it from reporting, and was reported itself.
 pub record FailsToReport (words : List Text) (before after : Streams) (errors_before errors : Outflow) : Type 0 where
   pub fault : Fault
   pub stops : StopsReporting words before after fault
   pub told : PushesOrFails (fault_line (codes "mc_schedule") fault) errors_before errors
 
--- an event met a fault, which the report names, or a fault of the program was told
+-- an event met a fault, which the report names, or a fault of the program was reported
 abbrev pub EndsInFault : List Text → Streams → Streams → Outflow → Outflow → Type 0
 EndsInFault words before after errors_before errors =
     ((met : ℕ × Fault) × Reports words before after (Some met) × (errors ≡ errors_before))
@@ -97,14 +98,15 @@ EndsInFault words before after errors_before errors =
 abbrev pub bad_line_text : ℕ → List ℕ
 bad_line_text line = program_line (codes "mc_schedule") (codes "line " ++ decimal line ++ codes ": bad line")
 
--- The bytes that came have a bad line, and the first was told; or they name settings out of their range, and that was told.
+-- The bytes that came have a bad line, and the first one was reported; or they name settings out of
+-- their range, and that was reported.
 abbrev pub RefusesList : List ℕ → Outflow → Outflow → Type 0
 RefusesList bytes errors_before errors =
     ((line : ℕ) × (reading bytes ≡ BadLine line) × PushesOrFails (bad_line_text line) errors_before errors)
     ⊎ ((list : Listed) × (reading bytes ≡ Whole list) × ¬ (IsLawful (settings_of list))
     × PushesOrFails (fault_line (codes "mc_schedule") BadSettings) errors_before errors)
 
--- the list is refused, or the words are a mistake, which was told
+-- the list is refused, or the words are a mistake; either was reported
 abbrev pub Refuses : List Text → Inflow → Inflow → Outflow → Outflow → Type 0
 Refuses words before after errors_before errors =
     ((bytes : List ℕ) × (fault_of schedule_app words ≡ []) × Receives bytes before after × RefusesList bytes errors_before errors)

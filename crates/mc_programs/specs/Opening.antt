@@ -1,4 +1,5 @@
--- How a log of its own is opened for a client, and what the client is told where that can't be done; this project's profile.
+-- How a log of its own is opened for a client, and what the client is told if that can't be done;
+-- this project's profile.
 use Rattle.std.specs.Prelude.{◌≡◌, ◌≢◌, ℕ}
 use Rattle.mc_model.specs.declared.fault.Fault.{Fault}
 use Rattle.mc_model.specs.declared.fault.Fault.TheVariants.{Memory}
@@ -17,7 +18,7 @@ use Rattle.uc_log.specs.Passes.{IsNew}
 abbrev pub IsOpened : Limits → ℕ → Log → Pass → Type 0
 IsOpened limits places log pass = (log.settings ≡ settings_alone limits places) × IsNew log 0 pass
 
--- that memory ran out is told, as far as the output takes it at once, and no other fault is
+-- that memory ran out is reported, as far as the output takes it at once, and no other fault is
 abbrev pub RefusesToOpen : Fault → Outflow → Outflow → Type 0
 RefusesToOpen fault before after =
     (fault ≡ Memory → PushesAtOnce (text (Refused E11)) before after) × (fault ≢ Memory → after ≡ before)

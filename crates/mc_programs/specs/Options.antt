@@ -1,5 +1,5 @@
--- What the words after the program's name ask for on mc_stdin's command line, by clap's own definitions of a command, and how
--- its run ends; this project's profile.
+-- What the words after the program's name ask for on mc_stdin's command line, by clap's own
+-- definitions of a command, and how its run ends; this project's profile.
 use Rattle.std.specs.Prelude.{◌≡◌, ◌⊎◌, ℕ, List, [], codes}
 use Rattle.clap.specs.Faults.{fault_of}
 use Rattle.clap.specs.Simple.{App, with_rule}
@@ -20,7 +20,7 @@ use Rattle.mc_stream.specs.Stream.{Outflow, Streams}
 abbrev pub stdin_app : App
 stdin_app = with_rule (with_rule (with_rule (bare_app (codes "mc_stdin")) (number_rule (codes "places"))) (number_rule (codes "items"))) (number_rule (codes "bytes"))
 
--- how many places words ask for, and which quotas
+-- how many places the words ask for, and which quotas
 abbrev pub places_asked : List Text → ℕ
 places_asked words = number_asked stdin_app (codes "places") 65536 words
 
@@ -45,8 +45,8 @@ pub record AsksFor (words : List Text) (options : StdinOptions) : Type 0 where
   pub places : options.places ≡ places_asked words
   pub limits : options.limits ≡ limits_asked words
 
--- A run that failed met one fault, gave the client what it gives at that fault, which the failures of the
--- input and the output bear out, and said so.
+-- A run that failed met one fault; the client was given what that fault leaves it, the input and
+-- the output failed as it says, and it was reported.
 pub record Fails (limits : Limits) (places : ℕ) (before after : Streams) (errors_before errors : Outflow) : Type 0 where
   pub fault : Fault
   pub stops : Stops limits places before after fault
@@ -56,12 +56,12 @@ pub record Fails (limits : Limits) (places : ℕ) (before after : Streams) (erro
 abbrev pub EndsWell : List Text → Streams → Streams → Type 0
 EndsWell words before after = AsksInRange words × Serves (limits_asked words) (places_asked words) before after ⊎ Shows stdin_app words before after
 
--- a fault ended the service, or kept the words from being read or answered, and was told
+-- a fault ended the service, or kept the words from being read or answered, and was reported
 abbrev pub EndsInFault : List Text → Streams → Streams → Outflow → Outflow → Type 0
 EndsInFault words before after errors_before errors =
     AsksInRange words × Fails (limits_asked words) (places_asked words) before after errors_before errors ⊎ FailsToShow (codes "mc_stdin") stdin_app words before after errors_before errors
 
--- a number is out of its range, or the words are a mistake, and that was told
+-- a number is out of its range, or the words are a mistake, and that was reported
 abbrev pub RefusesWords : List Text → Outflow → Outflow → Type 0
 RefusesWords words errors_before errors =
     AsksOutOfRange words × PushesOrFails (fault_line (codes "mc_stdin") BadSettings) errors_before errors ⊎ TellsMistake stdin_app words errors_before errors

@@ -1,5 +1,5 @@
--- What the parts of mc_schedule's run give each other: the bytes that came, what they are answered, and what is pushed of that; this
--- project's profile.
+-- What the parts of mc_schedule's run give each other: the bytes that came, the answer to them, and
+-- what is pushed of that; this project's profile.
 use Rattle.std.specs.Prelude.{◌≡◌, ◌⊎◌, ℕ, false, List, [], ◌++◌, Some, None, codes}
 use Rattle.clap.specs.Faults.{fault_of}
 use Rattle.clap.specs.Walk.{Text}
@@ -26,7 +26,8 @@ pub record AsksFor (words : List Text) (options : ScheduleOptions) : Type 0 wher
   pub quiet : options.quiet ≡ asks_quiet words
   pub picture : options.picture ≡ asks_picture words
 
--- The items were done in these settings, which ended so, and this is the report of that, after a picture where one is asked for.
+-- The items were done under these settings, the run ended so, and this is its report, after a
+-- picture if one is asked for.
 pub record Runs (settings : Configuration) (items : List Item) (options : ScheduleOptions) (end : Ending) (text : List ℕ) : Type 0 where
   pub core : CoreState
   pub given : List Given
@@ -35,29 +36,31 @@ pub record Runs (settings : Configuration) (items : List Item) (options : Schedu
   pub undrawn : options.picture ≡ false → picture ≡ []
   pub told : text ≡ picture ++ report options.quiet core given end
 
--- The bytes read as a list in lawful settings, whose run ended so, and this is told of it.
+-- The bytes read as a list whose settings are within their bounds, its run ended so, and this text
+-- is printed for it.
 pub record IsReportOf (options : ScheduleOptions) (bytes : List ℕ) (end : Ending) (text : List ℕ) : Type 0 where
   pub list : Listed
   pub reads : reading bytes ≡ Whole list
   pub lawful : IsLawful (settings_of list)
   pub runs : Runs (settings_of list) list.items options end text
 
--- what the bytes are answered
+-- the answer to the bytes
 abbrev pub IsAnswerTo : ScheduleOptions → List ℕ → Answer → Type 0
 IsAnswerTo options bytes (answer.Report text end) = IsReportOf options bytes end text.items
 IsAnswerTo options bytes (answer.BadLine line) = reading bytes ≡ BadLine line
 IsAnswerTo options bytes answer.BadSettings = (list : Listed) × (reading bytes ≡ Whole list) × ¬ (IsLawful (settings_of list))
 
--- what the bytes that came are answered
+-- the answer to the bytes that came
 abbrev pub IsAnswerToInput : ScheduleOptions → Inflow → Inflow → Answer → Type 0
 IsAnswerToInput options before after answer = (bytes : List ℕ) × Receives bytes before after × IsAnswerTo options bytes answer
 
--- the status that tells how a run ended
+-- the exit status for how a run ended
 abbrev pub status_of : Ending → ℕ
 status_of None = 0
 status_of (Some met) = 1
 
--- the text was pushed, with the status that tells how its run ended; or the output failed, and that was told
+-- the text was pushed, with the status for how its run ended; or the output failed, and that was
+-- reported
 abbrev pub GivesReport : List ℕ → Ending → ℕ → Outflow → Outflow → Outflow → Outflow → Type 0
 GivesReport text end status before after errors_before errors =
     (status ≡ status_of end) × PushesAll text before after × (errors ≡ errors_before)

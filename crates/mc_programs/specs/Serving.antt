@@ -1,6 +1,7 @@
--- What a client is given for what it sent, where one worker serves it on a log of its own, by how the call that serves it ends; this
--- project's profile. What is owed for requests is `mc_conn`'s, said place by place over the worker's history (`Owes`); on a log of its
--- own it is a function of the requests (`owed`).
+-- What a client is sent for its bytes if one worker serves it over a log of its own, by how the
+-- call that serves it ends; this project's profile. What is owed for requests is defined in
+-- `mc_conn`, place by place over the worker's history (`Owes`); over a log of its own it is a
+-- function of the requests (`owed`).
 use Rattle.std.specs.Io.KnownBytes.{Consumes, IsAtEnd}
 use Rattle.std.specs.List.{list_any}
 use Rattle.std.specs.Prelude.{◌≡◌, ℕ, true, false, ◌+◌, ◌≤◌, ◌⊎◌, List, [], ◌∷◌, ◌++◌, length}
@@ -29,7 +30,8 @@ use Rattle.uc_worker.specs.declared.worker.Worker.{Worker}
 abbrev pub settings_alone : Limits → ℕ → Configuration
 settings_alone limits places = record { workers = 1; places = places; tenants = limits ∷ [] }
 
--- The bytes that came read as these requests and a rest. An input that knows what is left has lost them from its front.
+-- The bytes that came read as these requests and a rest. If the input's remaining bytes are known,
+-- they have lost these at the front.
 pub record Comes (before after : Streams) : Type 0 where
   pub bytes : List ℕ
   pub requests : List Request
@@ -38,14 +40,16 @@ pub record Comes (before after : Streams) : Type 0 where
   pub consumed : Consumes before.input.left after.input.left bytes
   pub reads : Reads asked bytes requests rest
 
--- The one worker of a log with so many places, whose tenant has these quotas, took the requests, and over its history this is owed for them.
+-- The one worker of a log with this many places, whose tenant has these quotas, took the requests,
+-- and over its history this is owed for them.
 pub record Answers (limits : Limits) (places : ℕ) (requests : List Request) (bytes : List ℕ) : Type 0 where
   pub worker : Worker
   pub alone : IsAlone limits places worker
   pub mark : Mark
   pub owes : Owes worker (Tenant 0) first_mark requests bytes mark
 
--- All that came was answered, under these quotas and by a log with so many places, up to the end of the input or a request that ends the stream.
+-- All that came, up to the end of the input or a request that ends the stream, was answered under
+-- these quotas by a log with this many places.
 pub record Serves (limits : Limits) (places : ℕ) (before after : Streams) : Type 0 where
   pub comes : Comes before after
   pub answers : Answers limits places comes.requests (owed limits places comes.requests)
@@ -75,8 +79,9 @@ pub record IsCaughtUp (limits : Limits) (places : ℕ) (bytes last_pull sent : L
 abbrev pub NeverWaits : Streams → Streams → Type 0
 NeverWaits before after = waits after.output.events ≡ waits before.output.events
 
--- The first requests that came were answered. A front of what is owed for them, with what is told behind, was sent. The others are all
--- that came after them; the first of those may have met the fault, and then its command may stand in the log.
+-- The first requests that came were answered, and a prefix was sent of what is owed for them
+-- followed by what is told about a fault. The others are all the requests that came after these;
+-- the first of them may have met the fault, and then its command may stand in the log.
 pub record ServesInPart (limits : Limits) (places : ℕ) (before after : Streams) (told : List ℕ) : Type 0 where
   pub comes : Comes before after
   pub answered : List Request
@@ -89,19 +94,20 @@ pub record ServesInPart (limits : Limits) (places : ℕ) (before after : Streams
   pub went : Pushes before.output after.output sent
   pub caught_up : NeverWaits before after → IsCaughtUp limits places comes.bytes (last_moved after.input.events) sent
 
--- Memory ran out, and the client was told so behind its replies, as far as the output took that at once; or memory ran out before a log
--- could be opened, nothing was pulled, and only that was told.
+-- Memory ran out, and the client was told so after its replies, as far as the output took that at
+-- once; or memory ran out before a log could be opened, nothing was pulled, and the client was told
+-- only that.
 abbrev pub ServesUntilStarved : Limits → ℕ → Streams → Streams → Type 0
 ServesUntilStarved limits places before after =
     ((part : ServesInPart limits places before after (text (Refused E11))) × IsAllOrStopped part.unsent before.output after.output)
     ⊎ (after.input ≡ before.input) × PushesAtOnce (text (Refused E11)) before.output after.output
 
--- the input hasn't failed from the one to the other
+-- the input didn't fail between the two states
 abbrev pub IsUnfailedInput : Inflow → Inflow → Type 0
 IsUnfailedInput before after = failures after.events ≡ failures before.events
 
--- What a client was given where a fault of its connection ended the service, and how often the input
--- and the output failed then: as the fault says, but for what may fail while the client is told.
+-- What a client was sent if a fault of its connection ended the service, and how often the input
+-- and the output failed: as the fault says, except for what may fail while the client is told.
 abbrev pub EndsBy : Limits → ℕ → ConnFault → Streams → Streams → Type 0
 EndsBy limits places OutOfMemory before after =
     ServesUntilStarved limits places before after
@@ -116,8 +122,8 @@ EndsBy limits places InputFailed before after =
 EndsBy limits places OutputFailed before after =
     ServesInPart limits places before after [] × CountsFailures OutputFailed before after
 
--- The faults that end a service: those of its connection; and where the quotas or the number of places
--- aren't lawful, nothing was done.
+-- The faults that end a service: those of its connection; or the quotas or the number of places are
+-- out of range, and nothing was done.
 abbrev pub Stops : Limits → ℕ → Streams → Streams → Fault → Type 0
 Stops limits places before after fault =
     ((cause : ConnFault) × (fault ≡ fault_of cause) × EndsBy limits places cause before after)

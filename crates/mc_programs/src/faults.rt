@@ -1,4 +1,4 @@
-//! What a program says of the fault that ended it.
+//! What a program prints about the fault that ended it.
 ghost use Rattle.std.specs.Prelude.{◌≡◌};
 ghost use Rattle.mc_programs.specs.Faults.{fault_line, program_line};
 ghost use Rattle.mc_stream.specs.Pushing.{PushesOrFails};
@@ -9,7 +9,9 @@ use mc_stream::Output;
 use mc_write::fault_text;
 use std::sync::Wait;
 
-/// Pushes a line that names the program. Takes no memory, which may be what ran out.
+/// Pushes a line that begins with the program's name. Needs no memory, which may be what ran out.
+///
+/// Returns `Output` if `errors` fails.
 pub(crate) fn tell_line<R: Wait, E: Output>(
     rt: &R,
     program: &[u8],
@@ -25,7 +27,7 @@ pub(crate) fn tell_line<R: Wait, E: Output>(
     push_all(rt, b"\n", errors)
 }
 
-/// Says which fault ended a program. A failure of `errors` is passed over.
+/// Pushes the line on the fault that ended a program. A failure of `errors` is ignored.
 pub fn tell_fault<R: Wait, E: Output>(rt: &R, program: &[u8], fault: Fault, errors: &mut E)
     ensures { PushesOrFails (fault_line program.now fault) (E.tells errors.old)
         (E.tells errors.new) }
@@ -33,7 +35,7 @@ pub fn tell_fault<R: Wait, E: Output>(rt: &R, program: &[u8], fault: Fault, erro
     let _ = tell_line(rt, program, fault_text(fault), errors);
 }
 
-/// As `tell_fault`, and the status that the program ends with then.
+/// Pushes the line that `tell_fault` pushes, and returns the program's exit status, 1.
 pub fn fail<R: Wait, E: Output>(rt: &R, program: &[u8], fault: Fault, errors: &mut E) -> u8
     ensures status { result ≡ 1 }
     ensures told { PushesOrFails (fault_line program.now fault) (E.tells errors.old)

@@ -1,5 +1,9 @@
-//! What the programs do over streams, below the network: one client's commands from standard input to standard output, an event list
-//! and its report, and how any of them reads its words and tells of its faults.
+//! What the programs do over streams, without the network: serving one client from standard input
+//! to standard output, running an event list and reporting on it, reading a command line, and
+//! reporting faults.
+//!
+//! `specs/Serving.antt` says what a client is sent, `specs/Options.antt` how a run of mc_stdin
+//! ends, and `specs/Lists.antt` how a run of mc_schedule ends.
 #![tactic(auto)]
 
 pub use faults::{fail, tell_fault};

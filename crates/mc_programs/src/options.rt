@@ -1,4 +1,4 @@
-//! What the words of mc_stdin's command line ask for.
+//! The options of mc_stdin's command line.
 ghost use Rattle.std.specs.Prelude.{◌≡◌, ◌↔◌, IfOk, IsTrue, MatchResult, map, string_bytes};
 ghost use Rattle.clap.specs.Words.{HasKind, app_of, fault_of};
 ghost use Rattle.mc_model.specs.Settings.{AreLawfulLimits, IsBetween};
@@ -11,13 +11,13 @@ use mc_model::Limits;
 use mc_model::settings::MAX_PLACES;
 use std::alloc::{AllocError, Global};
 
-/// How many places a log has where the words don't say.
+/// How many places the log has by default.
 const DEFAULT_PLACES: u64 = 65_536;
 
-/// How many items a tenant's table may hold where the words don't say.
+/// How many items a tenant's table may hold by default.
 const DEFAULT_ITEMS: u64 = 1_048_576;
 
-/// How many bytes the keys and data of a tenant's table may have where the words don't say.
+/// How many bytes the keys and data of a tenant's table may have by default.
 const DEFAULT_BYTES: u64 = 67_108_864;
 
 /// What the words of mc_stdin ask for: how many places its log has, and its tenant's quotas.
@@ -28,7 +28,7 @@ pub(crate) struct StdinOptions {
 }
 
 impl StdinOptions {
-    /// Whether the numbers are within their bounds.
+    /// Returns whether the numbers are within their bounds.
     pub(crate) fn is_in_range(&self) -> bool
         ensures { IsTrue result ↔ IsBetween 1 MAX_PLACES self.now.places
             × AreLawfulLimits self.now.limits }
@@ -37,7 +37,9 @@ impl StdinOptions {
     }
 }
 
-/// What mc_stdin takes on its command line.
+/// Returns the command line that mc_stdin takes.
+///
+/// Returns an error if memory runs out.
 fn stdin_command<'a>(alloc: Global) -> Result<Command<'a>, AllocError>
     ensures { IfOk result (λ command. app_of command ≡ stdin_app) }
 {
@@ -53,7 +55,9 @@ fn stdin_command<'a>(alloc: Global) -> Result<Command<'a>, AllocError>
         .arg(number_option(alloc, "bytes", bytes))
 }
 
-/// What the words after the program's name ask for.
+/// Returns what the words after the program's name ask for.
+///
+/// Returns clap's error if they ask for help or the version, are a mistake, or memory runs out.
 pub(crate) fn read_words(alloc: Global, words: &[String]) -> Result<StdinOptions, Error>
     ensures outcome { MatchResult result (AsksFor (map string_bytes words.now))
         (HasKind (fault_of stdin_app (map string_bytes words.now))) }

@@ -1,4 +1,4 @@
-//! What the program that runs event lists does.
+//! The program that runs event lists.
 ghost use Rattle.std.specs.Prelude.{◌≡◌, MatchResult, map, string_bytes};
 ghost use Rattle.mc_programs.specs.Lists.{Ends, Receives, StopsReading, bad_line_text};
 ghost use Rattle.mc_programs.specs.Reporting.{Gives, IsAnswerTo, IsAnswerToInput, Runs};
@@ -18,13 +18,14 @@ use mc_stream::{Input, Output, Pull};
 use std::alloc::Global;
 use std::sync::Wait;
 
-/// The program's name, as it stands before what it tells.
+/// The program's name, the prefix of its messages.
 const NAME: &[u8] = b"mc_schedule";
 
-/// What an event list is answered.
+/// The answer to an event list.
 #[derive(Debug, Drop)]
 enum Answer {
-    /// The text on its run, and what ended the run early, if anything did: the number of a line, and the fault that its event met.
+    /// The text to print on its run, and what ended the run early, if anything did: the number of a
+    /// line, and the fault that its event met.
     Report {
         text: Vec<u8>,
         end: Option<(u64, Fault)>,
@@ -35,8 +36,11 @@ enum Answer {
     BadSettings,
 }
 
-/// The bytes of an event list: all that come until the input's end, or more than a list may have. An input that has nothing
-/// is asked again.
+/// Returns the bytes of an event list: all that come up to the input's end, or more than a list may
+/// have.
+///
+/// An input that has nothing is asked again. Returns `Memory` if memory runs out, and `Input` if
+/// the input fails.
 fn receive<R: Wait, I: Input>(rt: &R, alloc: Global, input: &mut I) -> Result<Vec<u8>, Fault>
     ensures outcome { MatchResult result
         (λ bytes. Receives bytes.items (I.tells input.old) (I.tells input.new))
@@ -58,7 +62,9 @@ fn receive<R: Wait, I: Input>(rt: &R, alloc: Global, input: &mut I) -> Result<Ve
     unreachable!()
 }
 
-/// What is told of the run of these items, and what ended it early.
+/// Returns the text to print on the run of these items, and what ended the run early.
+///
+/// Returns `Memory` if memory runs out.
 fn report_of(
     alloc: Global,
     settings: &Settings,
@@ -80,7 +86,9 @@ fn report_of(
     Ok((text, outcome.fault))
 }
 
-/// What a list of these bytes is answered.
+/// Returns the answer to a list of these bytes.
+///
+/// Returns `Memory` if memory runs out.
 fn answer_to(alloc: Global, options: ScheduleOptions, bytes: &[u8]) -> Result<Answer, Fault>
     ensures outcome { MatchResult result (IsAnswerTo options bytes.now)
         (λ fault. fault ≡ Fault.Memory) }
@@ -96,7 +104,9 @@ fn answer_to(alloc: Global, options: ScheduleOptions, bytes: &[u8]) -> Result<An
     Ok(Answer::Report { text, end })
 }
 
-/// Reads the event list on the input, and does what it says.
+/// Reads the event list on the input, runs it, and returns the answer to it.
+///
+/// Returns `Memory` if memory runs out, and `Input` if the input fails.
 fn do_list<R: Wait, I: Input>(
     rt: &R,
     alloc: Global,
@@ -111,7 +121,9 @@ fn do_list<R: Wait, I: Input>(
     answer_to(alloc, options, &bytes)
 }
 
-/// Says which line of a list is the first bad one. Takes no memory.
+/// Reports the number of a list's first bad line. Needs no memory.
+///
+/// Returns `Output` if `errors` fails.
 fn tell_bad_line<R: Wait, E: Output>(rt: &R, line: u64, errors: &mut E) -> Result<(), Fault>
     ensures { PushesOrFails (bad_line_text line) (E.tells errors.old) (E.tells errors.new) }
 {
@@ -121,7 +133,7 @@ fn tell_bad_line<R: Wait, E: Output>(rt: &R, line: u64, errors: &mut E) -> Resul
     push_all(rt, b": bad line\n", errors)
 }
 
-/// Pushes what a list is answered, and answers the status that the program ends with.
+/// Pushes the answer to a list, and returns the program's exit status.
 fn give<R: Wait, O: Output, E: Output>(
     rt: &R,
     answer: &Answer,
@@ -147,18 +159,21 @@ fn give<R: Wait, O: Output, E: Output>(
     }
 }
 
-/// Does what the words after the program's name ask for, and answers the status that the program ends with.
+/// Does what the words after the program's name ask for, and returns the program's exit status.
 ///
-/// Reads an event list from the input, does what it says, and pushes a report on that to the output: 0 where all of it was done, and
-/// 1 where an event met a fault, which the report names. `--quiet` leaves the replies out of the report, and `--picture` puts a
-/// picture of the run before it.
+/// Reads an event list from the input, runs it, and pushes a report on the run to the output. The
+/// status is 0 if all of it was done, and 1 if an event met a fault, which the report names.
+/// `--quiet` leaves the replies out of the report, and `--picture` puts a picture of the run before
+/// it.
 ///
-/// A list with a bad line is told as `mc_schedule: line K: bad line`, and one that names settings out of their range as `mc_schedule:
-/// bad settings`, with 2 and before anything is done. Where memory runs out, the input or the output fails: `mc_schedule: TEXT`,
-/// with 1, and nothing was pushed to the output unless that failed. Each is a line on `errors`.
+/// A list with a bad line is reported as `mc_schedule: line K: bad line`, and one whose settings
+/// are out of range as `mc_schedule: bad settings`; the status is 2, and nothing was run. If memory
+/// runs out, or the input or the output fails, that is reported as `mc_schedule: TEXT`; the status
+/// is 1, and nothing was pushed to the output unless it was the output that failed. Each of these
+/// is a line on `errors`.
 ///
-/// Help and the version go to the output, with 0, and a mistake in the words to `errors`, with 2, by clap's text. Nothing is pulled
-/// then. A failure of `errors` is passed over.
+/// Help and the version go to the output, with status 0, and a mistake in the words to `errors`,
+/// with status 2, as clap's text. Nothing is pulled then. A failure of `errors` is ignored.
 pub fn run_schedule<R: Wait, I: Input, O: Output, E: Output>(
     rt: &R,
     alloc: Global,
@@ -167,7 +182,7 @@ pub fn run_schedule<R: Wait, I: Input, O: Output, E: Output>(
     output: &mut O,
     errors: &mut E,
 ) -> u8
-    // From the bytes that came in to the bytes that went out.
+    // How the run ends, from the bytes that came in to the bytes that went out.
     ensures { Ends (map string_bytes words.items) result
         (both (I.tells input.old) (O.tells output.old))
         (both (I.tells input.new) (O.tells output.new))

@@ -1,4 +1,4 @@
-//! What the words of mc_schedule's command line ask for.
+//! The options of mc_schedule's command line.
 ghost use Rattle.std.specs.Prelude.{◌≡◌, IfOk, MatchResult, map, string_bytes};
 ghost use Rattle.clap.specs.Words.{HasKind, app_of, fault_of};
 ghost use Rattle.mc_programs.specs.Lists.{schedule_app};
@@ -8,7 +8,7 @@ use crate::words::{flag, flag_option};
 use clap::{Command, Error};
 use std::alloc::{AllocError, Global};
 
-/// The forms of the lines of an event list, as help shows them.
+/// The forms of an event list's lines, as help shows them.
 const FORMS: &str = "\
 An event list stands on standard input, line by line, its words with spaces between them:
   core WORKERS PLACES   first: 1 to 16 workers, and a log with 1 to 1048576 places for commands
@@ -32,14 +32,17 @@ Example, in which worker 1 brings the command of worker 0, which has stopped, in
   stop 0
   submit 1 0 get a";
 
-/// What the words of mc_schedule ask for: whether its report leaves out the replies, and whether a picture comes before it.
+/// What the words of mc_schedule ask for: whether the report leaves out the replies, and whether a
+/// picture comes before it.
 #[derive(Clone, Copy, Debug, PartialEq, Eq)]
 pub(crate) struct ScheduleOptions {
     pub quiet: bool,
     pub picture: bool,
 }
 
-/// What mc_schedule takes on its command line.
+/// Returns the command line that mc_schedule takes.
+///
+/// Returns an error if memory runs out.
 fn schedule_command<'a>(alloc: Global) -> Result<Command<'a>, AllocError>
     ensures { IfOk result (λ command. app_of command ≡ schedule_app) }
 {
@@ -52,7 +55,9 @@ fn schedule_command<'a>(alloc: Global) -> Result<Command<'a>, AllocError>
         .arg(flag_option(alloc, "picture", "Draws the run before its report"))
 }
 
-/// What the words after the program's name ask for.
+/// Returns what the words after the program's name ask for.
+///
+/// Returns clap's error if they ask for help or the version, are a mistake, or memory runs out.
 pub(crate) fn read_words(alloc: Global, words: &[String]) -> Result<ScheduleOptions, Error>
     ensures outcome { MatchResult result (AsksFor (map string_bytes words.now))
         (HasKind (fault_of schedule_app (map string_bytes words.now))) }

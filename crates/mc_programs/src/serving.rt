@@ -1,4 +1,4 @@
-//! One client, served by one worker on a log of its own.
+//! Serving one client with one worker, over a log of its own.
 ghost use Rattle.std.specs.Prelude.{◌≡◌, ◌⊎◌, IfErr, IfOk, MatchResult};
 ghost use Rattle.mc_model.specs.Settings.{IsLawful};
 ghost use Rattle.mc_model.specs.declared.fault.Fault.TheVariants as faults;
@@ -16,8 +16,10 @@ use std::sync::Wait;
 use uc_log::{Log, Pass};
 use uc_worker::Worker;
 
-/// Opens a log with one worker, for one tenant. Where memory runs out: `Memory`; where the quotas or the number of places aren't lawful:
-/// `BadSettings`.
+/// Opens a log with one worker, for one tenant.
+///
+/// Returns `Memory` if memory runs out, and `BadSettings` if the quotas or the number of places are
+/// out of range.
 fn open_alone(alloc: Global, limits: Limits, places: u64) -> Result<(Log, Pass), Fault>
     ensures opened { IfOk result (λ opened. IsOpened limits places opened.0 opened.1) }
     ensures faults { IfErr result
@@ -34,14 +36,15 @@ fn open_alone(alloc: Global, limits: Limits, places: u64) -> Result<(Log, Pass),
     Ok((log, pass))
 }
 
-/// The first tenant of a log, which is the only one here.
+/// Returns the first tenant of a log, which is the only one here.
 fn first_tenant() -> TenantId
     ensures { result ≡ 0 }
 {
     TenantId::new(0).unwrap()
 }
 
-/// Answers the fault. Where memory ran out before any request was read, the client is told, as far as the output takes it at once.
+/// Returns the fault. If memory ran out, the client is told so first, as far as the output takes it
+/// at once: no request was read then.
 fn refuse_to_open<O: Output>(fault: Fault, output: &mut O) -> Fault
     ensures fault { result ≡ fault }
     ensures told { RefusesToOpen fault (O.tells output.old) (O.tells output.new) }
@@ -52,16 +55,17 @@ fn refuse_to_open<O: Output>(fault: Fault, output: &mut O) -> Fault
     fault
 }
 
-/// What becomes of the memory of a client's table and commands after its service.
+/// What becomes of the memory of a client's table and commands after the client was served.
 #[derive(Clone, Copy)]
 pub(crate) enum Memory {
-    /// It is given back, piece by piece.
+    /// It is freed, piece by piece.
     Freed,
-    /// It is left to the operating system, which takes it back at once where the process ends.
+    /// It is left to the operating system, which takes it back at once when the process ends.
     Left,
 }
 
-/// As `serve_client`, and leaves the memory of the table and the commands where it is asked to.
+/// Serves one client as `serve_client` does, but may leave the memory of the table and the commands
+/// to the operating system.
 pub(crate) fn serve_and_leave<R: Wait, I: Input, O: Output>(
     rt: &R,
     alloc: Global,
@@ -95,13 +99,18 @@ pub(crate) fn serve_and_leave<R: Wait, I: Input, O: Output>(
     served
 }
 
-/// Serves one client: a worker opens a log with so many places, reads requests from the input, submits the commands of a tenant with
-/// these quotas, answers those beyond the last place `SERVER_ERROR log full`, and pushes the replies, until the input ends or a request
-/// ends the stream. An input that has nothing, and an output that is full, are asked again.
+/// Serves one client over a log of its own, until the input ends or a request ends the stream.
 ///
-/// Where memory runs out (`Memory`), the replies that are queued and then `SERVER_ERROR out of memory` are pushed, as far as the output
-/// takes them at once. After a failure of the input or the output (`Input`, `Output`), or where a command's cell holds another value
-/// (`Taken`), nothing more is pushed. Where the quotas or the number of places aren't lawful (`BadSettings`), nothing is done.
+/// The log has this many places, one worker, and one tenant with these quotas. The worker reads
+/// requests from the input, submits their commands, and pushes the replies; a command after the
+/// last place is answered `SERVER_ERROR log full`. An input that has nothing, and an output that is
+/// full, are asked again.
+///
+/// Returns `Memory` if memory runs out: the queued replies and then `SERVER_ERROR out of memory`
+/// are pushed, as far as the output takes them at once. Returns `Input` or `Output` if the input or
+/// the output fails, and `Taken` if a command's cell holds another value: nothing more is pushed
+/// then. Returns `BadSettings` if the quotas or the number of places are out of range: nothing is
+/// done then.
 pub fn serve_client<R: Wait, I: Input, O: Output>(
     rt: &R,
     alloc: Global,
@@ -111,7 +120,8 @@ pub fn serve_client<R: Wait, I: Input, O: Output>(
     output: &mut O,
 ) -> Result<(), Fault>
 
-    // From the bytes that came in to the bytes that went out, and which fault comes when.
+    // How the service ends, from the bytes that came in to the bytes that went out, and which fault
+    // comes when.
     ensures outcome { MatchResult result
         (λ _. Serves limits places (both (I.tells input.old) (O.tells output.old))
         (both (I.tells input.new) (O.tells output.new)))

@@ -1,4 +1,4 @@
-//! What the program over standard input does.
+//! The program that serves one client over standard input and output.
 ghost use Rattle.std.specs.Prelude.{map, string_bytes};
 ghost use Rattle.mc_programs.specs.Options.{Ends};
 ghost use Rattle.mc_stream.specs.Stream.{both};
@@ -12,20 +12,24 @@ use mc_stream::{Input, Output};
 use std::alloc::Global;
 use std::sync::Wait;
 
-/// The program's name, as it stands before what it tells.
+/// The program's name, the prefix of its messages.
 const NAME: &[u8] = b"mc_stdin";
 
-/// Does what the words after the program's name ask for, and answers the status that the program ends with.
+/// Does what the words after the program's name ask for, and returns the program's exit status.
 ///
-/// Serves one client from the input to the output: 0 where the input ended or a request ended the stream, and 1 where a fault
-/// ended it, which is told on `errors` by `mc_stdin: TEXT` and a line feed. `--places N` says how many places the log has
-/// (65,536 where it isn't given), `--items N` how many items the table may hold (1,048,576), and `--bytes N` how many bytes its
-/// keys and data may have (67,108,864). A number out of its range is told as `bad settings`, with 2.
+/// Serves one client from the input to the output. The status is 0 if the input ended or a request
+/// ended the stream, and 1 if a fault ended the service, which is reported on `errors` as
+/// `mc_stdin: TEXT` and a line feed. `--places N` sets how many places the log has (by default
+/// 65,536), `--items N` how many items the table may hold (1,048,576), and `--bytes N` how many
+/// bytes its keys and data may have (67,108,864). A number out of its range is reported as
+/// `bad settings`, with status 2.
 ///
-/// Help and the version go to the output, with 0, and a mistake in the words to `errors`, with 2, by clap's text; to be out of memory
-/// and a failure of the output are faults there too. Nothing is pulled then. A failure of `errors` is passed over.
+/// Help and the version go to the output, with status 0, and a mistake in the words to `errors`,
+/// with status 2, as clap's text; running out of memory and a failure of the output are faults
+/// there too. Nothing is pulled then. A failure of `errors` is ignored.
 ///
-/// The program is to end then: the memory of the table and the commands is left to the operating system.
+/// The program is expected to end afterwards: the memory of the table and the commands is left to
+/// the operating system.
 pub fn run_stdin<R: Wait, I: Input, O: Output, E: Output>(
     rt: &R,
     alloc: Global,
@@ -34,7 +38,8 @@ pub fn run_stdin<R: Wait, I: Input, O: Output, E: Output>(
     output: &mut O,
     errors: &mut E,
 ) -> u8
-    // From the bytes that came in to the bytes that went out, by the quotas and the number of places that the words ask for.
+    // How the run ends, from the bytes that came in to the bytes that went out, by the quotas and
+    // the number of places that the words ask for.
     ensures { Ends (map string_bytes words.items) result
         (both (I.tells input.old) (O.tells output.old))
         (both (I.tells input.new) (O.tells output.new))

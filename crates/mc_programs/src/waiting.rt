@@ -1,4 +1,4 @@
-//! Pushes that ask a full output again.
+//! Pushing to an output that may be full.
 ghost use Rattle.std.specs.Prelude.{MatchResult};
 ghost use Rattle.mc_programs.specs.Waiting.{FailsToPush, PushesAll};
 
@@ -7,6 +7,8 @@ use mc_stream::{Output, Push};
 use std::sync::Wait;
 
 /// Pushes all of the bytes. An output that is full is asked again.
+///
+/// Returns `Output` if the output fails.
 pub fn push_all<R: Wait, O: Output>(rt: &R, bytes: &[u8], output: &mut O) -> Result<(), Fault>
     ensures outcome { MatchResult result
         (λ _. PushesAll bytes.now (O.tells output.old) (O.tells output.new))

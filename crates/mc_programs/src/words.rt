@@ -1,4 +1,5 @@
-//! What a program makes of the words of its command line that ask for no service.
+//! The words of a command line: their numbers and flags, and those that ask for help or the
+//! version, are a mistake, or can't be read.
 ghost use Rattle.clap.specs.Words.{found_of, kind_of, rule_of};
 ghost use Rattle.std.specs.IoError.{error_kind};
 ghost use Rattle.std.specs.declared.io.ErrorKind.TheVariants.{OutOfMemory as StdOutOfMemory};
@@ -19,7 +20,7 @@ use std::env::Args;
 use std::io;
 use std::sync::Wait;
 
-/// An option `--name N`.
+/// Returns an option `--name N`, a number of 64 bits.
 pub fn number_option<'a>(alloc: Global, name: &'a str, help: &'a str) -> Arg<'a>
     ensures rule { rule_of result ≡ number_rule name.now }
     ensures local { result.global ≡ false }
@@ -31,14 +32,14 @@ pub fn number_option<'a>(alloc: Global, name: &'a str, help: &'a str) -> Arg<'a>
         .value_parser(value_parser!(u64))
 }
 
-/// The number that an option was given.
+/// Returns the number that an option was given, or `None` if it wasn't given.
 pub fn number(matches: &ArgMatches, name: &str) -> Option<u64>
     ensures { result ≡ number_given (found_of matches.now) name.now }
 {
     matches.get_one::<u64>(name)
 }
 
-/// An option `--name` without a value.
+/// Returns an option `--name` without a value.
 pub(crate) fn flag_option<'a>(alloc: Global, name: &'a str, help: &'a str) -> Arg<'a>
     ensures rule { rule_of result ≡ flag_rule name.now }
     ensures local { result.global ≡ false }
@@ -49,16 +50,20 @@ pub(crate) fn flag_option<'a>(alloc: Global, name: &'a str, help: &'a str) -> Ar
         .action(ArgAction::SetTrue)
 }
 
-/// Whether an option without a value was given.
+/// Returns whether an option without a value was given.
 pub(crate) fn flag(matches: &ArgMatches, name: &str) -> bool
     ensures { result ≡ flag_given (found_of matches.now) name.now }
 {
-    // As `get_flag`, which says of no other text than `true` and `false` what it gives.
+    // `get_flag` does the same, but its contract covers only the texts `true` and `false`.
     matches.get_one::<bool>(name).unwrap_or(false)
 }
 
-/// Answers words that ask for no service, by clap's text: help and the version on `output` and with status 0, a mistake on
-/// `errors` and with status 2. A failure of `errors` is passed over.
+/// Answers words that ask for help or the version or are a mistake with clap's text, and returns
+/// the program's exit status.
+///
+/// Help and the version go to `output`, with status 0, and a mistake to `errors`, with status 2. If
+/// memory runs out or the output fails, that is reported on `errors`, with status 1. A failure of
+/// `errors` is ignored.
 pub fn answer_words<R: Wait, O: Output, E: Output>(
     rt: &R,
     alloc: Global,
@@ -86,7 +91,10 @@ pub fn answer_words<R: Wait, O: Output, E: Output>(
     }
 }
 
-/// The words after the program's name, of those that std gives. It fails as std does, or where memory runs out.
+/// Returns the words after the program's name.
+///
+/// Returns std's error if it gives one for the arguments, and an error of the kind `OutOfMemory` if
+/// memory runs out.
 pub fn words_after_name(alloc: Global, given: io::Result<Args>) -> io::Result<Vec<String>>
     ensures starved { IfErr result
         (λ error. (given ≡ Err error) ⊎ (error_kind error ≡ StdOutOfMemory)) }
@@ -96,8 +104,8 @@ pub fn words_after_name(alloc: Global, given: io::Result<Args>) -> io::Result<Ve
     Ok(words.collect(alloc)?)
 }
 
-/// Tells why a program's words couldn't be collected, and answers the status that it ends with: out of memory with 1, and words
-/// that are no text with 2. A failure of `errors` is passed over.
+/// Reports why a program's words couldn't be collected, and returns its exit status: 1 if memory
+/// ran out, and 2 if they aren't UTF-8. A failure of `errors` is ignored.
 pub fn refuse_words<R: Wait, E: Output>(
     rt: &R,
     program: &[u8],

@@ -37,7 +37,8 @@ tickets_are (x ∷ xs) (y ∷ ys) follows long =
 pub tickets_learned : (worker : Worker) → IsUpToDate worker → tickets_of worker ≡ (seat_of worker).state.learned
 tickets_learned worker whole = tickets_are (history_of worker) (seat_of worker).state.learned worker.follows.tickets whole
 
--- a worker that is up to date has each command once in its history, and its own ones but for one at most, which waits
+-- a worker that is up to date has each command once in its history, and all of its own except for
+-- at most one, which is pending
 pub once_each : (worker : Worker) → IsUpToDate worker → IsLegal (tickets_of worker)
 once_each worker whole = subst IsLegal (sym (tickets_learned worker whole)) worker.pass.desk.law.legal
 
@@ -62,7 +63,7 @@ has_met one other later of is equal whole =
       commands = omega (arith, own, counted, same_count other later is);
     }
 
--- one more has met, while the one came further
+-- one more has met the worker, while that one went on
 meets_still : (old one new other after : Worker) → CatchesUp one new → Meets old one other after → Meets old new other after
 meets_still old one new other after step met = record {
   later = met.later;
@@ -79,7 +80,7 @@ one_more_met old one new (x ∷ xs) [] other after before step now = absurd befo
 one_more_met old one new (x ∷ xs) (y ∷ ys) other after before step now =
     (meets_still old one new x y step before.0, one_more_met old one new xs ys other after before.1 step now)
 
--- the other's history is the one's then
+-- the other's history is the worker's then
 pub meets : (old one new other after : Worker) → CatchesUp old one → CatchesUp one new → CatchesUp other after → history_of new ≡ history_of after → IsUpToDate after → Meets old new other after
 meets old one new other after before step later equal whole = record {
   later = later;
@@ -125,7 +126,7 @@ has_come old one worker between after still later met =
       equal = sym (begins_whole (history_of one) (history_of after) met.front (omega arith));
     }
 
--- so it is with all, after a round in which the one learned nothing more
+-- the same for all, after a round in which the worker learned nothing more
 pub all_have_come : (old one : Worker) (workers between after : List Worker) → length (history_of one) ≡ length (history_of old) → AllZip CatchesUp workers between
     → AllZip (Meets old one) between after → AllZip (HasCome one) workers after
 all_have_come old one [] [] [] still later met = tt

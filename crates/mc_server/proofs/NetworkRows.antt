@@ -1,4 +1,4 @@
--- Worked rows of wfmc, tried on the definitions: what its words give and ask for.
+-- Worked rows of wfmc, checked against the definitions: what its words give and ask for.
 use Rattle.std.specs.Prelude.{codes}
 use Rattle.std.proofs.Common.{◌≡◌, ℕ, true, false, [], ◌∷◌, IsTrue, refl, lit<, lit≤}
 use Rattle.std.proofs.lemmas.List.Elements.{All-from_recursion}
@@ -24,7 +24,7 @@ all_options : given_by (codes "--workers" ∷ codes "3" ∷ codes "a" ∷ codes 
 unfolding clap_on_literals
 all_options = refl
 
--- a name may begin with a dash, behind two
+-- a name may begin with a dash, after two
 dashes : tenant_words (codes "--" ∷ codes "-a" ∷ codes "--b" ∷ []) ≡ codes "-a" ∷ codes "--b" ∷ []
 unfolding clap_on_literals
 dashes = refl

@@ -26,12 +26,13 @@ use Rattle.mc_stream.specs.Stream.{Outflow}
 use Rattle.uc_log.specs.declared.log.Log.{Log}
 use Rattle.uc_worker.specs.declared.worker.Worker.{Worker}
 
--- a fault before all was printed of the listeners
+-- a fault before all of the listeners' lines were printed
 pub announcing_stops : (settings : Configuration) (fault : Fault) (listening : List Listening) (before after : Outflow) → StopsAnnouncing listening before after fault
     → StopsServing settings listening before after fault
 announcing_stops settings fault listening before after stops = ⊎_elim (λ starved. inl starved) (λ fails. inr (inr (inl fails))) stops
 
--- the length of the log of workers that have served and come back was printed after it, or a fault came
+-- the length of the log of workers that have served and come back was printed after them, or a
+-- fault came
 module _ (settings : Configuration) (log : Log) (workers : List Worker) (back : List Returned) (come : workers ≡ map worker_of back) (have : HaveServed settings log back) where
   were_served : (number : ℕ) → HaveMet workers number → WereServed settings number
   were_served number met = record { log = log; back = back; served = have; met = subst (λ known. HaveMet known number) come met }
@@ -65,7 +66,7 @@ back_numbers [] (y ∷ ys) onward = absurd onward
 back_numbers (x ∷ xs) [] onward = absurd onward
 back_numbers (x ∷ xs) (y ∷ ys) onward = let rest = back_numbers xs ys onward.1 in λ i. onward.0.same.1 i ∷ rest i
 
--- so they are all workers of the log
+-- so they are all the workers of the log
 pub are_workers : (settings : Configuration) (log : Log) (workers back : List Worker) → AllZip Continues workers back → AreWorkersOf settings log workers → AreWorkersOf settings log back
 are_workers settings log workers back onward all = record {
   opened = all.opened;

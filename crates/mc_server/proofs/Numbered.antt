@@ -21,7 +21,7 @@ one_more_numbered number list more x h e is =
     let counted : number x ≡ 0 + length (map number list) = omega (arith, length-map list number) in
     rw (is, map-append number list (x ∷ [])) (counts_on 0 (map number list) (number x) h counted)
 
--- one more is told
+-- one more is printed
 pub one_more_told : (tenants : List Tenant) (place : ℕ) (some : Tenant) (told more : List Listening) (one : Listening) → place < length tenants
     → AllZip IsTold (map asked_of (take place tenants)) told → IsTold (asked_of (get_or tenants place some)) one → more ≡ told ++ one ∷ []
     → AllZip IsTold (map asked_of (take (place + 1) tenants)) more

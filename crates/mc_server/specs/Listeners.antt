@@ -1,4 +1,4 @@
--- The listeners of wfmc's tenants, and what is told of them; this project's profile.
+-- The listeners of wfmc's tenants, and what is printed for them; this project's profile.
 use Rattle.std.specs.List.{AllZip}
 use Rattle.std.specs.Prelude.{◌≡◌, ◌+◌, ℕ, List, [], ◌∷◌, length, map, Contains}
 use Rattle.mc_model.specs.declared.fault.Fault.TheVariants.{Memory}
@@ -15,19 +15,21 @@ abbrev pub CountsFrom : ℕ → List ℕ → Type 0
 CountsFrom number [] = Unit {0}
 CountsFrom number (x ∷ xs) = (x ≡ number) × CountsFrom (number + 1) xs
 
--- what is told of a tenant's listener: the tenant's name and address, with the port that the listener was given where the address leaves it open
+-- what is printed for a tenant's listener: the tenant's name and address, with the port that the
+-- listener was given if the address leaves it open
 pub record IsTold (tenant : TenantAsked) (listening : Listening) : Type 0 where
   pub name : listening.name.now ≡ tenant.name
   pub given : ℕ
   pub address : listening.address ≡ told_address tenant.address given
 
--- There is a listener for each tenant, under its number, and this is told of each.
+-- There is a listener for each tenant, under its number, and this is printed for each.
 pub record AreListenersOf (tenants : List Tenant) (bound : Listeners) : Type 0 where
   pub count : length bound.listeners.items ≡ length tenants
   pub numbers : CountsFrom 0 (map (λ listener. listener.0) bound.listeners.items)
   pub told : AllZip IsTold (map asked_of tenants) bound.told.items
 
--- why not all tenants have a listener: an address of one of these names can't be listened at, or memory ran out
+-- why not all tenants have a listener: the address of a tenant with one of these names can't be
+-- listened on, or memory ran out
 abbrev pub StopsListening : List (List ℕ) → Stop → Type 0
 StopsListening names (CannotListen name) = Contains names name.now
 StopsListening names (Failed fault) = fault ≡ Memory

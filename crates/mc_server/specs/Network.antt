@@ -1,4 +1,5 @@
--- What the workers of wfmc's log come to, what is printed while its tenants are served, and how its run ends; this project's profile.
+-- What the workers of wfmc's log come to, what is printed while its tenants are served, and how its
+-- run ends; this project's profile.
 use Rattle.std.specs.List.{AllZip}
 use Rattle.std.specs.Prelude.{◌≡◌, ◌<◌, ◌≤◌, ◌⊎◌, ℕ, ◌+◌, List, [], ◌++◌, All, Contains, None, codes, length, map}
 use Rattle.clap.specs.Walk.{Text}
@@ -51,7 +52,7 @@ AreOf log workers = All (λ worker. worker.log.now ≡ log) workers
 abbrev pub number_of : Worker → ℕ
 number_of worker = (seat_of worker).worker
 
--- the tickets of the commands that it has replayed, in their order
+-- the tickets of the commands that a worker has replayed, in their order
 abbrev pub tickets_of : Worker → List Ticket
 tickets_of worker = map (λ (seen : Sighting). seen.ticket) (history_of worker)
 
@@ -66,16 +67,18 @@ pub record AreWorkersOf (settings : Configuration) (log : Log) (workers : List W
 abbrev pub IsCrew : List Worker → Type 0
 IsCrew workers = (settings : Configuration) × (log : Log) × AreWorkersOf settings log workers × (0 < length workers)
 
--- This worker has met the other: its history begins with the other's, and each command that the other has announced stands in it, but for
--- one at most, which waits (Herlihy, Wait-Free Synchronization, TOPLAS 1991, the universal construction: all processes agree on one order
--- of the decided cells, so each knows a front of one list).
+-- This worker has met the other: its history begins with the other's, and each command that the
+-- other has announced is in it, except for at most one, which is pending (Herlihy, Wait-Free
+-- Synchronization, TOPLAS 1991, the universal construction: all processes agree on one order of the
+-- decided cells, so each knows a prefix of one list).
 pub record HasMet (one other : Worker) : Type 0 where
   pub log : other.log.now ≡ one.log.now
   pub front : BeginsWith (history_of one) (history_of other)
   pub commands : (seat_of other).state.announced ≤ count (number_of other) (tickets_of one) + 1
 
--- While a worker came from the first of these to the second, another met it and became the last: that one has replayed all that it has learned, which is no
--- less than the worker had replayed at first, and a front of what it has replayed at last.
+-- While a worker went from `old` to `new`, another met it and went from `other` to `after`: then
+-- that one has replayed all that it has learned; its history begins with what the worker had
+-- replayed at first, and is a prefix of what the worker has replayed at last.
 pub record Meets (old new other after : Worker) : Type 0 where
   pub later : CatchesUp other after
   pub whole : IsUpToDate after
@@ -89,8 +92,9 @@ pub record WasAnnounced (workers : List Worker) (ticket : Ticket) : Type 0 where
   pub whose : number_of worker ≡ ticket.worker
   pub announced : ticket.number < length (announced_of worker)
 
--- The workers have met: one of them, later on, has met them all and has replayed all that it has learned. No command stands twice in its history, which has
--- this length, and each was announced by one of these workers.
+-- The workers have met: one of them, later on, has met them all and has replayed all that it has
+-- learned. No command stands twice in its history, which has this length, and each was announced by
+-- one of these workers.
 pub record HaveMet (workers : List Worker) (number : ℕ) : Type 0 where
   pub first : Worker
   pub among : Contains workers first
@@ -102,8 +106,10 @@ pub record HaveMet (workers : List Worker) (number : ℕ) : Type 0 where
   pub announced : All (WasAnnounced workers) (tickets_of one)
   pub long : length (history_of one) ≡ number
 
--- What the workers of a log with these settings have served, each from where it had done nothing. Each connection that one took in has ended and was
--- answered over that worker's history, each command by its own tenant's before it; and each command that one has announced is one request of one of these.
+-- What the workers of a log with these settings have served, each from when it had done nothing.
+-- Each connection that one admitted has ended and was answered over that worker's history, each
+-- command after its own tenant's commands before it; and each command that one has announced is one
+-- request of one of these connections.
 pub record HaveServed (settings : Configuration) (log : Log) (back : List Returned) : Type 0 where
   pub all : AreWorkersOf settings log (map worker_of back)
   pub begun : List Worker
@@ -111,19 +117,19 @@ pub record HaveServed (settings : Configuration) (log : Log) (back : List Return
   pub answered : All HasAnswered back
   pub asked : AllZip HasBeenAsked begun back
 
--- Tenants were served over a log with these settings, and this is its length: its workers have served and then met, and so many commands stand in the
--- history of the one that has met all.
+-- Tenants were served over a log with these settings, and this is its length: its workers have
+-- served and then met, and this many commands are in the history of the one that has met all.
 pub record WereServed (settings : Configuration) (number : ℕ) : Type 0 where
   pub log : Log
   pub back : List Returned
   pub served : HaveServed settings log back
   pub met : HaveMet (map worker_of back) number
 
--- an output beside no input
+-- an output without an input
 abbrev pub alone : Outflow → Streams
 alone output = both (record { events = []; left = None }) output
 
--- it was printed who listens where
+-- it was printed which tenant's listener is at which address
 abbrev pub IsReady : List Listening → Outflow → Outflow → Type 0
 IsReady listening before after = PushesAll (ready_text listening) before after
 
@@ -131,21 +137,23 @@ IsReady listening before after = PushesAll (ready_text listening) before after
 abbrev pub IsDone : List Worker → Outflow → Outflow → Type 0
 IsDone workers before after = (number : ℕ) × HaveMet workers number × PushesAll (done_line number) before after
 
--- it was printed who listens where, and then, when the tenants had been served, how long the log has become
+-- it was printed which tenant's listener is at which address, and then, when the tenants had been
+-- served, the length of the log
 abbrev pub IsServed : Configuration → List Listening → Outflow → Outflow → Type 0
 IsServed settings listening before after =
     (number : ℕ) × WereServed settings number × PushesAll (ready_text listening ++ done_line number) before after
 
--- what was printed where a fault kept it from being printed who listens where
+-- what was printed if a fault kept the listeners' lines from being printed
 abbrev pub StopsAnnouncing : List Listening → Outflow → Outflow → Fault → Type 0
 StopsAnnouncing listening before after fault = (fault ≡ Memory) × (after ≡ before) ⊎ FailsToPush (ready_text listening) before after fault
 
--- what was printed where a fault kept it from being printed how long these workers' log has become
+-- what was printed if a fault kept the length of these workers' log from being printed
 abbrev pub StopsFinishing : List Worker → Outflow → Outflow → Fault → Type 0
 StopsFinishing workers before after fault =
     (fault ≡ Memory) × (after ≡ before) ⊎ ((number : ℕ) × HaveMet workers number × FailsToPush (done_line number) before after fault)
 
--- what was printed where a fault ended the service: nothing, who listens where, or a front of all that is to be printed
+-- what was printed if a fault ended the service: nothing, the listeners' lines, or a prefix of all
+-- that is to be printed
 abbrev pub StopsServing : Configuration → List Listening → Outflow → Outflow → Fault → Type 0
 StopsServing settings listening before after fault =
     (fault ≡ Memory) × (after ≡ before)
@@ -157,25 +165,26 @@ StopsServing settings listening before after fault =
 abbrev pub names_of : NetworkAsked → List Text
 names_of asked = map (λ tenant. tenant.name) asked.tenants
 
--- what was printed where a run stopped: nothing where an address can't be listened at, or memory ran out before all were; and else what the
--- fault leaves
+-- what was printed if a run stopped: nothing if an address can't be listened on, or memory ran out
+-- before all listeners were bound; and otherwise what the fault leaves
 abbrev pub StopsRun : NetworkAsked → Outflow → Outflow → Stop → Type 0
 StopsRun asked before after (CannotListen name) = Contains (names_of asked) name.now × (after ≡ before)
 StopsRun asked before after (Failed fault) =
     (fault ≡ Memory) × (after ≡ before) ⊎ ((listening : List Listening) × AllZip IsTold asked.tenants listening × StopsServing (settings_asked asked) listening before after fault)
 
--- what is told of it
+-- the line that reports why a run stopped
 abbrev pub stop_line : Stop → List ℕ
 stop_line (CannotListen name) = cannot_listen_line name.now
 stop_line (Failed fault) = fault_line (codes "wfmc") fault
 
--- A run stopped, and why was told.
+-- A run stopped, and the reason was reported.
 pub record FailsToServe (asked : NetworkAsked) (before after errors_before errors : Outflow) : Type 0 where
   pub stop : Stop
   pub stops : StopsRun asked before after stop
   pub told : PushesOrFails (stop_line stop) errors_before errors
 
--- Each tenant was listened for, all connections were served, and that was printed, with the length of the log.
+-- Each tenant had a listener, all connections were served, and the listeners' lines and the length
+-- of the log were printed.
 pub record Serves (asked : NetworkAsked) (before after : Outflow) : Type 0 where
   pub listening : List Listening
   pub is_told : AllZip IsTold asked.tenants listening
@@ -185,13 +194,14 @@ pub record Serves (asked : NetworkAsked) (before after : Outflow) : Type 0 where
 abbrev pub EndsWell : List Text → Outflow → Outflow → Type 0
 EndsWell words before after = ((asked : NetworkAsked) × AsksForService words asked × Serves asked before after) ⊎ Shows network_app words (alone before) (alone after)
 
--- an address can't be listened at, or a fault ended the service, or kept the words from being read or answered; it was told
+-- an address can't be listened on, or a fault ended the service, or kept the words from being read
+-- or answered; it was reported
 abbrev pub EndsInFault : List Text → Outflow → Outflow → Outflow → Outflow → Type 0
 EndsInFault words before after errors_before errors =
     ((asked : NetworkAsked) × AsksForService words asked × FailsToServe asked before after errors_before errors)
     ⊎ FailsToShow (codes "wfmc") network_app words (alone before) (alone after) errors_before errors
 
--- the words ask for nothing that can be served, or are a mistake, and that was told
+-- the words ask for nothing that can be served, or are a mistake, and that was reported
 abbrev pub RefusesWords : List Text → Outflow → Outflow → Type 0
 RefusesWords words errors_before errors =
     AsksForNone words × PushesOrFails (fault_line (codes "wfmc") BadSettings) errors_before errors ⊎ TellsMistake network_app words errors_before errors

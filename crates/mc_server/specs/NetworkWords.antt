@@ -1,4 +1,5 @@
--- What the words after the program's name ask for on wfmc's command line, by clap's own definitions of a command; this project's profile.
+-- What the words after the program's name ask for on wfmc's command line, by clap's own definitions
+-- of a command; this project's profile.
 use Rattle.std.specs.List.{AllZip, IsDistinct}
 use Rattle.std.specs.Prelude.{◌≡◌, ℕ, List, [], Some, codes, map, true, unwrap_or}
 use Rattle.std.specs.Str.{bytes_eq}
@@ -12,7 +13,7 @@ use Rattle.mc_programs.specs.Words.{bare_app, number_asked, number_rule}
 use Rattle.mc_server.specs.declared.network_words.NetworkWords.{NetworkWords}
 use Rattle.mc_server.specs.declared.network_words.Service.{Service}
 
--- the words that stand for themselves, of which there has to be one
+-- the positional words, one for each tenant, of which there has to be at least one
 abbrev pub tenants_rule : Rule
 tenants_rule = record (new_rule (codes "tenants")) {
   value_names = 1;
@@ -47,7 +48,8 @@ given_by words = record {
   tenants = tenant_words words;
 }
 
--- what is to be served: how many workers and places there are, after how many connections it ends (0: never), and the tenants, by their numbers
+-- what is to be served: how many workers and places there are, after how many connections it ends
+-- (0: never), and the tenants by their numbers
 pub record NetworkAsked : Type 0 where
   pub workers : ℕ
   pub places : ℕ
@@ -70,7 +72,8 @@ pub record IsServable (asked : NetworkAsked) : Type 0 where
   pub lawful : IsLawful (settings_asked asked)
   pub names : IsDistinct bytes_eq (map (λ tenant. tenant.name) asked.tenants)
 
--- what is given asks for nothing that can be served: a tenant's word is of another form, a number is out of its bounds, or a name is used twice
+-- what is given asks for nothing that can be served: a tenant's word is of another form, a number
+-- is out of its bounds, or a name is used twice
 abbrev pub AsksInVain : NetworkGiven → Type 0
 AsksInVain given = (asked : NetworkAsked) → Asks given asked → ¬ (IsServable asked)
 
@@ -99,7 +102,7 @@ pub record AsksFor (words : List Text) (read : NetworkWords) : Type 0 where
   pub taken : fault_of network_app words ≡ []
   pub given : given_of read ≡ given_by words
 
--- The settings are those of what is to be served, and that can be served.
+-- The settings are those of what is to be served, and it can be served.
 pub record IsChecked (service : Service) : Type 0 where
   pub settings : service.settings ≡ settings_asked (served_by service)
   pub servable : IsServable (served_by service)

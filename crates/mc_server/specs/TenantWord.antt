@@ -1,5 +1,5 @@
--- What a tenant's word says on wfmc's command line, `NAME=ADDR,ITEMS,BYTES`; this project's profile. An address is written as std's
--- `SocketAddrV4` is, and a number as an option's.
+-- What a tenant's word says on wfmc's command line, `NAME=ADDR,ITEMS,BYTES`; this project's
+-- profile. An address is written as std's `SocketAddrV4` is, and a number as an option's.
 use Rattle.std.specs.Net.Grammar.{IsSocketV4Text}
 use Rattle.std.specs.Prelude.{◌≡◌, ◌≢◌, ◌==◌, ◌&&◌, ◌||◌, ℕ, Bool, nat_le, All, Some, IsTrue, ◌++◌, codes, length}
 use Rattle.std.specs.declared.net.socket_addr.SocketAddrV4.{SocketAddrV4}
@@ -9,7 +9,7 @@ use Rattle.mc_model.specs.declared.settings.Limits.{Limits}
 use Rattle.mc_programs.specs.Words.{u64_of}
 use Rattle.mc_server.specs.declared.tenant_word.Tenant.{Tenant}
 
--- a tenant: the name that its listener goes by, the address at which it listens, and its quotas
+-- a tenant: the name that its listener goes by, the address on which it listens, and its quotas
 pub record TenantAsked : Type 0 where
   pub name : Text
   pub address : SocketAddrV4
@@ -28,15 +28,15 @@ pub record IsName (name : Text) : Type 0 where
   pub size : IsBetween 1 32 (length name)
   pub bytes : All (λ byte. IsTrue (is_name_byte byte)) name
 
--- the byte doesn't stand in the text
+-- the byte isn't in the text
 abbrev pub Lacks : ℕ → Text → Type 0
 Lacks byte text = All (λ other. other ≢ byte) text
 
--- the word of these parts
+-- the word made of these parts
 abbrev pub tenant_text : Text → Text → Text → Text → Text
 tenant_text name address items bytes = name ++ (codes "=" ++ (address ++ (codes "," ++ (items ++ (codes "," ++ bytes)))))
 
--- The word is of the form, and says this tenant. Whether its quotas are within their bounds is not asked.
+-- The word is of the form, and says this tenant. Its quotas need not be within their bounds.
 pub record Says (word : Text) (tenant : TenantAsked) : Type 0 where
   pub address : Text
   pub items : Text

@@ -12,7 +12,9 @@ use std::alloc::Global;
 use uc_log::{Log, Pass};
 use uc_worker::{Open, Worker};
 
-/// A worker for each pass of the log, in the passes' order. Where memory runs out: `Memory`.
+/// Returns a worker for each pass of the log, in the passes' order.
+///
+/// Returns `Memory` if memory runs out.
 pub(crate) fn open_workers<'a>(
     alloc: Global,
     log: &'a Log,
@@ -33,8 +35,9 @@ pub(crate) fn open_workers<'a>(
     Ok(workers)
 }
 
-/// Has a worker meet the others, one after another, and gives those back. Where memory runs out: `Memory`; then some of them may not have
-/// met it.
+/// Lets a worker meet the others, one after another, and returns those.
+///
+/// Returns `Memory` if memory runs out; some of them may not have met it then.
 fn meet_others<'a>(
     alloc: Global,
     one: &mut Worker<'a>,
@@ -56,8 +59,11 @@ fn meet_others<'a>(
     Ok(met)
 }
 
-/// Has the last worker catch up and meet all others until it learns nothing more by that, so that all have the same history. Counts what
-/// stands there: all that any of them had. Where memory runs out: `Memory`.
+/// Lets the last worker catch up and meet all others until it learns nothing more by that, so that
+/// all have the same history. Returns the length of that history, which has all that any of them
+/// had.
+///
+/// Returns `Memory` if memory runs out.
 pub(crate) fn meet_all(alloc: Global, workers: Vec<Worker<'_>>) -> Result<usize, Fault>
     requires { IsCrew workers.items }
     ensures outcome { MatchResult result (HaveMet workers.entry.items)

@@ -14,17 +14,17 @@ use std::alloc::{AllocFailed, Global};
 use std::io;
 use std::net::{Net, SocketAddr};
 
-/// The tenants' listeners under the tenants' numbers, and what is told of each.
+/// The tenants' listeners under the tenants' numbers, and what is printed for each.
 #[derive(Drop)]
 pub(crate) struct Listeners<'a> {
     pub listeners: Vec<(TenantId, TcpListener)>,
     pub told: Vec<Listening<'a>>,
 }
 
-/// Why wfmc ends before it has served.
+/// Why a run of wfmc fails.
 #[derive(Clone, Copy, Debug)]
 pub(crate) enum Stop<'a> {
-    /// The address of the tenant with this name can't be listened at.
+    /// The address of the tenant with this name can't be listened on.
     CannotListen(&'a str),
     Failed(Fault),
 }
@@ -45,7 +45,9 @@ impl<T: Drop> From<AllocFailed<T>> for Stop<'_> {
     }
 }
 
-/// A tenant's listener, and what is told of it.
+/// Binds a tenant's listener. Returns it, and what is printed for it.
+///
+/// Returns the system's error if it can't be bound or its port can't be found out.
 fn bind<'a, R: Net>(rt: &R, tenant: &Tenant<'a>) -> io::Result<(TcpListener, Listening<'a>)>
     ensures { IfOk result (λ bound. IsTold (asked_of tenant.now) bound.1) }
 {
@@ -58,7 +60,10 @@ fn bind<'a, R: Net>(rt: &R, tenant: &Tenant<'a>) -> io::Result<(TcpListener, Lis
     Ok((listener, told))
 }
 
-/// Binds a listener for each tenant, in the tenants' order. The first that can't be bound stops it.
+/// Binds a listener for each tenant, in the tenants' order.
+///
+/// Returns `CannotListen` for the first tenant whose listener can't be bound, and `Failed(Memory)`
+/// if memory runs out.
 pub(crate) fn bind_all<'a, R: Net>(
     rt: &R,
     alloc: Global,

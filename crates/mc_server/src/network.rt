@@ -1,4 +1,4 @@
-//! What the program that serves several tenants does.
+//! The program that serves several tenants.
 ghost use Rattle.std.specs.Prelude.{MatchResult, map, string_bytes};
 ghost use Rattle.mc_server.specs.Listeners.{AreListenersOf};
 ghost use Rattle.mc_server.specs.Network.{Ends, IsCrew, IsDone, IsReady, IsServed, Serves, StopsAnnouncing, StopsFinishing, StopsRun, StopsServing, stop_line};
@@ -20,10 +20,12 @@ use std::thread::Threads;
 use uc_log::Log;
 use uc_worker::{Open, Worker};
 
-/// The program's name, as it stands before what it tells.
+/// The program's name, the prefix of its messages.
 const NAME: &[u8] = b"wfmc";
 
-/// Prints who listens where. Where memory runs out: `Memory`. Where the output fails: `Output`.
+/// Prints which tenant's listener is at which address.
+///
+/// Returns `Memory` if memory runs out, and `Output` if the output fails.
 fn announce<R: Wait, O: Output>(
     rt: &R,
     alloc: Global,
@@ -38,7 +40,9 @@ fn announce<R: Wait, O: Output>(
     push_all(rt, text.as_bytes(), output)
 }
 
-/// Has the workers meet, and prints how long the log has become. Where memory runs out: `Memory`. Where the output fails: `Output`.
+/// Lets the workers meet, and prints the length of the log.
+///
+/// Returns `Memory` if memory runs out, and `Output` if the output fails.
 fn finish<R: Wait, O: Output>(
     rt: &R,
     alloc: Global,
@@ -54,8 +58,11 @@ fn finish<R: Wait, O: Output>(
     tell_done(rt, count as u64, output)
 }
 
-/// Serves the tenants by their listeners until all connections are served: prints who listens where, and at the end how long the log has
-/// become. Where memory runs out: `Memory`. Where waiting for connections fails: `Input`. Where the output fails: `Output`.
+/// Serves the tenants at their listeners until all connections are served. Prints first which
+/// tenant's listener is at which address, and at the end the length of the log.
+///
+/// Returns `Memory` if memory runs out, `Input` if waiting for connections fails, and `Output` if
+/// the output fails.
 fn serve_tenants<R: Threads + Wait + Net + Sync, O: Output>(
     rt: &R,
     alloc: Global,
@@ -88,7 +95,9 @@ fn serve_tenants<R: Threads + Wait + Net + Sync, O: Output>(
     finish(rt, alloc, workers, output)
 }
 
-/// Listens for each tenant, and serves them all. Before a line is printed all listeners are bound.
+/// Binds a listener for each tenant, and serves them all. Nothing is printed before all are bound.
+///
+/// Returns the errors of `bind_all` and `serve_tenants`.
 fn run_service<'a, R: Threads + Wait + Net + Sync, O: Output>(
     rt: &R,
     alloc: Global,
@@ -104,7 +113,7 @@ fn run_service<'a, R: Threads + Wait + Net + Sync, O: Output>(
     Ok(serve_tenants(rt, alloc, service, bound, output)?)
 }
 
-/// Says why a run stopped. A failure of `errors` is passed over.
+/// Reports why a run stopped. A failure of `errors` is ignored.
 fn tell_stop<R: Wait, E: Output>(rt: &R, stop: Stop, errors: &mut E)
     ensures { PushesOrFails (stop_line stop.entry) (E.tells errors.old) (E.tells errors.new) }
 {
@@ -114,18 +123,22 @@ fn tell_stop<R: Wait, E: Output>(rt: &R, stop: Stop, errors: &mut E)
     }
 }
 
-/// Does what the words after the program's name ask for, and answers the status that the program ends with.
+/// Does what the words after the program's name ask for, and returns the program's exit status.
 ///
-/// Serves the tenants that the words name, each by a listener of its own: prints `listening NAME ADDR` for each, in their order and with the
-/// port that its listener has, and then `ready`. With `--connections` above 0 it ends once so many connections were accepted and all have
-/// ended: then the workers meet, `done L` is printed, where L is the length of the log, and the status is 0. Else it doesn't end.
+/// Serves the tenants that the words name, each at a listener of its own. Prints
+/// `listening NAME ADDR` for each, in their order and with the port that its listener has, and then
+/// `ready`. With `--connections N` above 0 it ends once N connections were accepted and all of them
+/// have ended: then the workers meet, `done L` is printed, where L is the length of the log, and
+/// the status is 0. Otherwise it doesn't end.
 ///
-/// A tenant's word of another form, a number out of its range, or a name that is used twice is told on `errors` as `wfmc: bad settings`,
-/// with 2, and an address that can't be listened at as `wfmc: cannot listen NAME`, with 1; nothing is printed then. Where memory runs out,
-/// waiting for connections fails, or the output fails: `wfmc: TEXT`, with 1.
+/// A tenant's word of another form, a number out of its range, or a name that is used twice is
+/// reported on `errors` as `wfmc: bad settings`, with status 2, and an address that can't be
+/// listened on as `wfmc: cannot listen NAME`, with status 1; nothing is printed then. If memory
+/// runs out, waiting for connections fails, or the output fails, that is reported as `wfmc: TEXT`,
+/// with status 1.
 ///
-/// Help and the version go to the output, with 0, and a mistake in the words to `errors`, with 2, by clap's text. A failure of `errors`
-/// is passed over.
+/// Help and the version go to the output, with status 0, and a mistake in the words to `errors`,
+/// with status 2, as clap's text. A failure of `errors` is ignored.
 pub fn run_wfmc<R: Threads + Wait + Net + Sync, O: Output, E: Output>(
     rt: &R,
     alloc: Global,
@@ -133,7 +146,7 @@ pub fn run_wfmc<R: Threads + Wait + Net + Sync, O: Output, E: Output>(
     output: &mut O,
     errors: &mut E,
 ) -> u8
-    // What is printed, by what the words ask for.
+    // How the run ends and what is printed, by what the words ask for.
     ensures { Ends (map string_bytes words.items) result (O.tells output.old) (O.tells output.new)
         (E.tells errors.old) (E.tells errors.new) }
 {

@@ -1,4 +1,4 @@
-//! What wfmc prints of its listeners and at its end.
+//! What wfmc prints about its listeners and at its end.
 ghost use Rattle.std.specs.Prelude.{◌≡◌, ◌++◌, IfOk, MatchResult, codes, string_bytes};
 ghost use Rattle.mc_programs.specs.Waiting.{FailsToPush, PushesAll};
 ghost use Rattle.mc_server.specs.NetworkTexts.{cannot_listen_line, done_line, listening_line, ready_text, told_address};
@@ -12,14 +12,15 @@ use std::alloc::{AllocError, Global};
 use std::net::SocketAddrV4;
 use std::sync::Wait;
 
-/// A tenant's name, and the address at which its listener listens.
+/// A tenant's name, and the address on which its listener listens.
 #[derive(Clone, Copy, Debug)]
 pub(crate) struct Listening<'a> {
     pub name: &'a str,
     pub address: SocketAddrV4,
 }
 
-/// The address to tell of a listener that was bound at `address` and was given the port `given`, which counts where the address has port 0.
+/// Returns the address to print for a listener that was bound to `address` and got the port
+/// `given`, which is used if the address has port 0.
 pub(crate) fn told_address(address: SocketAddrV4, given: u16) -> SocketAddrV4
     ensures { result ≡ told_address address given }
 {
@@ -30,14 +31,18 @@ pub(crate) fn told_address(address: SocketAddrV4, given: u16) -> SocketAddrV4
     }
 }
 
-/// The line on a tenant's listener.
+/// Returns the line for a tenant's listener.
+///
+/// Returns an error if memory runs out.
 fn listening_line(alloc: Global, name: &str, address: SocketAddrV4) -> Result<String, AllocError>
     ensures { IfOk result (λ line. string_bytes line ≡ listening_line name.now address) }
 {
     format!(in alloc; "listening {name} {address}\n")
 }
 
-/// The lines on all listeners, and the one that says that they are all.
+/// Returns the lines for all listeners, followed by the line `ready`.
+///
+/// Returns an error if memory runs out.
 pub(crate) fn ready_text(alloc: Global, listening: &[Listening]) -> Result<String, AllocError>
     ensures { IfOk result (λ text. string_bytes text ≡ ready_text listening.now) }
 {
@@ -50,7 +55,9 @@ pub(crate) fn ready_text(alloc: Global, listening: &[Listening]) -> Result<Strin
     Ok(text)
 }
 
-/// Pushes a line of two parts. Takes no memory.
+/// Pushes a line of two parts. Needs no memory.
+///
+/// Returns `Output` if the output fails.
 fn push_line<R: Wait, O: Output>(
     rt: &R,
     front: &[u8],
@@ -66,7 +73,9 @@ fn push_line<R: Wait, O: Output>(
     push_all(rt, b"\n", output)
 }
 
-/// Says how long the log has become. Takes no memory.
+/// Prints the length of the log. Needs no memory.
+///
+/// Returns `Output` if the output fails.
 pub(crate) fn tell_done<R: Wait, O: Output>(
     rt: &R,
     length: u64,
@@ -80,7 +89,8 @@ pub(crate) fn tell_done<R: Wait, O: Output>(
     push_line(rt, b"done ", buffer.format(length).as_bytes(), output)
 }
 
-/// Says that a tenant's address can't be listened at. A failure of `errors` is passed over. Takes no memory.
+/// Reports that a tenant's address can't be listened on. A failure of `errors` is ignored. Needs no
+/// memory.
 pub(crate) fn tell_cannot_listen<R: Wait, E: Output>(rt: &R, name: &str, errors: &mut E)
     ensures { PushesOrFails (cannot_listen_line name.now) (E.tells errors.old)
         (E.tells errors.new) }

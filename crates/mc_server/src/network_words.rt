@@ -1,4 +1,4 @@
-//! What the words of wfmc's command line ask for.
+//! The options and tenants of wfmc's command line.
 ghost use Rattle.std.specs.List.{AllZip, IsDistinct, list_any};
 ghost use Rattle.std.specs.Prelude.{◌≡◌, ◌↔◌, ◌⊎◌, List, IfOk, IsTrue, MatchResult, false, map, string_bytes};
 ghost use Rattle.std.specs.Str.{bytes_eq};
@@ -13,16 +13,16 @@ use mc_model::{Fault, Limits, Settings};
 use mc_programs::{number, number_option};
 use std::alloc::{AllocError, Global};
 
-/// How many workers there are where the words don't say.
+/// How many workers there are by default.
 const DEFAULT_WORKERS: u64 = 2;
 
-/// How many places the log has where the words don't say.
+/// How many places the log has by default.
 const DEFAULT_PLACES: u64 = 65_536;
 
-/// After how many connections the server ends where the words don't say: never.
+/// After how many connections the server ends by default: never.
 const DEFAULT_CONNECTIONS: u64 = 0;
 
-/// A tenant's form, as help shows it.
+/// The form of a tenant's word, as help shows it.
 const FORM: &str = "\
 Each TENANT is NAME=ADDR,ITEMS,BYTES:
   NAME   1 to 32 of a to z, 0 to 9, - and _; no name twice
@@ -44,7 +44,8 @@ pub(crate) struct NetworkWords<'a> {
     pub tenants: Vec<&'a str>,
 }
 
-/// What wfmc is to serve: settings, after how many connections it ends (0: never), and the tenants by their numbers.
+/// What wfmc is to serve: settings, after how many connections it ends (0: never), and the tenants
+/// by their numbers.
 #[derive(Debug, Drop)]
 pub(crate) struct Service<'a> {
     pub settings: Settings,
@@ -52,7 +53,7 @@ pub(crate) struct Service<'a> {
     pub tenants: Vec<Tenant<'a>>,
 }
 
-/// The tenants' words, of which there has to be one.
+/// Returns the argument for the tenants' words, of which there has to be at least one.
 fn tenants_argument<'a>(alloc: Global) -> Arg<'a>
     ensures rule { rule_of result ≡ tenants_rule }
     ensures local { result.global ≡ false }
@@ -64,7 +65,9 @@ fn tenants_argument<'a>(alloc: Global) -> Arg<'a>
         .help("A tenant: NAME=ADDR,ITEMS,BYTES, as below; from 1 to 64 of them")
 }
 
-/// The options that wfmc takes on its command line.
+/// Returns wfmc's command line with its options only.
+///
+/// Returns an error if memory runs out.
 fn options_command<'a>(alloc: Global) -> Result<Command<'a>, AllocError>
     ensures { IfOk result (λ command. app_of command ≡ options_app) }
 {
@@ -81,14 +84,18 @@ fn options_command<'a>(alloc: Global) -> Result<Command<'a>, AllocError>
         .arg(number_option(alloc, "connections", connections))
 }
 
-/// What wfmc takes on its command line.
+/// Returns the command line that wfmc takes.
+///
+/// Returns an error if memory runs out.
 fn network_command<'a>(alloc: Global) -> Result<Command<'a>, AllocError>
     ensures { IfOk result (λ command. app_of command ≡ network_app) }
 {
     options_command(alloc)?.arg(tenants_argument(alloc))
 }
 
-/// What the words after the program's name give.
+/// Returns what the words after the program's name give.
+///
+/// Returns clap's error if they ask for help or the version, are a mistake, or memory runs out.
 pub(crate) fn read_words(alloc: Global, words: &[String]) -> Result<NetworkWords<'_>, Error>
     ensures outcome { MatchResult result (AsksFor (map string_bytes words.now))
         (HasKind (fault_of network_app (map string_bytes words.now))) }
@@ -104,7 +111,9 @@ pub(crate) fn read_words(alloc: Global, words: &[String]) -> Result<NetworkWords
     })
 }
 
-/// The tenants that words say, in their order. Where one is not of a tenant's form: `BadSettings`.
+/// Returns the tenants that words describe, in their order.
+///
+/// Returns `BadSettings` if one isn't of a tenant's form, and `Memory` if memory runs out.
 fn read_tenants<'a>(alloc: Global, words: &[&'a str]) -> Result<Vec<Tenant<'a>>, Fault>
     ensures outcome { let texts = map (λ word. word.now) words.now in
         MatchResult result (λ tenants. AllZip IsOnly texts (map asked_of tenants.items))
@@ -122,14 +131,14 @@ fn read_tenants<'a>(alloc: Global, words: &[&'a str]) -> Result<Vec<Tenant<'a>>,
     Ok(tenants)
 }
 
-/// Whether a tenant has this name.
+/// Returns whether a tenant has this name.
 fn has_name(tenants: &[Tenant], name: &str) -> bool
     ensures { result ≡ list_any (λ tenant. bytes_eq name.now tenant.name.now) tenants.now }
 {
     tenants.iter().any(|tenant| name == tenant.name)
 }
 
-/// Whether no tenant has the name of another.
+/// Returns whether no tenant has the name of another.
 fn have_own_names(tenants: &[Tenant]) -> bool
     ensures { IsTrue result ↔ IsDistinct bytes_eq (map (λ tenant. tenant.name.now) tenants.now) }
 {
@@ -139,15 +148,19 @@ fn have_own_names(tenants: &[Tenant]) -> bool
     }
 }
 
-/// The tenants' quotas, in the tenants' order.
+/// Returns the tenants' quotas, in the tenants' order.
+///
+/// Returns an error if memory runs out.
 fn quotas_of(alloc: Global, tenants: &[Tenant]) -> Result<Vec<Limits>, AllocError>
     ensures { IfOk result (λ quotas. quotas.items ≡ map (λ tenant. tenant.limits) tenants.now) }
 {
     tenants.iter().map(|tenant| tenant.limits).collect(alloc)
 }
 
-/// What the words ask to be served. Where that can't be, since a tenant's word is of another form, a number is out of its bounds, or a
-/// name is used twice: `BadSettings`.
+/// Returns what the words ask to be served.
+///
+/// Returns `BadSettings` if that can't be served: a tenant's word is of another form, a number is
+/// out of its bounds, or a name is used twice. Returns `Memory` if memory runs out.
 pub(crate) fn service_of<'a>(alloc: Global, words: &NetworkWords<'a>) -> Result<Service<'a>, Fault>
     ensures outcome { MatchResult result
         (λ service. Asks (given_of words.now) (served_by service) × IsChecked service)
@@ -157,7 +170,7 @@ pub(crate) fn service_of<'a>(alloc: Global, words: &NetworkWords<'a>) -> Result<
     let tenants = read_tenants(alloc, &words.tenants)?;
     let quotas = quotas_of(alloc, &tenants)?;
     let settings = Settings::check(words.workers, words.places, quotas)?;
-    // Only so many names as there may be tenants are compared.
+    // `Settings::check` has bounded the number of names that are compared here.
     if !have_own_names(&tenants) {
         return Err(Fault::BadSettings);
     }

@@ -1,4 +1,4 @@
-//! What a tenant's word says on wfmc's command line.
+//! A tenant's word on wfmc's command line.
 ghost use Rattle.std.specs.Option.{IsSomeAnd};
 ghost use Rattle.std.specs.Prelude.{◌≡◌, ◌↔◌, ℕ, List, Some, IfSome, IsTrue};
 ghost use Rattle.mc_server.specs.TenantWord.{IsName, Lacks, Says, TenantAsked, asked_of, is_name_byte, tenant_text};
@@ -7,10 +7,11 @@ ghost use Rattle.mc_programs.specs.Words.{u64_of};
 use mc_model::Limits;
 use std::net::SocketAddrV4;
 
-/// The greatest length of a tenant's name.
+/// The greatest length of a tenant's name, in bytes.
 const MAX_NAME: usize = 32;
 
-/// A tenant, as its word says it: its name, the address at which it listens, and its quotas, which need not be lawful.
+/// A tenant as its word describes it: its name, the address on which it listens, and its quotas,
+/// which may be out of their bounds.
 #[derive(Clone, Copy, Debug)]
 pub(crate) struct Tenant<'a> {
     pub name: &'a str,
@@ -27,28 +28,29 @@ struct Parts<'a> {
     bytes: &'a str,
 }
 
-/// Whether a byte may stand in a name.
+/// Returns whether a byte may be in a name.
 fn is_name_byte(byte: u8) -> bool
     ensures { result ≡ is_name_byte byte }
 {
     matches!(byte, b'a'..=b'z' | b'0'..=b'9' | b'-' | b'_')
 }
 
-/// Whether a tenant may have this name.
+/// Returns whether a tenant may have this name.
 fn is_name(name: &str) -> bool
     ensures { IsTrue result ↔ IsName name.now }
 {
     (1..=MAX_NAME).contains(&name.len()) && name.bytes().all(|byte| is_name_byte(byte))
 }
 
-/// The number of 64 bits that a text spells; a plus may stand first.
+/// Returns the number of 64 bits that a text spells. The text may begin with a plus.
 fn read_number(text: &str) -> Option<u64>
     ensures { result ≡ u64_of text.now }
 {
     text.parse::<u64>().ok()
 }
 
-/// Cuts a word at its first `=`, and what follows at its first two commas.
+/// Cuts a word at its first `=`, and what follows at its first two commas. Returns `None` if one of
+/// these is missing.
 fn cut(word: &str) -> Option<Parts<'_>>
     ensures whole { IfSome result
         (λ parts. word.now
@@ -70,7 +72,7 @@ fn cut(word: &str) -> Option<Parts<'_>>
     })
 }
 
-/// The tenant that a word says, or `None` where the word is not of a tenant's form.
+/// Returns the tenant that a word describes, or `None` if the word isn't of a tenant's form.
 pub(crate) fn read_tenant(word: &str) -> Option<Tenant<'_>>
     ensures says { IfSome result (λ tenant. Says word.now (asked_of tenant)) }
     ensures only { (asked : TenantAsked) → Says word.now asked →

@@ -10,7 +10,7 @@ use Rattle.mc_net.proofs.connecting.turns.Goals as goal
 pub loop-init : goal.loop-init
 loop-init g c = record { going = takes_self _; stands = inl refl; few = omega arith; role = refl }
 
--- where it was closed, nothing was done
+-- if it was closed, nothing was done
 pub returns-in-Ok : goal.returns-in-Ok
 returns-in-Ok g c =
     let before = scene c.loop.conn c.loop.worker (both (g.I.Input.tells c.loop.input) (g.O.Output.tells c.loop.output)) in

@@ -1,4 +1,5 @@
--- The turns so far went well, the last of them may be followed by more, they pulled once each at most, and kept the connection's role.
+-- The turns so far went well, the last of them may be followed by more, they pulled at most once
+-- each, and kept the connection's role.
 use Rattle.std.proofs.Common.{◌≡◌, ◌⊎◌, ◌+◌, ◌≤◌, length}
 use Rattle.mc_conn.specs.Turn.{Takes, scene}
 use Rattle.mc_conn.specs.declared.conn.State.TheVariants.{Busy}

@@ -1,4 +1,5 @@
--- What came back so far is of the threads so far: whatever comes back of those that are left, put behind it, comes back of all. So with the event loops.
+-- What came back so far is from the threads so far: if it is followed by whatever comes back from
+-- those that are left, it comes back from all. The same for the event loops.
 use Rattle.std.proofs.Common.{◌≡◌, List, ◌++◌}
 use Rattle.std.specs.List.{AllZip}
 use Rattle.mc_net.specs.declared.worker_thread.Returned.{Returned}

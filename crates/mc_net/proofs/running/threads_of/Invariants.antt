@@ -1,4 +1,5 @@
--- The workers and the event loops of the threads so far and those that are left are all, and those that are left have what they need.
+-- The workers and the event loops of the threads so far and those that are left are all, and those
+-- that are left have what they need.
 use Rattle.std.proofs.Common.{◌≡◌, ◌++◌}
 use Rattle.mc_net.specs.Running.{FitTogether, event_loops_of, workers_of}
 use Rattle.mc_net.proofs.running.threads_of.Given as goal

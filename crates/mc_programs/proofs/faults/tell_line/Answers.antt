@@ -3,7 +3,7 @@ use Rattle.mc_programs.proofs.Waited.{told}
 use Rattle.mc_stream.specs.Pushed.{tells_front, tells_more}
 use Rattle.mc_programs.proofs.faults.tell_line.Goals as goal
 
--- what is told after the name, and after the colon
+-- what is pushed after the name, and after the colon
 abbrev text_on : List ℕ → List ℕ
 text_on text = text ++ codes "\n"
 

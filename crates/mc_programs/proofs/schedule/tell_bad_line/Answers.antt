@@ -6,7 +6,7 @@ use Rattle.mc_stream.specs.Pushing.{PushesOrFails}
 use Rattle.mc_stream.specs.Stream.{Outflow}
 use Rattle.mc_programs.proofs.schedule.tell_bad_line.Goals as goal
 
--- what is told before the digits, and from them on
+-- what is pushed before the digits, and from them on
 abbrev front : List ℕ
 front = codes "mc_schedule: line "
 

@@ -1,4 +1,5 @@
--- The last worker is the one that it was, later on, and so are the others; it has replayed all that it has learned.
+-- The last worker is the same one, later on, and so are the others; it has replayed all that it has
+-- learned.
 use Rattle.std.proofs.Common.{◌-◌, length}
 use Rattle.std.specs.List.{AllZip}
 use Rattle.mc_server.specs.Network.{AreOf}

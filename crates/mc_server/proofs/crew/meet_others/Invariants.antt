@@ -1,4 +1,4 @@
--- It is up to date and those before this one have met it, and the others are of its log.
+-- The worker is up to date, the others before this one have met it, and the rest are of its log.
 use Rattle.std.proofs.Common.{◌≡◌, ◌++◌, List}
 use Rattle.std.specs.List.{AllZip}
 use Rattle.mc_server.specs.Network.{AreOf, Meets}

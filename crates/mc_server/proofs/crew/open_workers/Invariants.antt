@@ -1,4 +1,5 @@
--- The workers so far are of the log and have done nothing, the passes that are left were never used, and the workers have the numbers of their passes.
+-- The workers so far are of the log and have done nothing, the passes that are left were never
+-- used, and the workers have the numbers of their passes.
 use Rattle.std.proofs.Common.{◌≡◌, ◌+◌, ◌++◌, All, length, map}
 use Rattle.mc_server.specs.Network.{AreOf, HasDoneNothing, IsFresh, number_of}
 use Rattle.uc_log.specs.Passes.{worker}

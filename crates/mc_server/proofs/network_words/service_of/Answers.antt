@@ -12,7 +12,7 @@ use Rattle.mc_server.specs.declared.tenant_word.Tenant.{Tenant}
 use Rattle.mc_server.proofs.TenantLists.{all_only, all_say, limits_are, names_are, names_are_read, settings_are}
 use Rattle.mc_server.proofs.network_words.service_of.Goals as goal
 
--- the tenants that were read are those that are asked
+-- the tenants that were read are those that are asked for
 read_are_asked : (words : NetworkWords) (lent : List (Bor (List ℕ))) (tenants : List Tenant) (asked : NetworkAsked)
     → AllZip IsOnly (map (λ word. word.now) lent) (map asked_of tenants) → lent ≡ words.tenants.items → Asks (given_of words) asked
     → asked.tenants ≡ map asked_of tenants
@@ -56,7 +56,7 @@ returns-then-not-have_own_names c =
     in
     record { outcome = inr (refl, vain) }
 
--- the settings that were checked are those that are asked
+-- the settings that were checked are those that are asked for
 checked_are_asked : (settings : Configuration) (workers places : ℕ) (quotas : List Limits) (tenants : List Tenant) → settings ≡ record { workers = workers; places = places; tenants = quotas }
     → quotas ≡ map (λ tenant. tenant.limits) tenants
     → settings ≡ record { workers = settings.workers; places = settings.places; tenants = map (λ tenant. tenant.limits) (map asked_of tenants) }

@@ -1,4 +1,4 @@
--- Arrivals were taken in, whoever the worker is.
+-- Arrivals were admitted, whoever the worker is.
 use Rattle.mc_net.specs.Working.{Works, standing}
 use Rattle.uc_worker.specs.declared.worker.Worker.{Worker}
 use Rattle.mc_net.proofs.event_loop.EventLoop.admit_arrivals.Given as goal
