@@ -81,7 +81,7 @@ install_all() {
     echo "$list" >>"$notes"
     take_what_is_old
     install -m 644 "$notes" "$dest$list"
-    echo "installed under $dest$prefix; the service's words stand in $dest$defaults"
+    echo "installed under $dest$prefix; the service's command line is in $dest$defaults"
     case $prefix in
         /usr | /usr/local) ;;
         *) echo "systemd doesn't look there for units: systemctl link $(printf %q "$prefix/lib/systemd/system/wfmc.service")" ;;
