@@ -1,14 +1,15 @@
 # `make run` and `make test` do all set-up on a machine that has the kit (`rt` on the PATH).
 .PHONY: help serve run schedule build install uninstall test mutants golden network compatibility proxy fuzz linearizability \
-	allocation-failures differential wrong-definitions core-states manual bench picture documents definitions kit
+	allocation-failures differential wrong-definitions core-states manual bench picture documents layers definitions kit
 
 help: ## prints this list
 	@awk -F ':.*## ' '/^[a-z-]+:.*## / { printf "make %-20s %s\n", $$1, $$2 }' Makefile
 
-serve: kit ## proves, builds and runs wfmc with two tenants on loopback, until it is interrupted
+serve: kit ## proves, builds and runs wfmc with two tenants on loopback and a log as long as may be, until it is interrupted
 	@tools/prove.sh wfmc >&2
-	@printf '%s\n' "The program is crates/wfmc/out/wfmc. Two tenants, each a memcached of its own; talk to the first, for example, by: printf 'set a 0 0 1\\r\\nx\\r\\nget a\\r\\nquit\\r\\n' | nc 127.0.0.1 11211"
-	@exec crates/wfmc/out/wfmc shop=127.0.0.1:11211,1000000,64000000 blog=127.0.0.1:11212,1000000,64000000
+	@printf '%s\n' "The program is crates/wfmc/out/wfmc. Two tenants, each a memcached of its own; talk to the first, for example, by: printf 'set a 0 0 1\\r\\nx\\r\\nget a\\r\\nquit\\r\\n' | nc 127.0.0.1 11211" \
+		"The log has places for 1048576 commands of both tenants; each later one is answered SERVER_ERROR log full, until wfmc is started again."
+	@exec crates/wfmc/out/wfmc --places 1048576 shop=127.0.0.1:11211,1000000,64000000 blog=127.0.0.1:11212,1000000,64000000
 
 run: kit ## proves, builds and runs mc_stdin on its first run, and prints what it prints
 	@tools/prove.sh mc_stdin >&2
@@ -102,6 +103,9 @@ picture: ## draws docs/house.svg anew from crates.txt
 documents: ## writes docs/PROMISES.md and the numbers in docs/DEFINITIONS.md anew from the sources
 	@python3 tools/promises.py
 	@python3 tools/reading.py --write
+
+layers: ## checks that a definition's name is used once, and that no crate looks into another's proofs; in the gate too
+	@python3 tools/layers.py
 
 definitions: ## lists the definitions that the headline's clauses stand on, and how long the definitions of each crate are
 	@python3 tools/reading.py

@@ -1,10 +1,11 @@
 #!/usr/bin/env bash
-# Runs crates/benches, as built, on the reader, the cells or the places, and prints medians: bench/benches.sh reader|cells|places [RUNS].
+# Runs crates/benches, as built, on the reader, the cells or the places: bench/benches.sh reader|cells|places [RUNS]. Prints the median, the
+# least and the greatest of each measurement, each as a line of its name, its value and its unit with tabs between them.
 #
-# The reader prints the fastest of 7 passes over streams in pieces and byte by byte, next to a scan of the same bytes for line feeds.
-# Cells prints 7 passes over 50,000 entries: a put into a cell and four sightings, next to a push to a plain vector and four reads. Places
-# prints the opening of the greatest log, reads, submits by one, two and four threads, and their steps by kind, each timed by itself; steps of
-# 10 microseconds and more are left out, since the system had stopped their thread.
+# The reader: the fastest of 7 passes over streams in pieces and byte by byte, next to a scan of the same bytes for line feeds. The cells: 7
+# passes over 50,000 entries, each a put into a cell and four sightings, next to a push to a plain vector and four reads. The places: the
+# opening of the greatest log, reads, submits by one, two and four threads, and their steps by kind, each timed by itself; steps of 10
+# microseconds and more are left out, since the system had stopped their thread.
 set -euo pipefail
 cd "$(dirname "$0")/.."
 

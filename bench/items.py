@@ -1,12 +1,11 @@
 #!/usr/bin/env python3
-"""Measures how the cost of a request grows with the keys held, and the memory of a stored item.
+"""Measures how the cost of a request grows with the keys held, and the memory of a stored item: items.py [RUNS].
 
 The built mc_stdin is fed over pipes, and memcached, where it is installed, over loopback. Data have 100 bytes and keys 9, in no order. Each
-figure is measured several times, each time on a new process: printed are the median and the range. Every reply is compared with the bytes
-that are wanted.
+figure is measured RUNS (5) times, each time on a new process: printed are the median, the least and the greatest. Every reply is compared
+with the bytes that are wanted.
 """
 
-import os
 import pathlib
 import random
 import shutil
@@ -18,11 +17,10 @@ import time
 sys.path.insert(0, str(pathlib.Path(__file__).parents[1] / "tests"))
 from harness import repository, servers
 from harness.client import connect
-from harness.measures import median_and_range
+from harness.measures import print_load, print_spread, runs_wanted
 from harness.processes import Process
 
 PROGRAM = repository.program("mc_stdin")
-RUNS = 5
 BLOCK = b"v" * 100
 
 
@@ -96,21 +94,21 @@ def exchange(server, requests, wanted):
     return seconds
 
 
-def rates(kind, phases):
-    """Requests a second of the last phase."""
+def rates(kind, phases, runs):
+    """Requests a second of the last phase, in each run."""
     commands = [requests.count(b"key") for requests, _ in phases]
     found = []
-    for _ in range(RUNS):
+    for _ in range(runs):
         with kind(sum(commands)) as server:
             seconds = [exchange(server, *phase) for phase in phases]
         found.append(commands[-1] / seconds[-1])
     return found
 
 
-def memory(kind, named):
-    """The bytes that a set of these keys took, after 10,000 sets of distinct keys."""
+def memory(kind, named, runs):
+    """The bytes that a set of these keys took, after 10,000 sets of distinct keys, in each run."""
     found = []
-    for _ in range(RUNS):
+    for _ in range(runs):
         with kind(10000 + len(named)) as server:
             exchange(server, *sets(keys(60000)[:10000]))
             before = server.resident()
@@ -119,32 +117,35 @@ def memory(kind, named):
     return found
 
 
+def kinds():
+    """The servers that are measured."""
+    if shutil.which("memcached"):
+        return [Stdin, Memcached]
+    print("memcached isn't installed, so it isn't measured", file=sys.stderr)
+    return [Stdin]
+
+
 def main():
     repository.enter(PROGRAM)
-    kinds = [Stdin]
-    if shutil.which("memcached"):
-        kinds.append(Memcached)
-    else:
-        print("memcached isn't installed, so it isn't measured", file=sys.stderr)
-    print("requests a second: median and range of %d runs; the load at the start was %.1f" % (RUNS, os.getloadavg()[0]))
-    distinct = keys(60000)
-    few, many = keys(1000), keys(50000)
-    rows = [
-        ("60,000 sets of distinct keys", [sets(distinct)]),
-        ("then 5,000 gets of them", [sets(distinct), gets(some(distinct, 5000))]),
-        ("100,000 gets, 1,000 keys held", [sets(few), gets(some(few, 100000))]),
-        ("100,000 gets, 50,000 keys held", [sets(many), gets(some(many, 100000))]),
-        ("100,000 sets, 1,000 keys held", [sets(few), sets(some(few, 100000))]),
-        ("100,000 sets, 50,000 keys held", [sets(many), sets(some(many, 100000))]),
-    ]
-    for what, phases in rows:
-        for kind in kinds:
-            print(f"{what:32} {kind.name:10} {median_and_range(rates(kind, phases), '%.0f')}", flush=True)
-    print("bytes of memory a set, of 50,000 sets after 10,000 others")
-    for what, named in (("of keys not held yet", distinct[10000:]), ("of keys held", some(distinct[:10000], 50000))):
-        for kind in kinds:
-            print(f"{what:32} {kind.name:10} {median_and_range(memory(kind, named), '%.1f')}", flush=True)
-    print("the load at the end was %.1f" % os.getloadavg()[0])
+    runs = runs_wanted(5)
+    print_load("start")
+    distinct, few, many = keys(60000), keys(1000), keys(50000)
+    loads = {
+        "60,000 sets of distinct keys": [sets(distinct)],
+        "5,000 gets after 60,000 sets of distinct keys": [sets(distinct), gets(some(distinct, 5000))],
+        "100,000 gets, 1,000 keys held": [sets(few), gets(some(few, 100000))],
+        "100,000 gets, 50,000 keys held": [sets(many), gets(some(many, 100000))],
+        "100,000 sets, 1,000 keys held": [sets(few), sets(some(few, 100000))],
+        "100,000 sets, 50,000 keys held": [sets(many), sets(some(many, 100000))],
+    }
+    measured = kinds()
+    for what, phases in loads.items():
+        for kind in measured:
+            print_spread(f"{kind.name}, {what}", rates(kind, phases, runs), "requests/s")
+    for what, named in (("a key that isn't held", distinct[10000:]), ("a key that is held", some(distinct[:10000], 50000))):
+        for kind in measured:
+            print_spread(f"{kind.name}, memory of a set of {what}", memory(kind, named, runs), "bytes")
+    print_load("end")
 
 
 main()

@@ -1,5 +1,6 @@
 /* Loads a memcached over loopback: some connections, each with DEPTH requests sent at once and the next when all their replies are
- * there. Prints requests a second, and the median and the 99th percentile of the time from a send to its last reply, in microseconds.
+ * there. Prints requests a second, and the median and the 99th percentile of the time from a send to its last reply, each as a line of
+ * its name, its value and its unit with tabs between them.
  *
  * load PORT[,PORT...] CONNECTIONS DEPTH REQUESTS: the connections go to the ports in turn. 95 in 100 requests are gets of one of 1,000
  * keys, the others sets, with data of 100 bytes; the keys are set before the clock starts. Every reply has a known length, by which it
@@ -152,6 +153,8 @@ int main(int count, char **words) {
     }
     double seconds = (now() - start) / 1e6;
     qsort(times, (size_t)batches, sizeof *times, compare);
-    printf("%.0f %.0f %.0f\n", (double)(batches * depth) / seconds, times[batches / 2], times[batches * 99 / 100]);
+    printf("requests\t%.0f\trequests/s\n", (double)(batches * depth) / seconds);
+    printf("50th percentile of the times to a reply\t%.0f\tus\n", times[batches / 2]);
+    printf("99th percentile of the times to a reply\t%.0f\tus\n", times[batches * 99 / 100]);
     return 0;
 }

@@ -20,7 +20,7 @@ from harness.client import Client
 from harness.measures import Probe
 from harness.servers import LARGE, Server
 
-PROGRAM = repository.program("wfmc")
+PROGRAM = sys.argv[1] if len(sys.argv) > 1 else repository.program("wfmc")
 MEBIBYTE = 1 << 20
 PLACES = ["--places", "1048576"]
 
@@ -403,8 +403,6 @@ TABLES = {name[5:]: show for name, show in list(globals().items()) if name.start
 
 
 def main():
-    global PROGRAM
-    PROGRAM = sys.argv[1] if len(sys.argv) > 1 else PROGRAM
     repository.enter(PROGRAM)
     unknown = [name for name in sys.argv[2:] if name not in TABLES]
     if unknown:

@@ -1,22 +1,22 @@
 #!/usr/bin/env python3
 """Shows where wfmc's processor time goes: samples of the server (perf) under the loads of bench/wfmc.py, with 1 and 2 workers.
 
-Prints for each the shares, in 100, of the kernel and of the program's parts, and then the program's functions with the largest shares. Needs
-perf and gcc, and the right to sample (root, or kernel.perf_event_paranoid at 1 or below).
+Prints for each the shares of the kernel, of the program and of the C library, and then the program's functions with the largest shares.
+Needs perf and gcc, and the right to sample (root, or kernel.perf_event_paranoid at 1 or below).
 """
 
 import collections
-import os
 import pathlib
 import signal
 import subprocess
 import sys
 import tempfile
 
-from wfmc import PROGRAM, build_load, load, start
+from wfmc import PROGRAM, THREADS, build_load, load, shape_name, start
 
 sys.path.insert(0, str(pathlib.Path(__file__).parents[1] / "tests"))
 from harness import repository
+from harness.measures import print_figure, print_load
 from harness.processes import Process
 
 SHAPES = [(50, 1, 900_000), (8, 32, 900_000)]
@@ -40,15 +40,15 @@ def part_of(name):
     return "the kernel" if name.startswith("[") else "wfmc" if "wfmc" in name else "the C library"
 
 
-def show(lines):
-    shares = collections.Counter()
-    for share, name, *_ in lines:
-        shares[part_of(name)] += float(share.rstrip("%"))
-    for part, share in shares.most_common():
-        print(f"  {share:5.1f}  {part}")
-    ours = sorted((float(share.rstrip("%")), " ".join(function).removesuffix(" - -")) for share, name, _, *function in lines if "wfmc" in name)
-    for share, function in ours[:-13:-1]:
-        print(f"    {share:5.2f}% {function}", flush=True)
+def show(name, lines):
+    """Prints the shares of the parts, and those of the program's twelve largest functions."""
+    parts, functions = collections.Counter(), collections.Counter()
+    for share, part, _, *function in lines:
+        parts[part_of(part)] += float(share.rstrip("%"))
+        if part_of(part) == "wfmc":
+            functions[" ".join(function).removesuffix(" - -")] += float(share.rstrip("%"))
+    for what, share in parts.most_common() + functions.most_common(12):
+        print_figure(f"{name}: {what}", share, "percent")
 
 
 def main():
@@ -56,11 +56,11 @@ def main():
     repository.require("perf", "gcc")
     with tempfile.TemporaryDirectory() as folder:
         program = build_load(folder)
+        print_load("start")
         for shape in SHAPES:
-            for workers in (1, 2):
-                print(f"{workers} workers, {shape[0]} x {shape[1]}")
-                show(sample(program, folder, workers, shape))
-    print(f"the load at the end was {os.getloadavg()[0]:.1f}")
+            for workers, workers_name in THREADS.items():
+                show(f"wfmc, {workers_name}, {shape_name(shape)}", sample(program, folder, workers, shape))
+    print_load("end")
 
 
 main()

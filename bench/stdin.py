@@ -1,14 +1,14 @@
 #!/usr/bin/env python3
 """Feeds mc_stdin 60,000 requests: a set, a get, an incr and a cas by turns, with data of 100 bytes, over some number of keys: stdin.py [RUNS].
 
-Prints the median of RUNS (5) runs in requests a second and in MB a second of input: from file to file; through a relay on loopback; and,
-where memcached is installed, memcached through the same relay, whose replies must be the same bytes. Needs socat for the relay.
+Prints the median, the least and the greatest of RUNS (5) runs, their time, requests a second and MB a second of input: from file to file;
+through a relay on loopback; and, where memcached is installed, memcached through the same relay, whose replies must be the same bytes. Needs
+socat for the relay.
 """
 
 import pathlib
 import shutil
 import socket
-import statistics
 import subprocess
 import sys
 import tempfile
@@ -18,6 +18,7 @@ import time
 sys.path.insert(0, str(pathlib.Path(__file__).parents[1] / "tests"))
 from harness import repository
 from harness.client import connect
+from harness.measures import print_load, print_spread, runs_wanted
 from harness.servers import Memcached, Relay
 from oracle.protocol import requests
 from oracle.table import Table
@@ -80,35 +81,37 @@ def through_memcached(stream):
         return through(relay.port, stream)
 
 
-def measure(name, keys, runs, stream, wanted, run):
-    """Prints the median of some runs, each of which has to give the wanted replies."""
+def measure(name, runs, stream, wanted, run):
+    """Prints what some runs took, each of which has to give the wanted replies."""
     times = []
     for _ in range(runs):
         seconds, replies = run(stream)
         if replies != wanted:
             sys.exit(f"{name}: other replies than wanted")
         times.append(seconds)
-    median = statistics.median(times)
-    print(f"{name:20} {keys:6} {1000 * median:9.1f} {REQUESTS / median:12.0f} {len(stream) / median / 1e6:9.1f}", flush=True)
+    print_spread(f"{name}: time", [1000 * seconds for seconds in times], "ms")
+    print_spread(f"{name}: requests", [REQUESTS / seconds for seconds in times], "requests/s")
+    print_spread(f"{name}: input", [len(stream) / seconds / 1e6 for seconds in times], "MB/s")
 
 
 def main():
-    runs = int(sys.argv[1]) if len(sys.argv) > 1 else 5
+    runs = runs_wanted(5)
     repository.enter(PROGRAM)
     kinds = {"mc_stdin": from_file}
     for tool in ("socat", "memcached"):
         if not shutil.which(tool):
             print(f"{tool} isn't installed, so what needs it isn't measured", file=sys.stderr)
     if shutil.which("socat"):
-        kinds["mc_stdin, relay"] = through_relay
+        kinds["mc_stdin by the relay"] = through_relay
         if shutil.which("memcached"):
-            kinds["memcached, relay"] = through_memcached
-    print(f"{'program':20} {'keys':>6} {'ms':>9} {'requests/s':>12} {'MB/s':>9}")
+            kinds["memcached by the relay"] = through_memcached
+    print_load("start")
     for keys in (1, 100, 1_000, 10_000):
         stream = stream_over(keys)
         wanted = replies_to(stream)
         for name, run in kinds.items():
-            measure(name, keys, runs, stream, wanted, run)
+            measure(f"{name}, {keys} key" + "s" * (keys > 1), runs, stream, wanted, run)
+    print_load("end")
 
 
 main()

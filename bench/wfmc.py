@@ -2,10 +2,10 @@
 """Loads wfmc over loopback, compared with memcached, by turns, each started anew for each run: wfmc.py [RUNS].
 
 50 connections with one request at a time, and 8 connections with 32; 95 in 100 are gets, of 1,000 keys with data of 100 bytes
-(bench/load.c); with 1 and 2 workers or threads. Prints for each the median of RUNS (5) runs: requests a second, the median and the 99th
-percentile of the time to a reply (or to the last of 32) in microseconds, the server's processor time a request in microseconds; and the
-server's system calls a request, of a run by itself. Then wfmc with 1, 8 and 64 tenants. wfmc's log has 1,048,576 places, which bounds a
-run. Needs memcached, gcc and strace.
+(bench/load.c); with 1 and 2 workers or threads. Prints for each the median, the least and the greatest of RUNS (5) runs: requests a second,
+the median and the 99th percentile of the time to a reply (or to the last of 32), the server's processor time a request; and the server's
+system calls a request, of a run by itself. Then wfmc with 1, 8 and 64 tenants. wfmc's log has 1,048,576 places, which bounds a run. Needs
+memcached, gcc and strace.
 """
 
 import os
@@ -17,14 +17,20 @@ import tempfile
 
 sys.path.insert(0, str(pathlib.Path(__file__).parents[1] / "tests"))
 from harness import repository
-from harness.measures import medians
+from harness.measures import figures_of, gathered, print_figure, print_load, print_spread, runs_wanted
 from harness.servers import Memcached, Server
 
 PROGRAM = repository.program("wfmc")
 QUOTAS = (100_000, 100_000_000)
-SHAPES = [(50, 1, 400_000), (8, 32, 900_000)]
+SHAPES = [(50, 1, 400_000), (8, 32, 900_000)]  # connections, requests that each sends at once, requests in total
 TRACED = 64_000
 SET_BEFORE = 1_000
+THREADS = {1: "1 thread", 2: "2 threads"}
+
+
+def shape_name(shape):
+    connections, depth, _ = shape
+    return f"{connections} connections of depth {depth}"
 
 
 def build_load(folder):
@@ -35,9 +41,9 @@ def build_load(folder):
 
 
 def load(program, ports, shape):
-    """Loads a server: requests a second, and the median and 99th percentile of the time to a reply."""
+    """Loads a server, and returns what that measured: requests a second, and the median and 99th percentile of the time to a reply."""
     words = [program, ",".join(map(str, ports)), *map(str, shape)]
-    return [float(word) for word in subprocess.run(words, capture_output=True, text=True, check=True).stdout.split()]
+    return list(figures_of(subprocess.run(words, capture_output=True, text=True, check=True).stdout))
 
 
 def start(which, threads, tenants=1, before=()):
@@ -52,11 +58,11 @@ def start(which, threads, tenants=1, before=()):
 
 
 def run(program, which, threads, tenants, shape):
-    """One run: requests a second, median, 99th percentile, and the processor time a request."""
+    """The measurements of one run."""
     server, ports = start(which, threads, tenants)
     with server:
         figures = load(program, ports, shape)
-        return [*figures, server.processor_seconds() / shape[2] * 1e6]
+        return [*figures, ("processor time of a request", server.processor_seconds() / shape[2] * 1e6, "us")]
 
 
 def system_calls(program, folder, which, threads, shape):
@@ -72,40 +78,38 @@ def system_calls(program, folder, which, threads, shape):
     return float(total.split()[3]) / (TRACED + SET_BEFORE)
 
 
-def row(what, *cells):
-    print(f"{what:34} {cells[0]:>12} " + " ".join(f"{cell:>8}" for cell in cells[1:]), flush=True)
-
-
-def cells_of(runs):
-    rate, *times, processor = medians(runs)
-    return f"{rate:,.0f}", *(f"{time:.0f}" for time in times), f"{processor:.2f}"
+def show(name, runs):
+    """Prints what some runs measured."""
+    for (what, unit), values in gathered(runs).items():
+        print_spread(f"{name}: {what}", values, unit)
 
 
 def compare(program, folder, runs):
     """wfmc and memcached by turns."""
     for shape in SHAPES:
-        for threads in (1, 2):
+        for threads, threads_name in THREADS.items():
             found = {"wfmc": [], "memcached": []}
             for _ in range(runs):
                 for which, figures in found.items():
                     figures.append(run(program, which, threads, 1, shape))
             for which, figures in found.items():
-                calls = system_calls(program, folder, which, threads, shape)
-                row(f"{which}, {threads} threads, {shape[0]} x {shape[1]}", *cells_of(figures), f"{calls:.2f}")
+                name = f"{which}, {threads_name}, {shape_name(shape)}"
+                show(name, figures)
+                print_figure(f"{name}: system calls of a request", system_calls(program, folder, which, threads, shape), "count")
 
 
 def main():
-    runs = int(sys.argv[1]) if len(sys.argv) > 1 else 5
+    runs = runs_wanted(5)
     repository.enter(PROGRAM)
     repository.require("memcached", "gcc", "strace")
     with tempfile.TemporaryDirectory() as folder:
         program = build_load(folder)
-        row(f"median of {runs} runs", "requests/s", "median", "p99", "CPU us", "calls")
+        print_load("start")
         compare(program, folder, runs)
-        for tenants in (1, 8, 64):
-            figures = [run(program, "wfmc", 2, tenants, (64, 1, 400_000)) for _ in range(runs)]
-            row(f"wfmc, 2 threads, {tenants} tenants, 64 x 1", *cells_of(figures), "-")
-    print(f"the load at the end was {os.getloadavg()[0]:.1f}")
+        shape = (64, 1, 400_000)
+        for tenants, tenants_name in {1: "1 tenant", 8: "8 tenants", 64: "64 tenants"}.items():
+            show(f"wfmc, {THREADS[2]}, {tenants_name}, {shape_name(shape)}", [run(program, "wfmc", 2, tenants, shape) for _ in range(runs)])
+    print_load("end")
 
 
 if __name__ == "__main__":

@@ -311,11 +311,11 @@ def try_wfmc(environment, every):
         pass
 
 
-CELLS = "crates/uc_tests_cells"
-TOLD = "the call told want of memory, and wrote nothing"
+CELLS = "crates/uc_cells_tests"
+REPORTED = "the call reported that memory ran out, and wrote nothing"
 
 # How often each test's call allocates: a row of cells (its list, its box), and the box of the value.
-ASKS = {"memory::a_put_tells_want_of_memory": 3, "memory::a_sighting_tells_want_of_memory": 3}
+ASKS = {"memory::a_put_reports_out_of_memory": 3, "memory::a_sighting_reports_out_of_memory": 3}
 MOST = 60
 
 
@@ -333,8 +333,8 @@ def ends_of(refused):
 
 
 def try_cells(_environment, _every):
-    """The tests of uc_tests_cells on running out of memory, whose allocations `rt` refuses. Each of them ends well, or runs out of memory before
-    its call, or says that the call reported it and wrote nothing (`TOLD`, the text in crates/uc_tests_cells/src/memory.rt). Any other end is
+    """The tests of uc_cells_tests on running out of memory, whose allocations `rt` refuses. Each of them ends well, or runs out of memory before
+    its call, or says that the call reported it and wrote nothing (`REPORTED`, the text in crates/uc_cells_tests/src/memory.rt). Any other end is
     wrong: above all `Taken` in place of `Memory`, or a cell that was written to."""
     repository.require("rt")
     refusals = collections.Counter()
@@ -342,8 +342,8 @@ def try_cells(_environment, _every):
         ends = ends_of(refused)
         for name in ASKS:
             end = ends.get(name, "it didn't run")
-            refusals[name] += end == TOLD
-            results.check(f"{name}, allocation {refused} refused", end in ("ok", "Memory", TOLD), end)
+            refusals[name] += end == REPORTED
+            results.check(f"{name}, allocation {refused} refused", end in ("ok", "Memory", REPORTED), end)
         if ends == dict.fromkeys(ASKS, "ok"):
             break
     for name, asks in ASKS.items():

@@ -241,7 +241,10 @@ class Round:
 
     def calls(self, ports):
         """Each one who talks: a function and its words."""
-        seed = lambda: self.seeds.randrange(1 << 30)  # noqa: E731
+
+        def seed():
+            return self.seeds.randrange(1 << 30)
+
         for name, quotas in self.tenants.items():
             if name.startswith("solo"):
                 yield solo, (ports[name], seed(), quotas)

@@ -1,7 +1,8 @@
 #!/usr/bin/env bash
 # The gate: the kit's own (every proof from nothing, the mutants of must-fail/, the tests, the programs on their stored runs), and then the
-# built programs on their golden tests, wfmc over sockets, whether its clients' histories are linearizable, a round of the fuzzer, and whether
-# the picture of the crates and the generated documents are up to date. The last line is 'N passed, M failed', in total.
+# built programs on their golden tests, wfmc over sockets, whether its clients' histories are linearizable, a round of the fuzzer, that no
+# crate looks into another's proofs, and that the picture of the crates and the generated documents are up to date. The last line is
+# 'N passed, M failed', in total.
 set -euo pipefail
 cd "$(dirname "$0")/.."
 
@@ -36,7 +37,8 @@ count python3 tests/linearizability.py --self-test
 count python3 tests/linearizability.py 20
 echo "a round of the fuzzer on wfmc"
 count python3 tests/fuzz.py --seed 77 --round 3
-echo "the picture of the crates, and the generated documents"
+echo "names, layers, the picture of the crates, and the generated documents"
+count passes python3 tools/layers.py
 count passes tools/picture.py --check
 count passes python3 tools/promises.py --check
 count passes python3 tools/reading.py --check

@@ -11,6 +11,7 @@ import sys
 
 # What each box says below its name.
 SAYS = {
+    "lists": "lemmas on lists",
     "mc_model": "values, commands, tables",
     "mc_laws": "what follows from them",
     "mc_items": "one table, by its quotas",
@@ -33,7 +34,8 @@ SAYS = {
     "wfmc": "the server",
 }
 PROGRAMS = ("mc_stdin", "mc_schedule", "wfmc")
-KINDS = {"program": ("#ffe3a8", "#8a6100"), "mc": ("#cfe6ff", "#1f5f99"), "uc": ("#d5f0d2", "#2f7a33")}
+# A box's ground and ink, by whether it is a program, and how its crate's name begins if it isn't.
+KINDS = {"program": ("#ffe3a8", "#8a6100"), "li": ("#e6e6e6", "#5a5a5a"), "mc": ("#cfe6ff", "#1f5f99"), "uc": ("#d5f0d2", "#2f7a33")}
 WIDTH, HEIGHT, GAP, STEP, EDGE = 178, 46, 26, 84, 14
 
 
@@ -44,7 +46,7 @@ def read_crates(text):
         if line.strip() and not line.lstrip().startswith("#"):
             name, _, libraries = line.partition(":")
             crates[name.split()[0]] = libraries.split()
-    drawn = {name for name in crates if not name.startswith(("mc_tests_", "uc_tests_")) and name != "benches"}
+    drawn = {name for name in crates if not name.endswith("_tests") and name != "benches"}
     return {name: [it for it in crates[name] if it in drawn] for name in crates if name in drawn}
 
 

@@ -56,7 +56,7 @@ make_room() {
     cp HANDLES "$room"
     for it in $(closure "$crate" | sort -u); do
         cp -al "crates/$it" "$room/crates/"
-        grep "^$it[ :]" crates.txt >>"$room/crates.txt"
+        grep "^${it}[ :]" crates.txt >>"$room/crates.txt"
     done
 }
 

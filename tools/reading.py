@@ -43,7 +43,7 @@ def kind_of(line):
     """What a line of specs/ is counted as: a definition, an import, a comment, or nothing."""
     if not line.strip() or line.startswith("pub mod "):
         return None
-    return "comment" if line.lstrip().startswith("--") else "import" if line.startswith("use ") else "definition"
+    return "comment" if line.lstrip().startswith("--") else "import" if line.startswith(("use ", "pub use ")) else "definition"
 
 
 def sizes():
@@ -80,7 +80,8 @@ def updated(document):
         document = with_numbers(document, f"| [`{call}`](PROMISES.md#{anchor_of(call)})", len(reached), sum(reached.values()))
     document = with_numbers(document, "| all of them", len(together), sum(together.values()))
     table = "\n".join(size_rows())
-    return re.sub(r"(?m)^\| `mc_\w+` \| \d+ \|[^\x00]*?^\| together \|.*$", lambda _: table, document)
+    head = r"(?m)(^\| Crate \| Lines of `specs/` \|.*\n\|[-|]+\|\n)"
+    return re.sub(head + r"(?:\|.*\n)*?\| together \|.*$", lambda found: found[1] + table, document)
 
 
 def print_calls(calls):

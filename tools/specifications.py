@@ -10,7 +10,7 @@ from dataclasses import dataclass, field
 
 ROOT = pathlib.Path(__file__).resolve().parent.parent
 CRATES = ROOT / "crates"
-IMPORT = re.compile(r"^ *(?:ghost )?use Rattle\.(\w+)\.specs\.([\w.]+?)\.\{([^}]*)\}", re.MULTILINE)
+IMPORT = re.compile(r"^ *(?:pub |ghost )?use Rattle\.(\w+)\.specs\.([\w.]+?)\.\{([^}]*)\}", re.MULTILINE)
 DEFINITION = re.compile(r"^(?:  )?(?:(?:abbrev|unfoldable) pub|(?:pub )?(?:record|data)) (\w+)|^(?:pub )?(\w+) *(?:\{[^}]*\} *)?:")
 WORD = re.compile(r"\w+")
 BLOCK = re.compile(r"^(?:pub )?(?:impl|trait)\b.*\{$")
@@ -25,7 +25,7 @@ CLAUSE = re.compile(r"^ *(requires|ensures) (?:(\w+) )?\{")
 def libraries():
     """The crates of the product that others call, in the order of crates.txt."""
     names = re.findall(r"^(\w+)[^#\n]*:", (ROOT / "crates.txt").read_text(encoding="utf-8"), re.MULTILINE)
-    return [name for name in names if "tests" not in name.split("_") and (CRATES / name / "src/lib.rt").exists()]
+    return [name for name in names if not name.endswith("_tests") and (CRATES / name / "src/lib.rt").exists()]
 
 
 def imports_of(text):
@@ -48,7 +48,7 @@ class Definitions:
             text, name = file.read_text(encoding="utf-8"), None
             self.imports[crate, module] = imports_of(text)
             for line in text.splitlines():
-                if not line.strip() or line.lstrip().startswith("--") or line.startswith(("use ", "pub mod ")):
+                if not line.strip() or line.lstrip().startswith("--") or line.startswith(("use ", "pub use ", "pub mod ")):
                     continue
                 begun = DEFINITION.match(line)
                 name = (begun[1] or begun[2]) if begun else name

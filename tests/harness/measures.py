@@ -1,18 +1,49 @@
-"""What several runs measured, in a few figures."""
+"""What was measured, as it is printed: a line for each measurement, of its name, its value and its unit with tabs between them."""
 
+import os
 import statistics
+import sys
 import threading
 import time
 
 
-def median_and_range(figures, form):
-    """The median, the least and the greatest, each printed by this form."""
-    return f"{form % statistics.median(figures)} ({form % min(figures)} to {form % max(figures)})"
+def runs_wanted(usual):
+    """How many runs the first word of the command line asks for."""
+    return int(sys.argv[1]) if len(sys.argv) > 1 else usual
 
 
-def medians(rows):
-    """The median of each column."""
-    return [statistics.median(column) for column in zip(*rows)]
+def print_figure(name, value, unit):
+    """Prints a measurement. The value has no more than three decimals."""
+    print(name, f"{value:.3f}".rstrip("0").rstrip("."), unit, sep="\t", flush=True)
+
+
+def print_spread(name, values, unit):
+    """Prints the median of what several runs measured, and where they differ the least and the greatest too."""
+    print_figure(name, statistics.median(values), unit)
+    if min(values) < max(values):
+        print_figure(f"{name}, least", min(values), unit)
+        print_figure(f"{name}, greatest", max(values), unit)
+
+
+def print_load(when):
+    """Prints how many processes have wanted a processor in the last minute."""
+    print_figure(f"load of the machine at the {when}", os.getloadavg()[0], "processes")
+
+
+def figures_of(text):
+    """The measurements that were printed: name, value and unit."""
+    for line in text.splitlines():
+        name, value, unit = line.split("\t")
+        yield name, float(value), unit
+
+
+def gathered(runs):
+    """The values of each name and unit in all runs."""
+    values = {}
+    for figures in runs:
+        for name, value, unit in figures:
+            values.setdefault((name, unit), []).append(value)
+    return values
 
 
 class Probe:

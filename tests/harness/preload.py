@@ -13,6 +13,9 @@ from .repository import ROOT, require
 REFUSE = ROOT / "tests/refuse.c"
 COUNT = ROOT / "bench/count.c"
 
+# What `costs` counts, and the unit of each.
+COSTS = {"allocations": "count", "allocated": "bytes", "copies": "count", "copied": "bytes", "instructions": "count"}
+
 
 @contextlib.contextmanager
 def library(source):
@@ -34,6 +37,6 @@ def instructions(words, stream=b""):
 
 
 def costs(environment, words, stream=b""):
-    """What a run takes: allocations, their bytes, copies, their bytes, and instructions where valgrind is installed."""
+    """What a run takes, in the order of `COSTS`; instructions only where valgrind is installed."""
     ended = subprocess.run(words, input=stream, capture_output=True, env=environment, check=True)
     return [int(count) for count in ended.stderr.split()] + instructions(words, stream)

@@ -3,14 +3,14 @@ use Rattle.std.proofs.Common.{◌≡◌, ◌∙◌, ◌∷◌, ◌++◌, [], ℕ
 use Rattle.uc_log.specs.declared.log.Log.{Log}
 use Rattle.uc_log.specs.declared.pass.Pass.{Pass}
 use Rattle.uc_log.specs.Passes.{IsNew}
-use Rattle.uc_log.proofs.Lists.{at_end, stands_longer}
+use Rattle.lists.proofs.Public.{last_at, at_longer}
 
 abbrev pub AreNew : Log → List Pass → Type 0
 AreNew log passes = (number : ℕ) (pass : Pass) → slice_get passes number ≡ Some pass → IsNew log number pass
 
 pub last_new : (log : Log) (passes fewer : List Pass) (pass : Pass) → passes ≡ fewer ++ pass ∷ [] → AreNew log passes → IsNew log (length fewer) pass
-last_new log passes fewer pass is new = new (length fewer) pass (ap (λ (list : List Pass). slice_get list (length fewer)) is ∙ at_end fewer pass)
+last_new log passes fewer pass is new = new (length fewer) pass (ap (λ (list : List Pass). slice_get list (length fewer)) is ∙ last_at fewer pass)
 
 pub fewer_new : (log : Log) (passes fewer : List Pass) (pass : Pass) → passes ≡ fewer ++ pass ∷ [] → AreNew log passes → AreNew log fewer
 fewer_new log passes fewer pass is new number one at = new number one
-    (ap (λ (list : List Pass). slice_get list number) is ∙ stands_longer fewer (pass ∷ []) number one at)
+    (ap (λ (list : List Pass). slice_get list number) is ∙ at_longer fewer (pass ∷ []) number one at)

@@ -1,6 +1,7 @@
 //! The cells: a put of an entry and four sightings of it, compared with a push of an entry to a
-//! plain vector and four reads of it. With `timed` it prints the nanoseconds of each pass,
-//! otherwise how many entries were counted.
+//! plain vector and four reads of it. Of each pass it prints how often an entry was seen and read,
+//! and if timed the nanoseconds of an entry.
+use crate::figures::{Decimal, nanoseconds_of, print_figure};
 use mc_model::{Command, Entry, Key, KeyList, TenantId, Ticket, WorkerId};
 use std::alloc::{AllocError, Global};
 use std::io;
@@ -80,7 +81,7 @@ fn push_and_read(log: &mut Vec<Entry>, entries: Vec<Entry>) -> Option<u64> {
     Some(count)
 }
 
-/// Does a pass and prints a line about it.
+/// Does a pass and prints its measurements.
 fn report(rt: &(impl AllocGlobal + Clock + Print), timed: bool) -> io::Result<()> {
     let alloc = rt.alloc();
     let ours = entries(alloc).ok_or(AllocError)?;
@@ -88,16 +89,20 @@ fn report(rt: &(impl AllocGlobal + Clock + Print), timed: bool) -> io::Result<()
     let cells = Cells::open(alloc, 1, ENTRIES).map_err(|_| AllocError)?;
     let start = Instant::now(rt)?;
     let seen = put_and_see(alloc, &cells, ours).ok_or(AllocError)?;
-    let cells_time = start.elapsed(rt)?.as_nanos();
+    let cells_time = nanoseconds_of(start.elapsed(rt)?);
     let mut log = Vec::new(alloc);
     let start = Instant::now(rt)?;
     let read = push_and_read(&mut log, plain).ok_or(AllocError)?;
-    let plain_time = start.elapsed(rt)?.as_nanos();
+    let plain_time = nanoseconds_of(start.elapsed(rt)?);
+    print_figure(rt, "entries seen in cells", seen, "count")?;
+    print_figure(rt, "entries read in a plain vector", read, "count")?;
     if timed {
-        println!(rt; "cells {cells_time} ns, plain {plain_time} ns")
-    } else {
-        println!(rt; "{seen} seen, {read} read")
+        let each = Decimal::quotient(cells_time, ENTRIES);
+        print_figure(rt, "a put into a cell, and four sightings", each, "ns")?;
+        let each = Decimal::quotient(plain_time, ENTRIES);
+        print_figure(rt, "a push to a plain vector, and four reads", each, "ns")?;
     }
+    Ok(())
 }
 
 /// Does all passes.

@@ -1,10 +1,12 @@
 //! Measures the reader, the cells, the shared words or submits, as the first word says, each by
-//! itself and without the programs. With `--time` after it, what depends on the machine is printed
-//! too; submits take further words. Without a word each of the four is run, and what it counted is
-//! printed.
+//! itself and without the programs. Each line that is printed is a measurement: its name, its value
+//! and its unit, with tabs between them. With `--time` after the first word, what depends on the
+//! machine is printed too; submits take further words. Without a word each of the four is run, and
+//! what it counted is printed.
 #![tactic(auto)]
 
 mod cells;
+mod figures;
 mod places;
 mod reader;
 mod submits;

@@ -1,12 +1,14 @@
 //! The shared words: the opening of the greatest log, reads one after another, and submits by one,
 //! two and four threads. Prints what was counted, and if timed also what depends on the machine:
-//! nanoseconds, memory, and how the threads' steps interleaved.
+//! times, memory, and how the threads' steps interleaved.
 ghost use Rattle.std.specs.Prelude.{◌≡◌, ◌<◌, ◌≤◌, ℕ, slice_get, Some, IfSome};
 ghost use Rattle.mc_model.specs.declared.id.TheConstants.{WORKERS};
 ghost use Rattle.uc_places.specs.Calls.{IsSeatOf};
 
+use crate::figures::{Decimal, nanoseconds_of, print_figure};
 use mc_model::Fault;
 use std::alloc::{AllocError, Global};
+use std::fmt::{self, Display, Formatter, Write};
 use std::fs::Files;
 use std::rt::Clock;
 use std::thread::{Threads, map_vec};
@@ -25,6 +27,8 @@ const PLACES: u64 = 65_536;
 /// A step that takes this long was interrupted.
 const STOPPED_NANOSECONDS: u64 = 10_000;
 
+const NANOSECONDS_OF_A_MILLISECOND: u64 = 1_000_000;
+
 /// The kinds of steps.
 #[derive(Clone, Copy)]
 enum Kind {
@@ -40,6 +44,15 @@ enum Kind {
     /// A step of any kind in which its thread was stopped.
     Stopped,
 }
+
+/// The kinds that are steps of a submit, and what they are called.
+const STEPS: [(&str, Kind); 5] = [
+    ("announce", Kind::Announce),
+    ("read of a decided place", Kind::Find),
+    ("read of an empty place", Kind::Miss),
+    ("look", Kind::Look),
+    ("propose", Kind::Propose),
+];
 
 /// A number for each kind of step.
 #[derive(Clone, Copy, Default)]
@@ -66,6 +79,28 @@ impl Each {
             Kind::Stopped => &mut self.stopped,
         };
         *old = old.saturating_add(more);
+    }
+
+    /// Returns the number of the kind.
+    fn of(&self, kind: Kind) -> u64 {
+        match kind {
+            Kind::Announce => self.announce,
+            Kind::Find => self.find,
+            Kind::Miss => self.miss,
+            Kind::Look => self.look,
+            Kind::Propose => self.propose,
+            Kind::Nothing => self.nothing,
+            Kind::Stopped => self.stopped,
+        }
+    }
+
+    /// Returns the sum over the steps of submits.
+    fn taken(&self) -> u64 {
+        let mut sum = 0u64;
+        for (_, kind) in STEPS {
+            sum = sum.saturating_add(self.of(kind));
+        }
+        sum
     }
 
     /// Returns the sums of both, kind by kind.
@@ -121,7 +156,7 @@ impl<'a, R: Clock> Watch for Stopwatch<'a, R> {
 
     fn end(&mut self, kind: Kind) {
         let time = now(self.clock).saturating_sub(self.start);
-        let nanoseconds = u64::try_from(time.as_nanos()).unwrap_or(u64::MAX);
+        let nanoseconds = nanoseconds_of(time);
         // The system gave the processor to others, which says nothing about the step.
         let kind = if nanoseconds < STOPPED_NANOSECONDS {
             kind
@@ -222,7 +257,7 @@ struct Run {
     /// How many places were decided in the end.
     decided: usize,
     /// From before the first thread's start until after the last one's end.
-    nanoseconds: u128,
+    nanoseconds: u64,
     steps: Each,
     /// The time of all workers' steps of each kind, each with one reading of the clock; zero if the
     /// steps were only counted.
@@ -254,7 +289,7 @@ fn run_threads<R: Threads + Clock + Sync>(
     let log = close(alloc, places, Vec::new(alloc))?;
     let mut run = Run {
         decided: log.len(),
-        nanoseconds: time.as_nanos(),
+        nanoseconds: nanoseconds_of(time),
         steps: Each::default(),
         step_nanoseconds: Each::default(),
     };
@@ -355,23 +390,42 @@ fn status_of<R: Files + AllocGlobal>(rt: &R, head: &str) -> io::Result<u64> {
     Ok(number.and_then(|number| number.parse().ok()).unwrap_or(0))
 }
 
+/// Prints how many bytes the log has for each place, from what the process held before and what it
+/// holds now, in kB.
+fn print_memory(rt: &impl Print, name: &str, before: u64, now: u64) -> io::Result<()> {
+    let bytes = now.saturating_sub(before).saturating_mul(1_024);
+    print_figure(rt, name, Decimal::quotient(bytes, MOST_PLACES), "bytes")
+}
+
 /// Opens the greatest log and drops it.
 fn report_open(rt: &(impl AllocGlobal + Clock + Files + Print), timed: bool) -> io::Result<()> {
     let before = if timed { status_of(rt, "VmRSS:")? } else { 0 };
     let start = Instant::now(rt)?;
     let (places, seats) = open(rt.alloc(), MOST_WORKERS, MOST_PLACES).map_err(|_| AllocError)?;
-    let nanoseconds = start.elapsed(rt)?.as_nanos();
-    let count = seats.len();
-    println!(rt; "opened: {count} seats")?;
+    let nanoseconds = nanoseconds_of(start.elapsed(rt)?);
+    print_figure(rt, "seats of the greatest log", seats.len(), "count")?;
     if timed {
         let after = status_of(rt, "VmRSS:")?;
         let most = status_of(rt, "VmHWM:")?;
-        println!(rt;
-            "open: {nanoseconds} ns, {before} kB before, {after} kB after, {most} kB at most"
-        )?;
+        let milliseconds = Decimal::quotient(nanoseconds, NANOSECONDS_OF_A_MILLISECOND);
+        print_figure(rt, "opening of the greatest log", milliseconds, "ms")?;
+        print_memory(rt, "memory held for a place", before, after)?;
+        print_memory(rt, "memory for a place while it opens", before, most)?;
     }
     drop(places);
     Ok(())
+}
+
+/// Prints the nanoseconds of a read, from when many of them began and ended.
+fn print_read(
+    rt: &impl Print,
+    name: &str,
+    begin: Duration,
+    end: Duration,
+    reads: u64,
+) -> io::Result<()> {
+    let nanoseconds = nanoseconds_of(end.saturating_sub(begin));
+    print_figure(rt, name, Decimal::quotient(nanoseconds, reads), "ns")
 }
 
 /// Times one worker's reads of what another has decided.
@@ -379,29 +433,60 @@ fn report_reads(rt: &(impl AllocGlobal + Clock + Print), timed: bool) -> io::Res
     let (places, seats) = open(rt.alloc(), 2, PLACES).map_err(|_| AllocError)?;
     let (first, second) = both_seats(&places, seats).ok_or(AllocError)?;
     let Reads { times, learned } = read_parts(rt, &places, first, second).ok_or(AllocError)?;
-    println!(rt; "read: {learned} places")?;
+    print_figure(rt, "places read", learned, "count")?;
     if timed {
-        let idle = times[1].saturating_sub(times[0]).as_nanos();
-        let pending = times[3].saturating_sub(times[2]).as_nanos();
-        let empty = times[4].saturating_sub(times[3]).as_nanos();
-        println!(rt; "reads: {idle} ns idle, {pending} ns pending, {empty} ns empty")?;
+        let half = PLACES / 2;
+        let name = "read of a decided place by an idle worker";
+        print_read(rt, name, times[0], times[1], half)?;
+        let name = "read of a decided place by a pending worker";
+        print_read(rt, name, times[2], times[3], half - 1)?;
+        let name = "read of an empty place again and again";
+        print_read(rt, name, times[3], times[4], PLACES)?;
     }
     Ok(())
 }
 
-/// Prints the numbers of each kind.
-fn print_each(rt: &impl Print, what: &str, each: &Each) -> io::Result<()> {
-    let Each {
-        announce,
-        find,
-        miss,
-        look,
-        propose,
-        nothing,
-        stopped,
-    } = *each;
-    print!(rt; "{what}: {announce} announce, {find} find, {miss} miss, {look} look, ")?;
-    println!(rt; "{propose} propose, {nothing} nothing, {stopped} stopped")
+/// How many threads there are: the head of a measurement's name.
+#[derive(Clone, Copy, Drop)]
+struct Head(u8);
+
+impl Display for Head {
+    fn fmt<W: Write>(&self, f: &mut Formatter<W>) -> fmt::Result {
+        let count = self.0;
+        match count {
+            1 => write!(f, "1 thread"),
+            _ => write!(f, "{count} threads"),
+        }
+    }
+}
+
+/// Prints what a submit and a step take, if the steps are only counted.
+fn print_counted(rt: &impl Print, head: Head, run: &Run) -> io::Result<()> {
+    let nanoseconds = run.nanoseconds;
+    let steps = run.steps.taken();
+    let each = Decimal::quotient(nanoseconds, PLACES);
+    print_figure(rt, format_args!("{head}: a submit"), each, "ns")?;
+    let each = Decimal::quotient(steps, PLACES);
+    print_figure(rt, format_args!("{head}: steps of a submit"), each, "steps")?;
+    let each = Decimal::quotient(nanoseconds.saturating_mul(u64::from(head.0)), steps);
+    print_figure(rt, format_args!("{head}: a step of a thread"), each, "ns")
+}
+
+/// Prints what a step of each kind takes by itself. What two readings of the clock take with
+/// nothing between them is subtracted.
+fn print_watched(rt: &impl Print, head: Head, run: &Run) -> io::Result<()> {
+    let clock = Decimal::quotient(run.step_nanoseconds.nothing, run.steps.nothing);
+    for (name, kind) in STEPS {
+        let count = run.steps.of(kind);
+        if count > 0 {
+            let each = Decimal::quotient(run.step_nanoseconds.of(kind), count).minus(clock);
+            print_figure(rt, format_args!("{head}: {name} by itself"), each, "ns")?;
+        }
+    }
+    let name = format_args!("{head}: two readings of the clock");
+    print_figure(rt, name, clock, "ns")?;
+    let name = format_args!("{head}: steps in which a thread was stopped");
+    print_figure(rt, name, run.steps.stopped, "steps")
 }
 
 /// Has this many workers announce all commands of a log, first with their steps counted, then with
@@ -413,17 +498,16 @@ fn report_threads<R: AllocGlobal + Clock + Print + Threads + Sync>(
 ) -> io::Result<()>
     requires { (0 < workers) × (workers ≤ WORKERS) }
 {
+    let head = Head(workers);
     let counted = run_threads(rt, rt.alloc(), workers, false).map_err(|_| AllocError)?;
     let watched = run_threads(rt, rt.alloc(), workers, true).map_err(|_| AllocError)?;
-    let decided = counted.decided;
-    let again = watched.decided;
-    println!(rt; "{workers} threads: {decided} decided, {again} again")?;
+    let name = format_args!("{head}: places decided");
+    print_figure(rt, name, counted.decided, "count")?;
+    let name = format_args!("{head}: places decided while steps are timed");
+    print_figure(rt, name, watched.decided, "count")?;
     if timed {
-        let nanoseconds = counted.nanoseconds;
-        println!(rt; "submits of {workers}: {nanoseconds} ns")?;
-        print_each(rt, "steps", &counted.steps)?;
-        print_each(rt, "timed steps", &watched.steps)?;
-        print_each(rt, "nanoseconds", &watched.step_nanoseconds)?;
+        print_counted(rt, head, &counted)?;
+        print_watched(rt, head, &watched)?;
     }
     Ok(())
 }

@@ -1,9 +1,10 @@
 //! The reader alone: fed byte by byte with streams of one request each, and in pieces with streams
 //! of many requests, compared with a scan of the same bytes for line feeds. Prints the bytes of
 //! each stream and how many requests (for a scan, line feeds) were counted, and if timed the
-//! nanoseconds of the fastest of some passes.
+//! nanoseconds of a byte and the throughput, both of the fastest of some passes.
 ghost use Rattle.std.specs.Prelude.{◌<◌};
 
+use crate::figures::{Decimal, nanoseconds_of, print_figure};
 use mc_model::Fault;
 use mc_read::Reader;
 use memchr::memchr_iter;
@@ -30,6 +31,16 @@ enum Task {
     ReadPieces,
     /// Searched for line feeds.
     Scan,
+}
+
+impl Task {
+    /// Returns what does it, and what is counted.
+    fn words(self) -> (&'static str, &'static str) {
+        match self {
+            Task::ReadBytes | Task::ReadPieces => ("reader", "requests"),
+            Task::Scan => ("scan", "line feeds"),
+        }
+    }
 }
 
 /// Returns how many requests the stream gives, fed in pieces of this size.
@@ -80,22 +91,54 @@ fn fastest_pass(
     Ok(fastest)
 }
 
-/// Does the task and prints a line about it.
+/// A stream, and what it is called.
+#[derive(Clone, Copy)]
+struct Stream<'a> {
+    name: &'a str,
+    text: &'a str,
+}
+
+/// Does the task and prints its measurements.
 fn report(
     rt: &(impl AllocGlobal + Clock + Print),
-    name: &str,
+    stream: Stream<'_>,
     task: Task,
-    stream: &[u8],
     timed: bool,
 ) -> io::Result<()> {
-    let bytes = stream.len();
-    let count = run(rt.alloc(), task, stream)?;
-    print!(rt; "{name}: {bytes} bytes, {count} counted")?;
+    let Stream { name, text } = stream;
+    let bytes = text.as_bytes();
+    let (what, counted) = task.words();
+    let count = run(rt.alloc(), task, bytes)?;
+    print_figure(
+        rt,
+        format_args!("{what}, {name}: {counted}"),
+        count,
+        "count",
+    )?;
     if timed {
-        let nanoseconds = fastest_pass(rt, task, stream, count)?.as_nanos();
-        print!(rt; ", {nanoseconds} ns")?;
+        let nanoseconds = nanoseconds_of(fastest_pass(rt, task, bytes, count)?);
+        let size = bytes.len() as u64;
+        let each = Decimal::quotient(nanoseconds, size);
+        print_figure(rt, format_args!("{what}, {name}: a byte"), each, "ns")?;
+        let rate = Decimal::quotient(size.saturating_mul(1_000), nanoseconds);
+        print_figure(rt, format_args!("{what}, {name}: throughput"), rate, "MB/s")?;
     }
-    println!(rt)
+    Ok(())
+}
+
+/// Does the tasks, one after another.
+fn report_all(
+    rt: &(impl AllocGlobal + Clock + Print),
+    stream: Stream<'_>,
+    tasks: &[Task],
+    timed: bool,
+) -> io::Result<()> {
+    let Stream { name, text } = stream;
+    print_figure(rt, format_args!("{name}: size"), text.len(), "bytes")?;
+    for task in tasks {
+        report(rt, stream, *task, timed)?;
+    }
+    Ok(())
 }
 
 /// Reads a stream of this request again and again, and scans the same bytes.
@@ -105,28 +148,43 @@ fn report_many(
     request: &str,
     timed: bool,
 ) -> io::Result<()> {
-    let stream = request.repeat(rt.alloc(), STREAM_BYTES / request.len().max(1))?;
-    report(rt, name, Task::ReadPieces, stream.as_bytes(), timed)?;
-    report(rt, "scan", Task::Scan, stream.as_bytes(), timed)
+    let text = request.repeat(rt.alloc(), STREAM_BYTES / request.len().max(1))?;
+    let stream = Stream {
+        name,
+        text: text.as_str(),
+    };
+    report_all(rt, stream, &[Task::ReadPieces, Task::Scan], timed)
 }
 
 /// Reads all streams.
 pub(crate) fn run_all(rt: &(impl AllocGlobal + Clock + Print), timed: bool) -> io::Result<()> {
+    let alloc = rt.alloc();
     for size in [16_384, 65_536] {
-        let line = "a".repeat(rt.alloc(), size)?;
-        let stream = format!(in rt.alloc(); "{line}\n")?;
-        report(rt, "line", Task::ReadBytes, stream.as_bytes(), timed)?;
+        let name = format!(in alloc; "a line of {size} bytes")?;
+        let line = "a".repeat(alloc, size)?;
+        let text = format!(in alloc; "{line}\n")?;
+        let stream = Stream {
+            name: name.as_str(),
+            text: text.as_str(),
+        };
+        report_all(rt, stream, &[Task::ReadBytes], timed)?;
     }
     for size in [262_144, 1_048_576] {
-        let block = "z".repeat(rt.alloc(), size)?;
-        let stream = format!(in rt.alloc(); "set a 0 0 {size}\r\n{block}\r\n")?;
-        report(rt, "block", Task::ReadBytes, stream.as_bytes(), timed)?;
+        let name = format!(in alloc; "a block of {size} bytes")?;
+        let block = "z".repeat(alloc, size)?;
+        let text = format!(in alloc; "set a 0 0 {size}\r\n{block}\r\n")?;
+        let stream = Stream {
+            name: name.as_str(),
+            text: text.as_str(),
+        };
+        report_all(rt, stream, &[Task::ReadBytes], timed)?;
     }
-    report_many(rt, "get", "get key:00001234\r\n", timed)?;
+    report_many(rt, "gets", "get key:00001234\r\n", timed)?;
     for size in [100, 4_096] {
-        let block = "z".repeat(rt.alloc(), size)?;
-        let request = format!(in rt.alloc(); "set key:00001234 0 0 {size}\r\n{block}\r\n")?;
-        report_many(rt, "set", request.as_str(), timed)?;
+        let name = format!(in alloc; "sets of {size} bytes")?;
+        let block = "z".repeat(alloc, size)?;
+        let request = format!(in alloc; "set key:00001234 0 0 {size}\r\n{block}\r\n")?;
+        report_many(rt, name.as_str(), request.as_str(), timed)?;
     }
     Ok(())
 }

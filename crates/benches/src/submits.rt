@@ -1,9 +1,10 @@
 //! Submits: workers of a shared log, each in its own thread, submit gets and sets; or the same
 //! commands are applied to plain tables, or are only made. Prints what was answered, and if timed
-//! also what depends on the machine: nanoseconds, and the steps.
+//! also what depends on the machine: the nanoseconds of a submit, and its steps.
 ghost use Rattle.std.specs.Prelude.{◌≡◌, ℕ, Some, slice_get};
 ghost use Rattle.uc_log.specs.Passes.{IsNew};
 
+use crate::figures::{Decimal, nanoseconds_of, print_figure};
 use mc_items::Items;
 use mc_items::tables::tables_of;
 use mc_model::settings::{MAX_BYTES, MAX_ITEMS};
@@ -160,8 +161,11 @@ fn command_of(alloc: Global, text: &str) -> Result<Command, Fault> {
     }
 }
 
-/// How many steps a worker took: announcements, reads, looks, proposals and replays.
-#[derive(Clone, Copy, Debug, Default)]
+/// What the steps of a submit are called, in the order of `Step`.
+const STEPS: [&str; 5] = ["announce", "read", "look", "propose", "replay"];
+
+/// How many steps of each kind a worker took.
+#[derive(Clone, Copy, Default)]
 struct Steps([u64; 5]);
 
 impl Gate for Steps {
@@ -172,8 +176,17 @@ impl Gate for Steps {
     }
 }
 
+impl Steps {
+    /// Adds the steps of another worker.
+    fn add(&mut self, other: Steps) {
+        for (sum, count) in self.0.iter_mut().zip(other.0) {
+            *sum = sum.saturating_add(count);
+        }
+    }
+}
+
 /// What became of a worker's commands.
-#[derive(Clone, Copy, Debug, Default)]
+#[derive(Clone, Copy, Default)]
 struct Work {
     answered: u64,
     stored: u64,
@@ -186,8 +199,7 @@ struct Work {
 
 /// Returns what the clock shows, in nanoseconds, or zero if it can't be read.
 fn now(clock: &impl Clock) -> u64 {
-    let time = clock.monotonic().unwrap_or(Duration::ZERO);
-    u64::try_from(time.as_nanos()).unwrap_or(u64::MAX)
+    nanoseconds_of(clock.monotonic().unwrap_or(Duration::ZERO))
 }
 
 /// What answers commands.
@@ -347,8 +359,43 @@ fn perform<R: Clock + Threads + Sync>(
     }
 }
 
-/// Does what these words of the command line ask for, and prints a line for each worker; two if
-/// timed.
+/// Prints the nanoseconds of a submit, from the first worker's start to the last one's end, over
+/// how many all of them did; and the steps of one, and the most proposals for one.
+fn print_submits(rt: &impl Print, works: &[Work]) -> io::Result<()> {
+    let mut answered = 0u64;
+    let mut start = u64::MAX;
+    let mut end = 0u64;
+    let mut most = 0u64;
+    let mut steps = Steps::default();
+    for work in works {
+        answered = answered.saturating_add(work.answered);
+        start = start.min(work.times[0]);
+        end = end.max(work.times[PARTS]);
+        most = most.max(work.most);
+        steps.add(work.steps);
+    }
+    let each = Decimal::quotient(end.saturating_sub(start), answered);
+    print_figure(rt, "a submit", each, "ns")?;
+    for (name, count) in STEPS.iter().zip(steps.0) {
+        let each = Decimal::quotient(count, answered);
+        print_figure(rt, format_args!("{name} of a submit"), each, "steps")?;
+    }
+    print_figure(rt, "most proposals for a command", most, "proposals")
+}
+
+/// Prints the nanoseconds of a submit in each part of a worker's commands.
+fn print_parts(rt: &impl Print, work: &Work) -> io::Result<()> {
+    let each = work.answered / PARTS as u64;
+    let mut start = work.times[0];
+    for (at, end) in work.times.iter().enumerate().skip(1) {
+        let time = Decimal::quotient(end.saturating_sub(start), each);
+        print_figure(rt, format_args!("a submit in tenth {at}"), time, "ns")?;
+        start = *end;
+    }
+    Ok(())
+}
+
+/// Does what these words of the command line ask for, and prints the measurements.
 pub(crate) fn run<R: AllocGlobal + Clock + Print + Threads + Sync>(
     rt: &R,
     words: &[String],
@@ -358,11 +405,16 @@ pub(crate) fn run<R: AllocGlobal + Clock + Print + Threads + Sync>(
         load.hear(word.as_str()).ok_or(io::ErrorKind::InvalidInput)?;
     }
     let works = perform(rt, rt.alloc(), &load).map_err(|_| io::ErrorKind::Other)?;
-    for work in &works {
-        let (answered, stored) = (work.answered, work.stored);
-        println!(rt; "{answered} answered, {stored} stored")?;
-        if load.timed {
-            println!(rt; "{work:?}")?;
+    for (worker, work) in works.iter().enumerate() {
+        let name = format_args!("worker {worker}: commands answered");
+        print_figure(rt, name, work.answered, "count")?;
+        let name = format_args!("worker {worker}: commands stored");
+        print_figure(rt, name, work.stored, "count")?;
+    }
+    if load.timed {
+        print_submits(rt, &works)?;
+        if let [work] = works.as_slice() {
+            print_parts(rt, work)?;
         }
     }
     Ok(())

@@ -5,8 +5,8 @@ use Rattle.mc_model.specs.declared.command.Command.{Command}
 use Rattle.mc_model.specs.declared.id.Ticket.{Ticket}
 use Rattle.mc_model.specs.declared.reply.Reply.{Reply}
 use Rattle.mc_model.specs.Legal.{count, ticket_of}
-use Rattle.uc_core.proofs.Lists.{beyond, take_more}
-use Rattle.uc_core.proofs.Tickets.{count_own}
+use Rattle.lists.proofs.Public.{beyond, take_more}
+use Rattle.mc_model.proofs.Public.{count_own}
 use Rattle.uc_worker.specs.declared.worker.Worker.{Worker}
 use Rattle.uc_worker.specs.Worker.{seat_of}
 use Rattle.mc_conn.specs.Onward.{own_sighting}

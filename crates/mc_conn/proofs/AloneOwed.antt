@@ -8,15 +8,16 @@ use Rattle.std.proofs.lemmas.Option.{slice_get_within}
 use Rattle.mc_model.specs.declared.command.Command.{Command}
 use Rattle.mc_model.specs.declared.reply.Reply.{Reply}
 use Rattle.mc_model.specs.declared.reply.Reply.TheVariants.{Refused}
-use Rattle.mc_model.specs.declared.reply.WireNo.TheVariants.{E5, E10}
+use Rattle.mc_model.specs.declared.reply.TheConstants.WireNo.{LINE_TOO_LONG, LOG_FULL}
 use Rattle.mc_model.specs.declared.request.Request.{Request}
 use Rattle.mc_model.specs.declared.request.Request.TheVariants.{Local, Logged, Quit, TooLong}
 use Rattle.mc_model.specs.declared.settings.Limits.{Limits}
-use Rattle.mc_model.specs.History.{answer, answer-more, answer_from, state_after}
-use Rattle.mc_model.specs.Log.{own, own-push}
+use Rattle.mc_model.specs.History.{answer, answer_from, state_after}
+use Rattle.mc_model.proofs.Public.{answer-more, own-push}
+use Rattle.mc_model.specs.Log.{own}
 use Rattle.mc_write.specs.Text.{text}
-use Rattle.uc_cells.specs.Sighting.{Sighting, entries}
-use Rattle.uc_core.proofs.Lists.{take_more}
+use Rattle.uc_worker.specs.Cited.{Sighting, entries}
+use Rattle.lists.proofs.Public.{take_more}
 use Rattle.uc_worker.specs.declared.worker.Worker.{Worker}
 use Rattle.uc_worker.specs.Worker.{history_of}
 use Rattle.mc_conn.specs.declared.conn.Role.TheVariants.{Tenant}
@@ -35,7 +36,7 @@ with_room limits base places applied command room = let is = lt-ltb _ _ room in 
 
 -- and if none is
 without_room : (limits : Limits) (base : List Command) (places : ℕ) (applied : List Command) (command : Command) → places ≤ length applied →
-    (logged_reply limits base places applied command ≡ Refused E10) × (applied_with places applied command ≡ applied)
+    (logged_reply limits base places applied command ≡ Refused LOG_FULL) × (applied_with places applied command ≡ applied)
 without_room limits base places applied command full = let is = not_less (length applied) places full in (rw is refl, rw is refl)
 
 module _ (limits : Limits) (base : List Command) (places : ℕ) (worker : Worker) (alone : IsAloneOver limits base places worker) where
@@ -112,7 +113,7 @@ module _ (limits : Limits) (base : List Command) (places : ℕ) (worker : Worker
       all ∙ (ap (λ it. answered quiet it ++ rest) one.0 ∙ ap (λ it. answered quiet (logged_reply limits base places applied command) ++ it) others)
   in_order (Local reply quiet ∷ requests) from to applied bytes up (rest, all, owes) = all ∙ ap (λ it. answered quiet reply ++ it) (in_order requests from to applied rest up owes)
   in_order (Quit ∷ requests) from to applied bytes up (rest, all, owes) = all ∙ in_order requests from to applied rest up owes
-  in_order (TooLong ∷ requests) from to applied bytes up (rest, all, owes) = all ∙ ap (λ it. text (Refused E5) ++ it) (in_order requests from to applied rest up owes)
+  in_order (TooLong ∷ requests) from to applied bytes up (rest, all, owes) = all ∙ ap (λ it. text (Refused LINE_TOO_LONG) ++ it) (in_order requests from to applied rest up owes)
 
   pub owes_in_order : (requests : List Request) (bytes : List ℕ) (to : Mark) → Owes worker (Tenant 0) first_mark requests bytes to → bytes ≡ owed_after limits base places [] requests
   owes_in_order requests bytes to owes = in_order requests first_mark to [] bytes (inl (none_yet (history_of worker), refl, omega arith)) owes

@@ -5,23 +5,21 @@ use Rattle.mc_model.specs.declared.fault.Fault.{Fault}
 use Rattle.mc_model.specs.declared.fault.Fault.TheVariants.{LogFull}
 use Rattle.mc_model.specs.declared.reply.Reply.{Reply}
 use Rattle.mc_model.specs.declared.reply.Reply.TheVariants.{Refused}
-use Rattle.mc_model.specs.declared.reply.WireNo.TheVariants.{E10}
+use Rattle.mc_model.specs.declared.reply.TheConstants.WireNo.{LOG_FULL}
 use Rattle.mc_model.specs.declared.request.Request.{Request}
 use Rattle.mc_model.specs.declared.request.Request.TheVariants.{Logged}
 use Rattle.mc_model.specs.Replay.{reply_to}
-use Rattle.uc_cells.specs.Sighting.{Sighting, entries}
-use Rattle.uc_log.specs.Passes.{next_entry}
-use Rattle.uc_places.specs.SeatLaw.{SeatLaw}
+use Rattle.uc_worker.specs.Cited.{SeatLaw, Sighting, entries, next_entry}
 use Rattle.uc_worker.specs.declared.worker.Worker.{Worker}
 use Rattle.uc_worker.specs.Steps.{Leaves}
 use Rattle.uc_worker.specs.Worker.{announced_of, history_of, next_of, seat_of}
-use Rattle.uc_worker.proofs.Lists.{begins_length, last_at}
+use Rattle.lists.proofs.Public.{begins_longer, last_at}
 use Rattle.mc_conn.specs.Onward.{own_entry, own_sighting}
 use Rattle.uc_worker.specs.declared.worker.Answer.{Answer}
 use Rattle.uc_worker.specs.Going.{AnnouncesAtMost, Continues, Submits}
 use Rattle.mc_conn.specs.declared.conn.Role.TheVariants.{Tenant}
 use Rattle.mc_conn.specs.Owed.{answered, demand_of, mark_of}
-use Rattle.mc_conn.specs.Parts.{Answers, MayAnnounce, MayAnnounceFor, Responds}
+use Rattle.mc_conn.specs.Parts.{AnswersCommand, MayAnnounce, MayAnnounceFor, Responds}
 use Rattle.mc_conn.proofs.Counts.{number_below}
 use Rattle.mc_conn.proofs.Owings.{same_entry, same_sighting}
 
@@ -45,7 +43,7 @@ module _ (old new : Worker) (tenant : ℕ) (command : Command) (on : Continues o
   unfolding number
   one_more more = ap (λ (list : List Sighting). length list) more ∙ length-append (announced_of old) (next_of old tenant command ∷ [])
 
-  pub placed_answers : (answer : Answer) → Submits old new tenant command answer → Answers old new tenant command answer.reply
+  pub placed_answers : (answer : Answer) → Submits old new tenant command answer → AnswersCommand old new tenant command answer.reply
   unfolding number
   placed_answers answer submits = record {
     next = record { number = number + 1; place = answer.place + 1 };
@@ -68,7 +66,7 @@ module _ (old new : Worker) (tenant : ℕ) (command : Command) (on : Continues o
   unfolding number
   may_announce kept = ⊎_elim inl (λ more. inr (more ∙ ap (λ (seen : Sighting). announced_of old ++ seen ∷ []) next_is)) kept
 
-  pub full_answers : AnnouncesAtMost old new tenant command → (fault : Fault) → fault ≡ LogFull → Leaves fault (seat_of old) (seat_of new) → Answers old new tenant command (Refused E10)
+  pub full_answers : AnnouncesAtMost old new tenant command → (fault : Fault) → fault ≡ LogFull → Leaves fault (seat_of old) (seat_of new) → AnswersCommand old new tenant command (Refused LOG_FULL)
   unfolding number
   full_answers kept fault is leaves =
       let full = leaves.full is in
@@ -86,7 +84,7 @@ module _ (old new : Worker) (tenant : ℕ) (command : Command) (on : Continues o
           next = inl refl;
         });
         number = ap (λ (list : List Sighting). length list) none;
-        place = begins_length _ _ on.history;
+        place = begins_longer _ _ on.history;
       })
       (λ (more : announced_of new ≡ announced_of old ++ next_of old tenant command ∷ []).
       let count : (seat_of new).state.announced ≡ number + 1 = sym new.pass.count ∙ one_more more in
@@ -103,7 +101,7 @@ module _ (old new : Worker) (tenant : ℕ) (command : Command) (on : Continues o
           next = inr (announced_at more, refl);
         });
         number = one_more more;
-        place = begins_length _ _ on.history;
+        place = begins_longer _ _ on.history;
       })
       kept
 
@@ -113,7 +111,7 @@ pub for_logged : (old new : Worker) (tenant : ℕ) (request : Request) (command 
 for_logged old new tenant request command quiet is may = subst (λ request. MayAnnounceFor old new (demand_of (Tenant tenant) request)) (sym is) may
 
 -- what a reply owes
-pub responds_reply : (old new : Worker) (tenant : ℕ) (command : Command) (quiet : Bool) (reply : Reply) (before after : List ℕ) → Answers old new tenant command reply →
+pub responds_reply : (old new : Worker) (tenant : ℕ) (command : Command) (quiet : Bool) (reply : Reply) (before after : List ℕ) → AnswersCommand old new tenant command reply →
     after ≡ before ++ answered quiet reply → Responds old new (Tenant tenant) (Logged command quiet) before after
 responds_reply old new tenant command quiet reply before after answers queued = record {
   bytes = answered quiet reply;

@@ -9,10 +9,10 @@ use Rattle.mc_model.specs.declared.request.Request.{Request}
 use Rattle.mc_stream.specs.Event.{moved, waits}
 use Rattle.mc_stream.specs.Pushing.{FailsOnce, Pushes}
 use Rattle.mc_stream.specs.Stream.{Inflow, Outflow, Streams, both}
-use Rattle.uc_cells.specs.Sighting.{Sighting}
+use Rattle.uc_worker.specs.Cited.{Sighting}
 use Rattle.uc_worker.specs.declared.worker.Worker.{Worker}
 use Rattle.uc_worker.specs.Worker.{announced_of}
-use Rattle.uc_worker.proofs.Lists.{last_at}
+use Rattle.lists.proofs.Public.{last_at}
 use Rattle.mc_conn.specs.declared.conn.Conn.{Conn}
 use Rattle.mc_conn.specs.ConnFault.{CellTaken, ConnFault, CountsFailures, InputFailed, OutOfMemory, OutputFailed, fault_of}
 use Rattle.mc_conn.specs.Ending.{Breaks, MayStandBehind, Meets}
@@ -20,7 +20,7 @@ use Rattle.mc_conn.specs.Held.{HoldsOn, IsRead}
 use Rattle.mc_conn.specs.Onward.{own_sighting}
 use Rattle.uc_worker.specs.Going.{Continues}
 use Rattle.mc_conn.specs.Owed.{Demand, Logs, Says, demand_of, mark_of}
-use Rattle.mc_conn.specs.Parts.{IsTakeFault, Looks, MayAnnounceFor, Refuses}
+use Rattle.mc_conn.specs.Parts.{IsTakeFault, LooksForNext, MayAnnounceFor, Refuses}
 use Rattle.mc_conn.specs.Turn.{NeitherFails, Scene, Taken, Takes, holding_of, queue_of, scene}
 use Rattle.mc_conn.proofs.Owings.{same_sighting}
 use Rattle.mc_conn.proofs.Takings.{taken_none, taken_still, taken_trans}
@@ -86,7 +86,7 @@ breaks_pulling cause old new worker before after output piece queue role pulled 
     (taken_none old new worker (both before output) (both after output) piece [] pulled consumed (sym (append-nil (moved output.events))) role queue (omega arith)) refl counts
 
 -- while a request was looked for
-pub breaks_looking : (old new : Conn) (worker : Worker) (streams : Streams) → Looks old new → Breaks (scene old worker streams) (scene new worker streams) Memory
+pub breaks_looking : (old new : Conn) (worker : Worker) (streams : Streams) → LooksForNext old new → Breaks (scene old worker streams) (scene new worker streams) Memory
 unfolding taken_still taken_none
 breaks_looking old new worker streams looks =
     breaks_here OutOfMemory old new worker streams streams (taken_still old new worker streams looks.role looks.queue) refl (refl, refl)

@@ -2,8 +2,8 @@
 use Rattle.std.proofs.Common.{◌≡◌, ℕ, ◌+◌, ◌<◌, suc, List, take, slice_get, Some, ap, ◌∙◌, subst, arith}
 use Rattle.mc_model.specs.declared.id.Ticket.{Ticket}
 use Rattle.mc_model.specs.Legal.{IsLegal, count}
-use Rattle.uc_core.proofs.Lists.{take_more}
-use Rattle.uc_core.proofs.Tickets.{count_front, count_own}
+use Rattle.lists.proofs.Public.{take_more}
+use Rattle.mc_model.proofs.Public.{count_front, count_own}
 
 -- in a legal list a worker's tickets have numbers below how many they are
 pub number_below : (tickets : List Ticket) (worker place : ℕ) (ticket : Ticket) → IsLegal tickets → slice_get tickets place ≡ Some ticket → ticket.worker ≡ worker →

@@ -20,7 +20,7 @@ use Rattle.mc_conn.specs.Owed.{Mark, Owes, mark_of}
 use Rattle.mc_conn.specs.Parts.{Does, IsAtRest, IsHeldBehind, StateIs, TellsOf}
 use Rattle.mc_conn.specs.Turn.{Scene, Takes, amount, holding_of, queue_of, scene}
 use Rattle.mc_conn.proofs.Breakings.{breaks_later}
-use Rattle.mc_conn.proofs.Lists.{appended_twice}
+use Rattle.lists.proofs.Public.{appended_twice}
 use Rattle.mc_conn.proofs.Takings.{does_trans, sent_last, takes_trans}
 
 or_left : (x y : Bool) → (x || y) ≡ false → x ≡ false

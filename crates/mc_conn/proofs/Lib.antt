@@ -1,4 +1,3 @@
-pub mod Lists
 pub mod Counts
 pub mod Owings
 pub mod Answering
@@ -9,3 +8,4 @@ pub mod Outcomes
 pub mod Endings
 pub mod Alone
 pub mod AloneOwed
+pub mod Public

@@ -4,19 +4,17 @@ use Rattle.mc_model.specs.declared.command.Command.{Command}
 use Rattle.mc_model.specs.declared.id.Ticket.{Ticket}
 use Rattle.mc_model.specs.declared.reply.Reply.{Reply}
 use Rattle.mc_model.specs.declared.request.Request.{Request}
-use Rattle.mc_model.specs.Helping.{BeginsWith}
+use Rattle.lists.specs.Lists.{BeginsWith}
 use Rattle.mc_model.specs.Legal.{ticket_of}
 use Rattle.mc_model.specs.Replay.{reply_to}
-use Rattle.uc_cells.specs.Sighting.{Sighting, entries}
+use Rattle.uc_worker.specs.Cited.{Sighting, entries}
 use Rattle.uc_worker.specs.declared.worker.Worker.{Worker}
-use Rattle.uc_worker.specs.Worker.{announced_of, history_of, seat_of, openings_of, sighting_of}
-use Rattle.uc_worker.proofs.Lists.{at_longer, begins_length, begins_whole}
+use Rattle.uc_worker.specs.Worker.{announced_of, history_of, seat_of, openings_of, sighting_of, IsFull}
+use Rattle.lists.proofs.Public.{at_longer, begins_longer, begins_whole, take_longer}
 use Rattle.mc_conn.specs.Onward.{own_entry, own_sighting}
 use Rattle.uc_worker.specs.Going.{Continues}
-use Rattle.uc_worker.specs.Worker.{IsFull}
 use Rattle.mc_conn.specs.declared.conn.Role.{Role}
 use Rattle.mc_conn.specs.Owed.{Demand, IsAnswered, IsPlaced, IsTurnedAway, Logs, Mark, Owes, OwesFor, Says, answered, demand_of, mark_of}
-use Rattle.mc_conn.proofs.Lists.{take_longer}
 
 stays_at : (old new : List Sighting) (place : ℕ) (seen : Sighting) → BeginsWith new old → slice_get old place ≡ Some seen → slice_get new place ≡ Some seen
 stays_at old new place seen begins at = ap (λ (list : List Sighting). slice_get list place) begins.1 ∙ at_longer old begins.0 place seen at
@@ -33,7 +31,7 @@ module _ (old new : Worker) (on : Continues old new) where
   full_same full =
       let few = new.pass.desk.law.few in
       let places = ap (λ size. size.places) on.same.0 in
-      let longer = begins_length _ _ on.learned in
+      let longer = begins_longer _ _ on.learned in
       sym (begins_whole (seat_of new).state.learned (seat_of old).state.learned on.learned (omega arith))
 
   grows_at : (number tenant place : ℕ) (command : Command) (list longer : List Sighting) → BeginsWith longer list →
@@ -49,7 +47,7 @@ module _ (old new : Worker) (on : Continues old new) where
     stands = grows_at from.number tenant is.place command (history_of old) (history_of new) on.history is.stands;
     reply_is =
         let front : take is.place (history_of new) ≡ take is.place (history_of old) =
-        ap (λ (list : List Sighting). take is.place list) on.history.1 ∙ take_longer (history_of old) on.history.0 is.place _ is.stands
+        ap (λ (list : List Sighting). take is.place list) on.history.1 ∙ take_longer (history_of old) is.place _ on.history.0 is.stands
         in
         is.reply_is ∙ (λ i. reply_to (sym on.openings i) (entries (sym front i)) (Some (same_entry from.number tenant command i)));
     next = is.next;

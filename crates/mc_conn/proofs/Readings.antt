@@ -4,13 +4,13 @@ use Rattle.std.specs.Option.{is_some}
 use Rattle.std.specs.Bool.{MatchBool, nat_lt}
 use Rattle.mc_model.specs.declared.request.Request.{Request}
 use Rattle.mc_read.specs.Reading.{Ended, GoesOn, HasNone, Held, IsFed, IsNext, Kept, ReadAlike, ReadsAs, ReadsOn, Swallowing}
-use Rattle.mc_read.specs.Readings.{has_reading, one_reading}
-use Rattle.mc_read.specs.State.{IsAnswer}
+use Rattle.mc_read.proofs.Public.{has_reading, one_reading}
+use Rattle.mc_read.specs.State.{IsNextAnswer}
 use Rattle.mc_read.specs.Text.{Lines}
 use Rattle.mc_read.specs.Line.{asked}
 use Rattle.mc_conn.specs.declared.conn.Role.{Role}
 use Rattle.mc_conn.specs.declared.conn.Role.TheVariants.{Tenant}
-use Rattle.mc_conn.specs.Held.{Follow, Holding, HoldsNone, HoldsOn, IsRead, Waits, lines_of}
+use Rattle.mc_conn.specs.Held.{Follow, Holding, HoldsNone, HoldsOn, IsRead, WaitsThen, lines_of}
 
 pub read_refl : (a : Holding) → IsRead a [] [] a
 read_refl a more all = (λ reads. (all, refl, reads), λ (others, same, reads). subst (HoldsOn a more) (sym same) reads)
@@ -89,7 +89,7 @@ module _ (lines : Lines) where
   one_on (Swallowing request left bytes) more requests others a b = one_swallowed (nat_lt (length more) left) request (bytes ++ drop left more) requests others a b
   one_on Ended more requests others a b = a ∙ sym b
 
-  waits_on : (waiting : Option Request) (held : Held) (more : List ℕ) → (requests : List Request) × Waits waiting (ReadsOn lines held more) requests
+  waits_on : (waiting : Option Request) (held : Held) (more : List ℕ) → (requests : List Request) × WaitsThen waiting (ReadsOn lines held more) requests
   waits_on None held more = reads_on held more
   waits_on (Some request) held more = let rest = reads_on held more in (request ∷ rest.0, (refl, rest.1))
 
@@ -98,7 +98,7 @@ module _ (lines : Lines) where
   one_goes request held more (first ∷ requests) [] a never = absurd never
   one_goes request held more (first ∷ requests) (second ∷ others) a b = let tails = one_on held more requests others a.1 b.1 in λ i. (a.0 ∙ sym b.0) i ∷ tails i
 
-  one_waits : (waiting : Option Request) (held : Held) (more : List ℕ) (requests others : List Request) → Waits waiting (ReadsOn lines held more) requests → Waits waiting (ReadsOn lines held more) others → requests ≡ others
+  one_waits : (waiting : Option Request) (held : Held) (more : List ℕ) (requests others : List Request) → WaitsThen waiting (ReadsOn lines held more) requests → WaitsThen waiting (ReadsOn lines held more) others → requests ≡ others
   one_waits None held more requests others a b = one_on held more requests others a b
   one_waits (Some request) held more requests others a b = one_goes request held more requests others a b
 
@@ -115,16 +115,16 @@ taken_counts a b requests is =
     ap length follows.1 ∙ (length-append requests follows.0 ∙ ap (λ (l : List Request). length requests + length l) same)
 
 module _ (lines : Lines) where
-  looked_from : (before after : Held) (waiting : Option Request) → IsAnswer lines before waiting after → IsRead (record { lines = lines; waiting = None; held = before }) [] [] (record { lines = lines; waiting = waiting; held = after })
+  looked_from : (before after : Held) (waiting : Option Request) → IsNextAnswer lines before waiting after → IsRead (record { lines = lines; waiting = None; held = before }) [] [] (record { lines = lines; waiting = waiting; held = after })
   looked_from before after (Some request) answer = read_next lines before after request answer
   looked_from before after None answer = read_alike lines before after answer.1
 
   -- the reader is asked when no request is waiting
-  pub read_looked : (waiting found : Option Request) (before after : Held) → is_some waiting ≡ false → IsAnswer lines before found after → IsRead (record { lines = lines; waiting = waiting; held = before }) [] [] (record { lines = lines; waiting = found; held = after })
+  pub read_looked : (waiting found : Option Request) (before after : Held) → is_some waiting ≡ false → IsNextAnswer lines before found after → IsRead (record { lines = lines; waiting = waiting; held = before }) [] [] (record { lines = lines; waiting = found; held = after })
   read_looked None found before after none answer = looked_from before after found answer
   read_looked (Some request) found before after none answer = let e : true ≡ false = none in cc
 
-  pub held_after_look : (before after : Held) (found : Option Request) → IsAnswer lines before found after → HoldsNone (record { lines = lines; waiting = found; held = after }) ⊎ (found ≢ None)
+  pub held_after_look : (before after : Held) (found : Option Request) → IsNextAnswer lines before found after → HoldsNone (record { lines = lines; waiting = found; held = after }) ⊎ (found ≢ None)
   held_after_look before after (Some request) answer = inr (λ none. let e : Some request ≡ None = none in cc)
   held_after_look before after None answer = inl (refl, none_after lines before after answer.0 answer.1)
 
@@ -154,8 +154,8 @@ one_fewer a c taken = omega (arith, taken_counts a c (taken.0 ∷ []) taken.1)
 are_lines : (role : Role) → lines_of role ≡ asked
 are_lines (Tenant tenant) = refl
 
-pub answer_by_role : (role : Role) (before after : Held) (found : Option Request) → IsAnswer asked before found after → IsAnswer (lines_of role) before found after
-answer_by_role role before after found answer = subst (λ lines. IsAnswer lines before found after) (sym (are_lines role)) answer
+pub answer_by_role : (role : Role) (before after : Held) (found : Option Request) → IsNextAnswer asked before found after → IsNextAnswer (lines_of role) before found after
+answer_by_role role before after found answer = subst (λ lines. IsNextAnswer lines before found after) (sym (are_lines role)) answer
 
 pub fed_by_role : (role : Role) (before after : Held) (piece : List ℕ) → IsFed asked before piece after → IsFed (lines_of role) before piece after
 fed_by_role role before after piece fed = subst (λ lines. IsFed lines before piece after) (sym (are_lines role)) fed

@@ -17,11 +17,11 @@ use Rattle.mc_conn.specs.declared.conn.Conn.{Conn}
 use Rattle.mc_conn.specs.Held.{IsRead}
 use Rattle.uc_worker.specs.Going.{Continues}
 use Rattle.mc_conn.specs.Owed.{Mark, Owes, mark_of}
-use Rattle.mc_conn.specs.Parts.{Does, Looks, Responds}
+use Rattle.mc_conn.specs.Parts.{Does, LooksForNext, Responds}
 use Rattle.mc_conn.specs.Turn.{NeitherFails, RemembersTheEnd, Scene, Taken, Takes, amount, holding_of, queue_of, scene}
-use Rattle.mc_conn.proofs.Lists.{appended_twice, joined}
+use Rattle.lists.proofs.Public.{appended_twice, joined}
 use Rattle.mc_conn.proofs.Owings.{owes_append, owes_grow, owes_nothing}
-use Rattle.uc_worker.proofs.Going.{continues_self, continues_through}
+use Rattle.uc_worker.proofs.Public.{continues_self, continues_through}
 use Rattle.mc_conn.proofs.Readings.{read_refl, read_trans}
 
 -- the end is remembered through two parts
@@ -209,7 +209,7 @@ module _ (old new : Conn) (worker : Worker) (input : Inflow) (before after : Out
   does_pushed = let taken = length-take-le count (queue_of old) few in record { takes = takes_pushed; did_is = did_some count (amount takes_pushed) (omega (arith, taken)) }
 
 -- the reader looks for a request
-pub does_looked : (old new : Conn) (worker : Worker) (streams : Streams) → IsRead (holding_of old) [] [] (holding_of new) → Looks old new →
+pub does_looked : (old new : Conn) (worker : Worker) (streams : Streams) → IsRead (holding_of old) [] [] (holding_of new) → LooksForNext old new →
     Does (scene old worker streams) (scene new worker streams) false
 unfolding taken_still taken_none
 does_looked old new worker streams read looks = record {

@@ -6,7 +6,7 @@ use Rattle.std.specs.Prelude.{◌≡◌, ℕ, nat_lt, if◌then◌else◌, List,
 use Rattle.mc_model.specs.declared.command.Command.{Command}
 use Rattle.mc_model.specs.declared.reply.Reply.{Reply}
 use Rattle.mc_model.specs.declared.reply.Reply.TheVariants.{Refused}
-use Rattle.mc_model.specs.declared.reply.WireNo.TheVariants.{E5, E10}
+use Rattle.mc_model.specs.declared.reply.TheConstants.WireNo.{LINE_TOO_LONG, LOG_FULL}
 use Rattle.mc_model.specs.declared.request.Request.{Request}
 use Rattle.mc_model.specs.declared.request.Request.TheVariants.{Local, Logged, Quit, TooLong}
 use Rattle.mc_model.specs.declared.settings.Limits.{Limits}
@@ -20,20 +20,27 @@ use Rattle.mc_conn.specs.Owed.{Mark, answered}
 -- the table after the commands of the base, once these others were applied in it.
 abbrev pub logged_reply : Limits → List Command → ℕ → List Command → Command → Reply
 logged_reply limits base places applied command =
-    if nat_lt (length applied) places then answer limits (base ++ applied) command else Refused E10
+    if nat_lt (length applied) places
+    then answer limits (base ++ applied) command
+    else Refused LOG_FULL
 
 -- the commands that are applied once this one has come: it is among them if a place was left
 abbrev pub applied_with : ℕ → List Command → Command → List Command
-applied_with places applied command = if nat_lt (length applied) places then applied ++ command ∷ [] else applied
+applied_with places applied command =
+    if nat_lt (length applied) places then applied ++ command ∷ [] else applied
 
 -- what is owed for requests from then on
 abbrev pub owed_after : Limits → List Command → ℕ → List Command → List Request → List ℕ
 owed_after limits base places applied [] = []
 owed_after limits base places applied (Logged command quiet ∷ requests) =
-    answered quiet (logged_reply limits base places applied command) ++ owed_after limits base places (applied_with places applied command) requests
-owed_after limits base places applied (Local reply quiet ∷ requests) = answered quiet reply ++ owed_after limits base places applied requests
-owed_after limits base places applied (Quit ∷ requests) = owed_after limits base places applied requests
-owed_after limits base places applied (TooLong ∷ requests) = text (Refused E5) ++ owed_after limits base places applied requests
+    answered quiet (logged_reply limits base places applied command)
+    ++ owed_after limits base places (applied_with places applied command) requests
+owed_after limits base places applied (Local reply quiet ∷ requests) =
+    answered quiet reply ++ owed_after limits base places applied requests
+owed_after limits base places applied (Quit ∷ requests) =
+    owed_after limits base places applied requests
+owed_after limits base places applied (TooLong ∷ requests) =
+    text (Refused LINE_TOO_LONG) ++ owed_after limits base places applied requests
 
 -- what is owed for the first requests of a log that was opened over an empty table
 abbrev pub owed : Limits → ℕ → List Request → List ℕ
@@ -41,7 +48,8 @@ owed limits places requests = owed_after limits [] places [] requests
 
 -- the one worker of a log with this many places, which was opened over its one tenant's table after
 -- the commands of the base, under these quotas
-pub record IsAloneOver (limits : Limits) (base : List Command) (places : ℕ) (worker : Worker) : Type 0 where
+pub record IsAloneOver (limits : Limits) (base : List Command) (places : ℕ)
+    (worker : Worker) : Type 0 where
   pub workers : (seat_of worker).size.workers ≡ 1
   pub long : (seat_of worker).size.places ≡ places
   pub openings : openings_of worker ≡ state_after limits base ∷ []

@@ -3,7 +3,7 @@ use Rattle.std.specs.Prelude.{◌≡◌, ℕ, ◌+◌, ◌≤◌, List, ◌++◌
 use Rattle.mc_model.specs.declared.fault.Fault.{Fault}
 use Rattle.mc_model.specs.declared.fault.Fault.TheVariants.{Memory, Taken, Input, Output}
 use Rattle.mc_model.specs.declared.reply.Reply.TheVariants.{Refused}
-use Rattle.mc_model.specs.declared.reply.WireNo.TheVariants.{E11}
+use Rattle.mc_model.specs.declared.reply.TheConstants.WireNo.{OUT_OF_MEMORY}
 use Rattle.mc_stream.specs.Event.{failures, waits}
 use Rattle.mc_stream.specs.Pushing.{FailsOnce, IsUnfailed, PushesAtOnce}
 use Rattle.mc_stream.specs.Stream.{Outflow, Streams}
@@ -29,14 +29,17 @@ abbrev pub CountsFailures : ConnFault → Streams → Streams → Type 0
 CountsFailures OutOfMemory before after = NeitherFails before after
 CountsFailures CellTaken before after = NeitherFails before after
 CountsFailures InputFailed before after =
-    (failures after.input.events ≡ failures before.input.events + 1) × IsUnfailed before.output after.output
+    (failures after.input.events ≡ failures before.input.events + 1)
+    × IsUnfailed before.output after.output
 CountsFailures OutputFailed before after =
-    (failures after.input.events ≡ failures before.input.events) × FailsOnce before.output after.output
+    (failures after.input.events ≡ failures before.input.events)
+    × FailsOnce before.output after.output
 
 -- what is queued and then the refusal are pushed, as far as the output takes them at once
 abbrev pub TellsStarved : List ℕ → Outflow → Outflow → Type 0
 TellsStarved queue before after =
-    PushesAtOnce (queue ++ text (Refused E11)) before after × (waits before.events ≤ waits after.events)
+    PushesAtOnce (queue ++ text (Refused OUT_OF_MEMORY)) before after
+    × (waits before.events ≤ waits after.events)
 
 -- what the client is told of a fault: that memory ran out, and nothing of any other
 abbrev pub IsTold : ConnFault → List ℕ → Outflow → Outflow → Type 0

@@ -21,7 +21,9 @@ use Rattle.mc_conn.specs.Turn.{Scene, Taken, Takes, amount, holding_of, queue_of
 -- the input has ended or a request has ended the stream, no whole request is held, and nothing is
 -- queued
 abbrev pub IsDone : Conn → Type 0
-IsDone conn = ((conn.has_ended ≡ true) ⊎ (conn.is_over ≡ true)) × HoldsNone (holding_of conn) × (queue_of conn ≡ [])
+IsDone conn =
+    ((conn.has_ended ≡ true) ⊎ (conn.is_over ≡ true)) × HoldsNone (holding_of conn)
+    × (queue_of conn ≡ [])
 
 -- why nothing can be done now: the input had nothing; or the output took no more, and the input has
 -- ended or too much is queued
@@ -34,14 +36,17 @@ IsStuck before after =
 -- what the state that a turn returns means
 abbrev pub IsState : {before after : Scene} → Takes before after → State → Type 0
 IsState {before} {after} takes Closed = IsDone after.conn
-IsState {before} {after} takes Idle = ¬ (IsDone after.conn) × (amount takes ≡ 0) × IsStuck before after
+IsState {before} {after} takes Idle =
+    ¬ (IsDone after.conn) × (amount takes ≡ 0) × IsStuck before after
 IsState {before} {after} takes Busy = ¬ (IsDone after.conn) × (0 < amount takes)
 
 -- a whole request is still held only if more was sent and queued than may be queued when a request
 -- is taken
 abbrev pub HoldsOnlyBehind : {before after : Scene} → Takes before after → Type 0
 HoldsOnlyBehind {before} {after} takes =
-    HoldsNone (holding_of after.conn) ⊎ (after.conn.waiting ≢ None) × (QUEUE_BYTES < length takes.taken.sent + length (queue_of after.conn))
+    HoldsNone (holding_of after.conn)
+    ⊎ (after.conn.waiting ≢ None)
+    × (QUEUE_BYTES < length takes.taken.sent + length (queue_of after.conn))
 
 -- What was done before the last pull, that pull, and what was sent after it. Before it all requests
 -- that had come whole were taken; and all that is owed for them was sent and none of them had ended
@@ -49,7 +54,8 @@ HoldsOnlyBehind {before} {after} takes =
 pub record PullsAfter (before between after : Scene) : Type 0 where
   pub first : Takes before between
   pub taken : HoldsNone (holding_of between.conn)
-  pub sent : (queue_of between.conn ≡ []) × (between.conn.is_over ≡ false) ⊎ (waits before.streams.output.events < waits between.streams.output.events)
+  pub sent : (queue_of between.conn ≡ []) × (between.conn.is_over ≡ false)
+      ⊎ (waits before.streams.output.events < waits between.streams.output.events)
   pub event : Event
   pub pull : after.streams.input.events ≡ event ∷ between.streams.input.events
   pub short : length (last_moved after.streams.input.events) ≤ PULL_BYTES
@@ -60,11 +66,16 @@ pub record PullsAfter (before between after : Scene) : Type 0 where
 -- nothing was pulled, or all replies so far had been sent before the last pull, if the output took
 -- them
 abbrev pub PullsLate : Scene → Scene → Type 0
-PullsLate before after = (after.streams.input ≡ before.streams.input) ⊎ (between : Scene) × PullsAfter before between after
+PullsLate before after =
+    (after.streams.input ≡ before.streams.input)
+    ⊎ (between : Scene) × PullsAfter before between after
 
 -- nothing was pulled, or once, and no more bytes than a pull asks for
 abbrev pub PullsOnce : Inflow → Inflow → Type 0
-PullsOnce before after = (after ≡ before) ⊎ (event : Event) × (after.events ≡ event ∷ before.events) × (length (last_moved after.events) ≤ PULL_BYTES)
+PullsOnce before after =
+    (after ≡ before)
+    ⊎ (event : Event) × (after.events ≡ event ∷ before.events)
+    × (length (last_moved after.events) ≤ PULL_BYTES)
 
 -- a call pulls at most once, and what had come before that pull was answered first
 pub record Pulls (before after : Scene) : Type 0 where
@@ -81,13 +92,16 @@ pub record Turns (before after : Scene) (state : State) : Type 0 where
 abbrev pub MayStandBehind : Worker → Mark → Demand → Type 0
 MayStandBehind worker mark (Logs tenant command quiet) =
     (length (announced_of worker) ≡ mark.number)
-    ⊎ (length (announced_of worker) ≡ mark.number + 1) × (slice_get (announced_of worker) mark.number ≡ Some (own_sighting worker mark.number tenant command))
+    ⊎ (length (announced_of worker) ≡ mark.number + 1)
+    × (slice_get (announced_of worker) mark.number
+    ≡ Some (own_sighting worker mark.number tenant command))
 MayStandBehind worker mark (Says said) = length (announced_of worker) ≡ mark.number
 
 -- one request met the fault, and its command may be announced after the mark; or none did
 abbrev pub Meets : Worker → Role → Mark → List Request → Type 0
 Meets worker role mark [] = length (announced_of worker) ≡ mark.number
-Meets worker role mark (request ∷ others) = (others ≡ []) × MayStandBehind worker mark (demand_of role request)
+Meets worker role mark (request ∷ others) =
+    (others ≡ []) × MayStandBehind worker mark (demand_of role request)
 
 -- A fault: what was taken goes up to a mark, and is the beginning of what was read; one more
 -- request may have met the fault.
@@ -97,7 +111,8 @@ pub record Breaks (before after : Scene) (fault : Fault) : Type 0 where
   pub to : Mark
   pub taken : Taken before after to
   pub met : List Request
-  pub reads : (more : List ℕ) (all : List Request) → HoldsOn (holding_of before.conn) (taken.came ++ more) all →
+  pub reads : (more : List ℕ) (all : List Request) →
+      HoldsOn (holding_of before.conn) (taken.came ++ more) all →
       (others : List Request) × (all ≡ taken.requests ++ (met ++ others))
   pub meets : Meets after.worker before.conn.role to met
   pub failures : CountsFailures cause before.streams after.streams
@@ -106,7 +121,8 @@ pub record Breaks (before after : Scene) (fault : Fault) : Type 0 where
 -- connection is closed for good
 pub record Stops (before after : Scene) (fault : Fault) : Type 0 where
   pub told_from : Outflow
-  pub breaks : Breaks before (scene after.conn after.worker (both after.streams.input told_from)) fault
+  pub breaks : Breaks before
+      (scene after.conn after.worker (both after.streams.input told_from)) fault
   pub told : IsTold breaks.cause (queue_of after.conn) told_from after.streams.output
   pub shut : after.conn.is_closed ≡ true
 

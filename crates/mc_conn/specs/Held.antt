@@ -25,13 +25,13 @@ abbrev pub nothing_held : Role → Holding
 nothing_held role = record { lines = lines_of role; waiting = None; held = Kept [] }
 
 -- the requests are the one that waits, if there is one, and then others of which P holds
-abbrev pub Waits : Option Request → (List Request → Type 0) → List Request → Type 0
-Waits None P = P
-Waits (Some request) P = GoesOn request P
+abbrev pub WaitsThen : Option Request → (List Request → Type 0) → List Request → Type 0
+WaitsThen None P = P
+WaitsThen (Some request) P = GoesOn request P
 
 -- what is held, followed by more bytes, reads as these requests
 abbrev pub HoldsOn : Holding → List ℕ → List Request → Type 0
-HoldsOn holding more = Waits holding.waiting (ReadsOn holding.lines holding.held more)
+HoldsOn holding more = WaitsThen holding.waiting (ReadsOn holding.lines holding.held more)
 
 -- all the requests are these, and then others of which P holds
 abbrev pub Follow : List Request → (List Request → Type 0) → List Request → Type 0
@@ -40,7 +40,8 @@ Follow requests P all = (others : List Request) × (all ≡ requests ++ others) 
 -- whatever follows, what was held before and the bytes that came read as the requests, and then as
 -- what is held after
 abbrev pub IsRead : Holding → List ℕ → List Request → Holding → Type 0
-IsRead before came requests after = (more : List ℕ) (all : List Request) → HoldsOn before (came ++ more) all ↔ Follow requests (HoldsOn after more) all
+IsRead before came requests after = (more : List ℕ) (all : List Request) →
+    HoldsOn before (came ++ more) all ↔ Follow requests (HoldsOn after more) all
 
 -- no whole request is held
 abbrev pub HoldsNone : Holding → Type 0

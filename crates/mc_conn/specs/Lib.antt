@@ -6,3 +6,4 @@ pub mod ConnFault
 pub mod Ending
 pub mod Parts
 pub mod Alone
+pub mod Cited

@@ -27,14 +27,16 @@ pub record Does (before after : Scene) (did : Bool) : Type 0 where
   pub did_is : MatchBool did (0 < amount takes) (amount takes ≡ 0)
 
 -- a command was answered
-pub record Answers (old new : Worker) (tenant : ℕ) (command : Command) (reply : Reply) : Type 0 where
+pub record AnswersCommand (old new : Worker) (tenant : ℕ) (command : Command)
+    (reply : Reply) : Type 0 where
   pub next : Mark
   pub is : IsAnswered new tenant (mark_of old) command reply next
   pub number : length (announced_of new) ≡ next.number
   pub place : next.place ≤ length (history_of new)
 
 -- a request was taken, and what is owed for it was queued
-pub record Responds (old new : Worker) (role : Role) (request : Request) (before after : List ℕ) : Type 0 where
+pub record Responds (old new : Worker) (role : Role) (request : Request)
+    (before after : List ℕ) : Type 0 where
   pub bytes : List ℕ
   pub queued : after ≡ before ++ bytes
   pub owes : Owes new role (mark_of old) (request ∷ []) bytes (mark_of new)
@@ -42,7 +44,9 @@ pub record Responds (old new : Worker) (role : Role) (request : Request) (before
 -- nothing was announced, or the tenant's command under the next number
 abbrev pub MayAnnounce : Worker → Worker → ℕ → Command → Type 0
 MayAnnounce old new tenant command =
-    (announced_of new ≡ announced_of old) ⊎ (announced_of new ≡ announced_of old ++ own_sighting old (length (announced_of old)) tenant command ∷ [])
+    (announced_of new ≡ announced_of old)
+    ⊎ (announced_of new
+    ≡ announced_of old ++ own_sighting old (length (announced_of old)) tenant command ∷ [])
 
 -- nothing was announced but the command that is to be logged, if one is
 abbrev pub MayAnnounceFor : Worker → Worker → Demand → Type 0
@@ -51,7 +55,8 @@ MayAnnounceFor old new (Says said) = announced_of new ≡ announced_of old
 
 -- no whole request is held, or one is, and the queue is too long to take it
 abbrev pub IsHeldBehind : Conn → Type 0
-IsHeldBehind conn = HoldsNone (holding_of conn) ⊎ (conn.waiting ≢ None) × (QUEUE_BYTES < length (queue_of conn))
+IsHeldBehind conn =
+    HoldsNone (holding_of conn) ⊎ (conn.waiting ≢ None) × (QUEUE_BYTES < length (queue_of conn))
 
 -- the faults of taking a request
 abbrev pub IsTakeFault : Fault → Type 0
@@ -59,13 +64,13 @@ IsTakeFault fault = (fault ≡ Memory) ⊎ (fault ≡ Taken)
 
 -- a part that uses neither the input nor the output: the worker goes on, and the connection's role,
 -- and whether its input has ended, stay the same
-pub record Keeps (old new : Conn) (before after : Worker) : Type 0 where
+pub record KeepsStreams (old new : Conn) (before after : Worker) : Type 0 where
   pub role : new.role ≡ old.role
   pub has_ended : new.has_ended ≡ old.has_ended
   pub onward : Continues before after
 
 -- the reader has looked for the next request, and nothing else was done
-pub record Looks (old new : Conn) : Type 0 where
+pub record LooksForNext (old new : Conn) : Type 0 where
   pub role : new.role ≡ old.role
   pub has_ended : new.has_ended ≡ old.has_ended
   pub is_closed : new.is_closed ≡ old.is_closed
@@ -80,14 +85,16 @@ pub record IsSameBesideQueue (old new : Conn) : Type 0 where
   pub over : new.is_over ≡ old.is_over
 
 -- a request met a fault: no reply is queued, and the request's command may be announced
-pub record Refuses (old new : Worker) (role : Role) (request : Request) (before after : List ℕ) (fault : Fault) : Type 0 where
+pub record Refuses (old new : Worker) (role : Role) (request : Request) (before after : List ℕ)
+    (fault : Fault) : Type 0 where
   pub is : IsTakeFault fault
   pub announced : MayAnnounceFor old new (demand_of role request)
   pub unchanged : after ≡ before
 
 -- nothing more comes, no request is waiting, and nothing is queued
 abbrev pub IsAtRest : Conn → Type 0
-IsAtRest conn = ((conn.has_ended ≡ true) ⊎ (conn.is_over ≡ true)) × (conn.waiting ≡ None) × (queue_of conn ≡ [])
+IsAtRest conn =
+    ((conn.has_ended ≡ true) ⊎ (conn.is_over ≡ true)) × (conn.waiting ≡ None) × (queue_of conn ≡ [])
 
 -- the state of a connection after a turn that did something or nothing
 abbrev pub StateIs : Conn → Bool → State → Type 0

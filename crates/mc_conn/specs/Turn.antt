@@ -26,7 +26,8 @@ scene conn worker streams = record { conn = conn; worker = worker; streams = str
 
 -- what the connection holds of the input
 abbrev pub holding_of : Conn → Holding
-holding_of conn = record { lines = lines_of conn.role; waiting = conn.waiting; held = conn.reader.held }
+holding_of conn =
+    record { lines = lines_of conn.role; waiting = conn.waiting; held = conn.reader.held }
 
 -- the bytes that are to be pushed
 abbrev pub queue_of : Conn → List ℕ
@@ -34,14 +35,18 @@ queue_of conn = conn.queue
 
 -- neither the input nor the output failed
 abbrev pub NeitherFails : Streams → Streams → Type 0
-NeitherFails before after = (failures after.input.events ≡ failures before.input.events) × IsUnfailed before.output after.output
+NeitherFails before after =
+    (failures after.input.events ≡ failures before.input.events)
+    × IsUnfailed before.output after.output
 
 -- the end of the input is remembered once it is found, and then nothing more is pulled
 abbrev pub RemembersTheEnd : Scene → Scene → Type 0
 RemembersTheEnd before after =
     MatchBool after.conn.has_ended
-    ((before.conn.has_ended ≡ true) × (after.streams.input ≡ before.streams.input) ⊎ (has_ended after.streams.input.events ≡ true) × IsAtEnd after.streams.input.left)
-    ((before.conn.has_ended ≡ false) × (ends after.streams.input.events ≡ ends before.streams.input.events))
+    ((before.conn.has_ended ≡ true) × (after.streams.input ≡ before.streams.input)
+    ⊎ (has_ended after.streams.input.events ≡ true) × IsAtEnd after.streams.input.left)
+    ((before.conn.has_ended ≡ false)
+    × (ends after.streams.input.events ≡ ends before.streams.input.events))
 
 -- What happened from one scene to another: bytes came and requests were taken, and what was sent
 -- followed by what is queued is what was queued before followed by what is owed for these requests;

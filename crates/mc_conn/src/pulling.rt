@@ -1,12 +1,12 @@
 //! Pulling bytes.
-ghost use Rattle.std.specs.Prelude.{◌≡◌, ◌≢◌, ◌⊎◌, ◌+◌, ◌<◌, ◌≤◌, ◌∷◌, [], true, false, length, None, IfOk, MatchResult, OnOk};
+ghost use Rattle.std.specs.Prelude.{◌≡◌, ◌⊎◌, ◌+◌, ◌<◌, ◌≤◌, ◌∷◌, [], true, false, length, None, IfOk, MatchResult, OnOk};
 ghost use Rattle.mc_stream.specs.Event.{Event, last_moved, waits};
 ghost use Rattle.mc_stream.specs.Stream.{Outflow, both};
 ghost use Rattle.uc_worker.specs.declared.worker.Worker.{Worker};
 ghost use Rattle.mc_conn.specs.declared.conn.TheConstants.{PULL_BYTES, QUEUE_BYTES};
 ghost use Rattle.mc_conn.specs.Ending.{Breaks, Pulls};
 ghost use Rattle.mc_conn.specs.Parts.{Does, IsHeldBehind};
-ghost use Rattle.mc_conn.specs.Owed.{IsKnown};
+ghost use Rattle.mc_conn.specs.Owed.{FitsLog};
 ghost use Rattle.mc_conn.specs.Turn.{queue_of, scene};
 
 use crate::conn::{Conn, PULL_BYTES, QUEUE_BYTES};
@@ -66,7 +66,7 @@ impl Conn {
         gate: &mut G,
         buffer: &mut [u8; PULL_BYTES],
     ) -> Result<bool, Fault>
-        requires role { IsKnown self.old.role worker.old }
+        requires role { FitsLog self.old.role worker.old }
         requires held { IsHeldBehind self.old }
         ensures outcome { MatchResult result
             (Does (scene self.old worker.old (both (I.tells input.old) (O.tells output.old)))

@@ -2,7 +2,7 @@
 ghost use Rattle.std.specs.Prelude.{◌≡◌, true, false, Ok, MatchResult};
 ghost use Rattle.mc_stream.specs.Stream.{both};
 ghost use Rattle.mc_conn.specs.Ending.{PullsLate, Serves, Stops};
-ghost use Rattle.mc_conn.specs.Owed.{IsKnown};
+ghost use Rattle.mc_conn.specs.Owed.{FitsLog};
 ghost use Rattle.mc_conn.specs.Turn.{scene};
 
 use crate::conn::{Conn, PULL_BYTES, State};
@@ -22,7 +22,7 @@ pub fn pump<R: Wait, I: Input, O: Output>(
     input: &mut I,
     output: &mut O,
 ) -> Result<(), Fault>
-    requires role { IsKnown conn.old.role worker.old }
+    requires role { FitsLog conn.old.role worker.old }
     ensures outcome { conn.old.is_closed ≡ false → MatchResult result
         (λ _. Serves (scene conn.old worker.old (both (I.tells input.old) (O.tells output.old)))
         (scene conn.new worker.new (both (I.tells input.new) (O.tells output.new))))

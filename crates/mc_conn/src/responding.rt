@@ -3,8 +3,8 @@ ghost use Rattle.std.specs.Prelude.{◌≡◌, ◌<◌, ◌++◌, length, MatchR
 ghost use Rattle.mc_model.specs.declared.fault.Fault.TheVariants as faults;
 ghost use Rattle.uc_worker.specs.Worker.{tenants_of};
 ghost use Rattle.uc_worker.specs.Going.{Continues};
-ghost use Rattle.mc_conn.specs.Owed.{IsKnown, answered};
-ghost use Rattle.mc_conn.specs.Parts.{Answers, IsTakeFault, MayAnnounce, Refuses, Responds};
+ghost use Rattle.mc_conn.specs.Owed.{FitsLog, answered};
+ghost use Rattle.mc_conn.specs.Parts.{AnswersCommand, IsTakeFault, MayAnnounce, Refuses, Responds};
 
 use crate::conn::Role;
 use crate::queue::Queue;
@@ -23,12 +23,12 @@ fn answer<G: Gate>(
     requires tenant { tenant < length (tenants_of worker.old) }
     ensures onward { Continues worker.old worker.new }
     ensures outcome { MatchResult result
-        (Answers worker.old worker.new tenant command) IsTakeFault }
+        (AnswersCommand worker.old worker.new tenant command) IsTakeFault }
     ensures announced { MayAnnounce worker.old worker.new tenant command }
 {
     match worker.submit(tenant, command, gate) {
         Ok(answer) => Ok(answer.reply),
-        Err(Fault::LogFull) => Ok(Reply::Refused(WireNo::E10)),
+        Err(Fault::LogFull) => Ok(Reply::Refused(WireNo::LOG_FULL)),
         Err(Fault::Memory) => Err(Fault::Memory),
         Err(Fault::Taken) => Err(Fault::Taken),
         // `submit` returns no other fault.
@@ -60,7 +60,7 @@ pub(crate) fn respond<G: Gate>(
     worker: &mut Worker<'_>,
     gate: &mut G,
 ) -> Result<(), Fault>
-    requires role { IsKnown role worker.old }
+    requires role { FitsLog role worker.old }
     ensures onward { Continues worker.old worker.new }
     ensures outcome { MatchResult result
         (λ _. Responds worker.old worker.new role request queue.old queue.new)
@@ -74,6 +74,6 @@ pub(crate) fn respond<G: Gate>(
         }
         Request::Local { reply, quiet } => queue_reply(&reply, quiet, queue),
         Request::Quit => Ok(()),
-        Request::TooLong => queue_reply(&Reply::Refused(WireNo::E5), false, queue),
+        Request::TooLong => queue_reply(&Reply::Refused(WireNo::LINE_TOO_LONG), false, queue),
     }
 }

@@ -1,14 +1,14 @@
 //! Reading requests and taking them.
 ghost use Rattle.std.specs.Bool.{MatchBool};
-ghost use Rattle.std.specs.Prelude.{◌≡◌, ◌≢◌, ◌⊎◌, ◌<◌, ◌∷◌, [], true, false, length, None, IfOk, IsOkUnless, MatchResult, OnOk};
+ghost use Rattle.std.specs.Prelude.{◌≡◌, ◌≢◌, ◌⊎◌, ◌<◌, ◌∷◌, [], true, false, None, IfOk, IsOkUnless, MatchResult, OnOk};
 ghost use Rattle.mc_model.specs.declared.fault.Fault.TheVariants as faults;
 ghost use Rattle.mc_model.specs.declared.request.Request.{Request};
 ghost use Rattle.mc_stream.specs.Stream.{Streams};
 ghost use Rattle.mc_conn.specs.Ending.{Breaks};
 ghost use Rattle.mc_conn.specs.Held.{HoldsNone, IsRead};
-ghost use Rattle.mc_conn.specs.Parts.{Does, IsHeldBehind, Keeps, Looks};
-ghost use Rattle.mc_conn.specs.Owed.{IsKnown};
-ghost use Rattle.mc_conn.specs.Turn.{holding_of, queue_of, scene};
+ghost use Rattle.mc_conn.specs.Parts.{Does, IsHeldBehind, KeepsStreams, LooksForNext};
+ghost use Rattle.mc_conn.specs.Owed.{FitsLog};
+ghost use Rattle.mc_conn.specs.Turn.{holding_of, scene};
 
 use crate::conn::{Conn, QUEUE_BYTES};
 use crate::responding::respond;
@@ -23,7 +23,7 @@ impl Conn {
     fn look(&mut self) -> Result<(), Fault>
         ensures read { OnOk result (IsRead (holding_of self.old) [] [] (holding_of self.new)) }
         ensures found { OnOk result (HoldsNone (holding_of self.new) ⊎ (self.new.waiting ≢ None)) }
-        ensures looks { Looks self.old self.new }
+        ensures looks { LooksForNext self.old self.new }
         ensures memory { IsOkUnless result faults.Memory }
     {
         if self.waiting.is_none() {
@@ -38,7 +38,7 @@ impl Conn {
         worker: &mut Worker<'_>,
         gate: &mut G,
     ) -> Result<bool, Fault>
-        requires role { IsKnown self.old.role worker.old }
+        requires role { FitsLog self.old.role worker.old }
         ensures outcome { MatchResult result
             (λ did. (streams : Streams) →
             Does (scene self.old worker.old streams) (scene self.new worker.new streams) did)
@@ -48,7 +48,7 @@ impl Conn {
             ((request : Request)
             × IsRead (holding_of self.old) [] (request ∷ []) (holding_of self.new))
             ((self.old.waiting ≡ None) × (self.new ≡ self.old))) }
-        ensures keeps { Keeps self.old self.new worker.old worker.new }
+        ensures keeps { KeepsStreams self.old self.new worker.old worker.new }
     {
         match self.waiting.take() {
             Some(request) => {
@@ -64,7 +64,7 @@ impl Conn {
     /// Takes a request, if a whole one is held and the queue isn't too long. Returns whether it
     /// did.
     fn take_one<G: Gate>(&mut self, worker: &mut Worker<'_>, gate: &mut G) -> Result<bool, Fault>
-        requires role { IsKnown self.old.role worker.old }
+        requires role { FitsLog self.old.role worker.old }
         ensures outcome { MatchResult result
             (λ did. (streams : Streams) →
             Does (scene self.old worker.old streams) (scene self.new worker.new streams) did)
@@ -74,7 +74,7 @@ impl Conn {
             (λ did. did ≡ true → (request : Request)
             × IsRead (holding_of self.old) [] (request ∷ []) (holding_of self.new)) }
         ensures held { IfOk result (λ did. did ≡ false → IsHeldBehind self.new) }
-        ensures keeps { Keeps self.old self.new worker.old worker.new }
+        ensures keeps { KeepsStreams self.old self.new worker.old worker.new }
     {
         self.look()?;
         if self.queue.len() > QUEUE_BYTES {
@@ -89,14 +89,14 @@ impl Conn {
         worker: &mut Worker<'_>,
         gate: &mut G,
     ) -> Result<bool, Fault>
-        requires role { IsKnown self.old.role worker.old }
+        requires role { FitsLog self.old.role worker.old }
         ensures outcome { MatchResult result
             (λ did. (streams : Streams) →
             Does (scene self.old worker.old streams) (scene self.new worker.new streams) did)
             (λ fault. (streams : Streams) →
             Breaks (scene self.old worker.old streams) (scene self.new worker.new streams) fault) }
         ensures held { OnOk result (IsHeldBehind self.new) }
-        ensures keeps { Keeps self.old self.new worker.old worker.new }
+        ensures keeps { KeepsStreams self.old self.new worker.old worker.new }
     {
         let mut did = false;
         while self.take_one(worker, gate)? {

@@ -4,7 +4,7 @@ ghost use Rattle.mc_stream.specs.Stream.{both};
 ghost use Rattle.mc_conn.specs.ConnFault.{TellsStarved};
 ghost use Rattle.mc_conn.specs.Ending.{Breaks, Pulls, Stops, Turns};
 ghost use Rattle.mc_conn.specs.Parts.{StateIs, TellsOf};
-ghost use Rattle.mc_conn.specs.Owed.{IsKnown};
+ghost use Rattle.mc_conn.specs.Owed.{FitsLog};
 ghost use Rattle.mc_conn.specs.Turn.{queue_of, scene};
 
 use crate::conn::{Conn, PULL_BYTES, State};
@@ -19,7 +19,7 @@ fn tell_starved<O: Output>(queue: &[u8], output: &mut O)
     ensures { TellsStarved queue.now (O.tells output.old) (O.tells output.new) }
 {
     if push_while_taken(queue, output) {
-        push_while_taken(refusal_text(WireNo::E11), output);
+        push_while_taken(refusal_text(WireNo::OUT_OF_MEMORY), output);
     }
 }
 
@@ -49,7 +49,7 @@ impl Conn {
         gate: &mut G,
         buffer: &mut [u8; PULL_BYTES],
     ) -> Result<State, Fault>
-        requires role { IsKnown self.old.role worker.old }
+        requires role { FitsLog self.old.role worker.old }
         ensures outcome { MatchResult result
             (Turns (scene self.old worker.old (both (I.tells input.old) (O.tells output.old)))
             (scene self.new worker.new (both (I.tells input.new) (O.tells output.new))))
@@ -97,7 +97,7 @@ impl Conn {
         gate: &mut G,
         buffer: &mut [u8; PULL_BYTES],
     ) -> Result<State, Fault>
-        requires role { IsKnown self.old.role worker.old }
+        requires role { FitsLog self.old.role worker.old }
         // What was sent and is queued then is what was queued and what is owed for the requests that
         // were taken; after a fault, what was sent is a prefix of that.
         ensures outcome { self.old.is_closed ≡ false → MatchResult result

@@ -11,12 +11,13 @@ use Rattle.mc_model.specs.declared.item.Data.{Data}
 use Rattle.mc_model.specs.declared.item.Item.{Item}
 use Rattle.mc_model.specs.declared.item.TheConstants.{DATA_BYTES}
 use Rattle.mc_model.specs.declared.key.Key.{Key}
+use Rattle.mc_model.specs.declared.reply.TheConstants.WireNo.{NO_ROOM, TOO_LARGE}
 use Rattle.mc_model.specs.declared.reply.WireNo.{WireNo}
-use Rattle.mc_model.specs.declared.reply.WireNo.TheVariants.{E6, E7}
 use Rattle.mc_model.specs.declared.settings.Limits.{Limits}
 use Rattle.mc_model.specs.State.{TableState}
 use Rattle.mc_model.specs.Table.{Table, count_of, is_within, key_cmp, key_cmp_total, use_of, weight}
-use Rattle.mc_model.specs.Use.{count-remove, use-empty, use-insert, use-remove, use_under, weight_of, within_parts}
+use Rattle.mc_model.proofs.Public.{count-remove, use-empty, use-insert, use-remove, within_parts}
+use Rattle.mc_model.specs.Use.{use_under, weight_of}
 use Rattle.mc_items.specs.Held.{IsWithin}
 use Rattle.mc_items.specs.Storing.{allows, joined_or_refusal, weight_at}
 
@@ -133,7 +134,7 @@ module _ (limits : Limits) (table : Table) (key : Key) (item : Item) (total need
       absent_refused needed total limits.bytes (use_of (map.insert table key item)) (nat_le (count_of (map.insert table key item)) limits.items) (absent_sum there) within.bytes no_room
 
 -- joined data that weren't refused
-joined_whole : (short fits : Bool) (whole block : List ℕ) → Ok whole ≡ (if short then (if fits then Ok block else Err E7) else Err E6) → (fits ≡ true) × (whole ≡ block)
+joined_whole : (short fits : Bool) (whole block : List ℕ) → Ok whole ≡ (if short then (if fits then Ok block else Err NO_ROOM) else Err TOO_LARGE) → (fits ≡ true) × (whole ≡ block)
 joined_whole true true whole block is = (refl, ap (λ (r : Result (List ℕ) WireNo). result_unwrap_or r whole) is)
 joined_whole true false whole block is = absurd (subst (λ (r : Result (List ℕ) WireNo). T (is_ok r)) is tt)
 joined_whole false fits whole block is = absurd (subst (λ (r : Result (List ℕ) WireNo). T (is_ok r)) is tt)

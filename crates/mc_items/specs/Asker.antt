@@ -16,6 +16,7 @@ reply_for None tables entry = None
 reply_for (Some worker) tables entry = reply_from worker tables entry
 
 -- the same after this log
-abbrev pub answer_for : Option ℕ → List TableState → List (Option Entry) → Option Entry → Option Reply
+abbrev pub answer_for : Option ℕ → List TableState → List (Option Entry) →
+    Option Entry → Option Reply
 answer_for None openings log entry = None
 answer_for (Some worker) openings log entry = answer_to worker openings log entry

@@ -1,7 +1,7 @@
 //! The table itself: its calls, and how each command is carried out.
 ghost use Rattle.std.specs.FinMap as map;
 ghost use Rattle.std.specs.Option.{option_copied};
-ghost use Rattle.std.specs.Prelude.{◌≡◌, ℕ, ◌+◌, ◌-◌, ◌^◌, ◌<◌, ◌≤◌, true, false, List, [], ◌∷◌, ◌++◌, length, IfOk, OnOk, OnErr, decimal, IsOk, IsOkUnless};
+ghost use Rattle.std.specs.Prelude.{◌≡◌, ℕ, ◌+◌, ◌-◌, ◌^◌, ◌<◌, ◌≤◌, true, false, List, [], ◌++◌, length, IfOk, OnOk, OnErr, decimal, IsOk, IsOkUnless};
 ghost use Rattle.mc_model.specs.declared.command.Command.{Command};
 ghost use Rattle.mc_model.specs.declared.command.Command.TheVariants.{Store, Cas, Get, Delete, Incr, Decr, Flush};
 ghost use Rattle.mc_model.specs.declared.item.Item.{Item};
@@ -234,10 +234,10 @@ impl Items {
     {
         let len = front.as_bytes().len() + back.as_bytes().len();
         if len > DATA_BYTES {
-            return Ok(Err(WireNo::E6));
+            return Ok(Err(WireNo::TOO_LARGE));
         }
         if !self.fits(key, old_weight, len) {
-            return Ok(Err(WireNo::E7));
+            return Ok(Err(WireNo::NO_ROOM));
         }
         Ok(Ok(joined(self.alloc, front, back)?))
     }
@@ -315,7 +315,7 @@ impl Items {
             return Ok(Reply::NotFound);
         };
         let Some(number) = number_in(&old.block) else {
-            return Ok(Reply::Refused(WireNo::E8));
+            return Ok(Reply::Refused(WireNo::NOT_A_NUMBER));
         };
         let old_weight = Some(weight_under(key, old));
         let old_flags = old.flags;
@@ -336,7 +336,7 @@ impl Items {
             return Ok(Reply::NotFound);
         };
         let Some(number) = number_in(&old.block) else {
-            return Ok(Reply::Refused(WireNo::E8));
+            return Ok(Reply::Refused(WireNo::NOT_A_NUMBER));
         };
         let old_weight = Some(weight_under(key, old));
         let old_flags = old.flags;
@@ -362,7 +362,7 @@ impl Items {
         ensures unchanged { OnErr result (self.new ≡ self.old) }
     {
         if !self.fits(key, old_weight, count_of_digits(number)) {
-            return Ok(Reply::Refused(WireNo::E7));
+            return Ok(Reply::Refused(WireNo::NO_ROOM));
         }
         let digits = digits_of(self.alloc, number)?;
         self.put_block(key, old_weight, flags, digits)?;
@@ -388,7 +388,7 @@ impl Items {
         ensures unchanged { OnErr result (self.new ≡ self.old) }
     {
         if !self.fits(key, old_weight, block.as_bytes().len()) {
-            return Ok(Reply::Refused(WireNo::E7));
+            return Ok(Reply::Refused(WireNo::NO_ROOM));
         }
         self.put_block(key, old_weight, flags, block.try_clone()?)
     }

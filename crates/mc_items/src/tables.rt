@@ -74,11 +74,11 @@ pub fn take_effect(
     let Some(entry) = found else {
         return Ok(None);
     };
-    let place = usize::from(entry.tenant.number());
-    if place >= tables.len() {
+    let number = usize::from(entry.tenant.number());
+    if number >= tables.len() {
         return Ok(None);
     }
-    let table = &mut tables[place];
+    let table = &mut tables[number];
     if is_own(asker, entry) {
         let reply = table.apply(&entry.command)?;
         Ok(Some(reply))

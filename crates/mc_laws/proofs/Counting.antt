@@ -10,13 +10,13 @@ use Rattle.mc_model.specs.declared.command.Command.TheVariants.{Decr, Incr}
 use Rattle.mc_model.specs.declared.item.Item.{Item}
 use Rattle.mc_model.specs.declared.key.Key.{Key}
 use Rattle.mc_model.specs.declared.reply.Reply.TheVariants.{Number, Refused}
-use Rattle.mc_model.specs.declared.reply.WireNo.TheVariants.{E8}
+use Rattle.mc_model.specs.declared.reply.TheConstants.WireNo.{NOT_A_NUMBER}
 use Rattle.mc_model.specs.declared.settings.Limits.{Limits}
 use Rattle.mc_model.specs.Effect.{Effect, effect, is_refusal, none_or_some, renumbered, stored, unchanged}
 use Rattle.mc_model.specs.Number.{is_numeral, number_up_to, numeric_value}
 use Rattle.mc_model.specs.Table.{Table, is_within}
 use Rattle.mc_laws.proofs.Effects.{stored_there}
-use Rattle.mc_model.specs.Numerals.{number_test, number_up_to-some}
+use Rattle.mc_model.proofs.Public.{number_test, number_up_to-some}
 use Rattle.mc_laws.proofs.OneKey.{stored_or_refused}
 use Rattle.mc_laws.proofs.Quotas.{replaced_within}
 
@@ -74,7 +74,7 @@ module _ (limits : Limits) (table : Table) (unique : ℕ) (key : Key) (old : Ite
       rw (is, value, room) refl
 
   pub not_numeric : (by : ℕ) → map.get table key ≡ Some old → numeric_value old.block ≡ None →
-      ((effect limits table unique (Incr key by)).reply ≡ Refused E8) × ((effect limits table unique (Decr key by)).reply ≡ Refused E8)
+      ((effect limits table unique (Incr key by)).reply ≡ Refused NOT_A_NUMBER) × ((effect limits table unique (Decr key by)).reply ≡ Refused NOT_A_NUMBER)
   not_numeric by is value = (rw (is, value) refl, rw (is, value) refl)
 
   -- what is under the key once a number was answered
@@ -82,7 +82,7 @@ module _ (limits : Limits) (table : Table) (unique : ℕ) (key : Key) (old : Ite
       map.get (renumbered limits table unique key old next).table key ≡ Some (numbered number)
   renumbered_there next number =
       elim (numeric_value old.block) as (λ value.
-      let done = none_or_some value (unchanged table (Refused E8)) (λ n. stored limits table key (numbered (next n)) (Number (next n))) in
+      let done = none_or_some value (unchanged table (Refused NOT_A_NUMBER)) (λ n. stored limits table key (numbered (next n)) (Number (next n))) in
       done.reply ≡ Number number → map.get done.table key ≡ Some (numbered number)) [
         | None ↦ λ given. absurd (cc)
         | Some n ↦ λ given.

@@ -13,7 +13,7 @@ use Rattle.mc_model.specs.declared.item.TheConstants.{DATA_BYTES}
 use Rattle.mc_model.specs.declared.key.Key.{Key}
 use Rattle.mc_model.specs.declared.reply.Reply.{Reply}
 use Rattle.mc_model.specs.declared.reply.Reply.TheVariants.{Stored, NotStored, Exists, NotFound, Number, Refused}
-use Rattle.mc_model.specs.declared.reply.WireNo.TheVariants.{E6, E7, E8}
+use Rattle.mc_model.specs.declared.reply.TheConstants.WireNo.{NOT_A_NUMBER, NO_ROOM, TOO_LARGE}
 use Rattle.mc_model.specs.declared.settings.Limits.{Limits}
 use Rattle.mc_model.specs.Effect.{Effect, none_or_some, renumbered, effect, is_acceptance, is_refusal, joined, stored, unchanged}
 use Rattle.mc_laws.specs.Words.{ActsOn}
@@ -77,21 +77,21 @@ module _ (limits : Limits) (table : Table) (unique : ℕ) where
   put_under command key flags block reply accepted granted only acts =
       let item : Item = record { flags = flags; block = block; unique = unique } in
       elim (is_within limits (map.insert table key item)) as (λ b. is_within limits (map.insert table key item) ≡ b →
-      Shape limits table unique command (if b then record { table = map.insert table key item; reply = reply } else unchanged table (Refused E7))) [
+      Shape limits table unique command (if b then record { table = map.insert table key item; reply = reply } else unchanged table (Refused NO_ROOM))) [
         | true ↦ λ within. inr (inl (record { under = key; item = item; put = refl; within = within; its_unique = refl; accepted = accepted; granted = granted; only = only; acts = acts }))
-        | false ↦ λ above. kept command (Refused E7) refl refl
+        | false ↦ λ above. kept command (Refused NO_ROOM) refl refl
       ] refl
 
   -- joined data, and the number that gives way to the next
   shape_joined : (command : Command) (key : Key) (flags : ℕ) (block : Data) →
       ((other : Key) → ActsOn other command → key ≡ other) → ActsOn key command → Shape limits table unique command (joined limits table unique key flags block)
   shape_joined command key flags block only acts =
-      shape_if limits table unique command (nat_le (length block) DATA_BYTES) _ _ (put_under command key flags block Stored refl refl only acts) (kept command (Refused E6) refl refl)
+      shape_if limits table unique command (nat_le (length block) DATA_BYTES) _ _ (put_under command key flags block Stored refl refl only acts) (kept command (Refused TOO_LARGE) refl refl)
 
   shape_renumbered : (command : Command) (key : Key) (old : Item) (next : ℕ → ℕ) →
       ((other : Key) → ActsOn other command → key ≡ other) → ActsOn key command → Shape limits table unique command (renumbered limits table unique key old next)
   shape_renumbered command key old next only acts =
-      shape_none_or_some limits table unique command (numeric_value old.block) _ _ (kept command (Refused E8) refl refl)
+      shape_none_or_some limits table unique command (numeric_value old.block) _ _ (kept command (Refused NOT_A_NUMBER) refl refl)
       (λ number. put_under command key old.flags (decimal (next number)) (Number (next number)) refl refl only acts)
 
   pub shape : (command : Command) → Shape limits table unique command (effect limits table unique command)
@@ -138,8 +138,8 @@ pub stored_there : (limits : Limits) (table : Table) (key : Key) (item : Item) (
     map.get (stored limits table key item reply).table key ≡ Some item
 stored_there limits table key item reply =
     elim (is_within limits (map.insert table key item)) as (λ b.
-    is_refusal (if b then record { table = map.insert table key item; reply = reply } else unchanged table (Refused E7)).reply ≡ false →
-    map.get (if b then record { table = map.insert table key item; reply = reply } else unchanged table (Refused E7)).table key ≡ Some item) [
+    is_refusal (if b then record { table = map.insert table key item; reply = reply } else unchanged table (Refused NO_ROOM)).reply ≡ false →
+    map.get (if b then record { table = map.insert table key item; reply = reply } else unchanged table (Refused NO_ROOM)).table key ≡ Some item) [
       | true ↦ λ granted. get-insert_same table key item
       | false ↦ λ granted. absurd (cc)
     ]

@@ -9,7 +9,8 @@ use Rattle.mc_model.specs.declared.item.Item.{Item}
 use Rattle.mc_model.specs.declared.key.Key.{Key}
 use Rattle.mc_model.specs.declared.settings.Limits.{Limits}
 use Rattle.mc_model.specs.Effect.{Effect, is_refusal}
-use Rattle.mc_model.specs.History.{accepts, after, answer, changes, state_after, state_after-none, state_after-push}
+use Rattle.mc_model.specs.History.{accepts, after, answer, changes, state_after}
+use Rattle.mc_model.proofs.Public.{state_after-none, state_after-push}
 use Rattle.mc_laws.specs.Words.{ActsOn, IsStoredBy, IsUntouched, Touches, effect_after}
 use Rattle.mc_model.specs.State.{TableState, next_reply, next_state}
 use Rattle.mc_model.specs.Table.{is_within, key_cmp}

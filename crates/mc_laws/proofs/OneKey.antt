@@ -17,8 +17,8 @@ use Rattle.mc_model.specs.declared.item.TheConstants.{DATA_BYTES}
 use Rattle.mc_model.specs.declared.key.Key.{Key}
 use Rattle.mc_model.specs.declared.reply.Reply.{Reply}
 use Rattle.mc_model.specs.declared.reply.Reply.TheVariants.{Deleted, Exists, NotFound, NotStored, Stored, Refused, Values}
+use Rattle.mc_model.specs.declared.reply.TheConstants.WireNo.{NO_ROOM, TOO_LARGE}
 use Rattle.mc_model.specs.declared.reply.Value.{Value}
-use Rattle.mc_model.specs.declared.reply.WireNo.TheVariants.{E6, E7}
 use Rattle.mc_model.specs.declared.settings.Limits.{Limits}
 use Rattle.mc_model.specs.Effect.{Effect, effect, is_acceptance, is_refusal, joined, none_or_some, shown_at, shown_item, stored, unchanged}
 use Rattle.mc_model.specs.History.{after, answer, changes}
@@ -30,11 +30,11 @@ use Rattle.mc_laws.proofs.Puts.{get-remove_same}
 
 -- what is to be stored is stored, or too much for the quotas
 pub stored_or_refused : (limits : Limits) (table : Table) (key : Key) (item : Item) (reply : Reply) →
-    ((stored limits table key item reply).reply ≡ reply) ⊎ ((stored limits table key item reply).reply ≡ Refused E7)
+    ((stored limits table key item reply).reply ≡ reply) ⊎ ((stored limits table key item reply).reply ≡ Refused NO_ROOM)
 stored_or_refused limits table key item reply =
     elim (is_within limits (map.insert table key item)) as (λ b.
-    let done = if b then record { table = map.insert table key item; reply = reply } else unchanged table (Refused E7) in
-    (done.reply ≡ reply) ⊎ (done.reply ≡ Refused E7)) [
+    let done = if b then record { table = map.insert table key item; reply = reply } else unchanged table (Refused NO_ROOM) in
+    (done.reply ≡ reply) ⊎ (done.reply ≡ Refused NO_ROOM)) [
       | true ↦ inl refl
       | false ↦ inr refl
     ]
@@ -181,10 +181,10 @@ prepend_sets limits table unique key old flags block is fits =
 
 -- a join is refused exactly where the data are too long
 joined_too_large : (limits : Limits) (table : Table) (unique : ℕ) (key : Key) (flags : ℕ) (block : Data) →
-    ((joined limits table unique key flags block).reply ≡ Refused E6) ↔ (DATA_BYTES < length block)
+    ((joined limits table unique key flags block).reply ≡ Refused TOO_LARGE) ↔ (DATA_BYTES < length block)
 joined_too_large limits table unique key flags block =
     elim (nat_le (length block) DATA_BYTES) as (λ b. nat_le (length block) DATA_BYTES ≡ b →
-    ((if b then stored limits table key (record { flags = flags; block = block; unique = unique }) Stored else unchanged table (Refused E6)).reply ≡ Refused E6) ↔ (DATA_BYTES < length block)) [
+    ((if b then stored limits table key (record { flags = flags; block = block; unique = unique }) Stored else unchanged table (Refused TOO_LARGE)).reply ≡ Refused TOO_LARGE) ↔ (DATA_BYTES < length block)) [
       | true ↦ λ fits. (
         λ refused. absurd (⊎_elim (λ given. let both = sym given ∙ refused in cc) (λ quota. let both = sym quota ∙ refused in cc)
             (stored_or_refused limits table key (record { flags = flags; block = block; unique = unique }) Stored)),
@@ -194,10 +194,10 @@ joined_too_large limits table unique key flags block =
     ] refl
 
 pub append_too_large : (limits : Limits) (table : Table) (unique : ℕ) (key : Key) (flags : ℕ) (block : Data) →
-    ((effect limits table unique (Store Append key flags block)).reply ≡ Refused E6) ↔ IsSomeAnd (map.get table key) (λ old. DATA_BYTES < length old.block + length block)
+    ((effect limits table unique (Store Append key flags block)).reply ≡ Refused TOO_LARGE) ↔ IsSomeAnd (map.get table key) (λ old. DATA_BYTES < length old.block + length block)
 append_too_large limits table unique key flags block =
     elim (map.get table key) as (λ there.
-    ((none_or_some there (unchanged table NotStored) (λ old. joined limits table unique key old.flags (old.block ++ block))).reply ≡ Refused E6)
+    ((none_or_some there (unchanged table NotStored) (λ old. joined limits table unique key old.flags (old.block ++ block))).reply ≡ Refused TOO_LARGE)
     ↔ IsSomeAnd there (λ old. DATA_BYTES < length old.block + length block)) [
       | None ↦ (λ no. cc, λ no. absurd no)
       | Some old ↦
@@ -206,10 +206,10 @@ append_too_large limits table unique key flags block =
     ]
 
 pub prepend_too_large : (limits : Limits) (table : Table) (unique : ℕ) (key : Key) (flags : ℕ) (block : Data) →
-    ((effect limits table unique (Store Prepend key flags block)).reply ≡ Refused E6) ↔ IsSomeAnd (map.get table key) (λ old. DATA_BYTES < length old.block + length block)
+    ((effect limits table unique (Store Prepend key flags block)).reply ≡ Refused TOO_LARGE) ↔ IsSomeAnd (map.get table key) (λ old. DATA_BYTES < length old.block + length block)
 prepend_too_large limits table unique key flags block =
     elim (map.get table key) as (λ there.
-    ((none_or_some there (unchanged table NotStored) (λ old. joined limits table unique key old.flags (block ++ old.block))).reply ≡ Refused E6)
+    ((none_or_some there (unchanged table NotStored) (λ old. joined limits table unique key old.flags (block ++ old.block))).reply ≡ Refused TOO_LARGE)
     ↔ IsSomeAnd there (λ old. DATA_BYTES < length old.block + length block)) [
       | None ↦ (λ no. cc, λ no. absurd no)
       | Some old ↦

@@ -7,11 +7,12 @@ use Rattle.mc_model.specs.declared.item.Item.{Item}
 use Rattle.mc_model.specs.declared.key.Key.{Key}
 use Rattle.mc_model.specs.declared.reply.Reply.{Reply}
 use Rattle.mc_model.specs.declared.reply.Reply.TheVariants.{Refused}
-use Rattle.mc_model.specs.declared.reply.WireNo.TheVariants.{E7}
+use Rattle.mc_model.specs.declared.reply.TheConstants.WireNo.{NO_ROOM}
 use Rattle.mc_model.specs.declared.settings.Limits.{Limits}
 use Rattle.mc_model.specs.Effect.{stored, unchanged}
 use Rattle.mc_model.specs.Table.{Table, count_of, is_within, key_cmp, key_cmp_total, use_of}
-use Rattle.mc_model.specs.Use.{count-remove, removed, restored, use-empty, use-insert, use-remove, weight_of, within_from, within_parts}
+use Rattle.mc_model.proofs.Public.{count-remove, removed, restored, use-empty, use-insert, use-remove, within_from, within_parts}
+use Rattle.mc_model.specs.Use.{weight_of}
 
 -- a table with no more than one within the quotas is within them
 pub less_within : (limits : Limits) (table other : Table) → use_of other ≤ use_of table → count_of other ≤ count_of table → is_within limits table ≡ true → is_within limits other ≡ true
@@ -83,12 +84,12 @@ within_or_exceeds limits table within exceeds =
     ⊎_elim (λ bytes. omega (arith, parts.0, bytes)) (λ items. omega (arith, parts.1, items)) exceeds
 
 -- to store is refused exactly where the table would then exceed the quotas
-pub stored_refused : (limits : Limits) (table : Table) (key : Key) (item : Item) (reply : Reply) → reply ≢ Refused E7 →
-    ((stored limits table key item reply).reply ≡ Refused E7) ↔ ExceedsQuotas limits (map.insert table key item)
+pub stored_refused : (limits : Limits) (table : Table) (key : Key) (item : Item) (reply : Reply) → reply ≢ Refused NO_ROOM →
+    ((stored limits table key item reply).reply ≡ Refused NO_ROOM) ↔ ExceedsQuotas limits (map.insert table key item)
 stored_refused limits table key item reply granted =
     let next = map.insert table key item in
     elim (is_within limits next) as (λ b. is_within limits next ≡ b →
-    ((if b then record { table = next; reply = reply } else unchanged table (Refused E7)).reply ≡ Refused E7) ↔ ExceedsQuotas limits next) [
+    ((if b then record { table = next; reply = reply } else unchanged table (Refused NO_ROOM)).reply ≡ Refused NO_ROOM) ↔ ExceedsQuotas limits next) [
       | true ↦ λ within. (λ refused. absurd (granted refused), λ exceeds. absurd (within_or_exceeds limits next within exceeds))
       | false ↦ λ above. (λ refused. exceeds_from limits next above, λ exceeds. refl)
     ] refl

@@ -11,7 +11,7 @@ use Rattle.mc_model.specs.declared.item.TheConstants.{DATA_BYTES}
 use Rattle.mc_model.specs.declared.key.Key.{Key}
 use Rattle.mc_model.specs.declared.reply.Reply.{Reply}
 use Rattle.mc_model.specs.declared.reply.Reply.TheVariants.{Deleted, Number, Ok, Refused, Stored}
-use Rattle.mc_model.specs.declared.reply.WireNo.TheVariants.{E7}
+use Rattle.mc_model.specs.declared.reply.TheConstants.WireNo.{NO_ROOM}
 use Rattle.mc_model.specs.declared.settings.Limits.{Limits}
 use Rattle.mc_model.specs.Effect.{Effect, effect, joined, none_or_some, renumbered, stored, unchanged}
 use Rattle.mc_model.specs.Number.{numeric_value}
@@ -20,7 +20,7 @@ use Rattle.mc_laws.proofs.Quotas.{ExceedsQuotas, empty_within, remove_within, st
 
 -- what is done under the quotas, by what would be done under others that let it through
 abbrev pub IsRefusedExactly : Limits → Effect → Effect → Type 0
-IsRefusedExactly limits done would = would.reply ≢ Refused E7 → (done.reply ≡ Refused E7) ↔ ExceedsQuotas limits would.table
+IsRefusedExactly limits done would = would.reply ≢ Refused NO_ROOM → (done.reply ≡ Refused NO_ROOM) ↔ ExceedsQuotas limits would.table
 
 exact_none_or_some : {A : Type 0} (limits : Limits) (there : Option A) (absent without : Effect) (held would : A → Effect) →
     IsRefusedExactly limits absent without → ((value : A) → IsRefusedExactly limits (held value) (would value)) →
@@ -44,7 +44,7 @@ module _ (limits wide : Limits) (table : Table) (within : is_within limits table
   exact_stored : (key : Key) (item : Item) (reply : Reply) → IsRefusedExactly limits (stored limits table key item reply) (stored wide table key item reply)
   exact_stored key item reply =
       let next = map.insert table key item in
-      elim (is_within wide next) as (λ b. IsRefusedExactly limits (stored limits table key item reply) (if b then record { table = next; reply = reply } else unchanged table (Refused E7))) [
+      elim (is_within wide next) as (λ b. IsRefusedExactly limits (stored limits table key item reply) (if b then record { table = next; reply = reply } else unchanged table (Refused NO_ROOM))) [
         | true ↦ λ granted. stored_refused limits table key item reply granted
         | false ↦ λ granted. absurd (granted refl)
       ]

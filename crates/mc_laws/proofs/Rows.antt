@@ -15,17 +15,17 @@ use Rattle.mc_model.specs.declared.item.TheConstants.{DATA_BYTES}
 use Rattle.mc_model.specs.declared.key.Key.{Key}
 use Rattle.mc_model.specs.declared.reply.Reply.{Reply}
 use Rattle.mc_model.specs.declared.reply.Reply.TheVariants.{Stored, NotStored, Exists, NotFound, Deleted, Ok, Number, Values, Refused}
+use Rattle.mc_model.specs.declared.reply.TheConstants.WireNo.{NOT_A_NUMBER, NO_ROOM, TOO_LARGE}
 use Rattle.mc_model.specs.declared.reply.Value.{Value}
-use Rattle.mc_model.specs.declared.reply.WireNo.TheVariants.{E6, E7, E8}
 use Rattle.mc_model.specs.declared.request.Entry.{Entry}
 use Rattle.mc_model.specs.declared.settings.Limits.{Limits}
-use Rattle.mc_model.specs.History.{StandsFor, StandsFor-none, StandsFor-push, after, answer, state_after-none, state_after-push}
+use Rattle.mc_model.specs.History.{StandsFor, after, answer}
+use Rattle.mc_model.proofs.Public.{StandsFor-none, StandsFor-push, state_after-none, state_after-push, use-empty, within_from}
 use Rattle.mc_model.specs.State.{TableState, next_reply}
 use Rattle.mc_model.specs.Effect.{Effect, effect, is_acceptance, stored, unchanged}
 use Rattle.mc_model.specs.Key.{is_lawful_key}
 use Rattle.mc_model.specs.Log.{own}
 use Rattle.mc_model.specs.Table.{Table, count_of, is_within, key_cmp, use_of}
-use Rattle.mc_model.specs.Use.{use-empty, within_from}
 use Rattle.mc_laws.proofs.Quotas.{ExceedsQuotas, added, replaced, taken_out, within_or_exceeds}
 use Rattle.mc_laws.proofs.Puts.{get-insert_same}
 use Rattle.mc_model.specs.Number.{number_up_to}
@@ -74,10 +74,10 @@ module _ (limits : Limits) (table : Table) where
   decr_is_not_padded held = rw (held, decimal_digit 9 (omega arith)) refl
 
   -- 2^64 isn't numeric, nor are 21 digits; a key that isn't held isn't found
-  incr_past_64_bits : Holds (codes "n") 0 (codes "18446744073709551616") 1 → effect limits table 2 (Incr (codes "n") 1) ≡ unchanged table (Refused E8)
+  incr_past_64_bits : Holds (codes "n") 0 (codes "18446744073709551616") 1 → effect limits table 2 (Incr (codes "n") 1) ≡ unchanged table (Refused NOT_A_NUMBER)
   incr_past_64_bits held = rw held refl
 
-  incr_of_21_digits : Holds (codes "n") 0 (codes "000000000000000000001") 1 → effect limits table 2 (Incr (codes "n") 1) ≡ unchanged table (Refused E8)
+  incr_of_21_digits : Holds (codes "n") 0 (codes "000000000000000000001") 1 → effect limits table 2 (Incr (codes "n") 1) ≡ unchanged table (Refused NOT_A_NUMBER)
   incr_of_21_digits held = rw held refl
 
   incr_on_no_key : map.get table (codes "m") ≡ None → effect limits table 2 (Incr (codes "m") 1) ≡ unchanged table NotFound
@@ -97,7 +97,7 @@ module _ (limits : Limits) (table : Table) where
   prepend_on_no_key absent = rw absent refl
 
   -- data of the most bytes that there can be take no byte more
-  append_too_large : (block : List ℕ) → length block ≡ DATA_BYTES → Holds (codes "b") 0 block 1 → effect limits table 2 (Store Append (codes "b") 0 (codes "z")) ≡ unchanged table (Refused E6)
+  append_too_large : (block : List ℕ) → length block ≡ DATA_BYTES → Holds (codes "b") 0 block 1 → effect limits table 2 (Store Append (codes "b") 0 (codes "z")) ≡ unchanged table (Refused TOO_LARGE)
   append_too_large block full held =
       let one_more : length (block ++ codes "z") ≡ length block + 1 = length-append block (codes "z") in
       let test : nat_le (length (block ++ codes "z")) DATA_BYTES ≡ false = grind (arith, nat_tests, full, one_more) in
@@ -173,9 +173,9 @@ there_is_room : (limits : Limits) (table : Table) (key : Key) (item : Item) (rep
 there_is_room limits table key item reply bytes items = rw (within_from limits (map.insert table key item) bytes items) refl
 
 there_is_none : (limits : Limits) (table : Table) (key : Key) (item : Item) (reply : Reply) → ExceedsQuotas limits (map.insert table key item) →
-    stored limits table key item reply ≡ unchanged table (Refused E7)
+    stored limits table key item reply ≡ unchanged table (Refused NO_ROOM)
 there_is_none limits table key item reply exceeds =
-    elim (is_within limits (map.insert table key item)) as (λ b. is_within limits (map.insert table key item) ≡ b → stored limits table key item reply ≡ unchanged table (Refused E7)) [
+    elim (is_within limits (map.insert table key item)) as (λ b. is_within limits (map.insert table key item) ≡ b → stored limits table key item reply ≡ unchanged table (Refused NO_ROOM)) [
       | true ↦ λ within. absurd (within_or_exceeds limits (map.insert table key item) within exceeds)
       | false ↦ λ outside. rw outside refl
     ] refl
@@ -223,7 +223,7 @@ flush_keeps_uniques =
 -- new data
 item_quota : AreAnswered (record { items = 1; bytes = 9 }) []
     (Store Set (codes "a") 0 (codes "x") ∷ Get (codes "a" ∷ []) true ∷ Store Set (codes "b") 0 (codes "y") ∷ Store Set (codes "a") 0 (codes "z") ∷ Get (codes "a" ∷ codes "b" ∷ []) true ∷ [])
-    (Stored ∷ Values (with_unique (codes "a") (codes "x") 1 ∷ []) ∷ Refused E7 ∷ Stored ∷ Values (with_unique (codes "a") (codes "z") 2 ∷ []) ∷ [])
+    (Stored ∷ Values (with_unique (codes "a") (codes "x") 1 ∷ []) ∷ Refused NO_ROOM ∷ Stored ∷ Values (with_unique (codes "a") (codes "z") 2 ∷ []) ∷ [])
 item_quota =
     let limits : Limits = record { items = 1; bytes = 9 } in
     let a : Key = codes "a" in
@@ -251,7 +251,7 @@ item_quota =
 byte_quota : AreAnswered (record { items = 9; bytes = 4 }) []
     (Store Set (codes "ab") 0 (codes "xy") ∷ Store Set (codes "ab") 0 (codes "xyz") ∷ Store Replace (codes "ab") 0 (codes "x") ∷ Store Set (codes "c") 0 (codes "y")
     ∷ Delete (codes "ab") ∷ Store Set (codes "c") 0 (codes "yyy") ∷ Get (codes "ab" ∷ codes "c" ∷ []) true ∷ [])
-    (Stored ∷ Refused E7 ∷ Stored ∷ Refused E7 ∷ Deleted ∷ Stored ∷ Values (with_unique (codes "c") (codes "yyy") 3 ∷ []) ∷ [])
+    (Stored ∷ Refused NO_ROOM ∷ Stored ∷ Refused NO_ROOM ∷ Deleted ∷ Stored ∷ Values (with_unique (codes "c") (codes "yyy") 3 ∷ []) ∷ [])
 byte_quota =
     let limits : Limits = record { items = 9; bytes = 4 } in
     let ab : Key = codes "ab" in
@@ -290,7 +290,7 @@ byte_quota =
 -- 9 and one more are two digits, where the quota is two bytes and the key takes one; one less is as
 -- long
 byte_quota_on_arithmetic : AreAnswered (record { items = 9; bytes = 2 }) []
-    (Store Set (codes "n") 0 (codes "9") ∷ Incr (codes "n") 1 ∷ Decr (codes "n") 1 ∷ []) (Stored ∷ Refused E7 ∷ Number 8 ∷ [])
+    (Store Set (codes "n") 0 (codes "9") ∷ Incr (codes "n") 1 ∷ Decr (codes "n") 1 ∷ []) (Stored ∷ Refused NO_ROOM ∷ Number 8 ∷ [])
 byte_quota_on_arithmetic =
     let limits : Limits = record { items = 9; bytes = 2 } in
     let n : Key = codes "n" in
@@ -305,7 +305,7 @@ byte_quota_on_arithmetic =
     let with_eight = replaced one n nine eight held in
     let set_nine = there_is_room limits map.empty n nine Stored (omega (arith, with_nine.0)) (omega (arith, with_nine.1)) in
     let no_room = there_is_none limits one n ten (Number 10) (inl (omega (arith, with_nine.0, with_ten.0, longer))) in
-    let incr_nine : effect limits one 2 (Incr n 1) ≡ unchanged one (Refused E7) = rw held no_room in
+    let incr_nine : effect limits one 2 (Incr n 1) ≡ unchanged one (Refused NO_ROOM) = rw held no_room in
     let room = there_is_room limits one n eight (Number 8) (omega (arith, with_nine.0, with_eight.0)) (omega (arith, with_nine.1, with_eight.1)) in
     let decr_nine : effect limits one 2 (Decr n 1) ≡ record { table = map.insert one n eight; reply = Number 8 } = rw (held, decimal_digit 8 (omega arith)) room in
     answered limits _ map.empty 0 _ _ _ _ _ (Stands-none limits) set_nine (λ stands_one. answered limits _ one 1 _ _ _ _ _ stands_one incr_nine (λ stands_two.

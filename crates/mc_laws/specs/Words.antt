@@ -8,7 +8,7 @@ use Rattle.mc_model.specs.declared.item.Item.{Item}
 use Rattle.mc_model.specs.declared.key.Key.{Key}
 use Rattle.mc_model.specs.declared.reply.Reply.{Reply}
 use Rattle.mc_model.specs.declared.reply.Reply.TheVariants.{Stored, Refused}
-use Rattle.mc_model.specs.declared.reply.WireNo.TheVariants.{E7}
+use Rattle.mc_model.specs.declared.reply.TheConstants.WireNo.{NO_ROOM}
 use Rattle.mc_model.specs.declared.settings.Limits.{Limits}
 use Rattle.mc_model.specs.Effect.{Effect, is_refusal}
 use Rattle.mc_model.specs.History.{accepts, after, answer, changes, state_after}
@@ -20,7 +20,7 @@ effect_after opening list command = next_effect (state_after opening list) comma
 
 -- whether the unique lets a cas through: it is then stored, or the quotas refuse it
 abbrev pub IsLetThrough : Reply → Type 0
-IsLetThrough reply = (reply ≡ Stored) ⊎ (reply ≡ Refused E7)
+IsLetThrough reply = (reply ≡ Stored) ⊎ (reply ≡ Refused NO_ROOM)
 
 -- the command, unless it is refused, changes the item under this key or removes it
 abbrev pub ActsOn : Key → Command → Type 0
@@ -34,16 +34,18 @@ ActsOn key Flush = Unit {0}
 
 -- after a list, the command changes the item under the key or removes it
 abbrev pub Touches : Limits → List Command → Key → Command → Type 0
-Touches opening list key command = ActsOn key command × (is_refusal (answer opening list command) ≡ false)
+Touches opening list key command =
+    ActsOn key command × (is_refusal (answer opening list command) ≡ false)
 
 -- none of the commands in between touches the key, each coming after those before it
 abbrev pub IsUntouched : Limits → List Command → Key → List Command → Type 0
-IsUntouched opening earlier key between =
-    (front back : List Command) (command : Command) → between ≡ front ++ command ∷ back → Touches opening (earlier ++ front) key command → ⊥
+IsUntouched opening earlier key between = (front back : List Command) (command : Command) →
+    between ≡ front ++ command ∷ back → Touches opening (earlier ++ front) key command → ⊥
 
 -- the change that stored an item: the key didn't hold the item before the change, and holds it
 -- right after
-pub record IsStoredBy (opening : Limits) (list : List Command) (key : Key) (item : Item) : Type 0 where
+pub record IsStoredBy (opening : Limits) (list : List Command) (key : Key)
+    (item : Item) : Type 0 where
   pub earlier : List Command
   pub change : Command
   pub later : List Command

@@ -6,7 +6,7 @@ ghost use Rattle.mc_model.specs.declared.request.Entry.{Entry};
 ghost use Rattle.mc_model.specs.declared.command.Command.{Command};
 ghost use Rattle.mc_model.specs.declared.settings.Limits.{Limits};
 ghost use Rattle.mc_model.specs.History.{StandsFor, answer, answer_from, state_after, state_from};
-ghost use Rattle.mc_model.specs.Log.{Sighting, entry_of, own};
+ghost use Rattle.mc_model.specs.Log.{PlaceSighting, entry_seen, own};
 ghost use Rattle.mc_model.specs.Replay.{EachStands, TakeEffect, reply_to};
 ghost use Rattle.mc_model.specs.State.{TableState, next_reply};
 
@@ -26,11 +26,11 @@ pub fn own_entries_alone_count()
 
 /// The entry of a place counts if it has the ticket that stands there, and otherwise as absent.
 pub fn an_entry_counts_for_its_own_ticket()
-    ensures own { (seen : Sighting) (entry : Entry) → seen.entry ≡ Some entry →
-        entry.ticket ≡ seen.ticket → entry_of seen ≡ Some entry }
-    ensures others { (seen : Sighting) (entry : Entry) → seen.entry ≡ Some entry →
-        entry.ticket ≢ seen.ticket → entry_of seen ≡ None }
-    ensures absent { (seen : Sighting) → seen.entry ≡ None → entry_of seen ≡ None }
+    ensures own { (seen : PlaceSighting) (entry : Entry) → seen.entry ≡ Some entry →
+        entry.ticket ≡ seen.ticket → entry_seen seen ≡ Some entry }
+    ensures others { (seen : PlaceSighting) (entry : Entry) → seen.entry ≡ Some entry →
+        entry.ticket ≢ seen.ticket → entry_seen seen ≡ None }
+    ensures absent { (seen : PlaceSighting) → seen.entry ≡ None → entry_seen seen ≡ None }
 {}
 
 /// The tables of an empty log are those that it was opened over. The entry of one more place is

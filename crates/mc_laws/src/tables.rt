@@ -13,9 +13,9 @@ ghost use Rattle.mc_model.specs.declared.item.TheConstants.{DATA_BYTES};
 ghost use Rattle.mc_model.specs.declared.key.Key.{Key};
 ghost use Rattle.mc_model.specs.declared.key.KeyList.{KeyList};
 ghost use Rattle.mc_model.specs.declared.reply.Reply.TheVariants.{Stored, NotStored, Exists, NotFound, Deleted, Ok, Number, Values, Version, Refused};
+ghost use Rattle.mc_model.specs.declared.reply.TheConstants.WireNo.{NOT_A_NUMBER, NO_ROOM, TOO_LARGE};
 ghost use Rattle.mc_model.specs.declared.reply.Value.{Value};
 ghost use Rattle.mc_model.specs.declared.reply.WireNo.{WireNo};
-ghost use Rattle.mc_model.specs.declared.reply.WireNo.TheVariants.{E6, E7, E8};
 ghost use Rattle.mc_model.specs.declared.settings.Limits.{Limits};
 ghost use Rattle.mc_model.specs.Effect.{effect, is_refusal};
 ghost use Rattle.mc_model.specs.History.{StandsForMore, accepts, after, answer, changes, limits_after};
@@ -103,14 +103,14 @@ pub fn quotas_hold()
         count_of (after opening list) ≤ (limits_after opening list).items }
     ensures refused { (opening other : Limits) (list : List Command) (command : Command) →
         let would = effect other (after opening list) (changes opening list + 1) command in
-        would.reply ≢ Refused E7 →
-        (answer opening list command ≡ Refused E7)
+        would.reply ≢ Refused NO_ROOM →
+        (answer opening list command ≡ Refused NO_ROOM)
         ↔ (((limits_after opening list).bytes < use_of would.table)
         ⊎ ((limits_after opening list).items < count_of would.table)) }
     ensures set { (opening : Limits) (list : List Command) (key : Key) (flags : ℕ) (block : Data) →
         let next = map.insert (after opening list) key
         (record { flags = flags; block = block; unique = changes opening list + 1 }) in
-        (answer opening list (Store Set key flags block) ≡ Refused E7)
+        (answer opening list (Store Set key flags block) ≡ Refused NO_ROOM)
         ↔ (((limits_after opening list).bytes < use_of next)
         ⊎ ((limits_after opening list).items < count_of next)) }
 {}
@@ -150,7 +150,7 @@ pub fn get_after_set()
     ensures answered { (opening : Limits) (list : List Command) (key : Key) (flags : ℕ)
         (block : Data) →
         (answer opening list (Store Set key flags block) ≡ Stored)
-        ⊎ (answer opening list (Store Set key flags block) ≡ Refused E7) }
+        ⊎ (answer opening list (Store Set key flags block) ≡ Refused NO_ROOM) }
     ensures shown { (opening : Limits) (earlier between : List Command) (key : Key) (flags : ℕ)
         (block : Data) →
         answer opening earlier (Store Set key flags block) ≡ Stored →
@@ -262,12 +262,12 @@ pub fn joins_set_the_joined_data()
         ≡ effect_after opening list (Store Set key old.flags (block ++ old.block)) }
     ensures append_too_large { (opening : Limits) (list : List Command) (key : Key) (flags : ℕ)
         (block : Data) →
-        (answer opening list (Store Append key flags block) ≡ Refused E6)
+        (answer opening list (Store Append key flags block) ≡ Refused TOO_LARGE)
         ↔ IsSomeAnd (map.get (after opening list) key)
         (λ old. DATA_BYTES < length old.block + length block) }
     ensures prepend_too_large { (opening : Limits) (list : List Command) (key : Key) (flags : ℕ)
         (block : Data) →
-        (answer opening list (Store Prepend key flags block) ≡ Refused E6)
+        (answer opening list (Store Prepend key flags block) ≡ Refused TOO_LARGE)
         ↔ IsSomeAnd (map.get (after opening list) key)
         (λ old. DATA_BYTES < length old.block + length block) }
     ensures absent { (opening : Limits) (list : List Command) (key : Key) (flags : ℕ)
@@ -318,8 +318,8 @@ pub fn incr_and_decr_want_a_number()
     ensures not_numeric { (opening : Limits) (list : List Command) (key : Key) (old : Item)
         (by : ℕ) →
         map.get (after opening list) key ≡ Some old → numeric_value old.block ≡ None →
-        (answer opening list (Incr key by) ≡ Refused E8)
-        × (answer opening list (Decr key by) ≡ Refused E8) }
+        (answer opening list (Incr key by) ≡ Refused NOT_A_NUMBER)
+        × (answer opening list (Decr key by) ≡ Refused NOT_A_NUMBER) }
     ensures absent { (opening : Limits) (list : List Command) (key : Key) (by : ℕ) →
         IsNone (map.get (after opening list) key) →
         (answer opening list (Incr key by) ≡ NotFound)
@@ -333,7 +333,7 @@ pub fn incr_wraps_and_decr_stops()
         (number by : ℕ) →
         map.get (after opening list) key ≡ Some old → numeric_value old.block ≡ Some number →
         (answer opening list (Incr key by) ≡ Number ((number + by) % (2 ^ 64)))
-        ⊎ (answer opening list (Incr key by) ≡ Refused E7) }
+        ⊎ (answer opening list (Incr key by) ≡ Refused NO_ROOM) }
     ensures refused { (opening : Limits) (list : List Command) (key : Key) (old : Item)
         (number by : ℕ) →
         map.get (after opening list) key ≡ Some old → numeric_value old.block ≡ Some number →
@@ -345,7 +345,7 @@ pub fn incr_wraps_and_decr_stops()
           unique = changes opening list + 1;
         } in
         let next = map.insert (after opening list) key sum in
-        (answer opening list (Incr key by) ≡ Refused E7)
+        (answer opening list (Incr key by) ≡ Refused NO_ROOM)
         ↔ (((limits_after opening list).bytes < use_of next)
         ⊎ ((limits_after opening list).items < count_of next)) }
     ensures difference { (opening : Limits) (list : List Command) (key : Key) (old : Item)

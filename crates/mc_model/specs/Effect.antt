@@ -16,7 +16,7 @@ use Rattle.mc_model.specs.declared.key.Key.{Key}
 use Rattle.mc_model.specs.declared.reply.Reply.{Reply}
 use Rattle.mc_model.specs.declared.reply.Reply.TheVariants.{Stored, NotStored, Exists, NotFound, Deleted, Ok, Number, Values, Refused}
 use Rattle.mc_model.specs.declared.reply.Value.{Value}
-use Rattle.mc_model.specs.declared.reply.WireNo.TheVariants.{E6, E7, E8}
+use Rattle.mc_model.specs.declared.reply.TheConstants.WireNo.{NO_ROOM, NOT_A_NUMBER, TOO_LARGE}
 use Rattle.mc_model.specs.declared.settings.Limits.{Limits}
 use Rattle.mc_model.specs.Number.{numeric_value}
 use Rattle.mc_model.specs.Table.{Table, is_within}
@@ -28,8 +28,12 @@ pub record Effect : Type 0 where
 
 -- an item as a retrieval shows it
 abbrev pub shown_item : Bool → Key → Item → Value
-shown_item uniques key item =
-    record { key = key; flags = item.flags; block = item.block; unique = if uniques then Some item.unique else None }
+shown_item uniques key item = record {
+  key = key;
+  flags = item.flags;
+  block = item.block;
+  unique = if uniques then Some item.unique else None;
+}
 
 -- what a retrieval shows of a key: its item, or nothing if the key isn't held
 abbrev pub shown_at : Table → Bool → Key → Option Value
@@ -44,7 +48,7 @@ abbrev pub stored : Limits → Table → Key → Item → Reply → Effect
 stored limits table key item reply =
     if is_within limits (map.insert table key item)
     then record { table = map.insert table key item; reply = reply }
-    else unchanged table (Refused E7)
+    else unchanged table (Refused NO_ROOM)
 
 -- one effect if there is no value, another of the value if there is one
 abbrev pub none_or_some : {A : Type 0} → Option A → Effect → (A → Effect) → Effect
@@ -56,13 +60,15 @@ abbrev pub joined : Limits → Table → ℕ → Key → ℕ → Data → Effect
 joined limits table unique key flags block =
     if nat_le (length block) DATA_BYTES
     then stored limits table key (record { flags = flags; block = block; unique = unique }) Stored
-    else unchanged table (Refused E6)
+    else unchanged table (Refused TOO_LARGE)
 
 -- replaces the number under a key by another, in decimal digits; the flags stay
 abbrev pub renumbered : Limits → Table → ℕ → Key → Item → (ℕ → ℕ) → Effect
 renumbered limits table unique key old next =
-    none_or_some (numeric_value old.block) (unchanged table (Refused E8))
-    (λ number. stored limits table key (record { flags = old.flags; block = decimal (next number); unique = unique }) (Number (next number)))
+    none_or_some (numeric_value old.block) (unchanged table (Refused NOT_A_NUMBER))
+    (λ number. stored limits table key
+    (record { flags = old.flags; block = decimal (next number); unique = unique })
+    (Number (next number)))
 
 -- The effect of a command on a tenant's table, where a change gets this unique. decr subtracts
 -- natural numbers, so it stops at 0.
@@ -70,11 +76,13 @@ abbrev pub effect : Limits → Table → ℕ → Command → Effect
 effect limits table unique (Store Set key flags block) =
     stored limits table key (record { flags = flags; block = block; unique = unique }) Stored
 effect limits table unique (Store Add key flags block) =
-    none_or_some (map.get table key) (stored limits table key (record { flags = flags; block = block; unique = unique }) Stored)
+    none_or_some (map.get table key)
+    (stored limits table key (record { flags = flags; block = block; unique = unique }) Stored)
     (λ old. unchanged table NotStored)
 effect limits table unique (Store Replace key flags block) =
     none_or_some (map.get table key) (unchanged table NotStored)
-    (λ old. stored limits table key (record { flags = flags; block = block; unique = unique }) Stored)
+    (λ old. stored limits table key
+    (record { flags = flags; block = block; unique = unique }) Stored)
 effect limits table unique (Store Append key new_flags block) =
     none_or_some (map.get table key) (unchanged table NotStored)
     (λ old. joined limits table unique key old.flags (old.block ++ block))
@@ -92,9 +100,11 @@ effect limits table unique (Delete key) =
     none_or_some (map.get table key) (unchanged table NotFound)
     (λ old. record { table = map.remove table key; reply = Deleted })
 effect limits table unique (Incr key by) =
-    none_or_some (map.get table key) (unchanged table NotFound) (λ old. renumbered limits table unique key old (λ number. (number + by) % (2 ^ 64)))
+    none_or_some (map.get table key) (unchanged table NotFound)
+    (λ old. renumbered limits table unique key old (λ number. (number + by) % (2 ^ 64)))
 effect limits table unique (Decr key by) =
-    none_or_some (map.get table key) (unchanged table NotFound) (λ old. renumbered limits table unique key old (λ number. number - by))
+    none_or_some (map.get table key) (unchanged table NotFound)
+    (λ old. renumbered limits table unique key old (λ number. number - by))
 effect limits table unique Flush = record { table = map.empty; reply = Ok }
 
 -- whether a reply says that a command counts as a change: that it gave an item a unique

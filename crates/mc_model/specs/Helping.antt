@@ -2,7 +2,8 @@
 -- and a pending command is helped round-robin (Herlihy, Wait-Free Synchronization, TOPLAS 1991: at
 -- each place the worker whose number is the place modulo the number of workers is helped first).
 -- `Lawful` says which states are reachable; these are statements about them.
-use Rattle.std.specs.Prelude.{◌≡◌, ◌≢◌, ◌⊎◌, ℕ, ◌+◌, ◌-◌, ◌%◌, ◌<◌, ◌≤◌, List, ◌++◌, length, slice_get, Some, None}
+use Rattle.std.specs.Prelude.{◌≡◌, ◌≢◌, ◌⊎◌, ℕ, ◌+◌, ◌-◌, ◌%◌, ◌<◌, ◌≤◌, List, length, slice_get, Some, None}
+use Rattle.lists.specs.Lists.{BeginsWith}
 use Rattle.mc_model.specs.declared.id.Ticket.{Ticket}
 use Rattle.mc_model.specs.declared.shown.LogSize.{LogSize}
 use Rattle.mc_model.specs.declared.shown.Phase.TheVariants.{Idle, Pending, Looked}
@@ -11,19 +12,19 @@ use Rattle.mc_model.specs.declared.shown.WorkerState.{WorkerState}
 use Rattle.mc_model.specs.Lawful.{HasRoom, IsReached, IsWorker, LeadOn, ShownEvent, Step, announced_by, announces}
 use Rattle.mc_model.specs.Legal.{IsLegal, StandsBefore, count, ticket_of}
 
--- a list begins with another
-abbrev pub BeginsWith : {X : Type 0} → List X → List X → Type 0
-BeginsWith {X} list front = (rest : List X) × (list ≡ front ++ rest)
-
 -- a worker knows the first places, all its commands but the pending one stand there, and the ticket
 -- it looked up is the next one of that ticket's worker
-pub record WorkerLaw (size : LogSize) (state : ShownState) (number : ℕ) (worker : WorkerState) : Type 0 where
+pub record WorkerLaw (size : LogSize) (state : ShownState) (number : ℕ)
+    (worker : WorkerState) : Type 0 where
   pub begins : BeginsWith state.decided worker.learned
   pub idle : worker.phase ≡ Idle → count number worker.learned ≡ worker.announced
   pub pending : worker.phase ≡ Pending → count number worker.learned + 1 ≡ worker.announced
-  pub looked : worker.phase ≡ Looked → (count number worker.learned + 1 ≡ worker.announced) × HasRoom size worker × (worker.mark ≢ None)
+  pub looked : worker.phase ≡ Looked →
+      (count number worker.learned + 1 ≡ worker.announced) × HasRoom size worker
+      × (worker.mark ≢ None)
   pub looks : (ticket : Ticket) → worker.phase ≡ Looked → worker.look ≡ Some ticket →
-      (ticket.number < announced_by state ticket.worker) × (count ticket.worker worker.learned ≡ ticket.number)
+      (ticket.number < announced_by state ticket.worker)
+      × (count ticket.worker worker.learned ≡ ticket.number)
   pub proposals : worker.proposals ≤ size.workers + 1
 
 -- the decided places are a well-formed log of announced tickets, and each worker keeps to its law
@@ -31,16 +32,20 @@ pub record LogLaw (size : LogSize) (state : ShownState) : Type 0 where
   pub many : length state.workers ≡ size.workers
   pub few : length state.decided ≤ size.places
   pub legal : IsLegal state.decided
-  pub announced : (place : ℕ) (ticket : Ticket) → slice_get state.decided place ≡ Some ticket → ticket.number < announced_by state ticket.worker
-  pub each : (number : ℕ) (worker : WorkerState) → IsWorker state number worker → WorkerLaw size state number worker
+  pub announced : (place : ℕ) (ticket : Ticket) → slice_get state.decided place ≡ Some ticket →
+      ticket.number < announced_by state ticket.worker
+  pub each : (number : ℕ) (worker : WorkerState) → IsWorker state number worker →
+      WorkerLaw size state number worker
 
 -- a worker's ticket is helped after a place: at each later place whose turn is that worker's, the
 -- ticket stands there or before, and whoever has looked at such a place has looked it up, or it
 -- stands before
-pub record IsHelped (size : LogSize) (state : ShownState) (ticket : Ticket) (from : ℕ) : Type 0 where
-  pub decided : (place : ℕ) → from < place → place < length state.decided → place % size.workers ≡ ticket.worker →
-      StandsBefore (place + 1) ticket state.decided
-  pub looks : (number : ℕ) (worker : WorkerState) → IsWorker state number worker → worker.phase ≡ Looked →
+pub record IsHelped (size : LogSize) (state : ShownState) (ticket : Ticket)
+    (from : ℕ) : Type 0 where
+  pub decided : (place : ℕ) → from < place → place < length state.decided →
+      place % size.workers ≡ ticket.worker → StandsBefore (place + 1) ticket state.decided
+  pub looks : (number : ℕ) (worker : WorkerState) →
+      IsWorker state number worker → worker.phase ≡ Looked →
       from < length worker.learned → length worker.learned % size.workers ≡ ticket.worker →
       (worker.look ≡ Some ticket) ⊎ StandsBefore (length worker.learned) ticket state.decided
 
@@ -51,16 +56,19 @@ Waits number worker = count number worker.learned < worker.announced
 -- the helping law: a pending command is helped after its worker's mark, and the worker has proposed
 -- at most once at each place since
 abbrev pub HelpingLaw : LogSize → ShownState → Type 0
-HelpingLaw size state = (number : ℕ) (worker : WorkerState) → IsWorker state number worker → Waits number worker →
+HelpingLaw size state =
+    (number : ℕ) (worker : WorkerState) → IsWorker state number worker → Waits number worker →
     (worker.mark ≡ None → worker.proposals ≡ 0)
     × ((mark : ℕ) → worker.mark ≡ Some mark →
-    IsHelped size state (ticket_of number (worker.announced - 1)) mark × (worker.proposals + mark ≤ length worker.learned))
+    IsHelped size state (ticket_of number (worker.announced - 1)) mark
+    × (worker.proposals + mark ≤ length worker.learned))
 
 -- a command that is announced while d places of a log of n workers are decided stands among the
 -- first d + n + 1 places once that many are decided, whatever happens in between and whichever
 -- workers stop
 abbrev pub IsSoonDecided : LogSize → Type 0
 IsSoonDecided size = (old announced new : ShownState) (number : ℕ) (events : List ShownEvent) →
-    IsReached size old → Step size old (announces number) announced → LeadOn size announced events new →
-    length old.decided + size.workers + 1 ≤ length new.decided →
-    StandsBefore (length old.decided + size.workers + 1) (ticket_of number (announced_by old number)) new.decided
+    IsReached size old → Step size old (announces number) announced →
+    LeadOn size announced events new → length old.decided + size.workers + 1 ≤ length new.decided →
+    StandsBefore (length old.decided + size.workers + 1)
+    (ticket_of number (announced_by old number)) new.decided

@@ -10,7 +10,8 @@ is_key_byte byte = nat_lt 32 byte && not (byte == 127)
 
 -- 1 to 250 such bytes
 abbrev pub is_lawful_key : List ℕ → Bool
-is_lawful_key bytes = (nat_lt 0 (length bytes) && nat_le (length bytes) KEY_BYTES) && list_all is_key_byte bytes
+is_lawful_key bytes =
+    (nat_lt 0 (length bytes) && nat_le (length bytes) KEY_BYTES) && list_all is_key_byte bytes
 
 -- the key of these bytes, if they are a valid key
 abbrev pub key_of : List ℕ → Option (List ℕ)

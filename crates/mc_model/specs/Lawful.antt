@@ -30,7 +30,8 @@ with_worker state number worker = record state { workers = slice_set state.worke
 
 -- the number of commands that a worker has announced
 abbrev pub announced_by : ShownState → ℕ → ℕ
-announced_by state number = option_map_or (λ (worker : WorkerState). worker.announced) (slice_get state.workers number) 0
+announced_by state number =
+    option_map_or (λ (worker : WorkerState). worker.announced) (slice_get state.workers number) 0
 
 -- what stands at the worker's next place, and the list of decided places once that place is decided
 abbrev pub next : ShownState → WorkerState → Option Ticket
@@ -57,9 +58,11 @@ Step size old (announces number) new = (worker : WorkerState) × IsWorker old nu
 Step size old (reads number) new = (worker : WorkerState) × IsWorker old number worker
     × ((worker.phase ≡ Idle) ⊎ (worker.phase ≡ Pending)) × HasRoom size worker
     × (new ≡ with_worker old number (read number (next old worker) worker))
-Step size old (looks number) new = (worker : WorkerState) × IsWorker old number worker
+Step size old (looks number) new =
+    (worker : WorkerState) × IsWorker old number worker
     × (worker.phase ≡ Pending) × HasRoom size worker × (worker.mark ≢ None)
-    × (new ≡ with_worker old number (look (turn size worker) (announced_by old (turn size worker)) worker))
+    × (new ≡ with_worker old number
+    (look (turn size worker) (announced_by old (turn size worker)) worker))
 Step size old (proposes number) new = (worker : WorkerState) × IsWorker old number worker
     × (worker.phase ≡ Looked)
     × (new ≡ record {
@@ -73,7 +76,8 @@ Step size old (stops number) new = (worker : WorkerState) × IsWorker old number
 -- events lead from the opening to a state; the latest comes first
 abbrev pub Leads : LogSize → List ShownEvent → ShownState → Type 0
 Leads size [] state = state ≡ new_log size
-Leads size (event ∷ events) state = (before : ShownState) × Leads size events before × Step size before event state
+Leads size (event ∷ events) state =
+    (before : ShownState) × Leads size events before × Step size before event state
 
 -- the state is reachable: some events lead to it from the opening
 abbrev pub IsReached : LogSize → ShownState → Type 0
@@ -82,4 +86,5 @@ IsReached size state = (events : List ShownEvent) × Leads size events state
 -- events, in their order, lead from one state to another
 abbrev pub LeadOn : LogSize → ShownState → List ShownEvent → ShownState → Type 0
 LeadOn size old [] new = new ≡ old
-LeadOn size old (event ∷ events) new = (next : ShownState) × Step size old event next × LeadOn size next events new
+LeadOn size old (event ∷ events) new =
+    (next : ShownState) × Step size old event next × LeadOn size next events new

@@ -18,8 +18,10 @@ count worker tickets = count_by (λ (ticket : Ticket). ticket.worker == worker) 
 -- out, so that exactly k of a worker's tickets stand before its number k, and no ticket stands
 -- twice
 abbrev pub IsLegal : List Ticket → Type 0
-IsLegal tickets = (place : ℕ) (ticket : Ticket) → slice_get tickets place ≡ Some ticket → count ticket.worker (take place tickets) ≡ ticket.number
+IsLegal tickets = (place : ℕ) (ticket : Ticket) → slice_get tickets place ≡ Some ticket →
+    count ticket.worker (take place tickets) ≡ ticket.number
 
 -- the ticket stands before this place
 abbrev pub StandsBefore : ℕ → Ticket → List Ticket → Type 0
-StandsBefore end ticket tickets = (place : ℕ) × (place < end) × (slice_get tickets place ≡ Some ticket)
+StandsBefore end ticket tickets =
+    (place : ℕ) × (place < end) × (slice_get tickets place ≡ Some ticket)

@@ -11,7 +11,8 @@ is_numeral bytes = nat_lt 0 (length bytes) && all_ascii_digits bytes
 -- the number that the bytes spell, if they spell one of at most the limit
 abbrev pub number_up_to : ℕ → List ℕ → Option ℕ
 number_up_to limit bytes =
-    if is_numeral bytes && nat_le (digits_value 10 bytes) limit then Some (digits_value 10 bytes) else None
+    if is_numeral bytes && nat_le (digits_value 10 bytes) limit
+    then Some (digits_value 10 bytes) else None
 
 -- The number that data spell, if they are numeric: a "decimal representation of a 64-bit unsigned
 -- integer" ("Increment/Decrement") of at most 20 digits.

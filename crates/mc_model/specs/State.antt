@@ -43,8 +43,12 @@ next_state state command = left_by state (next_effect state command)
 
 -- how a state is stored as a model's value
 abbrev pub coded_limits : Coded Limits
-coded_limits = code_by (ℕ × ℕ) (coded× coded_ℕ coded_ℕ) (λ l. (l.items, l.bytes)) (λ p. record { items = p.0; bytes = p.1 }) (λ _. refl)
+coded_limits =
+    code_by (ℕ × ℕ) (coded× coded_ℕ coded_ℕ) (λ l. (l.items, l.bytes))
+    (λ p. record { items = p.0; bytes = p.1 }) (λ _. refl)
 
 abbrev pub coded_state : Coded TableState
 coded_state =
-    code_by (Limits × (Table × ℕ)) (coded× coded_limits (coded× coded_table coded_ℕ)) (λ s. (s.limits, (s.table, s.last_unique))) (λ p. record { limits = p.0; table = p.1.0; last_unique = p.1.1 }) (λ _. refl)
+    code_by (Limits × (Table × ℕ)) (coded× coded_limits (coded× coded_table coded_ℕ))
+    (λ s. (s.limits, (s.table, s.last_unique)))
+    (λ p. record { limits = p.0; table = p.1.0; last_unique = p.1.1 }) (λ _. refl)

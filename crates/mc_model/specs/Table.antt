@@ -55,7 +55,9 @@ is_within limits table = nat_le (use_of table) limits.bytes && nat_le (count_of 
 -- how a table is stored as a model's value
 abbrev pub coded_item : Coded Item
 coded_item =
-    code_by (ℕ × (List ℕ × ℕ)) (coded× coded_ℕ (coded× (coded_list coded_ℕ) coded_ℕ)) (λ i. (i.flags, (i.block, i.unique))) (λ p. record { flags = p.0; block = p.1.0; unique = p.1.1 }) (λ _. refl)
+    code_by (ℕ × (List ℕ × ℕ)) (coded× coded_ℕ (coded× (coded_list coded_ℕ) coded_ℕ))
+    (λ i. (i.flags, (i.block, i.unique)))
+    (λ p. record { flags = p.0; block = p.1.0; unique = p.1.1 }) (λ _. refl)
 
 abbrev pub coded_table : Coded Table
 coded_table = map.code (coded_list coded_ℕ) coded_item

@@ -31,6 +31,42 @@ pub enum WireNo {
     E11,
 }
 
+/// The refusals by name, each with what it is given for.
+impl WireNo {
+    /// For a line without a known name, or with a number of words that its name doesn't take.
+    pub const UNKNOWN_COMMAND: WireNo = WireNo::E1;
+
+    /// For a line with a word that isn't allowed where it is.
+    pub const BAD_FORMAT: WireNo = WireNo::E2;
+
+    /// For a block that isn't followed by `\r\n`.
+    pub const BAD_BLOCK: WireNo = WireNo::E3;
+
+    /// For an exptime that isn't zero.
+    pub const NO_EXPIRY: WireNo = WireNo::E4;
+
+    /// For a line without an end within the bytes that a line may have; the stream ends.
+    pub const LINE_TOO_LONG: WireNo = WireNo::E5;
+
+    /// For a block, sent or joined, of more bytes than a block may have.
+    pub const TOO_LARGE: WireNo = WireNo::E6;
+
+    /// For a change that would lead above a quota.
+    pub const NO_ROOM: WireNo = WireNo::E7;
+
+    /// For an `incr` or `decr` of data that are no number.
+    pub const NOT_A_NUMBER: WireNo = WireNo::E8;
+
+    /// For an `incr` or `decr` by a delta that can't be read.
+    pub const BAD_DELTA: WireNo = WireNo::E9;
+
+    /// For a command after the last place of the log.
+    pub const LOG_FULL: WireNo = WireNo::E10;
+
+    /// For a failed allocation; the stream ends.
+    pub const OUT_OF_MEMORY: WireNo = WireNo::E11;
+}
+
 /// An item as a retrieval shows it; `unique` is `Some` if the retrieval shows uniques.
 #[derive(Debug, PartialEq, Eq, Drop)]
 pub struct Value {

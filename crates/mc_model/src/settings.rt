@@ -1,5 +1,5 @@
 //! The settings of a server, and the quotas of its tenants.
-ghost use Rattle.std.specs.Prelude.{◌≡◌, ◌↔◌, List, IsTrue, IsOk, IfOk, IsOkUnless};
+ghost use Rattle.std.specs.Prelude.{◌≡◌, ◌↔◌, IsTrue, IsOk, IfOk, IsOkUnless};
 ghost use Rattle.mc_model.specs.Settings.{AreLawfulLimits, Configuration, IsLawful};
 
 use crate::Fault;

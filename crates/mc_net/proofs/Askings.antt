@@ -13,7 +13,7 @@ use Rattle.mc_conn.specs.Owed.{mark_of}
 use Rattle.mc_conn.specs.Turn.{Takes, holding_of, scene}
 use Rattle.mc_conn.specs.declared.conn.State.{State}
 use Rattle.mc_conn.specs.declared.conn.State.TheVariants.{Closed}
-use Rattle.mc_conn.proofs.Owings.{same_sighting}
+use Rattle.mc_conn.proofs.Public.{same_sighting}
 use Rattle.mc_model.specs.declared.fault.Fault.{Fault}
 use Rattle.mc_model.specs.declared.request.Request.{Request}
 use Rattle.mc_net.specs.Asking.{Announcement, HasBeenAsked, IsAnnounced, IsEarlier, IsLogged, WasAsked}
@@ -26,10 +26,10 @@ use Rattle.mc_net.specs.declared.worker_thread.Returned.{Returned}
 use Rattle.mc_net.specs.declared.connections.Connection.{Connection}
 use Rattle.mc_net.proofs.Lives.{IsSound, nothing_at, reads_from_earlier, same_key, sound_first, sound_working}
 use Rattle.mc_net.proofs.Numbers.{IsAt, Numbers, met_numbers, owed_numbers, taken_numbers}
-use Rattle.mc_read.specs.Reading.{ReadsAs}
+use Rattle.mc_conn.specs.Cited.{ReadsAs}
 use Rattle.mc_stream.specs.Event.{moved}
 use Rattle.mc_stream.specs.Stream.{Outflow, both}
-use Rattle.uc_worker.proofs.Lists.{at_longer}
+use Rattle.lists.proofs.Public.{at_longer}
 use Rattle.uc_worker.specs.declared.worker.Worker.{Worker}
 use Rattle.uc_worker.specs.Worker.{announced_of}
 

@@ -12,27 +12,25 @@ use Rattle.std.proofs.lemmas.Option.{same_Some}
 use Rattle.mc_conn.specs.Alone.{first_mark}
 use Rattle.mc_conn.specs.ConnFault.{CellTaken, ConnFault, CountsFailures, InputFailed, IsTold, OutOfMemory, OutputFailed}
 use Rattle.mc_conn.specs.Ending.{Breaks, IsDone, Stops}
-use Rattle.mc_conn.specs.Held.{Holding, HoldsNone, HoldsOn, IsRead, Waits, lines_of, nothing_held}
+use Rattle.mc_conn.specs.Held.{Holding, HoldsNone, HoldsOn, IsRead, WaitsThen, lines_of, nothing_held}
 use Rattle.uc_worker.specs.Going.{Continues}
 use Rattle.mc_conn.specs.declared.conn.Role.{Role}
 use Rattle.mc_conn.specs.Owed.{Mark, Owes, mark_of}
 use Rattle.mc_conn.specs.Turn.{Takes, holding_of, queue_of, scene}
 use Rattle.mc_conn.specs.declared.conn.State.{State}
 use Rattle.mc_conn.specs.declared.conn.State.TheVariants.{Closed, Idle, Busy}
-use Rattle.mc_conn.proofs.Owings.{owes_grow}
-use Rattle.uc_worker.proofs.Going.{continues_self}
-use Rattle.mc_conn.proofs.Readings.{read_refl, read_trans}
-use Rattle.mc_model.specs.Helping.{BeginsWith}
+use Rattle.mc_conn.proofs.Public.{owes_grow, read_refl, read_trans}
+use Rattle.uc_worker.proofs.Public.{continues_self}
+use Rattle.lists.specs.Lists.{BeginsWith}
 use Rattle.mc_model.specs.declared.fault.Fault.{Fault}
 use Rattle.mc_model.specs.declared.reply.Reply.TheVariants.{Refused}
-use Rattle.mc_model.specs.declared.reply.WireNo.TheVariants.{E11}
+use Rattle.mc_model.specs.declared.reply.TheConstants.WireNo.{OUT_OF_MEMORY}
 use Rattle.mc_model.specs.declared.request.Request.{Request}
-use Rattle.mc_read.specs.Reading.{ReadsAs, ReadsOn, ends_stream}
+use Rattle.mc_conn.specs.Cited.{ReadsAs, ReadsOn, ends_stream, text}
 use Rattle.mc_stream.specs.Event.{Event, failures, has_ended, moved}
 use Rattle.mc_stream.specs.Stream.{Inflow, Outflow, both}
-use Rattle.mc_write.specs.Text.{text}
 use Rattle.uc_worker.specs.declared.worker.Worker.{Worker}
-use Rattle.uc_worker.proofs.Lists.{begins_length}
+use Rattle.lists.proofs.Public.{begins_longer}
 use Rattle.mc_net.specs.Life.{FailedSoOften, HasAnswered, HasFault, WasAnswered, IsBehind, OwesInLogs, OwesInParts, and_then, next_log, no_log, came_of, none_yet, sent_of, words_of}
 use Rattle.mc_net.specs.Serving.{Becomes, HasEnded, IsNewConnection, IsServedLater, connection_at, scene_of}
 use Rattle.mc_net.specs.Working.{HasServed, IsUnused, ServesOne, Standing, TakesIn, Works, begins, goes_on, standing}
@@ -49,7 +47,7 @@ end_seen X Y true was before after found earlier it_is =
 end_seen X Y false was before after found earlier it_is = cc
 
 holds_nothing : (holding : Holding) → HoldsNone holding → HoldsOn holding [] []
-holds_nothing holding none = subst (λ (waiting : Option Request). Waits waiting (ReadsOn holding.lines holding.held []) []) (sym none.0) ((none.1 []).1 refl)
+holds_nothing holding none = subst (λ (waiting : Option Request). WaitsThen waiting (ReadsOn holding.lines holding.held []) []) (sym none.0) ((none.1 []).1 refl)
 
 -- where no whole request is left, all that came reads as what was taken
 whole_of : (role : Role) (came : List ℕ) (requests : List Request) (holding : Holding) → IsRead (nothing_held role) came requests holding → HoldsNone holding → ReadsAs (lines_of role) came requests
@@ -120,7 +118,7 @@ AnsweredBy worker = WasAnswered (worker ∷ [])
 
 behind_grows : (old new : Worker) (to : Mark) → Continues old new → IsBehind to (mark_of old) → IsBehind to (mark_of new)
 behind_grows old new to on behind =
-    (omega (arith, behind.0, begins_length _ _ on.announced), omega (arith, behind.1, begins_length _ _ on.history))
+    (omega (arith, behind.0, begins_longer _ _ on.announced), omega (arith, behind.1, begins_longer _ _ on.history))
 
 lives_on : (old new : Worker) (connection : Connection) → Continues old new → Lives old connection → Lives new connection
 lives_on old new connection on lives = record {
@@ -262,7 +260,7 @@ module _ (before after : Worker) (old new : Connection) (role : new.conn.role �
           let unqueues = told.0.1 in
           answered_broken OutOfMemory (counts.0 ∙ lives.unfailed.0) (
             rest,
-            append_assoc (moved between.events) (queue_of new.conn) (text (Refused E11))
+            append_assoc (moved between.events) (queue_of new.conn) (text (Refused OUT_OF_MEMORY))
                 ∙ ap (λ (bytes : List ℕ). moved between.events ++ bytes) unqueues.split
                 ∙ sym (append_assoc (moved between.events) unqueues.front rest)
                 ∙ ap (λ (sent : List ℕ). sent ++ rest) (sym unqueues.went ∙ ap (λ (output : Outflow). moved output.events) said),

@@ -10,7 +10,7 @@ use Rattle.mc_net.specs.declared.halt.Halt.{Halt}
 use Rattle.mc_net.specs.declared.worker_thread.Returned.{Returned}
 use Rattle.mc_net.specs.declared.worker_thread.WorkerThread.{WorkerThread}
 use Rattle.uc_worker.specs.declared.worker.Worker.{Worker}
-use Rattle.mc_net.specs.Running.{HasRun, HasServedAt, HaveRun, HaveServedAt, IsNewLoop, IsReturned, event_loops_of, no_more, one_more, worker_of, workers_of}
+use Rattle.mc_net.specs.Running.{HasRun, HasServedAt, HaveRun, HaveServedAt, IsNewLoop, IsReturned, event_loops_of, no_more, one_more, returned_worker, workers_of}
 use Rattle.mc_net.specs.Working.{HasServed, HasWorked, standing_at}
 use Rattle.mc_net.proofs.Workings.{works_onward}
 
@@ -72,7 +72,7 @@ served_anew tenants _ _ _ _ (one_more worker before back after workers befores b
   served_anew tenants workers befores backs afters more (All-tail (IsNewLoop tenants) before befores new),
 )
 
-pub all_onward : (workers : List Worker) (back : List Returned) → AllZip HasServed workers back → AllZip Continues workers (map worker_of back)
+pub all_onward : (workers : List Worker) (back : List Returned) → AllZip HasServed workers back → AllZip Continues workers (map returned_worker back)
 all_onward [] [] all = tt
 all_onward [] (back ∷ backs) all = absurd all
 all_onward (worker ∷ workers) [] all = absurd all

@@ -8,8 +8,7 @@ use Rattle.mc_conn.specs.declared.conn.State.{State}
 use Rattle.mc_conn.specs.declared.conn.State.TheVariants.{Closed, Idle, Busy}
 use Rattle.mc_conn.specs.Ending.{IsDone, PullsOnce, Stops, Turns}
 use Rattle.mc_conn.specs.Turn.{Scene, Takes, scene}
-use Rattle.mc_conn.proofs.Endings.{stops_later}
-use Rattle.mc_conn.proofs.Takings.{takes_self, takes_trans}
+use Rattle.mc_conn.proofs.Public.{stops_later, takes_self, takes_trans}
 use Rattle.mc_model.specs.declared.fault.Fault.{Fault}
 use Rattle.mc_stream.specs.Stream.{Inflow, Streams}
 use Rattle.uc_worker.specs.Going.{Continues}

@@ -1,7 +1,7 @@
 -- Work after work, one connection at a time.
 use Rattle.std.proofs.Common.{◌≡◌, ◌⊎◌, ℕ, length, Option, Some, None, IfSome, IfNone, ap, inl, inr, refl, sym, subst, ◌∙◌, ⊎_elim}
 use Rattle.uc_worker.specs.Going.{Continues}
-use Rattle.uc_worker.proofs.Going.{continues_self, continues_through}
+use Rattle.uc_worker.proofs.Public.{continues_self, continues_through}
 use Rattle.mc_conn.specs.declared.conn.State.{State}
 use Rattle.mc_net.specs.Serving.{Admits, Becomes, IsServedLater, connection_at}
 use Rattle.mc_net.specs.Working.{ServesAt, ServesOne, Standing, TakesIn, Works, begins, goes_on, standing}

@@ -10,13 +10,15 @@ use Rattle.mc_model.specs.declared.request.Request.{Request}
 use Rattle.mc_net.specs.Life.{came_of}
 use Rattle.mc_net.specs.declared.worker_thread.Returned.{Returned}
 use Rattle.mc_net.specs.declared.connections.Connection.{Connection}
-use Rattle.mc_read.specs.Reading.{ReadsAs}
+use Rattle.mc_conn.specs.Cited.{ReadsAs}
 use Rattle.uc_worker.specs.declared.worker.Worker.{Worker}
 use Rattle.uc_worker.specs.Worker.{announced_of}
 
 -- whatever more might have come, the connection's request of this number is this one
-abbrev pub Asks : Connection → ℕ → Request → Type 0
-Asks connection number request = (more : List ℕ) (all : List Request) → ReadsAs (lines_of connection.conn.role) (came_of connection ++ more) all → slice_get all number ≡ Some request
+abbrev pub HasRequest : Connection → ℕ → Request → Type 0
+HasRequest connection number request = (more : List ℕ) (all : List Request) →
+    ReadsAs (lines_of connection.conn.role) (came_of connection ++ more) all →
+    slice_get all number ≡ Some request
 
 -- The request, on a connection of this role, logs a command of a tenant, which the worker announced
 -- under this number.
@@ -25,11 +27,13 @@ pub record IsLogged (worker : Worker) (role : Role) (request : Request) (number 
   pub command : Command
   pub quiet : Bool
   pub logs : demand_of role request ≡ Logs tenant command quiet
-  pub announced : slice_get (announced_of worker) number ≡ Some (own_sighting worker number tenant command)
+  pub announced :
+      slice_get (announced_of worker) number ≡ Some (own_sighting worker number tenant command)
 
 -- The worker's command of this number was announced for the connection before which `asker` others
 -- had ended: that connection's request of the number `request` logs it.
-pub record WasAsked (worker : Worker) (ended : List Connection) (number asker request : ℕ) : Type 0 where
+pub record WasAsked (worker : Worker) (ended : List Connection)
+    (number asker request : ℕ) : Type 0 where
   pub connection : Connection
   pub later : List Connection
   pub earlier : List Connection
@@ -37,7 +41,7 @@ pub record WasAsked (worker : Worker) (ended : List Connection) (number asker re
   pub so_many : length earlier ≡ asker
   pub asked : Request
   pub logged : IsLogged worker connection.conn.role asked number
-  pub asks : Asks connection request asked
+  pub asks : HasRequest connection request asked
 
 -- A command: which of the logs it is on, and the number under which that log's worker announced it.
 pub record Announcement : Type 0 where
@@ -45,7 +49,8 @@ pub record Announcement : Type 0 where
   pub number : ℕ
 
 -- the worker, which is on the command's log in `after`, has announced the command since `before`
-pub record IsAnnounced (before after : List Worker) (which : Announcement) (worker : Worker) : Type 0 where
+pub record IsAnnounced (before after : List Worker) (which : Announcement)
+    (worker : Worker) : Type 0 where
   pub first : Worker
   pub was : slice_get before which.log ≡ Some first
   pub is : slice_get after which.log ≡ Some worker
@@ -65,7 +70,8 @@ pub record HaveBeenAsked (before after : List Worker) (ended : List Connection) 
   pub request : Announcement → ℕ
   pub asked : (which : Announcement) (worker : Worker) → IsAnnounced before after which worker →
       WasAsked worker ended which.number (asker which) (request which)
-  pub in_order : (one two : Announcement) (first second : Worker) → IsAnnounced before after one first → IsAnnounced before after two second →
+  pub in_order : (one two : Announcement) (first second : Worker) →
+      IsAnnounced before after one first → IsAnnounced before after two second →
       IsEarlier one two → asker one ≡ asker two → request one < request two
 
 -- the same for a worker that came back, on one log

@@ -8,19 +8,23 @@ abbrev pub turn_of : ℕ → ℕ → ℕ
 turn_of done places = done % places
 
 -- the arrival is a stream that the listener accepted, for the listener's tenant
-pub record IsOf {L S : Type 0} (accepted_by : L → S → Type 0) (listener : TenantListener L) (arrival : Arrival S) : Type 0 where
+pub record IsArrivalOf {L S : Type 0} (accepted_by : L → S → Type 0) (listener : TenantListener L)
+    (arrival : Arrival S) : Type 0 where
   pub tenant : arrival.tenant ≡ listener.tenant
   pub accepted : accepted_by listener.socket arrival.stream
 
 -- the place that is next after `done` streams has received the arrival
-pub record IsHanded {P S : Type 0} (received : P → Arrival S → Type 0) (places : List P) (done : ℕ) (arrival : Arrival S) : Type 0 where
+pub record IsHanded {P S : Type 0} (received : P → Arrival S → Type 0) (places : List P) (done : ℕ)
+    (arrival : Arrival S) : Type 0 where
   pub place : P
   pub turn : slice_get places (turn_of done (length places)) ≡ Some place
   pub has : received place arrival
 
 -- a stream that the listener accepted was handed, as one of the listener's tenant, to the place
 -- that is next
-pub record IsPassed {L P S : Type 0} (accepted_by : L → S → Type 0) (received : P → Arrival S → Type 0) (listener : TenantListener L) (places : List P) (done : ℕ) : Type 0 where
+pub record IsPassed {L P S : Type 0} (accepted_by : L → S → Type 0)
+    (received : P → Arrival S → Type 0) (listener : TenantListener L) (places : List P)
+    (done : ℕ) : Type 0 where
   pub arrival : Arrival S
-  pub of : IsOf accepted_by listener arrival
+  pub of : IsArrivalOf accepted_by listener arrival
   pub handed : IsHanded received places done arrival

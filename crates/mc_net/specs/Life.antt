@@ -9,15 +9,14 @@ use Rattle.mc_conn.specs.Held.{lines_of}
 use Rattle.mc_conn.specs.ConnFault.{CellTaken, ConnFault, InputFailed, OutOfMemory, OutputFailed}
 use Rattle.mc_conn.specs.declared.conn.Role.{Role}
 use Rattle.mc_conn.specs.Owed.{Mark, Owes}
-use Rattle.mc_model.specs.Helping.{BeginsWith}
+use Rattle.lists.specs.Lists.{BeginsWith}
 use Rattle.mc_model.specs.declared.reply.Reply.TheVariants.{Refused}
-use Rattle.mc_model.specs.declared.reply.WireNo.TheVariants.{E11}
+use Rattle.mc_model.specs.declared.reply.TheConstants.WireNo.{OUT_OF_MEMORY}
 use Rattle.mc_model.specs.declared.request.Request.{Request}
 use Rattle.mc_net.specs.declared.worker_thread.Returned.{Returned}
 use Rattle.mc_net.specs.declared.connections.Connection.{Connection}
-use Rattle.mc_read.specs.Reading.{ReadsAs, ends_stream}
+use Rattle.mc_conn.specs.Cited.{ReadsAs, ends_stream, text}
 use Rattle.mc_stream.specs.Event.{failures, has_ended, moved}
-use Rattle.mc_write.specs.Text.{text}
 use Rattle.uc_worker.specs.declared.worker.Worker.{Worker}
 
 -- all bytes that came from the client, and all that were sent to it
@@ -35,23 +34,29 @@ IsBehind one two = (one.number ≤ two.number) × (one.place ≤ two.place)
 -- between two parts it may have taken requests of other connections.
 pub data OwesInParts (worker : Worker) (role : Role) : List Request → List ℕ → Mark → Type 0 where
   none_yet : OwesInParts worker role [] [] first_mark
-  and_then : (requests more : List Request) (bytes others : List ℕ) (to from last : Mark) → OwesInParts worker role requests bytes to →
-      IsBehind to from → Owes worker role from more others last → OwesInParts worker role (requests ++ more) (bytes ++ others) last
+  and_then : (requests more : List Request) (bytes others : List ℕ) (to from last : Mark) →
+      OwesInParts worker role requests bytes to →
+      IsBehind to from → Owes worker role from more others last →
+      OwesInParts worker role (requests ++ more) (bytes ++ others) last
 
 -- The same over logs that followed one another, each with its own worker: the worker of the first
 -- log took the first requests in parts, and those of the other logs took the rest.
 pub data OwesInLogs (role : Role) : List Worker → List Request → List ℕ → Type 0 where
   no_log : OwesInLogs role [] [] []
-  next_log : (worker : Worker) (workers : List Worker) (requests more : List Request) (bytes others : List ℕ) (to : Mark) → OwesInParts worker role requests bytes to →
-      OwesInLogs role workers more others → OwesInLogs role (worker ∷ workers) (requests ++ more) (bytes ++ others)
+  next_log : (worker : Worker) (workers : List Worker) (requests more : List Request)
+      (bytes others : List ℕ) (to : Mark) → OwesInParts worker role requests bytes to →
+      OwesInLogs role workers more others →
+      OwesInLogs role (worker ∷ workers) (requests ++ more) (bytes ++ others)
 
 -- how often reads of the connection's stream have failed, and how often writes have
 abbrev pub FailedSoOften : Connection → ℕ → ℕ → Type 0
-FailedSoOften connection reads writes = (failures connection.received.events ≡ reads) × (failures connection.sent.events ≡ writes)
+FailedSoOften connection reads writes =
+    (failures connection.received.events ≡ reads) × (failures connection.sent.events ≡ writes)
 
 -- no fault: all that came, up to its end or to a request that ends the stream, reads as these
 -- requests, and all that is owed was sent
-pub record EndsWithoutFault (connection : Connection) (requests : List Request) (owed : List ℕ) : Type 0 where
+pub record EndsWithoutFault (connection : Connection) (requests : List Request)
+    (owed : List ℕ) : Type 0 where
   pub unfailed : FailedSoOften connection 0 0
   pub end : (has_ended connection.received.events ≡ true) ⊎ (list_any ends_stream requests ≡ true)
   pub whole : ReadsAs (lines_of connection.conn.role) (came_of connection) requests
@@ -68,7 +73,7 @@ HasFault OutputFailed connection = FailedSoOften connection 0 1
 
 -- what the client is told about a fault
 abbrev pub words_of : ConnFault → List ℕ
-words_of OutOfMemory = text (Refused E11)
+words_of OutOfMemory = text (Refused OUT_OF_MEMORY)
 words_of CellTaken = []
 words_of InputFailed = []
 words_of OutputFailed = []
@@ -87,7 +92,9 @@ pub record IsCut (connection : Connection) (owed : List ℕ) : Type 0 where
 pub record WasAnswered (workers : List Worker) (connection : Connection) : Type 0 where
   pub requests : List Request
   pub owed : List ℕ
-  pub first : (more : List ℕ) (all : List Request) → ReadsAs (lines_of connection.conn.role) (came_of connection ++ more) all → BeginsWith all requests
+  pub first : (more : List ℕ) (all : List Request) →
+      ReadsAs (lines_of connection.conn.role) (came_of connection ++ more) all →
+      BeginsWith all requests
   pub owes : OwesInLogs connection.conn.role workers requests owed
   pub ending : EndsWithoutFault connection requests owed ⊎ IsCut connection owed
 

@@ -28,7 +28,9 @@ connection_at connections key = get connections.by_key key
 -- have done so far
 abbrev pub scene_of : Connection → Worker → Scene
 scene_of connection worker =
-    scene connection.conn worker (both (record { events = connection.received.events; left = None }) (record { events = connection.sent.events }))
+    scene connection.conn worker
+    (both (record { events = connection.received.events; left = None })
+    (record { events = connection.sent.events }))
 
 -- the arrival's connection, on which nothing has come and nothing was sent
 pub record IsNewConnection (connection : Connection) (arrival : Arrival _) : Type 0 where
@@ -36,7 +38,8 @@ pub record IsNewConnection (connection : Connection) (arrival : Arrival _) : Typ
   pub role : connection.conn.role ≡ Tenant arrival.tenant
   pub holding : holding_of connection.conn ≡ nothing_held connection.conn.role
   pub queue : queue_of connection.conn ≡ []
-  pub going : (connection.conn.has_ended ≡ false) × (connection.conn.is_over ≡ false) × (connection.conn.is_closed ≡ false)
+  pub going : (connection.conn.has_ended ≡ false) × (connection.conn.is_over ≡ false)
+      × (connection.conn.is_closed ≡ false)
   pub tapes : (connection.received.events ≡ []) × (connection.sent.events ≡ [])
 
 -- the arrival's connection is under a key that was free, and every other key is unchanged
@@ -80,7 +83,8 @@ HasAtMost most before after = length after ≤ most + length before
 
 -- The same connection later on: the worker served it, from what its tapes had to what they have,
 -- with few pulls, and it is in the state that the turns returned.
-pub record IsServedLater (before after : Worker) (old new : Connection) (state : State) : Type 0 where
+pub record IsServedLater (before after : Worker) (old new : Connection)
+    (state : State) : Type 0 where
   pub stream : new.stream ≡ old.stream
   pub role : new.conn.role ≡ old.conn.role
   pub served : TakesOrStops (scene_of old before) (scene_of new after)
@@ -90,22 +94,27 @@ pub record IsServedLater (before after : Worker) (old new : Connection) (state :
 -- A connection that was served stays, and is in this state; or it has ended, and is the latest of
 -- those that have; and if there was none, nothing was done. The lists are those that had ended
 -- before and those that have now, and the options the connection before and now.
-abbrev pub Becomes : {C : Type 0} → (C → C → State → Type 0) → Type 0 → State → List C → List C → Option C → Option C → Type 0
-Becomes Later Still state before after None new = (new ≡ None) × Still × (state ≡ Idle) × (after ≡ before)
-Becomes Later Still state before after (Some old) (Some new) = Later old new state × (state ≢ Closed) × (after ≡ before)
-Becomes Later Still state before after (Some old) None = (last : _) × (after ≡ last ∷ before) × Later old last Closed × (state ≡ Closed)
+abbrev pub Becomes : {C : Type 0} → (C → C → State → Type 0) → Type 0 → State → List C → List C →
+    Option C → Option C → Type 0
+Becomes Later Still state before after None new =
+    (new ≡ None) × Still × (state ≡ Idle) × (after ≡ before)
+Becomes Later Still state before after (Some old) (Some new) =
+    Later old new state × (state ≢ Closed) × (after ≡ before)
+Becomes Later Still state before after (Some old) None =
+    (last : _) × (after ≡ last ∷ before) × Later old last Closed × (state ≡ Closed)
 
 -- this became of the connection under this key, and every other key is unchanged
-pub record ChangesAt (Step : Option Connection → Option Connection → Type 0) (before after : Connections) (key : ℕ) : Type 0 where
+pub record ChangesAt (Step : Option Connection → Option Connection → Type 0)
+    (before after : Connections) (key : ℕ) : Type 0 where
   pub becomes : Step (connection_at before key) (connection_at after key)
   pub others : (other : ℕ) → other ≢ key → connection_at after other ≡ connection_at before other
   pub tenants : after.tenants ≡ before.tenants
 
 -- the fault as which a loop's early end is reported
-abbrev pub fault_of : Halt → Fault
-fault_of GrowthRefused = Memory
-fault_of Poll = Input
-fault_of Elsewhere = Input
+abbrev pub fault_of_halt : Halt → Fault
+fault_of_halt GrowthRefused = Memory
+fault_of_halt Poll = Input
+fault_of_halt Elsewhere = Input
 
 -- the faults of the network
 abbrev pub IsNetworkFault : Fault → Type 0

@@ -32,7 +32,9 @@ pub record TakesIn (before after : Standing) : Type 0 where
 -- the connection under the key was served, if there was one, and is in this state
 abbrev pub ServesAt : ℕ → State → Standing → Standing → Type 0
 ServesAt key state before after =
-    ChangesAt (Becomes (IsServedLater before.worker after.worker) (after.worker ≡ before.worker) state before.connections.ended.connections after.connections.ended.connections)
+    ChangesAt
+    (Becomes (IsServedLater before.worker after.worker) (after.worker ≡ before.worker) state
+    before.connections.ended.connections after.connections.ended.connections)
     before.connections after.connections key
 
 -- the connection under a key was served, if there was one
@@ -46,7 +48,8 @@ pub record ServesOne (before after : Standing) : Type 0 where
 -- an arrival, became by being served.
 pub data Works (first : Standing) : Standing → Type 0 where
   begins : Works first first
-  goes_on : (between last : Standing) → Works first between → TakesIn between last ⊎ ServesOne between last → Works first last
+  goes_on : (between last : Standing) → Works first between →
+      TakesIn between last ⊎ ServesOne between last → Works first last
 
 -- there is no connection
 abbrev pub IsEmpty : Connections → Type 0

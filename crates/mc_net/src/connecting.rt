@@ -1,6 +1,6 @@
 //! How a worker admits connections and serves them.
 ghost use Rattle.std.specs.Prelude.{◌≡◌, ◌<◌, length, IfNone, IfSome};
-ghost use Rattle.mc_conn.specs.Owed.{IsKnown};
+ghost use Rattle.mc_conn.specs.Owed.{FitsLog};
 ghost use Rattle.mc_conn.specs.Turn.{scene};
 ghost use Rattle.mc_net.specs.Serving.{Admits, HasAtMost, IsServedLater, TakesOrStops, Stands};
 ghost use Rattle.mc_net.specs.Working.{ServesAt, standing};
@@ -32,7 +32,7 @@ fn turns<I: Input, O: Output, G: Gate>(
     gate: &mut G,
     buffer: &mut [u8; PULL_BYTES],
 ) -> State
-    requires { IsKnown conn.old.role worker.old }
+    requires { FitsLog conn.old.role worker.old }
     ensures served { TakesOrStops
         (scene conn.old worker.old (both (I.tells input.old) (O.tells output.old)))
         (scene conn.new worker.new (both (I.tells input.new) (O.tells output.new))) }
@@ -61,7 +61,7 @@ impl Connection {
         buffer: &mut [u8; PULL_BYTES],
         stops_short: bool,
     ) -> State
-        requires { IsKnown self.old.conn.role worker.old }
+        requires { FitsLog self.old.conn.role worker.old }
         ensures { IsServedLater worker.old worker.new self.old self.new result }
     {
         let Connection {

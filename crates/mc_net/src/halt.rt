@@ -1,6 +1,6 @@
 //! Why a loop ends early.
 ghost use Rattle.std.specs.Prelude.{◌≡◌};
-ghost use Rattle.mc_net.specs.Serving.{fault_of};
+ghost use Rattle.mc_net.specs.Serving.{fault_of_halt};
 ghost use Rattle.mc_net.specs.declared.halt.Halt.TheVariants.{Memory};
 
 use mc_model::Fault;
@@ -34,7 +34,7 @@ impl<T: Drop> From<AllocFailed<T>> for Halt {
 }
 
 impl From<Halt> for Fault {
-    ghost from_gives = { λ halt fault. fault ≡ fault_of halt };
+    ghost from_gives = { λ halt fault. fault ≡ fault_of_halt halt };
 
     fn from(halt: Halt) -> Fault {
         match halt {

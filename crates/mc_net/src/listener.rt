@@ -1,6 +1,6 @@
 //! Listeners, each with its tenant.
 ghost use Rattle.std.specs.Prelude.{⊤, IfOk};
-ghost use Rattle.mc_net.specs.Handing.{IsOf};
+ghost use Rattle.mc_net.specs.Handing.{IsArrivalOf};
 
 use mc_model::TenantId;
 use mio::net::{TcpListener, TcpStream};
@@ -54,7 +54,7 @@ impl<L: Listen> TenantListener<L> {
     ///
     /// Returns the listener's errors.
     pub fn accept(&self) -> io::Result<Arrival<L::Stream>>
-        ensures { IfOk result (IsOf L.accepted_by self.now) }
+        ensures { IfOk result (IsArrivalOf L.accepted_by self.now) }
     {
         match self.socket.accept_stream() {
             Ok(stream) => Ok(Arrival {

@@ -4,7 +4,7 @@ ghost use Rattle.std.specs.Prelude.{◌≡◌, ◌<◌, All, IfErr, IfOk, length
 ghost use Rattle.uc_worker.specs.Going.{Continues};
 ghost use Rattle.mc_net.specs.Asking.{HasBeenAsked};
 ghost use Rattle.mc_net.specs.Life.{HasAnswered};
-ghost use Rattle.mc_net.specs.Running.{worker_of};
+ghost use Rattle.mc_net.specs.Running.{returned_worker};
 ghost use Rattle.mc_net.specs.Serving.{IsNetworkFault};
 ghost use Rattle.mc_net.specs.Working.{HasServed};
 
@@ -26,7 +26,7 @@ pub fn into_workers<'a>(
     alloc: Global,
     back: Vec<Returned<'a>>,
 ) -> Result<Vec<Worker<'a>>, AllocError>
-    ensures { IfOk result (λ workers. workers.items ≡ map worker_of back.entry.items) }
+    ensures { IfOk result (λ workers. workers.items ≡ map returned_worker back.entry.items) }
 {
     let mut workers = Vec::with_capacity(alloc, back.len())?;
     for Returned { worker, ended: _ } in back {
@@ -63,7 +63,7 @@ pub fn serve<'a, R: Threads + Wait + Net + Sync, G: Gate + Send + Drop>(
     requires gates { vec_len gates ≡ vec_len workers }
     // Each worker that comes back is the same one, later on.
     ensures back { IfOk result
-        (λ back. AllZip Continues workers.entry.items (map worker_of back.items)) }
+        (λ back. AllZip Continues workers.entry.items (map returned_worker back.items)) }
     // It admitted arrivals and served connections until none was left.
     ensures served { IfOk result (λ back. AllZip HasServed workers.entry.items back.items) }
     // Each connection that it admitted has ended, and was sent what it is owed for all requests
@@ -74,7 +74,7 @@ pub fn serve<'a, R: Threads + Wait + Net + Sync, G: Gate + Send + Drop>(
     ensures asked { IfOk result (λ back. AllZip HasBeenAsked workers.entry.items back.items) }
     // All workers are still of the log, so that they can meet.
     ensures logs { IfOk result
-        (λ back. All (λ worker. worker.log.now ≡ log.entry.now) (map worker_of back.items)) }
+        (λ back. All (λ worker. worker.log.now ≡ log.entry.now) (map returned_worker back.items)) }
     ensures faults { IfErr result IsNetworkFault }
 {
     let tenants = log.settings().tenants().len();

@@ -4,15 +4,15 @@ use Rattle.clap.specs.Simple.{App}
 use Rattle.clap.specs.Walk.{Text}
 use Rattle.clap.specs.declared.error.kind.ErrorKind.{ErrorKind}
 use Rattle.clap.specs.declared.error.kind.ErrorKind.TheVariants.{OutOfMemory}
-use Rattle.mc_programs.specs.Words.{AnswersWords, AsksToShow, FailsToAnswer, FailsToShow, IsAnswered, IsShown, Shows, TellsMistake}
+use Rattle.mc_programs.specs.Words.{AnswersWords, AsksToShow, FailsToAnswer, FailsToShow, ClapReturns, IsShown, ShowsHelp, TellsMistake}
 use Rattle.mc_stream.specs.Stream.{Inflow, Outflow, both}
 
 shown_there : (kind : ErrorKind) → IsShown kind → kind ≢ OutOfMemory
 shown_there kind shown starved = ⊎_elim (λ help. cc) (λ version. cc) shown
 
-module _ (app : App) (words : List Text) (kind : ErrorKind) (failed : (kind ≡ OutOfMemory) ⊎ IsAnswered app words kind) where
+module _ (app : App) (words : List Text) (kind : ErrorKind) (failed : (kind ≡ OutOfMemory) ⊎ ClapReturns app words kind) where
   -- clap names the kind for these words, if memory didn't run out
-  is_answered : kind ≢ OutOfMemory → IsAnswered app words kind
+  is_answered : kind ≢ OutOfMemory → ClapReturns app words kind
   is_answered there = ⊎_elim (λ starved. absurd (there starved)) (λ among. among) failed
 
   asks_to_show : IsShown kind → AsksToShow app words
@@ -30,7 +30,7 @@ module _ (app : App) (words : List Text) (kind : ErrorKind) (failed : (kind ≡ 
 
   -- help or the version was shown, or a fault or a mistake was reported
   pub answered : (program : List ℕ) (status : ℕ) (input : Inflow) (before after errors_before errors : Outflow) → AnswersWords program kind status before after errors_before errors →
-      (status ≡ 0) × Shows app words (both input before) (both input after) × (errors ≡ errors_before)
+      (status ≡ 0) × ShowsHelp app words (both input before) (both input after) × (errors ≡ errors_before)
       ⊎ (status ≡ 1) × FailsToShow program app words (both input before) (both input after) errors_before errors
       ⊎ (status ≡ 2) × TellsMistake app words errors_before errors × (after ≡ before)
   answered program status input before after errors_before errors answers =

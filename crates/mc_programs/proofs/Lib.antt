@@ -5,3 +5,4 @@ pub mod Reported
 pub mod Served
 mod Rows
 pub mod Waited
+pub mod Public

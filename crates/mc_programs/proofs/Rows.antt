@@ -4,7 +4,7 @@ use Rattle.std.proofs.Common.{◌≡◌, true, false, [], ◌∷◌, refl}
 use Rattle.mc_model.specs.declared.command.Command.TheVariants.{Get, Store}
 use Rattle.mc_model.specs.declared.command.Verb.TheVariants.{Set}
 use Rattle.mc_model.specs.declared.reply.Reply.TheVariants.{Stored, Values}
-use Rattle.mc_model.specs.declared.reply.WireNo.TheVariants.{E1, E4}
+use Rattle.mc_model.specs.declared.reply.TheConstants.WireNo.{NO_EXPIRY, UNKNOWN_COMMAND}
 use Rattle.mc_model.specs.declared.request.Request.TheVariants.{Logged, TooLong}
 use Rattle.mc_model.specs.declared.settings.Limits.{Limits}
 use Rattle.mc_model.specs.History.{answer}
@@ -26,7 +26,7 @@ abbrev plenty : Limits
 plenty = record { items = 1048576; bytes = 67108864 }
 
 -- quiet requests aren't answered, others are, and so is a line that is too long
-refusals : owed plenty 65536 (refused E4 true ∷ Logged (Store Set (codes "a") 0 []) true ∷ refused E1 false ∷ TooLong ∷ [])
+refusals : owed plenty 65536 (refused NO_EXPIRY true ∷ Logged (Store Set (codes "a") 0 []) true ∷ refused UNKNOWN_COMMAND false ∷ TooLong ∷ [])
     ≡ codes "ERROR\r\nCLIENT_ERROR line too long\r\n"
 refusals = refl
 
@@ -35,7 +35,7 @@ a_set : answer plenty [] (Store Set (codes "a") 5 (codes "abc")) ≡ Stored → 
 a_set given = rw given refl
 
 -- after the last place nothing is done, and a quiet command is not answered
-full_log : owed plenty 1 (Logged (Store Set (codes "a") 0 []) true ∷ Logged (Get (codes "a" ∷ []) false) false ∷ Logged (Store Set (codes "a") 0 []) true ∷ refused E1 false ∷ [])
+full_log : owed plenty 1 (Logged (Store Set (codes "a") 0 []) true ∷ Logged (Get (codes "a" ∷ []) false) false ∷ Logged (Store Set (codes "a") 0 []) true ∷ refused UNKNOWN_COMMAND false ∷ [])
     ≡ codes "SERVER_ERROR log full\r\nERROR\r\n"
 full_log = refl
 

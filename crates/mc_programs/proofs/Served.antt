@@ -1,5 +1,5 @@
 -- What a connection does with the one worker of a log, in bytes that came and bytes that went.
-use Rattle.std.proofs.Common.{◌≡◌, ◌⊎◌, ℕ, ◌+◌, ◌≤◌, ◌<◌, ◌||◌, Bool, true, false, Result, Ok, Err, List, [], ◌∷◌, ◌++◌, length, None, Some, slice_get, sym, refl, ap, ◌∙◌, subst, inl, inr, ⊎_elim, arith, append_assoc, append-nil, length-append}
+use Rattle.std.proofs.Common.{◌≡◌, ◌⊎◌, ℕ, ◌+◌, ◌≤◌, ◌<◌, ◌||◌, Bool, true, false, Result, Ok, Err, List, [], ◌∷◌, ◌++◌, length, Some, slice_get, sym, refl, ap, ◌∙◌, subst, inl, inr, ⊎_elim, arith, append_assoc, append-nil, length-append}
 use Rattle.std.specs.Bool.{MatchBool}
 use Rattle.std.specs.Io.KnownBytes.{IsAtEnd}
 use Rattle.std.specs.List.{list_any}
@@ -7,17 +7,17 @@ use Rattle.std.specs.Prelude.{MatchResult}
 use Rattle.mc_model.specs.declared.fault.Fault.{Fault}
 use Rattle.mc_model.specs.declared.fault.Fault.TheVariants.{Memory, BadSettings}
 use Rattle.mc_model.specs.declared.reply.Reply.TheVariants.{Refused}
-use Rattle.mc_model.specs.declared.reply.WireNo.TheVariants.{E11}
+use Rattle.mc_model.specs.declared.reply.TheConstants.WireNo.{OUT_OF_MEMORY}
 use Rattle.mc_model.specs.declared.request.Request.{Request}
 use Rattle.mc_model.specs.declared.settings.Limits.{Limits}
-use Rattle.mc_model.specs.History.{state_after-none}
+use Rattle.mc_model.proofs.Public.{state_after-none}
 use Rattle.mc_model.specs.Replay.{empty_tables}
 use Rattle.mc_model.specs.Settings.{Configuration, IsLawful}
 use Rattle.mc_read.specs.Line.{asked}
 use Rattle.mc_read.specs.Reading.{ReadsAs, ends_stream}
-use Rattle.mc_read.specs.Readings.{has_reading}
+use Rattle.mc_read.proofs.Public.{has_reading}
 use Rattle.mc_read.specs.Text.{IsRequestText}
-use Rattle.mc_conn.proofs.AloneOwed.{owes_in_order}
+use Rattle.mc_conn.proofs.Public.{owes_in_order}
 use Rattle.mc_conn.specs.Alone.{IsAlone, first_mark, owed}
 use Rattle.mc_conn.specs.ConnFault.{CellTaken, ConnFault, CountsFailures, InputFailed, IsTold, OutOfMemory, OutputFailed}
 use Rattle.mc_conn.specs.Ending.{Breaks, PullsAfter, PullsLate, Serves as ServesAll, Stops as StopsSo}
@@ -27,10 +27,10 @@ use Rattle.mc_conn.specs.declared.conn.Role.TheVariants.{Tenant}
 use Rattle.mc_conn.specs.Owed.{Mark, Owes, mark_of}
 use Rattle.mc_conn.specs.Turn.{NeitherFails, Scene, holding_of, queue_of, scene}
 use Rattle.mc_programs.proofs.Owings.{owed-more}
-use Rattle.mc_programs.specs.Serving.{Answers, Comes, EndsBy, IsCaughtUp, NeverWaits, Serves, ServesInPart, ServesOn, ServesUntilStarved, Stops, settings_alone}
+use Rattle.mc_programs.specs.Serving.{AnswersRequests, Comes, EndsBy, IsCaughtUp, NeverWaits, ServesClient, ServesInPart, ServesOn, ServesUntilStarved, StopsService, settings_alone}
 use Rattle.mc_stream.specs.Event.{Event, Moves, Waits, Ends, Fails, ends, failures, has_ended, last_moved, moved, waits}
 use Rattle.mc_stream.specs.Pushing.{IsAllOrStopped, Pushes, PushesAtOnce}
-use Rattle.mc_stream.specs.Pushed.{same_stop}
+use Rattle.mc_stream.proofs.Public.{same_stop}
 use Rattle.mc_stream.specs.Stream.{Inflow, Outflow, Streams, both}
 use Rattle.mc_write.specs.Text.{text}
 use Rattle.uc_worker.specs.declared.worker.Worker.{Worker}
@@ -115,7 +115,7 @@ module _ (limits : Limits) (places : ℕ) (start : Scene) (begins : Begins limit
 
   -- what is owed is the function of the requests
   answers : (worker : Worker) (requests : List Request) (bytes : List ℕ) (mark : Mark) → Continues start.worker worker →
-      Owes worker start.conn.role (mark_of start.worker) requests bytes mark → (bytes ≡ owed limits places requests) × Answers limits places requests (owed limits places requests)
+      Owes worker start.conn.role (mark_of start.worker) requests bytes mark → (bytes ≡ owed limits places requests) × AnswersRequests limits places requests (owed limits places requests)
   answers worker requests bytes mark on owes =
       let alone = alone_later worker on in
       let first = subst (λ from. Owes worker (Tenant 0) from requests bytes mark) begins.mark (subst (λ role. Owes worker role (mark_of start.worker) requests bytes mark) begins.role owes) in
@@ -137,7 +137,7 @@ module _ (limits : Limits) (places : ℕ) (start : Scene) (begins : Begins limit
       ⊎_elim (λ (never : (start_ended ≡ true) × (after ≡ before)). let no : true ≡ false = sym never.0 ∙ going in cc) (λ now. now) end
   remembered start_ended false before after going is end = let no : false ≡ true = is in cc
 
-  pub serves : (after : Scene) → ServesAll start after → Serves limits places start.streams after.streams
+  pub serves : (after : Scene) → ServesAll start after → ServesClient limits places start.streams after.streams
   serves after all =
       let takes = all.takes in
       let whole = reads_all start takes.taken.came takes.taken.requests (holding_of after.conn) begins.holding takes.reads all.done.1 in
@@ -244,7 +244,7 @@ module _ (limits : Limits) (places : ℕ) (start : Scene) (begins : Begins limit
     all_comes : (output : Outflow) → Comes start.streams (both after.streams.input output)
     all_comes output = record { bytes = breaks.taken.came; requests = all_read.0; rest = all_read.1.0; came = breaks.taken.pulled; consumed = breaks.taken.consumed; reads = all_read.1.1 }
 
-    all_answers : (breaks.taken.owed ≡ owed limits places breaks.taken.requests) × Answers limits places breaks.taken.requests (owed limits places breaks.taken.requests)
+    all_answers : (breaks.taken.owed ≡ owed limits places breaks.taken.requests) × AnswersRequests limits places breaks.taken.requests (owed limits places breaks.taken.requests)
     all_answers = answers after.worker breaks.taken.requests breaks.taken.owed breaks.to breaks.taken.onward breaks.taken.owes
 
     owed_is : breaks.taken.sent ++ queue_of after.conn ≡ owed limits places breaks.taken.requests
@@ -275,16 +275,16 @@ module _ (limits : Limits) (places : ℕ) (start : Scene) (begins : Begins limit
 
   -- memory ran out, and that is told afterwards
   starved : (fault : Fault) (after : Scene) (output : Outflow) → Breaks start after fault → NeitherFails start.streams after.streams →
-      PushesAtOnce (queue_of after.conn ++ text (Refused E11)) after.streams.output output →
+      PushesAtOnce (queue_of after.conn ++ text (Refused OUT_OF_MEMORY)) after.streams.output output →
       PullsLate start (scene after.conn after.worker (both after.streams.input output)) → ServesUntilStarved limits places start.streams (both after.streams.input output)
   starved fault after output breaks unfailed told late =
-      let owes : owed limits places breaks.taken.requests ++ text (Refused E11) ≡ (breaks.taken.sent ++ told.1.front) ++ told.0 =
-      ap (λ bytes. bytes ++ text (Refused E11)) (sym (owed_is fault after breaks))
-      ∙ (append_assoc breaks.taken.sent (queue_of after.conn) (text (Refused E11))
+      let owes : owed limits places breaks.taken.requests ++ text (Refused OUT_OF_MEMORY) ≡ (breaks.taken.sent ++ told.1.front) ++ told.0 =
+      ap (λ bytes. bytes ++ text (Refused OUT_OF_MEMORY)) (sym (owed_is fault after breaks))
+      ∙ (append_assoc breaks.taken.sent (queue_of after.conn) (text (Refused OUT_OF_MEMORY))
       ∙ (ap (λ bytes. breaks.taken.sent ++ bytes) told.1.split ∙ sym (append_assoc breaks.taken.sent told.1.front told.0)))
       in
       let went = told.1.went ∙ (ap (λ known. known ++ told.1.front) breaks.taken.pushed ∙ append_assoc (moved start.streams.output.events) breaks.taken.sent told.1.front) in
-      let part = in_part fault after breaks output (text (Refused E11)) (breaks.taken.sent ++ told.1.front) told.0 owes went late in
+      let part = in_part fault after breaks output (text (Refused OUT_OF_MEMORY)) (breaks.taken.sent ++ told.1.front) told.0 owes went late in
       inl (part.0, subst (λ unsent. IsAllOrStopped unsent start.streams.output output) (sym part.1) (same_stop told.0 start.streams.output after.streams.output output unfailed.1 told.2))
 
   -- the input failed, and the output never waited
@@ -366,13 +366,13 @@ module _ (limits : Limits) (places : ℕ) (start : Scene) (begins : Begins limit
     )
     ends_by OutputFailed counts told = (silent told, counts_silent OutputFailed told counts)
 
-  stops : (fault : Fault) (after : Scene) → StopsSo start after fault → PullsLate start after → Stops limits places start.streams after.streams fault
+  stops : (fault : Fault) (after : Scene) → StopsSo start after fault → PullsLate start after → StopsService limits places start.streams after.streams fault
   stops fault after stopped late =
       inl (stopped.breaks.cause, stopped.breaks.is, ends_by fault after stopped.told_from stopped.breaks late stopped.breaks.cause stopped.breaks.failures stopped.told)
 
   -- the same of a call's result
   pub result_is : (result : Result (Unit {0}) Fault) (after : Scene) → MatchResult result (λ _. ServesAll start after) (StopsSo start after) → PullsLate start after →
-      MatchResult result (λ _. Serves limits places start.streams after.streams) (Stops limits places start.streams after.streams)
+      MatchResult result (λ _. ServesClient limits places start.streams after.streams) (StopsService limits places start.streams after.streams)
   result_is (Ok done) after is late = serves after is
   result_is (Err fault) after is late = stops fault after is late
 
@@ -411,7 +411,7 @@ opened_alone limits places log passes rest pass settings tenants none popped cou
 -- no log could be opened: memory ran out, which is reported, or the settings are out of range
 pub refused : (limits : Limits) (places : ℕ) (fault answered : Fault) (input : Inflow) (before after : Outflow) → answered ≡ fault →
     (fault ≡ Memory) ⊎ (fault ≡ BadSettings) × ¬ (IsLawful (settings_alone limits places)) → RefusesToOpen fault before after →
-    Stops limits places (both input before) (both input after) answered
+    StopsService limits places (both input before) (both input after) answered
 refused limits places fault answered input before after same which refuses =
     ⊎_elim
     (λ (memory : fault ≡ Memory).

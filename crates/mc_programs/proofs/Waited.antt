@@ -4,7 +4,7 @@ use Rattle.std.specs.Prelude.{MatchResult}
 use Rattle.mc_model.specs.declared.fault.Fault.{Fault}
 use Rattle.mc_programs.specs.Waiting.{FailsToPush, PushesAll}
 use Rattle.mc_stream.specs.Event.{moved}
-use Rattle.mc_stream.specs.Pushed.{front_more, front_only}
+use Rattle.mc_stream.proofs.Public.{front_more, front_only}
 use Rattle.mc_stream.specs.Pushing.{PushesOrFails}
 use Rattle.mc_stream.specs.Stream.{Outflow}
 

@@ -4,7 +4,7 @@ use Rattle.std.specs.Prelude.{◌≡◌, ◌≢◌, ℕ}
 use Rattle.mc_model.specs.declared.fault.Fault.{Fault}
 use Rattle.mc_model.specs.declared.fault.Fault.TheVariants.{Memory}
 use Rattle.mc_model.specs.declared.reply.Reply.TheVariants.{Refused}
-use Rattle.mc_model.specs.declared.reply.WireNo.TheVariants.{E11}
+use Rattle.mc_model.specs.declared.reply.TheConstants.WireNo.{OUT_OF_MEMORY}
 use Rattle.mc_model.specs.declared.settings.Limits.{Limits}
 use Rattle.mc_programs.specs.Serving.{settings_alone}
 use Rattle.mc_stream.specs.Pushing.{PushesAtOnce}
@@ -21,4 +21,5 @@ IsOpened limits places log pass = (log.settings ≡ settings_alone limits places
 -- that memory ran out is reported, as far as the output takes it at once, and no other fault is
 abbrev pub RefusesToOpen : Fault → Outflow → Outflow → Type 0
 RefusesToOpen fault before after =
-    (fault ≡ Memory → PushesAtOnce (text (Refused E11)) before after) × (fault ≢ Memory → after ≡ before)
+    (fault ≡ Memory → PushesAtOnce (text (Refused OUT_OF_MEMORY)) before after)
+    × (fault ≢ Memory → after ≡ before)

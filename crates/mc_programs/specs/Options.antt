@@ -11,21 +11,28 @@ use Rattle.mc_model.specs.declared.settings.Limits.{Limits}
 use Rattle.mc_model.specs.declared.settings.TheConstants.{MAX_PLACES}
 use Rattle.mc_programs.specs.declared.options.StdinOptions.{StdinOptions}
 use Rattle.mc_programs.specs.Faults.{fault_line}
-use Rattle.mc_programs.specs.Serving.{Serves, Stops}
-use Rattle.mc_programs.specs.Words.{FailsToShow, Shows, TellsMistake, bare_app, number_asked, number_rule}
+use Rattle.mc_programs.specs.Serving.{ServesClient, StopsService}
+use Rattle.mc_programs.specs.Words.{FailsToShow, ShowsHelp, TellsMistake, bare_app, number_asked, number_rule}
 use Rattle.mc_stream.specs.Pushing.{PushesOrFails}
 use Rattle.mc_stream.specs.Stream.{Outflow, Streams}
 
 -- the command: `--places`, `--items` and `--bytes`
 abbrev pub stdin_app : App
-stdin_app = with_rule (with_rule (with_rule (bare_app (codes "mc_stdin")) (number_rule (codes "places"))) (number_rule (codes "items"))) (number_rule (codes "bytes"))
+stdin_app =
+    with_rule
+    (with_rule (with_rule (bare_app (codes "mc_stdin")) (number_rule (codes "places")))
+    (number_rule (codes "items")))
+    (number_rule (codes "bytes"))
 
 -- how many places the words ask for, and which quotas
 abbrev pub places_asked : List Text → ℕ
 places_asked words = number_asked stdin_app (codes "places") 65536 words
 
 abbrev pub limits_asked : List Text → Limits
-limits_asked words = record { items = number_asked stdin_app (codes "items") 1048576 words; bytes = number_asked stdin_app (codes "bytes") 67108864 words }
+limits_asked words = record {
+  items = number_asked stdin_app (codes "items") 1048576 words;
+  bytes = number_asked stdin_app (codes "bytes") 67108864 words;
+}
 
 -- the numbers of places, items and bytes are in their ranges
 abbrev pub IsInRange : List Text → Type 0
@@ -40,35 +47,42 @@ abbrev pub AsksOutOfRange : List Text → Type 0
 AsksOutOfRange words = (fault_of stdin_app words ≡ []) × ¬ (IsInRange words)
 
 -- The command takes the words, and they ask for these options.
-pub record AsksFor (words : List Text) (options : StdinOptions) : Type 0 where
+pub record StdinAsksFor (words : List Text) (options : StdinOptions) : Type 0 where
   pub taken : fault_of stdin_app words ≡ []
   pub places : options.places ≡ places_asked words
   pub limits : options.limits ≡ limits_asked words
 
 -- A run that failed met one fault; the client was given what that fault leaves it, the input and
 -- the output failed as it says, and it was reported.
-pub record Fails (limits : Limits) (places : ℕ) (before after : Streams) (errors_before errors : Outflow) : Type 0 where
+pub record Fails (limits : Limits) (places : ℕ) (before after : Streams)
+    (errors_before errors : Outflow) : Type 0 where
   pub fault : Fault
-  pub stops : Stops limits places before after fault
+  pub stops : StopsService limits places before after fault
   pub told : PushesOrFails (fault_line (codes "mc_stdin") fault) errors_before errors
 
 -- a client was served by the numbers that the words ask for, or help or the version was shown
-abbrev pub EndsWell : List Text → Streams → Streams → Type 0
-EndsWell words before after = AsksInRange words × Serves (limits_asked words) (places_asked words) before after ⊎ Shows stdin_app words before after
+abbrev pub StdinEndsWell : List Text → Streams → Streams → Type 0
+StdinEndsWell words before after =
+    AsksInRange words × ServesClient (limits_asked words) (places_asked words) before after
+    ⊎ ShowsHelp stdin_app words before after
 
 -- a fault ended the service, or kept the words from being read or answered, and was reported
-abbrev pub EndsInFault : List Text → Streams → Streams → Outflow → Outflow → Type 0
-EndsInFault words before after errors_before errors =
-    AsksInRange words × Fails (limits_asked words) (places_asked words) before after errors_before errors ⊎ FailsToShow (codes "mc_stdin") stdin_app words before after errors_before errors
+abbrev pub StdinEndsInFault : List Text → Streams → Streams → Outflow → Outflow → Type 0
+StdinEndsInFault words before after errors_before errors =
+    AsksInRange words
+    × Fails (limits_asked words) (places_asked words) before after errors_before errors
+    ⊎ FailsToShow (codes "mc_stdin") stdin_app words before after errors_before errors
 
 -- a number is out of its range, or the words are a mistake, and that was reported
-abbrev pub RefusesWords : List Text → Outflow → Outflow → Type 0
-RefusesWords words errors_before errors =
-    AsksOutOfRange words × PushesOrFails (fault_line (codes "mc_stdin") BadSettings) errors_before errors ⊎ TellsMistake stdin_app words errors_before errors
+abbrev pub StdinRefuses : List Text → Outflow → Outflow → Type 0
+StdinRefuses words errors_before errors =
+    AsksOutOfRange words
+    × PushesOrFails (fault_line (codes "mc_stdin") BadSettings) errors_before errors
+    ⊎ TellsMistake stdin_app words errors_before errors
 
 -- how a run of mc_stdin ends, by its status
-abbrev pub Ends : List Text → ℕ → Streams → Streams → Outflow → Outflow → Type 0
-Ends words status before after errors_before errors =
-    (status ≡ 0) × EndsWell words before after × (errors ≡ errors_before)
-    ⊎ (status ≡ 1) × EndsInFault words before after errors_before errors
-    ⊎ (status ≡ 2) × RefusesWords words errors_before errors × (after ≡ before)
+abbrev pub StdinEnds : List Text → ℕ → Streams → Streams → Outflow → Outflow → Type 0
+StdinEnds words status before after errors_before errors =
+    (status ≡ 0) × StdinEndsWell words before after × (errors ≡ errors_before)
+    ⊎ (status ≡ 1) × StdinEndsInFault words before after errors_before errors
+    ⊎ (status ≡ 2) × StdinRefuses words errors_before errors × (after ≡ before)

@@ -21,14 +21,15 @@ use Rattle.uc_core.specs.Core.{CoreState, new_core}
 use Rattle.uc_core.specs.Run.{Given}
 
 -- The command takes the words, and they ask for these options.
-pub record AsksFor (words : List Text) (options : ScheduleOptions) : Type 0 where
+pub record ScheduleAsksFor (words : List Text) (options : ScheduleOptions) : Type 0 where
   pub taken : fault_of schedule_app words ≡ []
   pub quiet : options.quiet ≡ asks_quiet words
   pub picture : options.picture ≡ asks_picture words
 
 -- The items were done under these settings, the run ended so, and this is its report, after a
 -- picture if one is asked for.
-pub record Runs (settings : Configuration) (items : List Item) (options : ScheduleOptions) (end : Ending) (text : List ℕ) : Type 0 where
+pub record RunsItems (settings : Configuration) (items : List Item) (options : ScheduleOptions)
+    (end : Ending) (text : List ℕ) : Type 0 where
   pub core : CoreState
   pub given : List Given
   pub did : DoesAll items (new_core settings) core given end
@@ -38,21 +39,24 @@ pub record Runs (settings : Configuration) (items : List Item) (options : Schedu
 
 -- The bytes read as a list whose settings are within their bounds, its run ended so, and this text
 -- is printed for it.
-pub record IsReportOf (options : ScheduleOptions) (bytes : List ℕ) (end : Ending) (text : List ℕ) : Type 0 where
+pub record IsReportOf (options : ScheduleOptions) (bytes : List ℕ) (end : Ending)
+    (text : List ℕ) : Type 0 where
   pub list : Listed
   pub reads : reading bytes ≡ Whole list
   pub lawful : IsLawful (settings_of list)
-  pub runs : Runs (settings_of list) list.items options end text
+  pub runs : RunsItems (settings_of list) list.items options end text
 
 -- the answer to the bytes
 abbrev pub IsAnswerTo : ScheduleOptions → List ℕ → Answer → Type 0
 IsAnswerTo options bytes (answer.Report text end) = IsReportOf options bytes end text.items
 IsAnswerTo options bytes (answer.BadLine line) = reading bytes ≡ BadLine line
-IsAnswerTo options bytes answer.BadSettings = (list : Listed) × (reading bytes ≡ Whole list) × ¬ (IsLawful (settings_of list))
+IsAnswerTo options bytes answer.BadSettings =
+    (list : Listed) × (reading bytes ≡ Whole list) × ¬ (IsLawful (settings_of list))
 
 -- the answer to the bytes that came
 abbrev pub IsAnswerToInput : ScheduleOptions → Inflow → Inflow → Answer → Type 0
-IsAnswerToInput options before after answer = (bytes : List ℕ) × Receives bytes before after × IsAnswerTo options bytes answer
+IsAnswerToInput options before after answer =
+    (bytes : List ℕ) × Receives bytes before after × IsAnswerTo options bytes answer
 
 -- the exit status for how a run ended
 abbrev pub status_of : Ending → ℕ
@@ -64,11 +68,15 @@ status_of (Some met) = 1
 abbrev pub GivesReport : List ℕ → Ending → ℕ → Outflow → Outflow → Outflow → Outflow → Type 0
 GivesReport text end status before after errors_before errors =
     (status ≡ status_of end) × PushesAll text before after × (errors ≡ errors_before)
-    ⊎ (status ≡ 1) × FailsToPush text before after fault.Output × PushesOrFails (fault_line (codes "mc_schedule") fault.Output) errors_before errors
+    ⊎ (status ≡ 1) × FailsToPush text before after fault.Output
+    × PushesOrFails (fault_line (codes "mc_schedule") fault.Output) errors_before errors
 
 -- an answer was given, with this status
 abbrev pub Gives : Answer → ℕ → Outflow → Outflow → Outflow → Outflow → Type 0
-Gives (answer.Report text end) status before after errors_before errors = GivesReport text.items end status before after errors_before errors
-Gives (answer.BadLine line) status before after errors_before errors = (status ≡ 2) × (after ≡ before) × PushesOrFails (bad_line_text line) errors_before errors
+Gives (answer.Report text end) status before after errors_before errors =
+    GivesReport text.items end status before after errors_before errors
+Gives (answer.BadLine line) status before after errors_before errors =
+    (status ≡ 2) × (after ≡ before) × PushesOrFails (bad_line_text line) errors_before errors
 Gives answer.BadSettings status before after errors_before errors =
-    (status ≡ 2) × (after ≡ before) × PushesOrFails (fault_line (codes "mc_schedule") fault.BadSettings) errors_before errors
+    (status ≡ 2) × (after ≡ before)
+    × PushesOrFails (fault_line (codes "mc_schedule") fault.BadSettings) errors_before errors

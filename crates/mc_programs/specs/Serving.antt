@@ -8,7 +8,7 @@ use Rattle.std.specs.Prelude.{◌≡◌, ℕ, true, false, ◌+◌, ◌≤◌, �
 use Rattle.mc_model.specs.declared.fault.Fault.{Fault}
 use Rattle.mc_model.specs.declared.fault.Fault.TheVariants.{BadSettings}
 use Rattle.mc_model.specs.declared.reply.Reply.TheVariants.{Refused}
-use Rattle.mc_model.specs.declared.reply.WireNo.TheVariants.{E11}
+use Rattle.mc_model.specs.declared.reply.TheConstants.WireNo.{OUT_OF_MEMORY}
 use Rattle.mc_model.specs.declared.request.Request.{Request}
 use Rattle.mc_model.specs.declared.settings.Limits.{Limits}
 use Rattle.mc_model.specs.Settings.{Configuration, IsLawful}
@@ -42,7 +42,8 @@ pub record Comes (before after : Streams) : Type 0 where
 
 -- The one worker of a log with this many places, whose tenant has these quotas, took the requests,
 -- and over its history this is owed for them.
-pub record Answers (limits : Limits) (places : ℕ) (requests : List Request) (bytes : List ℕ) : Type 0 where
+pub record AnswersRequests (limits : Limits) (places : ℕ) (requests : List Request)
+    (bytes : List ℕ) : Type 0 where
   pub worker : Worker
   pub alone : IsAlone limits places worker
   pub mark : Mark
@@ -50,11 +51,12 @@ pub record Answers (limits : Limits) (places : ℕ) (requests : List Request) (b
 
 -- All that came, up to the end of the input or a request that ends the stream, was answered under
 -- these quotas by a log with this many places.
-pub record Serves (limits : Limits) (places : ℕ) (before after : Streams) : Type 0 where
+pub record ServesClient (limits : Limits) (places : ℕ) (before after : Streams) : Type 0 where
   pub comes : Comes before after
-  pub answers : Answers limits places comes.requests (owed limits places comes.requests)
+  pub answers : AnswersRequests limits places comes.requests (owed limits places comes.requests)
   pub went : Pushes before.output after.output (owed limits places comes.requests)
-  pub end : (has_ended after.input.events ≡ true) × IsAtEnd after.input.left ⊎ (list_any ends_stream comes.requests ≡ true)
+  pub end : (has_ended after.input.events ≡ true) × IsAtEnd after.input.left
+      ⊎ (list_any ends_stream comes.requests ≡ true)
   pub unfailed : NeitherFails before after
 
 -- All that came was answered, and more could have come.
@@ -82,25 +84,29 @@ NeverWaits before after = waits after.output.events ≡ waits before.output.even
 -- The first requests that came were answered, and a prefix was sent of what is owed for them
 -- followed by what is told about a fault. The others are all the requests that came after these;
 -- the first of them may have met the fault, and then its command may stand in the log.
-pub record ServesInPart (limits : Limits) (places : ℕ) (before after : Streams) (told : List ℕ) : Type 0 where
+pub record ServesInPart (limits : Limits) (places : ℕ) (before after : Streams)
+    (told : List ℕ) : Type 0 where
   pub comes : Comes before after
   pub answered : List Request
   pub others : List Request
   pub split : comes.requests ≡ answered ++ others
-  pub answers : Answers limits places answered (owed limits places answered)
+  pub answers : AnswersRequests limits places answered (owed limits places answered)
   pub sent : List ℕ
   pub unsent : List ℕ
   pub owes : owed limits places answered ++ told ≡ sent ++ unsent
   pub went : Pushes before.output after.output sent
-  pub caught_up : NeverWaits before after → IsCaughtUp limits places comes.bytes (last_moved after.input.events) sent
+  pub caught_up : NeverWaits before after →
+      IsCaughtUp limits places comes.bytes (last_moved after.input.events) sent
 
 -- Memory ran out, and the client was told so after its replies, as far as the output took that at
 -- once; or memory ran out before a log could be opened, nothing was pulled, and the client was told
 -- only that.
 abbrev pub ServesUntilStarved : Limits → ℕ → Streams → Streams → Type 0
 ServesUntilStarved limits places before after =
-    ((part : ServesInPart limits places before after (text (Refused E11))) × IsAllOrStopped part.unsent before.output after.output)
-    ⊎ (after.input ≡ before.input) × PushesAtOnce (text (Refused E11)) before.output after.output
+    ((part : ServesInPart limits places before after (text (Refused OUT_OF_MEMORY)))
+    × IsAllOrStopped part.unsent before.output after.output)
+    ⊎ (after.input ≡ before.input)
+    × PushesAtOnce (text (Refused OUT_OF_MEMORY)) before.output after.output
 
 -- the input didn't fail between the two states
 abbrev pub IsUnfailedInput : Inflow → Inflow → Type 0
@@ -117,14 +123,15 @@ EndsBy limits places OutOfMemory before after =
 EndsBy limits places CellTaken before after =
     ServesInPart limits places before after [] × CountsFailures CellTaken before after
 EndsBy limits places InputFailed before after =
-    (ServesInPart limits places before after [] × (NeverWaits before after → ServesOn limits places before after))
+    (ServesInPart limits places before after []
+    × (NeverWaits before after → ServesOn limits places before after))
     × CountsFailures InputFailed before after
 EndsBy limits places OutputFailed before after =
     ServesInPart limits places before after [] × CountsFailures OutputFailed before after
 
 -- The faults that end a service: those of its connection; or the quotas or the number of places are
 -- out of range, and nothing was done.
-abbrev pub Stops : Limits → ℕ → Streams → Streams → Fault → Type 0
-Stops limits places before after fault =
+abbrev pub StopsService : Limits → ℕ → Streams → Streams → Fault → Type 0
+StopsService limits places before after fault =
     ((cause : ConnFault) × (fault ≡ fault_of cause) × EndsBy limits places cause before after)
     ⊎ (fault ≡ BadSettings) × (after ≡ before) × ¬ (IsLawful (settings_alone limits places))

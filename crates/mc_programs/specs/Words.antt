@@ -26,7 +26,8 @@ use Rattle.mc_stream.specs.Stream.{Outflow, Streams}
 -- a command without its options: `--help` and `--version` only; the words begin after the program's
 -- name
 abbrev pub bare_app : Text → App
-bare_app name = on_top (λ shape. record shape { has_version = true; no_binary_name = true }) (new_app name)
+bare_app name =
+    on_top (λ shape. record shape { has_version = true; no_binary_name = true }) (new_app name)
 
 -- an option `--name N`, a number of 64 bits
 abbrev pub number_rule : Text → Rule
@@ -51,19 +52,23 @@ number_given found name = option_and_then u64_of (one_text found name)
 -- the number that words ask for by an option of a command, or a default if they don't have the
 -- option
 abbrev pub number_asked : App → Text → ℕ → List Text → ℕ
-number_asked app name default words = unwrap_or (option_and_then u64_of (one_of name (matches_of app words))) default
+number_asked app name default words =
+    unwrap_or (option_and_then u64_of (one_of name (matches_of app words))) default
 
 -- words have an option of a command that takes no value
 abbrev pub flag_asked : App → Text → List Text → Bool
-flag_asked app name words = option_map_or (λ (text : Text). bytes_eq text (codes "true")) (one_of name (matches_of app words)) false
+flag_asked app name words =
+    option_map_or (λ (text : Text). bytes_eq text (codes "true"))
+    (one_of name (matches_of app words)) false
 
 -- an option that takes no value was given, in what was matched
 abbrev pub flag_given : Found → Text → Bool
-flag_given found name = option_map_or (λ (text : Text). bytes_eq text (codes "true")) (one_text found name) false
+flag_given found name =
+    option_map_or (λ (text : Text). bytes_eq text (codes "true")) (one_text found name) false
 
 -- clap returns an error of this kind for the words
-abbrev pub IsAnswered : App → List Text → ErrorKind → Type 0
-IsAnswered app words kind = IsAmong kind (fault_of app words)
+abbrev pub ClapReturns : App → List Text → ErrorKind → Type 0
+ClapReturns app words kind = IsAmong kind (fault_of app words)
 
 -- help or the version, which are no mistakes
 abbrev pub IsShown : ErrorKind → Type 0
@@ -75,15 +80,15 @@ IsMistake kind = (kind ≢ OutOfMemory) × ¬ (IsShown kind)
 
 -- the words ask for help or the version
 abbrev pub AsksToShow : App → List Text → Type 0
-AsksToShow app words = (kind : ErrorKind) × IsAnswered app words kind × IsShown kind
+AsksToShow app words = (kind : ErrorKind) × ClapReturns app words kind × IsShown kind
 
 -- the words are a mistake
 abbrev pub IsMistaken : App → List Text → Type 0
-IsMistaken app words = (kind : ErrorKind) × IsAnswered app words kind × ¬ (IsShown kind)
+IsMistaken app words = (kind : ErrorKind) × ClapReturns app words kind × ¬ (IsShown kind)
 
 -- The words ask for help or the version. A text was pushed, nothing was pulled, and neither stream
 -- failed.
-pub record Shows (app : App) (words : List Text) (before after : Streams) : Type 0 where
+pub record ShowsHelp (app : App) (words : List Text) (before after : Streams) : Type 0 where
   pub asks : AsksToShow app words
   pub unread : after.input ≡ before.input
   pub text : List ℕ
@@ -93,10 +98,12 @@ pub record Shows (app : App) (words : List Text) (before after : Streams) : Type
 -- if the output failed
 abbrev pub StopsShowing : Type 0 → Outflow → Outflow → Fault → Type 0
 StopsShowing is_shown before after fault =
-    (fault ≡ Memory) × (after ≡ before) ⊎ is_shown × ((text : List ℕ) × FailsToPush text before after fault)
+    (fault ≡ Memory) × (after ≡ before)
+    ⊎ is_shown × ((text : List ℕ) × FailsToPush text before after fault)
 
 -- A fault kept words from being answered, and was reported.
-pub record FailsToAnswer (program : List ℕ) (kind : ErrorKind) (before after errors_before errors : Outflow) : Type 0 where
+pub record FailsToAnswer (program : List ℕ) (kind : ErrorKind)
+    (before after errors_before errors : Outflow) : Type 0 where
   pub fault : Fault
   pub stops : StopsShowing (IsShown kind) before after fault
   pub told : PushesOrFails (fault_line program fault) errors_before errors
@@ -105,19 +112,23 @@ pub record FailsToAnswer (program : List ℕ) (kind : ErrorKind) (before after e
 -- fault is reported, or a mistake is
 abbrev pub AnswersWords : List ℕ → ErrorKind → ℕ → Outflow → Outflow → Outflow → Outflow → Type 0
 AnswersWords program kind status before after errors_before errors =
-    (status ≡ 0) × IsShown kind × ((text : List ℕ) × PushesAll text before after) × (errors ≡ errors_before)
+    (status ≡ 0) × IsShown kind
+    × ((text : List ℕ) × PushesAll text before after) × (errors ≡ errors_before)
     ⊎ (status ≡ 1) × FailsToAnswer program kind before after errors_before errors
-    ⊎ (status ≡ 2) × IsMistake kind × ((text : List ℕ) × PushesOrFails text errors_before errors) × (after ≡ before)
+    ⊎ (status ≡ 2) × IsMistake kind
+    × ((text : List ℕ) × PushesOrFails text errors_before errors) × (after ≡ before)
 
 -- A fault kept the words from being read or answered, and was reported. Nothing was pulled.
-pub record FailsToShow (program : List ℕ) (app : App) (words : List Text) (before after : Streams) (errors_before errors : Outflow) : Type 0 where
+pub record FailsToShow (program : List ℕ) (app : App) (words : List Text) (before after : Streams)
+    (errors_before errors : Outflow) : Type 0 where
   pub fault : Fault
   pub unread : after.input ≡ before.input
   pub stops : StopsShowing (AsksToShow app words) before.output after.output fault
   pub told : PushesOrFails (fault_line program fault) errors_before errors
 
 -- the words are a mistake, for which a text was pushed
-pub record TellsMistake (app : App) (words : List Text) (errors_before errors : Outflow) : Type 0 where
+pub record TellsMistake (app : App) (words : List Text)
+    (errors_before errors : Outflow) : Type 0 where
   pub mistaken : IsMistaken app words
   pub text : List ℕ
   pub told : PushesOrFails text errors_before errors

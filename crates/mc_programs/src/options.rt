@@ -3,7 +3,7 @@ ghost use Rattle.std.specs.Prelude.{◌≡◌, ◌↔◌, IfOk, IsTrue, MatchRes
 ghost use Rattle.clap.specs.Words.{HasKind, app_of, fault_of};
 ghost use Rattle.mc_model.specs.Settings.{AreLawfulLimits, IsBetween};
 ghost use Rattle.mc_model.specs.declared.settings.TheConstants.{MAX_PLACES};
-ghost use Rattle.mc_programs.specs.Options.{AsksFor, stdin_app};
+ghost use Rattle.mc_programs.specs.Options.{StdinAsksFor, stdin_app};
 
 use crate::words::{number, number_option};
 use clap::{Command, Error};
@@ -59,7 +59,7 @@ fn stdin_command<'a>(alloc: Global) -> Result<Command<'a>, AllocError>
 ///
 /// Returns clap's error if they ask for help or the version, are a mistake, or memory runs out.
 pub(crate) fn read_words(alloc: Global, words: &[String]) -> Result<StdinOptions, Error>
-    ensures outcome { MatchResult result (AsksFor (map string_bytes words.now))
+    ensures outcome { MatchResult result (StdinAsksFor (map string_bytes words.now))
         (HasKind (fault_of stdin_app (map string_bytes words.now))) }
 {
     let matches = stdin_command(alloc)?.try_get_matches_from(words)?;

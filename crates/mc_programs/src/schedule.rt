@@ -1,7 +1,7 @@
 //! The program that runs event lists.
 ghost use Rattle.std.specs.Prelude.{◌≡◌, MatchResult, map, string_bytes};
-ghost use Rattle.mc_programs.specs.Lists.{Ends, Receives, StopsReading, bad_line_text};
-ghost use Rattle.mc_programs.specs.Reporting.{Gives, IsAnswerTo, IsAnswerToInput, Runs};
+ghost use Rattle.mc_programs.specs.Lists.{ScheduleEnds, Receives, StopsReading, bad_line_text};
+ghost use Rattle.mc_programs.specs.Reporting.{Gives, IsAnswerTo, IsAnswerToInput, RunsItems};
 ghost use Rattle.mc_stream.specs.Pushing.{PushesOrFails};
 ghost use Rattle.mc_stream.specs.Stream.{both};
 
@@ -72,7 +72,7 @@ fn report_of(
     options: ScheduleOptions,
 ) -> Result<(Vec<u8>, Option<(u64, Fault)>), Fault>
     ensures outcome { MatchResult result
-        (λ told. Runs settings.now items.items options told.1 told.0.items)
+        (λ told. RunsItems settings.now items.items options told.1 told.0.items)
         (λ fault. fault ≡ Fault.Memory) }
 {
     let (mut text, outcome) = if options.picture {
@@ -183,7 +183,7 @@ pub fn run_schedule<R: Wait, I: Input, O: Output, E: Output>(
     errors: &mut E,
 ) -> u8
     // How the run ends, from the bytes that came in to the bytes that went out.
-    ensures { Ends (map string_bytes words.items) result
+    ensures { ScheduleEnds (map string_bytes words.items) result
         (both (I.tells input.old) (O.tells output.old))
         (both (I.tells input.new) (O.tells output.new))
         (E.tells errors.old) (E.tells errors.new) }

@@ -2,7 +2,7 @@
 ghost use Rattle.std.specs.Prelude.{◌≡◌, IfOk, MatchResult, map, string_bytes};
 ghost use Rattle.clap.specs.Words.{HasKind, app_of, fault_of};
 ghost use Rattle.mc_programs.specs.Lists.{schedule_app};
-ghost use Rattle.mc_programs.specs.Reporting.{AsksFor};
+ghost use Rattle.mc_programs.specs.Reporting.{ScheduleAsksFor};
 
 use crate::words::{flag, flag_option};
 use clap::{Command, Error};
@@ -59,7 +59,7 @@ fn schedule_command<'a>(alloc: Global) -> Result<Command<'a>, AllocError>
 ///
 /// Returns clap's error if they ask for help or the version, are a mistake, or memory runs out.
 pub(crate) fn read_words(alloc: Global, words: &[String]) -> Result<ScheduleOptions, Error>
-    ensures outcome { MatchResult result (AsksFor (map string_bytes words.now))
+    ensures outcome { MatchResult result (ScheduleAsksFor (map string_bytes words.now))
         (HasKind (fault_of schedule_app (map string_bytes words.now))) }
 {
     let matches = schedule_command(alloc)?.try_get_matches_from(words)?;

@@ -2,7 +2,7 @@
 ghost use Rattle.std.specs.Prelude.{◌≡◌, ◌⊎◌, IfErr, IfOk, MatchResult};
 ghost use Rattle.mc_model.specs.Settings.{IsLawful};
 ghost use Rattle.mc_model.specs.declared.fault.Fault.TheVariants as faults;
-ghost use Rattle.mc_programs.specs.Serving.{Serves, Stops, settings_alone};
+ghost use Rattle.mc_programs.specs.Serving.{ServesClient, StopsService, settings_alone};
 ghost use Rattle.mc_programs.specs.Opening.{IsOpened, RefusesToOpen};
 ghost use Rattle.mc_stream.specs.Stream.{both};
 
@@ -50,7 +50,7 @@ fn refuse_to_open<O: Output>(fault: Fault, output: &mut O) -> Fault
     ensures told { RefusesToOpen fault (O.tells output.old) (O.tells output.new) }
 {
     if fault == Fault::Memory {
-        push_while_taken(refusal_text(WireNo::E11), output);
+        push_while_taken(refusal_text(WireNo::OUT_OF_MEMORY), output);
     }
     fault
 }
@@ -76,9 +76,9 @@ pub(crate) fn serve_and_leave<R: Wait, I: Input, O: Output>(
     output: &mut O,
 ) -> Result<(), Fault>
     ensures outcome { MatchResult result
-        (λ _. Serves limits places (both (I.tells input.old) (O.tells output.old))
+        (λ _. ServesClient limits places (both (I.tells input.old) (O.tells output.old))
         (both (I.tells input.new) (O.tells output.new)))
-        (Stops limits places (both (I.tells input.old) (O.tells output.old))
+        (StopsService limits places (both (I.tells input.old) (O.tells output.old))
         (both (I.tells input.new) (O.tells output.new))) }
 {
     let (log, pass) = match open_alone(alloc, limits, places) {
@@ -123,9 +123,9 @@ pub fn serve_client<R: Wait, I: Input, O: Output>(
     // How the service ends, from the bytes that came in to the bytes that went out, and which fault
     // comes when.
     ensures outcome { MatchResult result
-        (λ _. Serves limits places (both (I.tells input.old) (O.tells output.old))
+        (λ _. ServesClient limits places (both (I.tells input.old) (O.tells output.old))
         (both (I.tells input.new) (O.tells output.new)))
-        (Stops limits places (both (I.tells input.old) (O.tells output.old))
+        (StopsService limits places (both (I.tells input.old) (O.tells output.old))
         (both (I.tells input.new) (O.tells output.new))) }
 {
     serve_and_leave(rt, alloc, limits, places, Memory::Freed, input, output)

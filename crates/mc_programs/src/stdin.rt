@@ -1,6 +1,6 @@
 //! The program that serves one client over standard input and output.
 ghost use Rattle.std.specs.Prelude.{map, string_bytes};
-ghost use Rattle.mc_programs.specs.Options.{Ends};
+ghost use Rattle.mc_programs.specs.Options.{StdinEnds};
 ghost use Rattle.mc_stream.specs.Stream.{both};
 
 use crate::faults::{fail, tell_fault};
@@ -40,7 +40,7 @@ pub fn run_stdin<R: Wait, I: Input, O: Output, E: Output>(
 ) -> u8
     // How the run ends, from the bytes that came in to the bytes that went out, by the quotas and
     // the number of places that the words ask for.
-    ensures { Ends (map string_bytes words.items) result
+    ensures { StdinEnds (map string_bytes words.items) result
         (both (I.tells input.old) (O.tells output.old))
         (both (I.tells input.new) (O.tells output.new))
         (E.tells errors.old) (E.tells errors.new) }

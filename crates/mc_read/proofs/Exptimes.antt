@@ -8,8 +8,8 @@ use Rattle.mc_model.specs.declared.command.Command.{Command}
 use Rattle.mc_model.specs.declared.command.Command.TheVariants.{Flush}
 use Rattle.mc_model.specs.declared.command.Verb.{Verb}
 use Rattle.mc_model.specs.declared.command.Verb.TheVariants.{Add, Append, Prepend, Replace, Set}
+use Rattle.mc_model.specs.declared.reply.TheConstants.WireNo.{BAD_FORMAT, UNKNOWN_COMMAND}
 use Rattle.mc_model.specs.declared.reply.WireNo.{WireNo}
-use Rattle.mc_model.specs.declared.reply.WireNo.TheVariants.{E1, E2}
 use Rattle.mc_model.specs.declared.request.Request.TheVariants.{Logged, TooLong}
 use Rattle.mc_model.specs.Number.{number_up_to}
 use Rattle.mc_read.specs.declared.line.Storage.TheVariants.{CheckAndSet, Plain}
@@ -20,7 +20,7 @@ use Rattle.mc_read.specs.Sending.{verb_name}
 use Rattle.mc_read.specs.Text.{IsRequestText, IsUnbroken, request_of}
 use Rattle.mc_read.specs.Word.{is_noreply, is_zero, words}
 use Rattle.mc_read.proofs.Sending.{name_asked}
-use Rattle.mc_read.specs.Texts.{before_first_at}
+use Rattle.mc_read.proofs.Texts.{before_first_at}
 
 -- the line of a text without a line feed in it is the text's own line
 same_line : (line body own rest : List ℕ) → IsUnbroken line → IsUnbroken own → line ++ 10 ∷ body ≡ own ++ 10 ∷ rest → own ≡ line
@@ -66,34 +66,34 @@ module _ (rest : List ℕ) (command : Command) (quiet : Bool) where
   passes_with line size (Some refusal) some is = absurd (no_refusal refusal _ is)
 
   zero_at : (line : StorageLine) (size : Option ℕ) → request_of (asked_of_length line size) rest ≡ Logged command quiet → ignores_exptime line.storage ≡ false → is_zero line.exptime ≡ true
-  zero_at line None is counts = absurd (no_refusal E2 false is)
+  zero_at line None is counts = absurd (no_refusal BAD_FORMAT false is)
   zero_at line (Some size) is counts =
       let passing = passes_with line size (first_failure (storage_checks line size)) refl is in
       right_of_or (ignores_exptime line.storage) (is_zero line.exptime) counts passing.1.1.1.1.1.0
 
   zero_in_storage : (verb : Verb) (key flags exptime : List ℕ) (more : List (List ℕ)) → ignores_exptime (Some (Plain verb)) ≡ false
       → request_of (asked_of_storage verb (key ∷ flags ∷ exptime ∷ more)) rest ≡ Logged command quiet → is_zero exptime ≡ true
-  zero_in_storage verb key flags exptime [] counts is = absurd (no_refusal E1 false is)
+  zero_in_storage verb key flags exptime [] counts is = absurd (no_refusal UNKNOWN_COMMAND false is)
   zero_in_storage verb key flags exptime (size ∷ []) counts is =
       zero_at (record { storage = Some (Plain verb); key = key; flags = number_up_to FLAGS flags; exptime = exptime; size = size; last = None }) (number_up_to BLOCK_LENGTH size) is counts
   zero_in_storage verb key flags exptime (size ∷ last ∷ []) counts is =
       zero_at (record { storage = Some (Plain verb); key = key; flags = number_up_to FLAGS flags; exptime = exptime; size = size; last = Some last }) (number_up_to BLOCK_LENGTH size) is counts
-  zero_in_storage verb key flags exptime (size ∷ last ∷ other ∷ others) counts is = absurd (no_refusal E1 false is)
+  zero_in_storage verb key flags exptime (size ∷ last ∷ other ∷ others) counts is = absurd (no_refusal UNKNOWN_COMMAND false is)
 
   counts_for_cas : (unique : Option ℕ) → ignores_exptime (option_map CheckAndSet unique) ≡ false
   counts_for_cas None = refl
   counts_for_cas (Some unique) = refl
 
   zero_in_cas : (key flags exptime : List ℕ) (more : List (List ℕ)) → request_of (asked_of_cas (key ∷ flags ∷ exptime ∷ more)) rest ≡ Logged command quiet → is_zero exptime ≡ true
-  zero_in_cas key flags exptime [] is = absurd (no_refusal E1 false is)
-  zero_in_cas key flags exptime (size ∷ []) is = absurd (no_refusal E1 false is)
+  zero_in_cas key flags exptime [] is = absurd (no_refusal UNKNOWN_COMMAND false is)
+  zero_in_cas key flags exptime (size ∷ []) is = absurd (no_refusal UNKNOWN_COMMAND false is)
   zero_in_cas key flags exptime (size ∷ unique ∷ []) is =
       zero_at (record { storage = check_and_set unique; key = key; flags = number_up_to FLAGS flags; exptime = exptime; size = size; last = None }) (number_up_to BLOCK_LENGTH size) is
       (counts_for_cas (number_up_to UNIQUE unique))
   zero_in_cas key flags exptime (size ∷ unique ∷ last ∷ []) is =
       zero_at (record { storage = check_and_set unique; key = key; flags = number_up_to FLAGS flags; exptime = exptime; size = size; last = Some last }) (number_up_to BLOCK_LENGTH size) is
       (counts_for_cas (number_up_to UNIQUE unique))
-  zero_in_cas key flags exptime (size ∷ unique ∷ last ∷ other ∷ others) is = absurd (no_refusal E1 false is)
+  zero_in_cas key flags exptime (size ∷ unique ∷ last ∷ other ∷ others) is = absurd (no_refusal UNKNOWN_COMMAND false is)
 
   -- Lines of flush_all.
   passes_unless : (checks : Checks) (failure : Option WireNo) (asks : Command) (noreply : Bool) → first_failure checks ≡ failure → request_of (asked_unless failure asks noreply) rest ≡ Logged command quiet → AllPassing checks
@@ -106,9 +106,9 @@ module _ (rest : List ℕ) (command : Command) (quiet : Bool) where
       sym (ap (λ b. request_of (cond b (asked_unless None Flush true) (asked_unless (first_failure (exptime_checks exptime)) Flush false)) rest) counts) ∙ is in
       (passes_unless (exptime_checks exptime) (first_failure (exptime_checks exptime)) Flush false refl asks).1.0
   zero_in_flush exptime (last ∷ []) counts is =
-      let checks = (is_noreply last, E2) ∷ exptime_checks exptime in
+      let checks = (is_noreply last, BAD_FORMAT) ∷ exptime_checks exptime in
       (passes_unless checks (first_failure checks) Flush true refl is).1.1.0
-  zero_in_flush exptime (last ∷ other ∷ others) counts is = absurd (no_refusal E1 false is)
+  zero_in_flush exptime (last ∷ other ∷ others) counts is = absurd (no_refusal UNKNOWN_COMMAND false is)
 
 -- Texts.
 counts_for : (verb : Verb) → verb ≢ Append → verb ≢ Prepend → ignores_exptime (Some (Plain verb)) ≡ false

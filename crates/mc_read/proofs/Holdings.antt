@@ -11,8 +11,8 @@ use Rattle.mc_read.specs.First.{first_of_line, first_request, found}
 use Rattle.mc_read.specs.Line.{refused}
 use Rattle.mc_read.specs.Reading.{Ended, GoesOn, HasNone, Held, IsFed, IsNext, Kept, ReadAlike, Reads, ReadsAs, ReadsOn, Swallowing, ends_stream}
 use Rattle.mc_read.specs.Text.{IsUnbroken, Lines}
-use Rattle.mc_read.specs.Readings.{reads_first, reads_from_first}
-use Rattle.mc_read.specs.Texts.{first_of_none, first_of_text, first_request_at, none_of_first, some_parts, text_of_first}
+use Rattle.mc_read.proofs.Readings.{reads_first, reads_from_first}
+use Rattle.mc_read.proofs.Texts.{first_of_none, first_of_text, first_request_at, none_of_first, some_parts, text_of_first}
 
 -- what is held after a request
 abbrev pub held_after : Request → List ℕ → Held

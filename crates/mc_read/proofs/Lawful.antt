@@ -11,8 +11,8 @@ use Rattle.mc_model.specs.declared.command.Verb.{Verb}
 use Rattle.mc_model.specs.declared.command.Verb.TheVariants.{Set}
 use Rattle.mc_model.specs.declared.item.TheConstants.{DATA_BYTES}
 use Rattle.mc_model.specs.declared.reply.Reply.TheVariants.{Version}
+use Rattle.mc_model.specs.declared.reply.TheConstants.WireNo.{BAD_BLOCK, BAD_DELTA, BAD_FORMAT}
 use Rattle.mc_model.specs.declared.reply.WireNo.{WireNo}
-use Rattle.mc_model.specs.declared.reply.WireNo.TheVariants.{E2, E3, E9}
 use Rattle.mc_model.specs.declared.request.Request.{Request}
 use Rattle.mc_model.specs.declared.request.Request.TheVariants.{Local, Logged, Quit, TooLong}
 use Rattle.mc_model.specs.Key.{is_lawful_key}
@@ -111,15 +111,15 @@ all_lawful (key ∷ keys) lawful =
 asks_of_retrieval : (uniques : Bool) (keys : List (List ℕ)) → AsksLawfully (asked_of_retrieval uniques keys)
 asks_of_retrieval uniques [] = tt
 asks_of_retrieval uniques (key ∷ keys) =
-    asks_after ((list_all is_lawful_key (key ∷ keys), E2) ∷ []) (Get (key ∷ keys) uniques) false (λ passing. (omega arith, all_lawful (key ∷ keys) passing.0))
+    asks_after ((list_all is_lawful_key (key ∷ keys), BAD_FORMAT) ∷ []) (Get (key ∷ keys) uniques) false (λ passing. (omega arith, all_lawful (key ∷ keys) passing.0))
 
 asks_of_delete : (arguments : List (List ℕ)) → AsksLawfully (asked_of_delete arguments)
 asks_of_delete [] = tt
-asks_of_delete (key ∷ []) = asks_after ((is_lawful_key key, E2) ∷ []) (Delete key) false (λ passing. passing.0)
+asks_of_delete (key ∷ []) = asks_after ((is_lawful_key key, BAD_FORMAT) ∷ []) (Delete key) false (λ passing. passing.0)
 asks_of_delete (key ∷ last ∷ []) =
-    asks_after ((is_word last (codes "0") || is_noreply last, E2) ∷ (is_lawful_key key, E2) ∷ []) (Delete key) (is_noreply last) (λ passing. passing.1.0)
+    asks_after ((is_word last (codes "0") || is_noreply last, BAD_FORMAT) ∷ (is_lawful_key key, BAD_FORMAT) ∷ []) (Delete key) (is_noreply last) (λ passing. passing.1.0)
 asks_of_delete (key ∷ time ∷ last ∷ []) =
-    asks_after ((is_word time (codes "0"), E2) ∷ (is_noreply last, E2) ∷ (is_lawful_key key, E2) ∷ []) (Delete key) true (λ passing. passing.1.1.0)
+    asks_after ((is_word time (codes "0"), BAD_FORMAT) ∷ (is_noreply last, BAD_FORMAT) ∷ (is_lawful_key key, BAD_FORMAT) ∷ []) (Delete key) true (λ passing. passing.1.1.0)
 asks_of_delete (key ∷ time ∷ last ∷ other ∷ others) = tt
 
 lawful_change : (change : Change) (key : List ℕ) (by : ℕ) → IsTrue (is_lawful_key key) → by ≤ DELTA → IsLawfulCommand (changed change key by)
@@ -128,7 +128,7 @@ lawful_change change.Decr key by lawful within = (lawful, omega (arith, within))
 
 asks_of_delta : (change : Change) (is_lawful : Bool) (key delta : List ℕ) (noreply : Bool) → AsksLawfully (asked_of_delta change is_lawful key (number_up_to DELTA delta) noreply)
 asks_of_delta change is_lawful key delta noreply =
-    asks_after ((is_lawful, E2) ∷ (is_lawful_key key, E2) ∷ (is_some (number_up_to DELTA delta), E9) ∷ []) (changed change key (unwrap_or (number_up_to DELTA delta) 0)) noreply
+    asks_after ((is_lawful, BAD_FORMAT) ∷ (is_lawful_key key, BAD_FORMAT) ∷ (is_some (number_up_to DELTA delta), BAD_DELTA) ∷ []) (changed change key (unwrap_or (number_up_to DELTA delta) 0)) noreply
     (λ passing. lawful_change change key (unwrap_or (number_up_to DELTA delta) 0) passing.1.0 (within_limit DELTA delta))
 
 asks_of_change : (change : Change) (arguments : List (List ℕ)) → AsksLawfully (asked_of_change change arguments)
@@ -146,7 +146,7 @@ asks_either false a b first second = second
 asks_of_flush : (arguments : List (List ℕ)) → AsksLawfully (asked_of_flush arguments)
 asks_of_flush [] = tt
 asks_of_flush (word ∷ []) = asks_either (is_noreply word) _ _ tt (asks_after (exptime_checks word) Flush false (λ passing. tt))
-asks_of_flush (exptime ∷ last ∷ []) = asks_after ((is_noreply last, E2) ∷ exptime_checks exptime) Flush true (λ passing. tt)
+asks_of_flush (exptime ∷ last ∷ []) = asks_after ((is_noreply last, BAD_FORMAT) ∷ exptime_checks exptime) Flush true (λ passing. tt)
 asks_of_flush (exptime ∷ last ∷ other ∷ others) = tt
 
 asks_of_name : (request : Request) (arguments : List (List ℕ)) → AsksLawfully (LineOnly request) → AsksLawfully (asked_of_name request arguments)
@@ -191,7 +191,7 @@ module _ (command : Command) (quiet : Bool) where
   lawful_stored header block true is within lawful =
       subst IsLawfulCommand (same_command (storing header.storage header.key header.flags block) header.quiet is)
       (lawful_storing header.storage header.key header.flags block lawful.0 lawful.1 (omega (arith, within, lawful.2)) lawful.3)
-  lawful_stored header block false is within lawful = absurd (never E3 header.quiet is)
+  lawful_stored header block false is within lawful = absurd (never BAD_BLOCK header.quiet is)
 
   lawful_request : (a : Asked) (body : List ℕ) → AsksLawfully a → request_of a body ≡ Logged command quiet → IsLawfulCommand command
   lawful_request (LineOnly request) body lawful is = subst (λ r. AsksLawfully (LineOnly r)) is lawful

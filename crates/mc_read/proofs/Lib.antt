@@ -8,3 +8,6 @@ pub mod Sending
 pub mod Exptimes
 pub mod Lawful
 mod Rows
+pub mod Readings
+pub mod Texts
+pub mod Public

@@ -13,13 +13,13 @@ use Rattle.mc_model.specs.declared.command.Command.TheVariants.{Cas, Decr, Delet
 use Rattle.mc_model.specs.declared.command.Verb.{Verb}
 use Rattle.mc_model.specs.declared.command.Verb.TheVariants.{Add, Append, Prepend, Replace, Set}
 use Rattle.mc_model.specs.declared.item.TheConstants.{DATA_BYTES}
+use Rattle.mc_model.specs.declared.reply.TheConstants.WireNo.{BAD_DELTA, BAD_FORMAT, NO_EXPIRY, TOO_LARGE}
 use Rattle.mc_model.specs.declared.reply.WireNo.{WireNo}
-use Rattle.mc_model.specs.declared.reply.WireNo.TheVariants.{E2, E4, E6, E9}
 use Rattle.mc_model.specs.declared.request.Request.{Request}
 use Rattle.mc_model.specs.declared.request.Request.TheVariants.{Logged, TooLong}
 use Rattle.mc_model.specs.Key.{is_key_byte, is_lawful_key}
 use Rattle.mc_model.specs.Number.{number_up_to}
-use Rattle.mc_model.specs.Numerals.{number_up_to-none, number_up_to-some}
+use Rattle.mc_model.proofs.Public.{number_up_to-none, number_up_to-some}
 use Rattle.mc_read.specs.declared.without_block.Change.{Change}
 use Rattle.mc_read.specs.declared.without_block.Change.TheVariants as change
 use Rattle.mc_read.specs.declared.line.Asked.{Asked}
@@ -29,7 +29,7 @@ use Rattle.mc_read.specs.declared.line.Storage.TheVariants.{CheckAndSet, Plain}
 use Rattle.mc_read.specs.declared.line.TheConstants.{BLOCK_LENGTH, DELTA, FLAGS, LINE_BYTES, UNIQUE}
 use Rattle.mc_read.specs.Line.{Checks, StorageLine, asked, asked_by, asked_of_block, asked_of_cas, asked_of_change, asked_of_delta, asked_of_length, asked_of_retrieval, asked_of_storage, asked_unless, asked_with, changed, check_and_set, ends_in_noreply, first_failure, ignores_exptime, refused}
 use Rattle.mc_read.specs.Sending.{block_sent, line_sent, noreply_if, sent, verb_name}
-use Rattle.mc_read.specs.Text.{IsRequestText, IsUnbroken, ends_well, body_length, request_of, stored, stored_if, storing}
+use Rattle.mc_read.specs.Text.{IsRequestText, IsUnbroken, ends_well, body_length, request_of, stored_request, stored_if, storing}
 use Rattle.mc_read.specs.Word.{is_exptime, is_space, is_zero, spaced_words, without_return, words}
 
 -- no control character and no space
@@ -191,8 +191,8 @@ no_failure (check ∷ checks) pass =
     let parts = and_parts _ _ pass in cond-true _ _ _ parts.0 ∙ no_failure checks parts.1
 
 -- Lines without a block.
-key_checked : (key : List ℕ) → is_lawful_key key ≡ true → first_failure ((is_lawful_key key, E2) ∷ []) ≡ None
-key_checked key lawful = no_failure ((is_lawful_key key, E2) ∷ []) (and_from (is_lawful_key key) true lawful refl)
+key_checked : (key : List ℕ) → is_lawful_key key ≡ true → first_failure ((is_lawful_key key, BAD_FORMAT) ∷ []) ≡ None
+key_checked key lawful = no_failure ((is_lawful_key key, BAD_FORMAT) ∷ []) (and_from (is_lawful_key key) true lawful refl)
 
 delete_asked : (key : List ℕ) (quiet : Bool) → is_lawful_key key ≡ true → asked_by (codes "delete" ∷ key ∷ noreply_if quiet) ≡ LineOnly (Logged (Delete key) quiet)
 delete_asked key false lawful = ap (λ failure. asked_unless failure (Delete key) false) (key_checked key lawful)
@@ -205,7 +205,7 @@ sent_delete key quiet lawful =
     text_of_few parts (Logged (Delete key) quiet) fit (omega (arith, one_more quiet)) (delete_asked key quiet lawful)
 
 delta_checked : (change : Change) (key : List ℕ) (by : ℕ) (noreply : Bool) → is_lawful_key key ≡ true → asked_of_delta change true key (Some by) noreply ≡ LineOnly (Logged (changed change key by) noreply)
-delta_checked change key by noreply lawful = ap (λ failure. asked_unless failure (changed change key by) noreply) (no_failure ((is_lawful_key key, E2) ∷ (true, E9) ∷ []) (and_from (is_lawful_key key) true lawful refl))
+delta_checked change key by noreply lawful = ap (λ failure. asked_unless failure (changed change key by) noreply) (no_failure ((is_lawful_key key, BAD_FORMAT) ∷ (true, BAD_DELTA) ∷ []) (and_from (is_lawful_key key) true lawful refl))
 
 change_checked : (change : Change) (key : List ℕ) (by : ℕ) (quiet : Bool) → is_lawful_key key ≡ true → by < 2 ^ 64
     → asked_of_change change (key ∷ decimal by ∷ noreply_if quiet) ≡ LineOnly (Logged (changed change key by) quiet)
@@ -247,7 +247,7 @@ retrieval_asked : (keys : List (List ℕ)) (uniques : Bool) → 0 < length keys 
 retrieval_asked [] uniques some lawful = absurd (omega (arith, some))
 retrieval_asked (key ∷ keys) uniques some lawful =
     ap (λ failure. asked_unless failure (Get (key ∷ keys) uniques) false)
-    (no_failure ((list_all is_lawful_key (key ∷ keys), E2) ∷ []) (and_from (list_all is_lawful_key (key ∷ keys)) true lawful refl))
+    (no_failure ((list_all is_lawful_key (key ∷ keys), BAD_FORMAT) ∷ []) (and_from (list_all is_lawful_key (key ∷ keys)) true lawful refl))
 
 pub sent_get : (keys : List (List ℕ)) (uniques : Bool) → 0 < length keys → All (λ key. IsTrue (is_lawful_key key)) keys → length (sent (Get keys uniques) false) ≤ 65537
     → IsRequestText asked (sent (Get keys uniques) false) (Logged (Get keys uniques) false)
@@ -266,8 +266,8 @@ or_right false b passes = passes
 -- all checks of a storage line but the last, which is on its length
 abbrev word_checks : StorageLine → Checks
 word_checks line =
-    (ends_in_noreply line.last, E2) ∷ (is_lawful_key line.key, E2) ∷ (is_some line.flags, E2) ∷ (is_exptime line.exptime, E2) ∷ (is_some line.storage, E2)
-    ∷ (ignores_exptime line.storage || is_zero line.exptime, E4) ∷ []
+    (ends_in_noreply line.last, BAD_FORMAT) ∷ (is_lawful_key line.key, BAD_FORMAT) ∷ (is_some line.flags, BAD_FORMAT) ∷ (is_exptime line.exptime, BAD_FORMAT) ∷ (is_some line.storage, BAD_FORMAT)
+    ∷ (ignores_exptime line.storage || is_zero line.exptime, NO_EXPIRY) ∷ []
 
 -- where the first checks pass, the last decides
 last_decides : (checks : Checks) (test : Bool) (refusal : WireNo) → list_all (λ check. check.0) checks ≡ true → first_failure (checks ++ (test, refusal) ∷ []) ≡ first_failure ((test, refusal) ∷ [])
@@ -286,18 +286,18 @@ module _ (line : StorageLine) (storage : Storage) (flags size : ℕ) (is_storage
   storage_asked : size ≤ DATA_BYTES → asked_of_block line ≡ StoredBlock (record { length = size; storage = storage; key = line.key; flags = flags; quiet = is_some line.last })
   storage_asked small =
       ap (asked_of_length line) is_size
-      ∙ (ap (asked_with line size) (last_decides (word_checks line) (nat_le size DATA_BYTES) E6 words_pass ∙ cond-true _ _ _ (le-leb size DATA_BYTES small))
+      ∙ (ap (asked_with line size) (last_decides (word_checks line) (nat_le size DATA_BYTES) TOO_LARGE words_pass ∙ cond-true _ _ _ (le-leb size DATA_BYTES small))
       ∙ (λ i. StoredBlock (record { length = size; storage = unwrap_or (is_storage i) (Plain Set); key = line.key; flags = unwrap_or (are_flags i) 0; quiet = is_some line.last })))
 
   -- a line in which the last one fails
-  too_large_asked : DATA_BYTES < size → asked_of_block line ≡ RefusedBlock size E6 (is_some line.last)
+  too_large_asked : DATA_BYTES < size → asked_of_block line ≡ RefusedBlock size TOO_LARGE (is_some line.last)
   too_large_asked large =
       ap (asked_of_length line) is_size
-      ∙ ap (asked_with line size) (last_decides (word_checks line) (nat_le size DATA_BYTES) E6 words_pass ∙ cond-false _ _ _ (lt-leb size DATA_BYTES large))
+      ∙ ap (asked_with line size) (last_decides (word_checks line) (nat_le size DATA_BYTES) TOO_LARGE words_pass ∙ cond-false _ _ _ (lt-leb size DATA_BYTES large))
 
 -- the block with its end is stored
 block_stored : (storage : Storage) (key : List ℕ) (flags : ℕ) (block : List ℕ) (quiet : Bool)
-    → stored (record { length = length block; storage = storage; key = key; flags = flags; quiet = quiet }) (block_sent block) ≡ Logged (storing storage key flags block) quiet
+    → stored_request (record { length = length block; storage = storage; key = key; flags = flags; quiet = quiet }) (block_sent block) ≡ Logged (storing storage key flags block) quiet
 block_stored storage key flags block quiet = λ i.
     stored_if (ends_well (drop_at block (13 ∷ 10 ∷ []) (length block) refl i)) (record { length = length block; storage = storage; key = key; flags = flags; quiet = quiet })
     (take_at block (13 ∷ 10 ∷ []) (length block) refl i)
@@ -378,29 +378,29 @@ module _ (verb : Verb) (key : List ℕ) (flags size : ℕ) (quiet : Bool) (lawfu
   abbrev line_of : Option (List ℕ) → StorageLine
   line_of last = record { storage = Some (Plain verb); key = key; flags = number_up_to FLAGS (decimal flags); exptime = codes "0"; size = decimal size; last = last }
 
-  large_line : (last : Option (List ℕ)) → ends_in_noreply last ≡ true → 1048576 < size → size ≤ 2147483645 → asked_of_block (line_of last) ≡ RefusedBlock size E6 (is_some last)
+  large_line : (last : Option (List ℕ)) → ends_in_noreply last ≡ true → 1048576 < size → size ≤ 2147483645 → asked_of_block (line_of last) ≡ RefusedBlock size TOO_LARGE (is_some last)
   large_line last ends large readable =
       too_large_asked (line_of last) (Plain verb) flags size refl (number_of_decimal FLAGS flags (omega (arith, small)) (omega (arith, small))) (number_of_decimal BLOCK_LENGTH size (omega (arith, readable)) spelled) ends lawful refl refl (omega (arith, large))
 
-  large_asked : (noreply : Bool) → 1048576 < size → size ≤ 2147483645 → asked_of_storage verb (key ∷ decimal flags ∷ codes "0" ∷ decimal size ∷ noreply_if noreply) ≡ RefusedBlock size E6 noreply
+  large_asked : (noreply : Bool) → 1048576 < size → size ≤ 2147483645 → asked_of_storage verb (key ∷ decimal flags ∷ codes "0" ∷ decimal size ∷ noreply_if noreply) ≡ RefusedBlock size TOO_LARGE noreply
   large_asked false large readable = large_line None refl large readable
   large_asked true large readable = large_line (Some (codes "noreply")) refl large readable
 
-  pub large_refused : (block : List ℕ) → length block ≡ size → 1048576 < size → size ≤ 2147483645 → IsRequestText asked (line_sent parts_sent ++ block_sent block) (refused E6 quiet)
+  pub large_refused : (block : List ℕ) → length block ≡ size → 1048576 < size → size ≤ 2147483645 → IsRequestText asked (line_sent parts_sent ++ block_sent block) (refused TOO_LARGE quiet)
   large_refused block is_length large readable =
-      text_of_words parts_sent (block_sent block) (RefusedBlock size E6 quiet) fit_parts_sent (few_words parts_sent fit_parts_sent (omega (arith, one_more quiet)))
+      text_of_words parts_sent (block_sent block) (RefusedBlock size TOO_LARGE quiet) fit_parts_sent (few_words parts_sent fit_parts_sent (omega (arith, one_more quiet)))
       (name_asked verb (key ∷ decimal flags ∷ codes "0" ∷ decimal size ∷ noreply_if quiet) ∙ large_asked quiet large readable) (omega (arith, is_length, length-append block (13 ∷ 10 ∷ [])))
 
   unreadable : 2147483645 < size → number_up_to BLOCK_LENGTH (decimal size) ≡ None
   unreadable large = number_up_to-none BLOCK_LENGTH (decimal size) (λ number. omega (arith, number.1, (decimal_is_IsNumeral size spelled).1, large))
 
-  unreadable_asked : (noreply : Bool) → 2147483645 < size → asked_of_storage verb (key ∷ decimal flags ∷ codes "0" ∷ decimal size ∷ noreply_if noreply) ≡ LineOnly (refused E2 false)
+  unreadable_asked : (noreply : Bool) → 2147483645 < size → asked_of_storage verb (key ∷ decimal flags ∷ codes "0" ∷ decimal size ∷ noreply_if noreply) ≡ LineOnly (refused BAD_FORMAT false)
   unreadable_asked false large = ap (asked_of_length (line_of None)) (unreadable large)
   unreadable_asked true large = ap (asked_of_length (line_of (Some (codes "noreply")))) (unreadable large)
 
-  pub unreadable_refused : 2147483645 < size → IsRequestText asked (line_sent parts_sent) (refused E2 false)
+  pub unreadable_refused : 2147483645 < size → IsRequestText asked (line_sent parts_sent) (refused BAD_FORMAT false)
   unreadable_refused large =
-      text_of_few parts_sent (refused E2 false) fit_parts_sent (omega (arith, one_more quiet)) (name_asked verb (key ∷ decimal flags ∷ codes "0" ∷ decimal size ∷ noreply_if quiet) ∙ unreadable_asked quiet large)
+      text_of_few parts_sent (refused BAD_FORMAT false) fit_parts_sent (omega (arith, one_more quiet)) (name_asked verb (key ∷ decimal flags ∷ codes "0" ∷ decimal size ∷ noreply_if quiet) ∙ unreadable_asked quiet large)
 
 pub long_line_refused : (text : List ℕ) → length text ≡ 65537 → IsUnbroken text → IsRequestText asked text TooLong
 long_line_refused text long unbroken = inr (record { long = long; unbroken = unbroken; is_too_long = refl })

@@ -16,10 +16,10 @@ use Rattle.mc_read.specs.declared.reader.State.TheVariants as state
 use Rattle.mc_read.specs.First.{first_of_line, first_request, found, is_line_feed, line_length}
 use Rattle.mc_read.specs.Line.{refused}
 use Rattle.mc_read.specs.Reading.{Ended, HasNone, Kept, ReadAlike, Swallowing, ends_stream}
-use Rattle.mc_read.specs.State.{IsAnswer, IsLineAt, IsStateOf, IsTaken, held_in, state_after}
-use Rattle.mc_read.specs.Text.{IsTooLongText, IsUnbroken, IsUnended, Lines, body_length, ends_well, request_of, stored, stored_if}
+use Rattle.mc_read.specs.State.{IsNextAnswer, IsLineAt, IsStateOf, IsTaken, held_in, state_past}
+use Rattle.mc_read.specs.Text.{IsTooLongText, IsUnbroken, IsUnended, Lines, body_length, ends_well, request_of, stored_request, stored_if}
 use Rattle.mc_read.proofs.Holdings.{has_none, held_after, next_is_first, reads_alike, refused_alike, refused_has_none}
-use Rattle.mc_read.specs.Texts.{before_first-unbroken, line_length-too_long}
+use Rattle.mc_read.proofs.Texts.{before_first-unbroken, line_length-too_long}
 
 module _ (bytes : List ℕ) (line : ℕ) (is_line : IsLineAt bytes line) where
   pub split_line : bytes ≡ take line bytes ++ 10 ∷ drop (line + 1) bytes
@@ -45,22 +45,22 @@ module _ (bytes : List ℕ) (line : ℕ) (is_line : IsLineAt bytes line) where
       absurd (omega (arith, line_length-too_long text more is.long is.unbroken, ap line_length same, is_line.is_length, is_line.short))
 
 -- the state after a request, with what follows it or nothing at the end of the stream
-pub held_in_state_after : (request : Request) (left : List ℕ) → held_in (state_after request) (cond (ends_stream request) [] left) ≡ held_after request left
+pub held_in_state_after : (request : Request) (left : List ℕ) → held_in (state_past request) (cond (ends_stream request) [] left) ≡ held_after request left
 held_in_state_after request left =
     elim (ends_stream request) as (λ b. held_in (cond b state.Ended (state.AwaitsLine 0)) (cond b [] left) ≡ cond b Ended (Kept left)) [ true ↦ refl | false ↦ refl ]
 
 -- after a block the stream goes on
-pub stored_goes_on : (header : Header) (body left : List ℕ) → held_after (stored header body) left ≡ Kept left
+pub stored_goes_on : (header : Header) (body left : List ℕ) → held_after (stored_request header body) left ≡ Kept left
 stored_goes_on header body left =
     elim (ends_well (drop header.length body)) as (λ b. held_after (stored_if b header (take header.length body)) left ≡ Kept left) [ true ↦ refl | false ↦ refl ]
 
 module _ (lines : Lines) where
   -- a first request is answered
-  pub answer_first : (bytes : List ℕ) (request : Request) (left : List ℕ) → first_request lines bytes ≡ found request left → IsAnswer lines (Kept bytes) (Some request) (held_after request left)
+  pub answer_first : (bytes : List ℕ) (request : Request) (left : List ℕ) → first_request lines bytes ≡ found request left → IsNextAnswer lines (Kept bytes) (Some request) (held_after request left)
   answer_first bytes request left is = next_is_first lines bytes request left is
 
   -- without one the bytes stay
-  pub answer_none : (bytes : List ℕ) → first_request lines bytes ≡ None → length bytes ≤ LINE_BYTES + 1 + DATA_BYTES + 1 → IsAnswer lines (Kept bytes) None (Kept bytes)
+  pub answer_none : (bytes : List ℕ) → first_request lines bytes ≡ None → length bytes ≤ LINE_BYTES + 1 + DATA_BYTES + 1 → IsNextAnswer lines (Kept bytes) None (Kept bytes)
   answer_none bytes none few = (has_none lines bytes none, reads_alike lines (Kept bytes), few)
 
   pub first_too_long : (bytes : List ℕ) → LINE_BYTES < line_length bytes → first_request lines bytes ≡ found TooLong (drop (LINE_BYTES + 1) bytes)
@@ -92,7 +92,7 @@ module _ (lines : Lines) where
         ∙ ap (found (request_of a (take (body_length a) (drop (line + 1) bytes)))) (drop-drop (body_length a) (line + 1) bytes)))
 
     pub answer_whole : (a : Asked) → lines (take line bytes) ≡ a → line + 1 + body_length a ≤ length bytes → (request : Request) (left : List ℕ)
-        → request ≡ request_of a (take (body_length a) (drop (line + 1) bytes)) → left ≡ drop (line + 1 + body_length a) bytes → IsAnswer lines (Kept bytes) (Some request) (held_after request left)
+        → request ≡ request_of a (take (body_length a) (drop (line + 1) bytes)) → left ≡ drop (line + 1 + body_length a) bytes → IsNextAnswer lines (Kept bytes) (Some request) (held_after request left)
     answer_whole a is whole request left is_request is_left =
         answer_first bytes request left (first_whole a is whole ∙ (λ i. found (sym is_request i) (sym is_left i)))
 
@@ -106,7 +106,7 @@ module _ (lines : Lines) where
         ∙ cond-false _ _ _ (lt-leb (body_length a) (length (drop (line + 1) bytes)) short_of))
 
     -- of a refused block only the length is kept
-    pub answer_swallowing : (size left : ℕ) (refusal : WireNo) (quiet : Bool) → lines (take line bytes) ≡ RefusedBlock size refusal quiet → length bytes + left ≡ line + 1 + size + 2 → 0 < left → IsAnswer lines (Kept bytes) None (Swallowing (refused refusal quiet) left [])
+    pub answer_swallowing : (size left : ℕ) (refusal : WireNo) (quiet : Bool) → lines (take line bytes) ≡ RefusedBlock size refusal quiet → length bytes + left ≡ line + 1 + size + 2 → 0 < left → IsNextAnswer lines (Kept bytes) None (Swallowing (refused refusal quiet) left [])
     answer_swallowing size left refusal quiet is is_left some =
         let body = drop (line + 1) bytes in
         let ends = is_line.ends in
@@ -121,23 +121,23 @@ module _ (lines : Lines) where
           omega arith,
         )
 
-  pub is_state_after : (request : Request) (left : List ℕ) → IsStateOf lines (state_after request) (cond (ends_stream request) [] left)
+  pub is_state_after : (request : Request) (left : List ℕ) → IsStateOf lines (state_past request) (cond (ends_stream request) [] left)
   is_state_after request left =
       elim (ends_stream request) as (λ b. IsStateOf lines (cond b state.Ended (state.AwaitsLine 0)) (cond b [] left)) [ true ↦ refl | false ↦ record { in_vain = omega arith; few = omega arith } ]
 
   -- a block that was taken with its line is stored as its bytes say
   pub answer_taken : (bytes : List ℕ) (line : ℕ) (is_line : IsLineAt bytes line) (header : Header) → lines (take line bytes) ≡ StoredBlock header → (given : Data × Bool) (left : List ℕ) → IsTaken bytes line header.length (Some given) left
-      → IsAnswer lines (Kept bytes) (Some (stored_if given.1 header given.0)) (Kept left)
+      → IsNextAnswer lines (Kept bytes) (Some (stored_if given.1 header given.0)) (Kept left)
   answer_taken bytes line is_line header is given left taken =
       let body = take (header.length + 2) (drop (line + 1) bytes) in
-      let is_request : stored_if given.1 header given.0 ≡ stored header body = λ i. stored_if (taken.2 i) header (taken.1 i) in
+      let is_request : stored_if given.1 header given.0 ≡ stored_request header body = λ i. stored_if (taken.2 i) header (taken.1 i) in
       let answer = answer_whole bytes line is_line (StoredBlock header) is taken.0 (stored_if given.1 header given.0) left is_request taken.3 in
       let held : held_after (stored_if given.1 header given.0) left ≡ Kept left = ap (λ request. held_after request left) is_request ∙ stored_goes_on header body left in
-      subst (λ h. IsAnswer lines (Kept bytes) (Some (stored_if given.1 header given.0)) h) held answer
+      subst (λ h. IsNextAnswer lines (Kept bytes) (Some (stored_if given.1 header given.0)) h) held answer
 
   -- a block that is still to come is awaited
   pub answer_awaited : (bytes : List ℕ) (line : ℕ) (is_line : IsLineAt bytes line) (header : Header) → lines (take line bytes) ≡ StoredBlock header → header.length ≤ DATA_BYTES → (left : List ℕ) → IsTaken bytes line header.length None left
-      → IsAnswer lines (Kept bytes) None (Kept left)
+      → IsNextAnswer lines (Kept bytes) None (Kept left)
   answer_awaited bytes line is_line header is small left taken =
-      subst (λ b. IsAnswer lines (Kept bytes) None (Kept b)) (sym taken.1)
+      subst (λ b. IsNextAnswer lines (Kept bytes) None (Kept b)) (sym taken.1)
       (answer_none bytes (first_partial bytes line is_line (StoredBlock header) is taken.0) (omega (arith, is_line.short, small, taken.0)))

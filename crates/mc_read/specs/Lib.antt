@@ -4,7 +4,5 @@ pub mod Words
 pub mod Text
 pub mod Reading
 pub mod First
-pub mod Texts
-pub mod Readings
 pub mod State
 pub mod Sending

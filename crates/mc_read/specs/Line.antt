@@ -11,8 +11,9 @@ use Rattle.mc_model.specs.declared.command.Verb.TheVariants.{Add, Append, Prepen
 use Rattle.mc_model.specs.declared.item.TheConstants.{DATA_BYTES}
 use Rattle.mc_model.specs.declared.key.Key.{Key}
 use Rattle.mc_model.specs.declared.reply.Reply.TheVariants.{Refused, Version}
+use Rattle.mc_model.specs.declared.reply.TheConstants.WireNo.{BAD_DELTA, BAD_FORMAT, NO_EXPIRY, TOO_LARGE, UNKNOWN_COMMAND}
 use Rattle.mc_model.specs.declared.reply.WireNo.{WireNo}
-use Rattle.mc_model.specs.declared.reply.WireNo.TheVariants.{E1, E2, E4, E6, E9}
+use Rattle.mc_model.specs.declared.reply.WireNo.TheVariants.{E1, E2, E9}
 use Rattle.mc_model.specs.declared.request.Request.{Request}
 use Rattle.mc_model.specs.declared.request.Request.TheVariants.{Local, Logged, Quit}
 use Rattle.mc_model.specs.Key.{is_lawful_key}
@@ -32,11 +33,11 @@ refused refusal quiet = Local (Refused refusal) quiet
 
 -- an unknown name, or a number of words that no line of this name has
 abbrev pub no_command : Asked
-no_command = LineOnly (refused E1 false)
+no_command = LineOnly (refused UNKNOWN_COMMAND false)
 
 -- words that are malformed, without a block
 abbrev pub malformed : Asked
-malformed = LineOnly (refused E2 false)
+malformed = LineOnly (refused BAD_FORMAT false)
 
 -- checks in order, each with its refusal
 abbrev pub Checks : Type 0
@@ -48,7 +49,7 @@ first_failure [] = None
 first_failure (check ∷ checks) = if check.0 then first_failure checks else Some check.1
 
 -- whether a refusal of a line that says noreply is quiet: not if the line's name, format or delta
--- is refused
+-- is refused, which are UNKNOWN_COMMAND, BAD_FORMAT and BAD_DELTA, here by their variants
 abbrev pub is_quiet_refusal : WireNo → Bool
 is_quiet_refusal E1 = false
 is_quiet_refusal E2 = false
@@ -59,7 +60,8 @@ is_quiet_refusal other = true
 -- a command that is quiet if its line says noreply, or the refusal
 abbrev pub asked_unless : Option WireNo → Command → Bool → Asked
 asked_unless None command noreply = LineOnly (Logged command noreply)
-asked_unless (Some refusal) command noreply = LineOnly (refused refusal (is_quiet_refusal refusal && noreply))
+asked_unless (Some refusal) command noreply =
+    LineOnly (refused refusal (is_quiet_refusal refusal && noreply))
 
 abbrev pub asked_after : Checks → Command → Bool → Asked
 asked_after checks command noreply = asked_unless (first_failure checks) command noreply
@@ -68,15 +70,24 @@ asked_after checks command noreply = asked_unless (first_failure checks) command
 abbrev pub asked_of_retrieval : Bool → List (List ℕ) → Asked
 asked_of_retrieval uniques [] = no_command
 asked_of_retrieval uniques (key ∷ keys) =
-    asked_after ((list_all is_lawful_key (key ∷ keys), E2) ∷ []) (Get (key ∷ keys) uniques) false
+    asked_after
+    ((list_all is_lawful_key (key ∷ keys), BAD_FORMAT) ∷ [])
+    (Get (key ∷ keys) uniques) false
 
 -- a key; after it a 0, noreply, or both in this order
 abbrev pub asked_of_delete : List (List ℕ) → Asked
-asked_of_delete (key ∷ []) = asked_after ((is_lawful_key key, E2) ∷ []) (Delete key) false
+asked_of_delete (key ∷ []) =
+    asked_after ((is_lawful_key key, BAD_FORMAT) ∷ []) (Delete key) false
 asked_of_delete (key ∷ last ∷ []) =
-    asked_after ((is_word last (codes "0") || is_noreply last, E2) ∷ (is_lawful_key key, E2) ∷ []) (Delete key) (is_noreply last)
+    asked_after
+    ((is_word last (codes "0") || is_noreply last, BAD_FORMAT)
+    ∷ (is_lawful_key key, BAD_FORMAT) ∷ [])
+    (Delete key) (is_noreply last)
 asked_of_delete (key ∷ time ∷ last ∷ []) =
-    asked_after ((is_word time (codes "0"), E2) ∷ (is_noreply last, E2) ∷ (is_lawful_key key, E2) ∷ []) (Delete key) true
+    asked_after
+    ((is_word time (codes "0"), BAD_FORMAT)
+    ∷ (is_noreply last, BAD_FORMAT) ∷ (is_lawful_key key, BAD_FORMAT) ∷ [])
+    (Delete key) true
 asked_of_delete arguments = no_command
 
 -- a change of a key's number by a delta
@@ -88,7 +99,9 @@ changed change.Decr key by = Decr key by
 -- valid
 abbrev pub asked_of_delta : Change → Bool → Key → Option ℕ → Bool → Asked
 asked_of_delta change is_lawful key delta noreply =
-    asked_after ((is_lawful, E2) ∷ (is_lawful_key key, E2) ∷ (is_some delta, E9) ∷ []) (changed change key (unwrap_or delta 0)) noreply
+    asked_after
+    ((is_lawful, BAD_FORMAT) ∷ (is_lawful_key key, BAD_FORMAT) ∷ (is_some delta, BAD_DELTA) ∷ [])
+    (changed change key (unwrap_or delta 0)) noreply
 
 abbrev pub asked_of_change : Change → List (List ℕ) → Asked
 asked_of_change change (key ∷ delta ∷ []) =
@@ -99,14 +112,16 @@ asked_of_change change arguments = no_command
 
 -- an exptime that is spelled as one, and is zero
 abbrev pub exptime_checks : List ℕ → Checks
-exptime_checks exptime = (is_exptime exptime, E2) ∷ (is_zero exptime, E4) ∷ []
+exptime_checks exptime = (is_exptime exptime, BAD_FORMAT) ∷ (is_zero exptime, NO_EXPIRY) ∷ []
 
 -- an exptime, noreply, or both in this order
 abbrev pub asked_of_flush : List (List ℕ) → Asked
 asked_of_flush [] = asked_after [] Flush false
 asked_of_flush (word ∷ []) =
-    if is_noreply word then asked_after [] Flush true else asked_after (exptime_checks word) Flush false
-asked_of_flush (exptime ∷ last ∷ []) = asked_after ((is_noreply last, E2) ∷ exptime_checks exptime) Flush true
+    if is_noreply word then asked_after [] Flush true
+    else asked_after (exptime_checks word) Flush false
+asked_of_flush (exptime ∷ last ∷ []) =
+    asked_after ((is_noreply last, BAD_FORMAT) ∷ exptime_checks exptime) Flush true
 asked_of_flush arguments = no_command
 
 -- a name with no arguments
@@ -140,13 +155,13 @@ ignores_exptime other = false
 -- block
 abbrev pub storage_checks : StorageLine → ℕ → Checks
 storage_checks line length =
-    (ends_in_noreply line.last, E2)
-    ∷ (is_lawful_key line.key, E2)
-    ∷ (is_some line.flags, E2)
-    ∷ (is_exptime line.exptime, E2)
-    ∷ (is_some line.storage, E2)
-    ∷ (ignores_exptime line.storage || is_zero line.exptime, E4)
-    ∷ (nat_le length DATA_BYTES, E6)
+    (ends_in_noreply line.last, BAD_FORMAT)
+    ∷ (is_lawful_key line.key, BAD_FORMAT)
+    ∷ (is_some line.flags, BAD_FORMAT)
+    ∷ (is_exptime line.exptime, BAD_FORMAT)
+    ∷ (is_some line.storage, BAD_FORMAT)
+    ∷ (ignores_exptime line.storage || is_zero line.exptime, NO_EXPIRY)
+    ∷ (nat_le length DATA_BYTES, TOO_LARGE)
     ∷ []
 
 -- what becomes of a block of this length; if no check failed, neither the storage nor the flags are
@@ -160,25 +175,37 @@ asked_with line length None =
       flags = unwrap_or line.flags 0;
       quiet = is_some line.last;
     })
-asked_with line length (Some refusal) = RefusedBlock length refusal (is_quiet_refusal refusal && is_some line.last)
+asked_with line length (Some refusal) =
+    RefusedBlock length refusal (is_quiet_refusal refusal && is_some line.last)
 
 -- without a readable length there is no block, and the format is refused
 abbrev pub asked_of_length : StorageLine → Option ℕ → Asked
 asked_of_length line None = malformed
-asked_of_length line (Some length) = asked_with line length (first_failure (storage_checks line length))
+asked_of_length line (Some length) =
+    asked_with line length (first_failure (storage_checks line length))
 
 abbrev pub asked_of_block : StorageLine → Asked
 asked_of_block line = asked_of_length line (number_up_to BLOCK_LENGTH line.size)
 
 -- the words that all six commands have
-abbrev pub asked_of_words : Option Storage → List ℕ → List ℕ → List ℕ → List ℕ → Option (List ℕ) → Asked
+abbrev pub asked_of_words : Option Storage → List ℕ → List ℕ → List ℕ → List ℕ →
+    Option (List ℕ) → Asked
 asked_of_words storage key flags exptime size last =
-    asked_of_block (record { storage = storage; key = key; flags = number_up_to FLAGS flags; exptime = exptime; size = size; last = last })
+    asked_of_block (record {
+      storage = storage;
+      key = key;
+      flags = number_up_to FLAGS flags;
+      exptime = exptime;
+      size = size;
+      last = last;
+    })
 
 -- a line of set, add, replace, append or prepend
 abbrev pub asked_of_storage : Verb → List (List ℕ) → Asked
-asked_of_storage verb (key ∷ flags ∷ exptime ∷ size ∷ []) = asked_of_words (Some (Plain verb)) key flags exptime size None
-asked_of_storage verb (key ∷ flags ∷ exptime ∷ size ∷ last ∷ []) = asked_of_words (Some (Plain verb)) key flags exptime size (Some last)
+asked_of_storage verb (key ∷ flags ∷ exptime ∷ size ∷ []) =
+    asked_of_words (Some (Plain verb)) key flags exptime size None
+asked_of_storage verb (key ∷ flags ∷ exptime ∷ size ∷ last ∷ []) =
+    asked_of_words (Some (Plain verb)) key flags exptime size (Some last)
 asked_of_storage verb arguments = no_command
 
 -- cas with its unique, if that is a number
@@ -186,8 +213,10 @@ abbrev pub check_and_set : List ℕ → Option Storage
 check_and_set unique = option_map CheckAndSet (number_up_to UNIQUE unique)
 
 abbrev pub asked_of_cas : List (List ℕ) → Asked
-asked_of_cas (key ∷ flags ∷ exptime ∷ size ∷ unique ∷ []) = asked_of_words (check_and_set unique) key flags exptime size None
-asked_of_cas (key ∷ flags ∷ exptime ∷ size ∷ unique ∷ last ∷ []) = asked_of_words (check_and_set unique) key flags exptime size (Some last)
+asked_of_cas (key ∷ flags ∷ exptime ∷ size ∷ unique ∷ []) =
+    asked_of_words (check_and_set unique) key flags exptime size None
+asked_of_cas (key ∷ flags ∷ exptime ∷ size ∷ unique ∷ last ∷ []) =
+    asked_of_words (check_and_set unique) key flags exptime size (Some last)
 asked_of_cas arguments = no_command
 
 -- All lines.
@@ -222,7 +251,8 @@ asked_without_block name arguments =
 abbrev pub asked_by_verb : Option Verb → List ℕ → List (List ℕ) → Asked
 asked_by_verb (Some verb) name arguments = asked_of_storage verb arguments
 asked_by_verb None name arguments =
-    if is_word name (codes "cas") then asked_of_cas arguments else asked_without_block name arguments
+    if is_word name (codes "cas") then asked_of_cas arguments
+    else asked_without_block name arguments
 
 -- what a line asks for, by the name of the command, byte for byte; a line without words has none
 abbrev pub asked_by : List (List ℕ) → Asked

@@ -15,14 +15,16 @@ ends_stream TooLong = true
 
 -- no request text is a prefix of the bytes
 abbrev pub HasNoRequest : Lines → List ℕ → Type 0
-HasNoRequest lines bytes = (text more : List ℕ) (request : Request) → IsRequestText lines text request → bytes ≢ text ++ more
+HasNoRequest lines bytes = (text more : List ℕ) (request : Request) →
+    IsRequestText lines text request → bytes ≢ text ++ more
 
 -- the bytes read as these requests and a rest
 abbrev pub Reads : Lines → List ℕ → List Request → List ℕ → Type 0
 Reads lines bytes [] rest = (bytes ≡ rest) × HasNoRequest lines bytes
 Reads lines bytes (request ∷ requests) rest =
     (text : List ℕ) × (more : List ℕ) × IsRequestText lines text request × (bytes ≡ text ++ more)
-    × MatchBool (ends_stream request) ((requests ≡ []) × (more ≡ rest)) (Reads lines more requests rest)
+    × MatchBool (ends_stream request) ((requests ≡ []) × (more ≡ rest))
+    (Reads lines more requests rest)
 
 -- What a reader holds: bytes; or a request that was refused, with the number of bytes still to come
 -- of its block and the two bytes after it, and the bytes that follow those; or nothing, after the
@@ -49,13 +51,14 @@ ReadsAs lines bytes requests = (rest : List ℕ) × Reads lines bytes requests r
 abbrev pub ReadsOn : Lines → Held → List ℕ → List Request → Type 0
 ReadsOn lines (Kept bytes) more requests = ReadsAs lines (bytes ++ more) requests
 ReadsOn lines (Swallowing request left bytes) more requests =
-    MatchBool (nat_lt (length more) left) (requests ≡ []) (GoesOn request (ReadsAs lines (bytes ++ drop left more)) requests)
+    MatchBool (nat_lt (length more) left) (requests ≡ [])
+    (GoesOn request (ReadsAs lines (bytes ++ drop left more)) requests)
 ReadsOn lines Ended more requests = requests ≡ []
 
 -- whatever follows, what is held before reads as this request followed by what is held after
 abbrev pub IsNext : Lines → Held → Request → Held → Type 0
-IsNext lines before request after =
-    (more : List ℕ) (requests : List Request) → ReadsOn lines before more requests ↔ GoesOn request (ReadsOn lines after more) requests
+IsNext lines before request after = (more : List ℕ) (requests : List Request) →
+    ReadsOn lines before more requests ↔ GoesOn request (ReadsOn lines after more) requests
 
 -- what is held reads as no request
 abbrev pub HasNone : Lines → Held → Type 0
@@ -63,10 +66,21 @@ HasNone lines held = (requests : List Request) → ReadsOn lines held [] request
 
 -- whatever follows, both read the same
 abbrev pub ReadAlike : Lines → Held → Held → Type 0
-ReadAlike lines before after = (more : List ℕ) (requests : List Request) → ReadsOn lines before more requests ↔ ReadsOn lines after more requests
+ReadAlike lines before after = (more : List ℕ) (requests : List Request) →
+    ReadsOn lines before more requests ↔ ReadsOn lines after more requests
 
 -- whatever follows, what is held after a piece reads as what was held before it, followed by the
 -- piece
 abbrev pub IsFed : Lines → Held → List ℕ → Held → Type 0
-IsFed lines before piece after =
-    (more : List ℕ) (requests : List Request) → ReadsOn lines after more requests ↔ ReadsOn lines before (piece ++ more) requests
+IsFed lines before piece after = (more : List ℕ) (requests : List Request) →
+    ReadsOn lines after more requests ↔ ReadsOn lines before (piece ++ more) requests
+
+-- a request, followed by what it leaves to read
+abbrev pub FollowsRequest : Lines → Request → List ℕ → List Request → List ℕ → Type 0
+FollowsRequest lines request more requests rest =
+    MatchBool (ends_stream request) ((requests ≡ []) × (more ≡ rest))
+    (Reads lines more requests rest)
+
+abbrev pub HasReading : Lines → List ℕ → Type 0
+HasReading lines bytes =
+    (requests : List Request) × (rest : List ℕ) × Reads lines bytes requests rest

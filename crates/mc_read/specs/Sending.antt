@@ -34,9 +34,14 @@ block_sent block = block ++ codes "\r\n"
 -- for one
 abbrev pub sent : Command → Bool → List ℕ
 sent (Store verb key flags block) quiet =
-    line_sent (verb_name verb ∷ key ∷ decimal flags ∷ codes "0" ∷ decimal (length block) ∷ noreply_if quiet) ++ block_sent block
+    line_sent
+    (verb_name verb ∷ key ∷ decimal flags ∷ codes "0" ∷ decimal (length block) ∷ noreply_if quiet)
+    ++ block_sent block
 sent (Cas key flags block unique) quiet =
-    line_sent (codes "cas" ∷ key ∷ decimal flags ∷ codes "0" ∷ decimal (length block) ∷ decimal unique ∷ noreply_if quiet) ++ block_sent block
+    line_sent
+    (codes "cas" ∷ key ∷ decimal flags ∷ codes "0" ∷ decimal (length block) ∷ decimal unique
+    ∷ noreply_if quiet)
+    ++ block_sent block
 sent (Get keys uniques) quiet = line_sent ((if uniques then codes "gets" else codes "get") ∷ keys)
 sent (Delete key) quiet = line_sent (codes "delete" ∷ key ∷ noreply_if quiet)
 sent (Incr key by) quiet = line_sent (codes "incr" ∷ key ∷ decimal by ∷ noreply_if quiet)
@@ -45,9 +50,12 @@ sent Flush quiet = line_sent (codes "flush_all" ∷ noreply_if quiet)
 
 -- a command whose keys are valid, with numbers and data that a line can name
 abbrev pub IsLawfulCommand : Command → Type 0
-IsLawfulCommand (Store verb key flags block) = IsTrue (is_lawful_key key) × (flags < 2 ^ 32) × (length block ≤ 1048576)
-IsLawfulCommand (Cas key flags block unique) = IsTrue (is_lawful_key key) × (flags < 2 ^ 32) × (length block ≤ 1048576) × (unique < 2 ^ 64)
-IsLawfulCommand (Get keys uniques) = (0 < length keys) × All (λ key. IsTrue (is_lawful_key key)) keys
+IsLawfulCommand (Store verb key flags block) =
+    IsTrue (is_lawful_key key) × (flags < 2 ^ 32) × (length block ≤ 1048576)
+IsLawfulCommand (Cas key flags block unique) =
+    IsTrue (is_lawful_key key) × (flags < 2 ^ 32) × (length block ≤ 1048576) × (unique < 2 ^ 64)
+IsLawfulCommand (Get keys uniques) =
+    (0 < length keys) × All (λ key. IsTrue (is_lawful_key key)) keys
 IsLawfulCommand (Delete key) = IsTrue (is_lawful_key key)
 IsLawfulCommand (Incr key by) = IsTrue (is_lawful_key key) × (by < 2 ^ 64)
 IsLawfulCommand (Decr key by) = IsTrue (is_lawful_key key) × (by < 2 ^ 64)

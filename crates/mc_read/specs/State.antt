@@ -19,7 +19,8 @@ use Rattle.mc_read.specs.Reading.{Ended, HasNone, Held, IsNext, Kept, ReadAlike,
 abbrev pub held_in : State → List ℕ → Held
 held_in (state.AwaitsLine searched) bytes = Kept bytes
 held_in (state.AwaitsBlock line header) bytes = Kept bytes
-held_in (state.SwallowsBlock refusal quiet left) bytes = Swallowing (refused refusal quiet) left bytes
+held_in (state.SwallowsBlock refusal quiet left) bytes =
+    Swallowing (refused refusal quiet) left bytes
 held_in state.Ended bytes = Ended
 
 -- a line of this length is at the front of the bytes
@@ -36,7 +37,9 @@ pub record IsSearched (searched : ℕ) (bytes : List ℕ) : Type 0 where
 -- what a state says of the bytes
 abbrev pub IsStateOf : Lines → State → List ℕ → Type 0
 IsStateOf lines (state.AwaitsLine searched) bytes = IsSearched searched bytes
-IsStateOf lines (state.AwaitsBlock line header) bytes = IsLineAt bytes line × (lines (take line bytes) ≡ StoredBlock header) × (header.length ≤ DATA_BYTES)
+IsStateOf lines (state.AwaitsBlock line header) bytes =
+    IsLineAt bytes line × (lines (take line bytes) ≡ StoredBlock header)
+    × (header.length ≤ DATA_BYTES)
 IsStateOf lines (state.SwallowsBlock refusal quiet left) bytes = 0 < left → bytes ≡ []
 IsStateOf lines state.Ended bytes = bytes ≡ []
 
@@ -52,13 +55,15 @@ abbrev pub IsBounded : Held → Type 0
 IsBounded held = kept_length held ≤ LINE_BYTES + 1 + DATA_BYTES + 1
 
 -- what is true before and after `next` returns
-abbrev pub IsAnswer : Lines → Held → Option Request → Held → Type 0
-IsAnswer lines before (Some request) after = IsNext lines before request after
-IsAnswer lines before None after = HasNone lines before × ReadAlike lines before after × IsBounded after
+abbrev pub IsNextAnswer : Lines → Held → Option Request → Held → Type 0
+IsNextAnswer lines before (Some request) after = IsNext lines before request after
+IsNextAnswer lines before None after =
+    HasNone lines before × ReadAlike lines before after × IsBounded after
 
 -- the bytes end within a refused block or the two bytes after it, and `left` of these are still to
 -- come
-pub record EndsInRefusal (lines : Lines) (bytes : List ℕ) (request : Request) (left : ℕ) : Type 0 where
+pub record EndsInRefusal (lines : Lines) (bytes : List ℕ) (request : Request)
+    (left : ℕ) : Type 0 where
   pub line : ℕ
   pub size : ℕ
   pub refusal : WireNo
@@ -73,14 +78,13 @@ pub record EndsInRefusal (lines : Lines) (bytes : List ℕ) (request : Request) 
 -- returned with whether the two bytes end it well; or nothing was, because a part is still to come
 abbrev pub IsTaken : List ℕ → ℕ → ℕ → Option (Data × Bool) → List ℕ → Type 0
 IsTaken bytes line size None left = (length bytes < line + 1 + (size + 2)) × (left ≡ bytes)
-IsTaken bytes line size (Some given) left =
-    let body = take (size + 2) (drop (line + 1) bytes) in
-    (line + 1 + (size + 2) ≤ length bytes) × (given.0 ≡ take size body) × (given.1 ≡ ends_well (drop size body))
-    × (left ≡ drop (line + 1 + (size + 2)) bytes)
+IsTaken bytes line size (Some given) left = let body = take (size + 2) (drop (line + 1) bytes) in
+    (line + 1 + (size + 2) ≤ length bytes) × (given.0 ≡ take size body)
+    × (given.1 ≡ ends_well (drop size body)) × (left ≡ drop (line + 1 + (size + 2)) bytes)
 
 -- the state in which a reader goes on after a request
-abbrev pub state_after : Request → State
-state_after request = if ends_stream request then state.Ended else state.AwaitsLine 0
+abbrev pub state_past : Request → State
+state_past request = if ends_stream request then state.Ended else state.AwaitsLine 0
 
 -- what a search says of the bytes
 abbrev pub IsSought : List ℕ → Sought → Type 0

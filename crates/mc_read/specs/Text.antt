@@ -6,7 +6,7 @@ use Rattle.mc_model.specs.declared.command.Command.{Command}
 use Rattle.mc_model.specs.declared.command.Command.TheVariants.{Cas, Store}
 use Rattle.mc_model.specs.declared.item.Data.{Data}
 use Rattle.mc_model.specs.declared.key.Key.{Key}
-use Rattle.mc_model.specs.declared.reply.WireNo.TheVariants.{E3}
+use Rattle.mc_model.specs.declared.reply.TheConstants.WireNo.{BAD_BLOCK}
 use Rattle.mc_model.specs.declared.request.Request.{Request}
 use Rattle.mc_model.specs.declared.request.Request.TheVariants.{Logged, TooLong}
 use Rattle.mc_read.specs.declared.line.Asked.{Asked}
@@ -36,21 +36,23 @@ storing (CheckAndSet unique) key flags block = Cas key flags block unique
 -- a block is stored if it ends well
 abbrev pub stored_if : Bool → Header → Data → Request
 stored_if is_whole header block =
-    if is_whole then Logged (storing header.storage header.key header.flags block) header.quiet else refused E3 header.quiet
+    if is_whole then Logged (storing header.storage header.key header.flags block) header.quiet
+    else refused BAD_BLOCK header.quiet
 
 -- the two bytes after a block must be a carriage return and a line feed
 abbrev pub ends_well : List ℕ → Bool
 ends_well bytes = is_word bytes (codes "\r\n")
 
 -- a block and the two bytes after it
-abbrev pub stored : Header → List ℕ → Request
-stored header body = stored_if (ends_well (drop header.length body)) header (take header.length body)
+abbrev pub stored_request : Header → List ℕ → Request
+stored_request header body =
+    stored_if (ends_well (drop header.length body)) header (take header.length body)
 
 -- the request of a line with this body
 abbrev pub request_of : Asked → List ℕ → Request
 request_of (LineOnly request) body = request
 request_of (RefusedBlock length refusal quiet) body = refused refusal quiet
-request_of (StoredBlock header) body = stored header body
+request_of (StoredBlock header) body = stored_request header body
 
 -- there is no line feed in the bytes
 abbrev pub IsUnbroken : List ℕ → Type 0

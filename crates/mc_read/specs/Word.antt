@@ -9,7 +9,8 @@ use Rattle.mc_model.specs.Number.{is_numeral}
 -- a line without a carriage return at its end, of which at most one is removed; std's `slice_index`
 -- is 0 out of bounds
 abbrev pub without_return : List ℕ → List ℕ
-without_return line = if slice_index line (length line - 1) == 13 then take (length line - 1) line else line
+without_return line =
+    if slice_index line (length line - 1) == 13 then take (length line - 1) line else line
 
 abbrev pub is_space : ℕ → Bool
 is_space byte = byte == 32

@@ -11,7 +11,7 @@ ghost use Rattle.mc_model.specs.declared.item.Data.{Data};
 ghost use Rattle.mc_model.specs.declared.key.Key.{Key};
 ghost use Rattle.mc_model.specs.declared.key.KeyList.{KeyList};
 ghost use Rattle.mc_model.specs.declared.reply.Reply.TheVariants.{Refused};
-ghost use Rattle.mc_model.specs.declared.reply.WireNo.TheVariants.{E2, E6};
+ghost use Rattle.mc_model.specs.declared.reply.TheConstants.WireNo.{BAD_FORMAT, TOO_LARGE};
 ghost use Rattle.mc_model.specs.declared.request.Request.{Request};
 ghost use Rattle.mc_model.specs.declared.request.Request.TheVariants.{Local, Logged, TooLong};
 ghost use Rattle.mc_model.specs.Key.{is_lawful_key};
@@ -89,11 +89,12 @@ pub fn too_long_is_refused()
         length block ≤ 2147483645 →
         IsRequestText asked
         (line_sent (verb_name verb ∷ key ∷ decimal flags ∷ codes "0" ∷ decimal (length block) ∷ noreply_if quiet) ++ block_sent block)
-        (Local (Refused E6) quiet) }
+        (Local (Refused TOO_LARGE) quiet) }
     ensures length { (verb : Verb) (key : Key) (flags size : ℕ) (quiet : Bool) →
         IsTrue (is_lawful_key key) → flags < 2 ^ 32 → 2147483645 < size → size < 2 ^ 64 →
         IsRequestText asked
-        (line_sent (verb_name verb ∷ key ∷ decimal flags ∷ codes "0" ∷ decimal size ∷ noreply_if quiet)) (Local (Refused E2) false) }
+        (line_sent (verb_name verb ∷ key ∷ decimal flags ∷ codes "0" ∷ decimal size ∷ noreply_if quiet))
+        (Local (Refused BAD_FORMAT) false) }
 {}
 
 /// Only valid commands are read: the keys are valid, and the numbers and the data within the

@@ -95,21 +95,24 @@ pub fn refused(refusal: WireNo, quiet: bool) -> Request
 pub fn no_command() -> Asked
     ensures { result ≡ no_command }
 {
-    Asked::LineOnly(refused(WireNo::E1, false))
+    Asked::LineOnly(refused(WireNo::UNKNOWN_COMMAND, false))
 }
 
 /// Returns the refusal of malformed words.
 pub fn malformed() -> Asked
     ensures { result ≡ malformed }
 {
-    Asked::LineOnly(refused(WireNo::E2, false))
+    Asked::LineOnly(refused(WireNo::BAD_FORMAT, false))
 }
 
 /// Returns whether a refusal of a line that says `noreply` is quiet.
 pub fn is_quiet_refusal(refusal: WireNo) -> bool
     ensures { result ≡ is_quiet_refusal refusal }
 {
-    !matches!(refusal, WireNo::E1 | WireNo::E2 | WireNo::E9)
+    !matches!(
+        refusal,
+        WireNo::UNKNOWN_COMMAND | WireNo::BAD_FORMAT | WireNo::BAD_DELTA
+    )
 }
 
 /// Returns the storage command with this name, except for `cas`.

@@ -5,7 +5,7 @@ ghost use Rattle.mc_model.specs.declared.item.TheConstants.{DATA_BYTES};
 ghost use Rattle.mc_model.specs.declared.request.Request.{Request};
 ghost use Rattle.mc_read.specs.Line.{asked};
 ghost use Rattle.mc_read.specs.Reading.{ends_stream, Ended, IsFed, Kept, Swallowing};
-ghost use Rattle.mc_read.specs.State.{EndsInRefusal, IsAnswer, IsLineAt, IsSearched, IsSought, IsStateOf, IsTaken, held_in, state_after};
+ghost use Rattle.mc_read.specs.State.{EndsInRefusal, IsNextAnswer, IsLineAt, IsSearched, IsSought, IsStateOf, IsTaken, held_in, state_past};
 ghost use Rattle.mc_read.specs.Text.{IsTooLongText, IsUnended, ends_well, stored_if};
 
 use crate::buffer::Buffer;
@@ -74,7 +74,7 @@ fn stored(header: Header, block: Data, ends_well: bool) -> Request
     ensures { result ≡ stored_if ends_well header block }
 {
     if !ends_well {
-        return refused(WireNo::E3, header.quiet);
+        return refused(WireNo::BAD_BLOCK, header.quiet);
     }
     Request::Logged {
         command: header.storage.command(header.key, header.flags, block),
@@ -145,7 +145,7 @@ fn swallow(buffer: &mut Buffer, line: usize, size: u64) -> u64
 /// goes on. At the end of the stream nothing is kept.
 fn move_on(buffer: &mut Buffer, count: usize, request: &Request) -> State
     requires { count ≤ length buffer.old }
-    ensures state { result ≡ state_after request.now }
+    ensures state { result ≡ state_past request.now }
     ensures bytes { buffer.new ≡ (if ends_stream request.now then [] else drop count buffer.old) }
 {
     if ends_stream(request) {
@@ -167,9 +167,9 @@ fn read_line(
 ) -> Result<(Option<Request>, State), Fault>
     requires { IsLineAt buffer.old line }
     ensures answer { IfOk result
-        (λ step. IsAnswer asked (Kept buffer.old) step.0 (held_in step.1 buffer.new)) }
+        (λ step. IsNextAnswer asked (Kept buffer.old) step.0 (held_in step.1 buffer.new)) }
     ensures state { IfOk result (λ step. IsStateOf asked step.1 buffer.new) }
-    ensures end { IfOk result (λ step. IfSome step.0 (λ request. step.1 ≡ state_after request)) }
+    ensures end { IfOk result (λ step. IfSome step.0 (λ request. step.1 ≡ state_past request)) }
     ensures refused { (request : Request) (left : ℕ) → EndsInRefusal asked buffer.old request left →
         IfOk result (λ step. held_in step.1 buffer.new ≡ Swallowing request left []) }
     ensures memory { IsOkUnless result Fault.Memory }
@@ -222,9 +222,9 @@ fn next_line(
 ) -> Result<(Option<Request>, State), Fault>
     requires { IsSearched searched buffer.old }
     ensures answer { IfOk result
-        (λ step. IsAnswer asked (Kept buffer.old) step.0 (held_in step.1 buffer.new)) }
+        (λ step. IsNextAnswer asked (Kept buffer.old) step.0 (held_in step.1 buffer.new)) }
     ensures state { IfOk result (λ step. IsStateOf asked step.1 buffer.new) }
-    ensures end { IfOk result (λ step. IfSome step.0 (λ request. step.1 ≡ state_after request)) }
+    ensures end { IfOk result (λ step. IfSome step.0 (λ request. step.1 ≡ state_past request)) }
     ensures refused { (request : Request) (left : ℕ) → EndsInRefusal asked buffer.old request left →
         IfOk result (λ step. held_in step.1 buffer.new ≡ Swallowing request left []) }
     ensures unended { IsUnended buffer.old →
@@ -330,7 +330,7 @@ impl Reader {
     pub fn next(&mut self) -> Result<Option<Request>, Fault>
         // Whatever follows, what was held reads as the request and then as what is held now.
         // Without a request it reads as before, and there was no request in it.
-        ensures answer { IfOk result (λ next. IsAnswer asked self.old.held next self.new.held) }
+        ensures answer { IfOk result (λ next. IsNextAnswer asked self.old.held next self.new.held) }
         ensures end { IfOk result
             (λ next. IfSome next
             (λ request. OnTrue (ends_stream request) (self.new.held ≡ Ended))) }

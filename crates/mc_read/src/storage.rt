@@ -54,11 +54,11 @@ impl StorageLine<'_> {
             && is_exptime(self.exptime)
             && self.storage.is_some();
         if !is_well_formed {
-            Some(WireNo::E2)
+            Some(WireNo::BAD_FORMAT)
         } else if !ignores_exptime(self.storage) && !is_zero(self.exptime) {
-            Some(WireNo::E4)
+            Some(WireNo::NO_EXPIRY)
         } else if length > DATA_BYTES as u64 {
-            Some(WireNo::E6)
+            Some(WireNo::TOO_LARGE)
         } else {
             None
         }

@@ -3,7 +3,7 @@
 ghost use Rattle.std.specs.List.{list_all};
 ghost use Rattle.std.specs.Prelude.{◌≡◌, [], ◌∷◌, false, IfOk, IfSome, IsOkUnless, codes, is_some, map};
 ghost use Rattle.mc_model.specs.declared.command.Command.TheVariants.{Delete, Flush};
-ghost use Rattle.mc_model.specs.declared.reply.WireNo.TheVariants.{E2};
+ghost use Rattle.mc_model.specs.declared.reply.TheConstants.WireNo.{BAD_FORMAT};
 ghost use Rattle.mc_model.specs.declared.request.Request.TheVariants.{Logged};
 ghost use Rattle.mc_model.specs.Key.{is_lawful_key};
 ghost use Rattle.mc_model.specs.Number.{number_up_to};
@@ -64,7 +64,9 @@ pub fn ask_retrieval(alloc: Global, uniques: bool, arguments: &[&[u8]]) -> Resul
 /// Returns the deletion of a key, if the words after the key are valid.
 fn delete(alloc: Global, key: &[u8], are_lawful: bool, quiet: bool) -> Result<Asked, Fault>
     ensures asked { IfOk result
-        (λ asked. asked ≡ asked_after ((are_lawful, E2) ∷ (is_lawful_key key.now, E2) ∷ []) (Delete key.now) quiet) }
+        (λ asked. asked ≡ asked_after
+        ((are_lawful, BAD_FORMAT) ∷ (is_lawful_key key.now, BAD_FORMAT) ∷ [])
+        (Delete key.now) quiet) }
     ensures memory { IsOkUnless result Fault.Memory }
 {
     if !are_lawful {
@@ -134,7 +136,7 @@ impl Change {
         };
         match read_number(delta, DELTA) {
             Some(by) => Ok(logged(self.command(key, by), quiet)),
-            None => Ok(Asked::LineOnly(refused(WireNo::E9, false))),
+            None => Ok(Asked::LineOnly(refused(WireNo::BAD_DELTA, false))),
         }
     }
 }
@@ -160,7 +162,7 @@ fn flush(exptime: &[u8], quiet: bool) -> Asked
     if !is_exptime(exptime) {
         malformed()
     } else if !is_zero(exptime) {
-        Asked::LineOnly(refused(WireNo::E4, quiet))
+        Asked::LineOnly(refused(WireNo::NO_EXPIRY, quiet))
     } else {
         logged(Command::Flush, quiet)
     }

@@ -16,8 +16,8 @@ entry_of seen = seen.entry
 
 -- at each place that both histories reach, they have sightings of the same ticket in the same row
 abbrev pub SameCells : List Sighting → List Sighting → Type 0
-SameCells ones others = (place : ℕ) (one other : Sighting) → slice_get ones place ≡ Some one → slice_get others place ≡ Some other →
-    (one.ticket ≡ other.ticket) × (one.row ≡ other.row)
+SameCells ones others = (place : ℕ) (one other : Sighting) → slice_get ones place ≡ Some one →
+    slice_get others place ≡ Some other → (one.ticket ≡ other.ticket) × (one.row ≡ other.row)
 
 -- its worker, how many places its history may have, each tenant's table as it was opened, what was
 -- seen of the places, and each tenant's table
@@ -31,12 +31,22 @@ pub record ReplicaState : Type 0 where
 -- how it is stored as a model's value
 abbrev pub coded_replica : Coded ReplicaState
 coded_replica =
-    code_by (ℕ × (ℕ × (List TableState × (List Sighting × List TableState)))) (coded× coded_ℕ (coded× coded_ℕ (coded× (coded_list coded_state) (coded× (coded_list coded_sighting) (coded_list coded_state)))))
+    code_by (ℕ × (ℕ × (List TableState × (List Sighting × List TableState))))
+    (coded× coded_ℕ (coded× coded_ℕ (coded× (coded_list coded_state)
+    (coded× (coded_list coded_sighting) (coded_list coded_state)))))
     (λ r. (r.worker, (r.places, (r.openings, (r.history, r.tables)))))
-    (λ p. record { worker = p.0; places = p.1.0; openings = p.1.1.0; history = p.1.1.1.0; tables = p.1.1.1.1 }) (λ _. refl)
+    (λ p. record {
+      worker = p.0;
+      places = p.1.0;
+      openings = p.1.1.0;
+      history = p.1.1.1.0;
+      tables = p.1.1.1.1;
+    })
+    (λ _. refl)
 
 -- what holds of a replica's fields at all times, if its history has capacity for `room` sightings
-pub record IsInOrder (places room : ℕ) (openings : List TableState) (history : List Sighting) (tables : List TableState) : Type 0 where
+pub record IsSoundReplica (places room : ℕ) (openings : List TableState) (history : List Sighting)
+    (tables : List TableState) : Type 0 where
   pub few : length history ≤ places
   pub reserved : places ≤ room
   pub uniques : HaveRoom openings places
@@ -46,7 +56,8 @@ pub record IsInOrder (places room : ℕ) (openings : List TableState) (history :
 -- table takes its own tenant's command alone. An entry that is nobody's changes no table, and
 -- counts as refused; a refused command needs no memory, nor does one that only removes keys, nor a
 -- retrieval that isn't the asker's own. At `Memory` nothing changes.
-pub record Replays {A : Type 0} (asker : Option ℕ) (seen : Sighting) (old new : ReplicaState) (result : Result A Fault) : Type 0 where
+pub record Replays {A : Type 0} (asker : Option ℕ) (seen : Sighting) (old new : ReplicaState)
+    (result : Result A Fault) : Type 0 where
   pub history : OnOk result (new.history ≡ old.history ++ seen ∷ [])
   pub tables : OnOk result (TakeEffect seen.entry old.tables new.tables)
   pub untouched : IsNobodys old.openings seen.entry → new.tables ≡ old.tables
@@ -56,7 +67,9 @@ pub record Replays {A : Type 0} (asker : Option ℕ) (seen : Sighting) (old new 
   pub worker : new.worker ≡ old.worker
   pub places : new.places ≡ old.places
   pub takes_out : IfSome seen.entry (λ entry. IsTakingOut entry.command) → IsOk result
-  pub reads : IfSome seen.entry (λ entry. IsRetrieval entry.command × (is_own asker entry ≡ false)) → IsOk result
+  pub reads :
+      IfSome seen.entry (λ entry. IsRetrieval entry.command × (is_own asker entry ≡ false)) →
+      IsOk result
   pub refused : IsRefused old.openings (entries old.history) seen.entry → IsOk result
   pub memory : IsOkUnless result Memory
   pub unchanged : OnErr result (new ≡ old)

@@ -1,6 +1,6 @@
 //! A worker's replica of the shared log: what it has seen of the log's places, replayed on its own
 //! tables.
-ghost use Rattle.std.specs.Prelude.{◌≡◌, ◌≢◌, ◌<◌, ◌≤◌, ◌↔◌, [], ◌∷◌, ◌++◌, length, Some, slice_get, IfOk, IfSome, OnOk, OnErr, IsOk, IsOkUnless, IsTrue};
+ghost use Rattle.std.specs.Prelude.{◌≡◌, ◌<◌, ◌≤◌, ◌↔◌, [], length, Some, slice_get, IfOk, IsOkUnless, IsTrue};
 ghost use Rattle.std.specs.Option.{option_map};
 ghost use Rattle.mc_model.specs.History.{state_from};
 ghost use Rattle.mc_model.specs.Log.{own};
@@ -32,7 +32,7 @@ pub struct Replica<'a> {
 impl<'a> Model for Replica<'a> {
     ghost use Rattle.std.specs.Prelude.{vec_capacity};
     ghost use Rattle.mc_model.specs.Replay.{empty_tables};
-    ghost use Rattle.mc_replica.specs.Replica.{IsInOrder, ReplicaState, coded_replica};
+    ghost use Rattle.mc_replica.specs.Replica.{IsSoundReplica, ReplicaState, coded_replica};
 
     ghost Value = { ReplicaState };
 
@@ -40,7 +40,7 @@ impl<'a> Model for Replica<'a> {
 
     ghost view = { λ r. record { worker = r.worker; places = r.places; openings = empty_tables r.limits.items; history = r.history.items; tables = r.tables.items } };
 
-    ghost invariant = { λ r. IsInOrder r.places (vec_capacity r.history) (empty_tables r.limits.items) r.history.items r.tables.items };
+    ghost invariant = { λ r. IsSoundReplica r.places (vec_capacity r.history) (empty_tables r.limits.items) r.history.items r.tables.items };
 }
 
 impl<'a> Replica<'a> {

@@ -8,12 +8,11 @@ use Rattle.uc_core.specs.Core.{CoreState}
 use Rattle.uc_core.specs.Run.{Given, IsReachedCore, given_by}
 use Rattle.uc_core.specs.declared.event.Event.{Event}
 use Rattle.uc_core.specs.declared.event.Event.TheVariants.{Announce}
-use Rattle.uc_core.proofs.OneWay.{steps_are_enabled, steps_are_one}
-use Rattle.uc_core.proofs.Runs.{law_of}
+use Rattle.uc_core.proofs.Public.{steps_are_enabled, steps_are_one, law_of}
 use Rattle.mc_schedules.specs.declared.schedule.Action.{Action}
 use Rattle.mc_schedules.specs.declared.schedule.Action.TheVariants as action
 use Rattle.mc_schedules.specs.declared.schedule.Item.{Item}
-use Rattle.mc_schedules.specs.Doing.{Acts, Doing, DoesAll, Ending, Finishes, RanOut, Takes, Then}
+use Rattle.mc_schedules.specs.Doing.{Acts, Doing, DoesAll, Ending, Finishes, RanOut, TakesEvent, Then}
 use Rattle.mc_schedules.proofs.Joined.{AreRuns, acting_runs, reached-on, taking_runs}
 
 -- from a core that some run has led to, one and the other do the same where neither runs out of
@@ -30,13 +29,13 @@ not_out out = none-some (out.0, Memory) out.1
 -- an event that leads on meets no fault but `Memory`
 only_memory : (old new : CoreState) (event : Event) (line : ℕ) (given other_given : List Given) (other : CoreState) (met : ℕ × Fault) →
     IsReachedCore old →
-    Takes line event old new given None → Takes line event old other other_given (Some met) → RanOut (Some met)
+    TakesEvent line event old new given None → TakesEvent line event old other other_given (Some met) → RanOut (Some met)
 only_memory old new event line given other_given other met reached does meets =
     let none = steps_are_enabled old (law_of reached.0 reached.1 old reached.2 reached.3) event new does.0 does.1 in
     (met.0, ap (λ (fault : Fault). Some (met.0, fault)) (meets.1.0 ∙ ap (λ it. unwrap_or it Memory) none))
 
 -- an event is taken in one way, or it meets one fault
-pub taking_alike : (line : ℕ) (event : Event) → AreAlike (Takes line event) (Takes line event)
+pub taking_alike : (line : ℕ) (event : Event) → AreAlike (TakesEvent line event) (TakesEvent line event)
 taking_alike line event old new other given other_given None None reached does also stays other_stays =
     let same = steps_are_one old event new other does.0 also.0 does.1 also.1 in
     (same.0, does.2 ∙ ap (given_by old event) same.1 ∙ sym also.2, refl)
@@ -78,10 +77,10 @@ finishing_alike (suc events) zero line number old new other given other_given en
     absurd (none-some does.0 (sym also.0 ∙ does.1))
 finishing_alike (suc events) (suc others) line number old new other given other_given end other_end reached does also stays other_stays =
     let same = same_Some also.0 does.0 (sym also.1 ∙ does.1) in
-    let alike = then_alike (Takes line does.0) (Takes line does.0) (Finishes events line number) (Finishes others line number)
+    let alike = then_alike (TakesEvent line does.0) (TakesEvent line does.0) (Finishes events line number) (Finishes others line number)
     (taking_runs line does.0) (taking_alike line does.0) (finishing_alike events others line number) in
     alike old new other given other_given end other_end reached does.2
-    (subst (λ (event : Event). Then (Takes line event) (Finishes others line number) old other other_given other_end) same also.2) stays other_stays
+    (subst (λ (event : Event). Then (TakesEvent line event) (Finishes others line number) old other other_given other_end) same also.2) stays other_stays
 
 -- what a line asks for is done in one way
 pub acting_alike : (line : ℕ) (asked : Action) → AreAlike (Acts line asked) (Acts line asked)
@@ -89,7 +88,7 @@ acting_alike line (action.Event event) old new other given other_given end other
     taking_alike line event old new other given other_given end other_end reached does also stays other_stays
 acting_alike line (action.Submit number tenant command) old new other given other_given end other_end reached does also stays other_stays =
     let event = Announce number tenant command in
-    let alike = then_alike (Takes line event) (Takes line event) (Finishes does.0 line number) (Finishes also.0 line number)
+    let alike = then_alike (TakesEvent line event) (TakesEvent line event) (Finishes does.0 line number) (Finishes also.0 line number)
     (taking_runs line event) (taking_alike line event) (finishing_alike does.0 also.0 line number) in
     alike old new other given other_given end other_end reached does.1 also.1 stays other_stays
 

@@ -8,7 +8,7 @@ use Rattle.uc_core.specs.declared.event.Event.TheVariants.{Announce}
 use Rattle.mc_schedules.specs.declared.schedule.Action.{Action}
 use Rattle.mc_schedules.specs.declared.schedule.Action.TheVariants as action
 use Rattle.mc_schedules.specs.declared.schedule.Item.{Item}
-use Rattle.mc_schedules.specs.Doing.{Acts, Doing, DoesAll, Ending, Finishes, Takes, Then}
+use Rattle.mc_schedules.specs.Doing.{Acts, Doing, DoesAll, Ending, Finishes, TakesEvent, Then}
 
 -- some run leads from one state to another, and gives these replies
 abbrev pub SomeRun : CoreState → CoreState → List Given → Type 0
@@ -39,7 +39,7 @@ abbrev pub AreRuns : Doing → Type 0
 AreRuns doing = (old new : CoreState) (given : List Given) (end : Ending) → doing old new given end → SomeRun old new given
 
 -- an event that is taken is a run of one event, and a fault is a run of none
-pub taking_runs : (line : ℕ) (event : Event) → AreRuns (Takes line event)
+pub taking_runs : (line : ℕ) (event : Event) → AreRuns (TakesEvent line event)
 taking_runs line event old new given None does =
     (event ∷ [], (new, does.0, [], does.1, (refl, refl), does.2 ∙ sym (append-nil (given_by old event does.0))))
 taking_runs line event old new given (Some met) does = ([], (does.2, does.3))
@@ -59,13 +59,13 @@ then_runs one other one_runs other_runs old new given end (inr does) =
 pub finishing_runs : (events line number : ℕ) → AreRuns (Finishes events line number)
 finishing_runs zero line number old new given end does = ([], (does.1.0, does.1.1))
 finishing_runs (suc events) line number old new given end does =
-    then_runs (Takes line does.0) (Finishes events line number) (taking_runs line does.0) (finishing_runs events line number) old new given end does.2
+    then_runs (TakesEvent line does.0) (Finishes events line number) (taking_runs line does.0) (finishing_runs events line number) old new given end does.2
 
 -- what a line asks for
 pub acting_runs : (line : ℕ) (asked : Action) → AreRuns (Acts line asked)
 acting_runs line (action.Event event) old new given end does = taking_runs line event old new given end does
 acting_runs line (action.Submit number tenant command) old new given end does =
-    then_runs (Takes line (Announce number tenant command)) (Finishes does.0 line number)
+    then_runs (TakesEvent line (Announce number tenant command)) (Finishes does.0 line number)
     (taking_runs line (Announce number tenant command)) (finishing_runs does.0 line number) old new given end does.1
 
 -- what all lines ask for

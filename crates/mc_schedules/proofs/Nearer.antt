@@ -12,21 +12,20 @@ use Rattle.mc_model.specs.declared.shown.WorkerState.{WorkerState}
 use Rattle.mc_model.specs.Helping.{LogLaw}
 use Rattle.mc_model.specs.Lawful.{IsWorker, announced_by, next, turn}
 use Rattle.mc_model.specs.Shown.{is_latest, learn, look, marked, proposal, propose, read}
-use Rattle.uc_core.specs.Core.{CoreState, ReplayState, size_of}
+use Rattle.uc_core.specs.Core.{CoreState, ReplayState, core_size}
 use Rattle.uc_core.specs.Run.{IsReachedCore}
 use Rattle.uc_core.specs.Showing.{progress_of}
 use Rattle.uc_core.specs.Step.{CoreStep}
 use Rattle.uc_core.specs.declared.event.Event.{Event}
 use Rattle.uc_core.specs.declared.event.Event.TheVariants.{Look, Propose, Read, Replay}
 use Rattle.uc_core.specs.declared.machine.Progress.{Progress}
-use Rattle.uc_core.proofs.Lists.{begins_longer, set_here}
-use Rattle.uc_core.proofs.Runs.{law_of}
-use Rattle.uc_core.proofs.Waiting.{is_lawful}
+use Rattle.lists.proofs.Public.{begins_longer, set_here}
+use Rattle.uc_core.proofs.Public.{law_of, is_lawful}
 use Rattle.mc_schedules.specs.Needed.{most_needed, most_needed_at, needed, needed_at, reads_on}
 
 -- what the log shows in a core that some run has led to keeps to its law
-law : (core : CoreState) → IsReachedCore core → LogLaw (size_of core) core.shown
-law core reached = is_lawful (size_of core) core.shown (law_of reached.0 reached.1 core reached.2 reached.3).reached
+law : (core : CoreState) → IsReachedCore core → LogLaw (core_size core) core.shown
+law core reached = is_lawful (core_size core) core.shown (law_of reached.0 reached.1 core reached.2 reached.3).reached
 
 -- what is known of a worker that needs an event
 record Needing (core : CoreState) (number : ℕ) (event : Event) : Type 0 where
@@ -129,7 +128,7 @@ module _ (core new : CoreState) (number : ℕ) (worker : WorkerState) (replay : 
   look_lessens : (reply : Option Reply) → CoreStep core (Look number) new reply → worker.phase ≡ Pending → Lessens
   look_lessens reply step pending =
       let same = same_Some step.0.0 worker (sym step.0.1 ∙ shown) in
-      let looked : WorkerState → WorkerState = λ it. look (turn (size_of core) it) (announced_by core.shown (turn (size_of core) it)) it in
+      let looked : WorkerState → WorkerState = λ it. look (turn (core_size core) it) (announced_by core.shown (turn (core_size core) it)) it in
       let now : slice_get new.shown.workers number ≡ Some (looked worker) =
       ap (λ it. slice_get it.workers number) step.0.5
       ∙ set_here core.shown.workers number (looked step.0.0) inside ∙ ap (λ it. Some (looked it)) same in
@@ -183,7 +182,7 @@ nearer core new number event reply reached needs step = by_phase its.worker.phas
     its = needing core number event needs
 
     -- the law of what is shown
-    kept : LogLaw (size_of core) core.shown
+    kept : LogLaw (core_size core) core.shown
     kept = law core reached
 
     -- it has learned no more than all places

@@ -7,7 +7,7 @@ use Rattle.uc_core.specs.Core.{CoreState}
 use Rattle.uc_core.specs.Run.{Given}
 use Rattle.uc_core.specs.declared.event.Event.{Event}
 use Rattle.mc_schedules.specs.declared.schedule.Item.{Item}
-use Rattle.mc_schedules.specs.Doing.{Acts, Did, DoesAll, Ending, Finishes, Takes}
+use Rattle.mc_schedules.specs.Doing.{Acts, Did, DoesAll, Ending, Finishes, TakesEvent}
 use Rattle.mc_schedules.specs.Needed.{needed}
 
 -- Some of a worker's events are taken: however it finishes from here, it finishes from the start.
@@ -27,7 +27,7 @@ finishing-none line number core before = ([], sym (append-nil before), λ events
 module _ (line number : ℕ) (start now : CoreState) (before after : List Given) (so_far : Finishing line number start now before after) where
   -- the next event is taken
   pub finishing-next : (event : Event) (next : CoreState) (latest : List Given) → needed now number ≡ Some event →
-      Did (Takes line event) line now next after latest (Ok tt) → Finishing line number start next before latest
+      Did (TakesEvent line event) line now next after latest (Ok tt) → Finishing line number start next before latest
   finishing-next event next latest needs took = (
     so_far.0 ++ took.0,
     took.2 ∙ ap (λ (them : List Given). them ++ took.0) so_far.1 ∙ append_assoc before so_far.0 took.0,
@@ -38,7 +38,7 @@ module _ (line number : ℕ) (start now : CoreState) (before after : List Given)
 
   -- the next event meets a fault
   pub finished-fault : (event : Event) (new : CoreState) (latest : List Given) (fault : Fault) → needed now number ≡ Some event →
-      Did (Takes line event) line now new after latest (Err fault) → Finished line number start new before latest (Err fault)
+      Did (TakesEvent line event) line now new after latest (Err fault) → Finished line number start new before latest (Err fault)
   finished-fault event new latest fault needs took =
       let all = so_far.2 1 new took.0 (Some (line, fault)) (event, needs, inl ((line, fault), refl, took.1)) in
       let same = took.2 ∙ ap (λ (them : List Given). them ++ took.0) so_far.1 ∙ append_assoc before so_far.0 took.0 in

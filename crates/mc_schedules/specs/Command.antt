@@ -27,13 +27,14 @@ data_of word =
     else None
 
 -- a storage command, if each of its words can be read
-abbrev pub storing : Verb → Option Key → Option ℕ → Option Data → Option Command
-storing verb (Some key) (Some flags) (Some block) = Some (Store verb key flags block)
-storing verb key flags block = None
+abbrev pub storage_command : Verb → Option Key → Option ℕ → Option Data → Option Command
+storage_command verb (Some key) (Some flags) (Some block) = Some (Store verb key flags block)
+storage_command verb key flags block = None
 
 -- a key, flags and data
 abbrev pub storage_of : Verb → List (List ℕ) → Option Command
-storage_of verb (key ∷ flags ∷ block ∷ []) = storing verb (key_of key) (number_up_to FLAGS flags) (data_of block)
+storage_of verb (key ∷ flags ∷ block ∷ []) =
+    storage_command verb (key_of key) (number_up_to FLAGS flags) (data_of block)
 storage_of verb arguments = None
 
 abbrev pub checking : Option Key → Option ℕ → Option ℕ → Option Data → Option Command
@@ -42,13 +43,15 @@ checking key flags unique block = None
 
 -- a key, flags, a unique and data
 abbrev pub cas_of : List (List ℕ) → Option Command
-cas_of (key ∷ flags ∷ unique ∷ block ∷ []) = checking (key_of key) (number_up_to FLAGS flags) (number_up_to NUMBER unique) (data_of block)
+cas_of (key ∷ flags ∷ unique ∷ block ∷ []) =
+    checking (key_of key) (number_up_to FLAGS flags) (number_up_to NUMBER unique) (data_of block)
 cas_of arguments = None
 
 -- one or more keys
 abbrev pub retrieval_of : Bool → List (List ℕ) → Option Command
 retrieval_of uniques [] = None
-retrieval_of uniques (key ∷ keys) = if list_all is_lawful_key (key ∷ keys) then Some (Get (key ∷ keys) uniques) else None
+retrieval_of uniques (key ∷ keys) =
+    if list_all is_lawful_key (key ∷ keys) then Some (Get (key ∷ keys) uniques) else None
 
 -- a key
 abbrev pub deletion_of : List (List ℕ) → Option Command
@@ -82,7 +85,8 @@ command_of (name ∷ arguments) =
     else if is_word name (codes "get") then retrieval_of false arguments
     else if is_word name (codes "gets") then retrieval_of true arguments
     else if is_word name (codes "delete") then deletion_of arguments
-    else if is_word name (codes "incr") then option_map (λ (change : Key × ℕ). Incr change.0 change.1) (change_of arguments)
-    else if is_word name (codes "decr") then option_map (λ (change : Key × ℕ). Decr change.0 change.1) (change_of arguments)
-    else if is_word name (codes "flush_all") then flush_of arguments
-    else None
+    else if is_word name (codes "incr")
+    then option_map (λ (change : Key × ℕ). Incr change.0 change.1) (change_of arguments)
+    else if is_word name (codes "decr")
+    then option_map (λ (change : Key × ℕ). Decr change.0 change.1) (change_of arguments)
+    else if is_word name (codes "flush_all") then flush_of arguments else None

@@ -28,13 +28,15 @@ abbrev pub Doing : Type 1
 Doing = CoreState → CoreState → List Given → Ending → Type 0
 
 -- Nothing is done.
-abbrev pub Rests : Doing
-Rests old new given end = (new ≡ old) × (given ≡ []) × (end ≡ None)
+abbrev pub DoesNothing : Doing
+DoesNothing old new given end = (new ≡ old) × (given ≡ []) × (end ≡ None)
 
 -- An event of a line is taken, or it meets a fault, which changes nothing.
-abbrev pub Takes : ℕ → Event → Doing
-Takes line event old new given None = (reply : Option Reply) × CoreStep old event new reply × (given ≡ given_by old event reply)
-Takes line event old new given (Some met) = (met.0 ≡ line) × IsFaultOf old event met.1 × (new ≡ old) × (given ≡ [])
+abbrev pub TakesEvent : ℕ → Event → Doing
+TakesEvent line event old new given None =
+    (reply : Option Reply) × CoreStep old event new reply × (given ≡ given_by old event reply)
+TakesEvent line event old new given (Some met) =
+    (met.0 ≡ line) × IsFaultOf old event met.1 × (new ≡ old) × (given ≡ [])
 
 -- One thing is done and then another; after a fault nothing more is done.
 abbrev pub Then : Doing → Doing → Doing
@@ -45,21 +47,25 @@ Then one other old new given end =
 
 -- A worker takes the events it needs, `events` of them, until it needs nothing more.
 abbrev pub Finishes : ℕ → ℕ → ℕ → Doing
-Finishes zero line number old new given end = (needed old number ≡ None) × Rests old new given end
+Finishes zero line number old new given end =
+    (needed old number ≡ None) × DoesNothing old new given end
 Finishes (suc events) line number old new given end =
-    (event : Event) × (needed old number ≡ Some event) × Then (Takes line event) (Finishes events line number) old new given end
+    (event : Event) × (needed old number ≡ Some event)
+    × Then (TakesEvent line event) (Finishes events line number) old new given end
 
 -- What a line asks for is done: an event, or an announcement and all that its worker needs after
 -- it.
 abbrev pub Acts : ℕ → Action → Doing
-Acts line (action.Event event) old new given end = Takes line event old new given end
+Acts line (action.Event event) old new given end = TakesEvent line event old new given end
 Acts line (action.Submit number tenant command) old new given end =
-    (events : ℕ) × Then (Takes line (Announce number tenant command)) (Finishes events line number) old new given end
+    (events : ℕ) × Then (TakesEvent line (Announce number tenant command))
+    (Finishes events line number) old new given end
 
 -- The lines' actions are done in order.
 abbrev pub DoesAll : List Item → Doing
-DoesAll [] old new given end = Rests old new given end
-DoesAll (item ∷ items) old new given end = Then (Acts item.line item.action) (DoesAll items) old new given end
+DoesAll [] old new given end = DoesNothing old new given end
+DoesAll (item ∷ items) old new given end =
+    Then (Acts item.line item.action) (DoesAll items) old new given end
 
 -- how what a line asks for ended
 abbrev pub ended : ℕ → Result (Unit {0}) Fault → Ending
@@ -68,5 +74,7 @@ ended line (Err fault) = Some (line, fault)
 
 -- Something of a line is done from one state to another, and its replies are appended to those
 -- before; it ends as a call's result says.
-abbrev pub Did : Doing → ℕ → CoreState → CoreState → List Given → List Given → Result (Unit {0}) Fault → Type 0
-Did doing line old new before after told = (given : List Given) × doing old new given (ended line told) × (after ≡ before ++ given)
+abbrev pub Did : Doing → ℕ → CoreState → CoreState → List Given → List Given →
+    Result (Unit {0}) Fault → Type 0
+Did doing line old new before after told =
+    (given : List Given) × doing old new given (ended line told) × (after ≡ before ++ given)

@@ -14,5 +14,6 @@ pub record IsDraftOf (draft : Draft) (before : List Statement) : Type 0 where
   pub items : draft.items.items ≡ items before
 
 -- the next draft has one more line, if the line is in its place
-abbrev pub IsNext : Draft → Statement → Draft → Type 0
-IsNext draft one next = (before : List Statement) → IsDraftOf draft before → is_in_place before one.1 ≡ true → IsDraftOf next (before ++ one ∷ [])
+abbrev pub AddsLine : Draft → Statement → Draft → Type 0
+AddsLine draft one next = (before : List Statement) → IsDraftOf draft before →
+    is_in_place before one.1 ≡ true → IsDraftOf next (before ++ one ∷ [])

@@ -52,7 +52,8 @@ is_in_place before None = false
 is_in_place before (Some Nothing) = true
 is_in_place before (Some (Core workers places)) = not (is_there (cores before))
 is_in_place before (Some (Tenant limits)) =
-    (is_there (cores before) && not (is_there (items before))) && nat_lt (length (tenants before)) TENANTS
+    (is_there (cores before) && not (is_there (items before)))
+    && nat_lt (length (tenants before)) TENANTS
 is_in_place before (Some (ToDo action)) = is_there (tenants before)
 
 -- the number of the first line that isn't in its place after those before it

@@ -31,7 +31,8 @@ escaped byte =
 -- a reply: its worker, its place, and its bytes
 abbrev pub reply_line : Given → List ℕ
 reply_line (worker, place, reply) =
-    codes "reply " ++ decimal worker ++ codes " " ++ decimal place ++ codes " " ++ flat_map escaped (text reply) ++ codes "\n"
+    codes "reply " ++ decimal worker ++ codes " " ++ decimal place
+    ++ codes " " ++ flat_map escaped (text reply) ++ codes "\n"
 
 -- the replies in the order in which they were given, unless the report is quiet
 abbrev pub replies_text : Bool → List Given → List ℕ
@@ -40,10 +41,12 @@ replies_text quiet given = if quiet then [] else flat_map reply_line given
 -- the fault that ended the run, if any, with the line whose event met it
 abbrev pub ending_text : Ending → List ℕ
 ending_text None = []
-ending_text (Some met) = codes "fault " ++ decimal met.0 ++ codes " " ++ fault_text met.1 ++ codes "\n"
+ending_text (Some met) =
+    codes "fault " ++ decimal met.0 ++ codes " " ++ fault_text met.1 ++ codes "\n"
 
 abbrev pub ticket_text : Ticket → List ℕ
-ticket_text ticket = codes " (" ++ decimal ticket.worker ++ codes "," ++ decimal ticket.number ++ codes ")"
+ticket_text ticket =
+    codes " (" ++ decimal ticket.worker ++ codes "," ++ decimal ticket.number ++ codes ")"
 
 -- the tickets of the decided places
 abbrev pub log_text : List Ticket → List ℕ
@@ -58,14 +61,19 @@ phase_text Stopped = codes "stopped"
 -- the progress of a worker
 abbrev pub worker_line : ℕ → Progress → List ℕ
 worker_line number worker =
-    codes "worker " ++ decimal number ++ codes " " ++ phase_text worker.phase ++ codes " learned " ++ decimal worker.learned
-    ++ codes " replayed " ++ decimal worker.replayed ++ codes " proposals " ++ decimal worker.proposals ++ codes "\n"
+    codes "worker " ++ decimal number ++ codes " " ++ phase_text worker.phase
+    ++ codes " learned " ++ decimal worker.learned
+    ++ codes " replayed " ++ decimal worker.replayed
+    ++ codes " proposals " ++ decimal worker.proposals ++ codes "\n"
 
 -- each worker, in the order of their numbers
 abbrev pub workers_text : CoreState → List ℕ
 workers_text core =
-    flat_map (λ (one : ℕ × WorkerState). option_map_or (worker_line one.0) (progress_by core one.0) []) (enumerate_from 0 core.shown.workers)
+    flat_map
+    (λ (one : ℕ × WorkerState). option_map_or (worker_line one.0) (progress_by core one.0) [])
+    (enumerate_from 0 core.shown.workers)
 
 -- the whole report
 abbrev pub report : Bool → CoreState → List Given → Ending → List ℕ
-report quiet core given end = replies_text quiet given ++ ending_text end ++ log_text core.shown.decided ++ workers_text core
+report quiet core given end =
+    replies_text quiet given ++ ending_text end ++ log_text core.shown.decided ++ workers_text core

@@ -23,11 +23,17 @@ pub data Read : Type 0 where
 abbrev pub read_as : Reading → Read
 read_as (code.Bad line) = BadLine line
 read_as (code.Schedule schedule) =
-    Whole (record { workers = schedule.workers; places = schedule.places; tenants = schedule.tenants.items; items = schedule.items.items })
+    Whole (record {
+      workers = schedule.workers;
+      places = schedule.places;
+      tenants = schedule.tenants.items;
+      items = schedule.items.items;
+    })
 
 -- without a core line and a tenant line the list is bad, but at none of its lines
 abbrev pub listed : List (ℕ × ℕ) → List Limits → List Item → Read
-listed (core ∷ others) (tenant ∷ tenants) items = Whole (record { workers = core.0; places = core.1; tenants = tenant ∷ tenants; items = items })
+listed (core ∷ others) (tenant ∷ tenants) items =
+    Whole (record { workers = core.0; places = core.1; tenants = tenant ∷ tenants; items = items })
 listed cores tenants items = BadLine 0
 
 abbrev pub read_unless : Option ℕ → List Statement → Read

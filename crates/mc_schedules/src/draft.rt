@@ -1,6 +1,6 @@
 //! What the lines so far say, and whether another line may follow them.
 ghost use Rattle.std.specs.Prelude.{◌≡◌, List, [], Some, OnOk, IsOkUnless};
-ghost use Rattle.mc_schedules.specs.Draft.{IsDraftOf, IsNext};
+ghost use Rattle.mc_schedules.specs.Draft.{IsDraftOf, AddsLine};
 ghost use Rattle.mc_schedules.specs.Place.{Statement, cores, is_in_place, items, tenants};
 ghost use Rattle.mc_schedules.specs.Schedule.{listed, read_as};
 
@@ -51,7 +51,7 @@ impl Draft {
     /// Adds what the next line says, which must be in its place. Returns `Memory` if an allocation
     /// fails.
     pub fn add(&mut self, line: u64, said: Said) -> Result<(), Fault>
-        ensures draft { OnOk result (IsNext self.old (line, Some said) self.new) }
+        ensures draft { OnOk result (AddsLine self.old (line, Some said) self.new) }
         ensures memory { IsOkUnless result Fault.Memory }
     {
         match said {

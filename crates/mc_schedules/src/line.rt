@@ -1,6 +1,6 @@
 //! What a line of an event list says, read from its words.
 ghost use Rattle.std.specs.Prelude.{◌≡◌, IfOk, IsOkUnless, map};
-ghost use Rattle.mc_schedules.specs.Line.{event, named, order_of, pair_of, said, said_by, worker_of};
+ghost use Rattle.mc_schedules.specs.Line.{event, named, order_of, pair_of, said, said_by, named_worker};
 
 use crate::command::{NUMBER, read_command};
 use crate::schedule::Action;
@@ -50,7 +50,7 @@ fn read_pair(arguments: &[&[u8]]) -> Option<(u64, u64)>
 
 /// Returns a worker's number, if the words are one.
 fn read_worker(arguments: &[&[u8]]) -> Option<u8>
-    ensures { result ≡ worker_of (map (λ word. word.now) arguments.now) }
+    ensures { result ≡ named_worker (map (λ word. word.now) arguments.now) }
 {
     match arguments {
         [worker] => read_name(worker),

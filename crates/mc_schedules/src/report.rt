@@ -1,5 +1,5 @@
 //! The report that is printed of a run.
-ghost use Rattle.std.specs.Prelude.{◌≡◌, ◌++◌, ◌<◌, List, ℕ, [], codes, decimal, flat_map, IfOk, IsOkUnless, OnOk};
+ghost use Rattle.std.specs.Prelude.{◌≡◌, ◌++◌, ◌<◌, [], codes, decimal, flat_map, IfOk, IsOkUnless, OnOk};
 ghost use Rattle.std.specs.Option.{option_map_or};
 ghost use Rattle.mc_schedules.specs.Report.{ending_text, escaped, hexadecimal, log_text, phase_text, reply_line, ticket_text, worker_line, workers_text};
 ghost use Rattle.uc_core.specs.Showing.{progress_by};

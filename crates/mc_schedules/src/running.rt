@@ -1,6 +1,6 @@
 //! Runs of event lists.
 ghost use Rattle.std.specs.Prelude.{◌≡◌, ℕ, ◌++◌, List, IfOk, IsOkUnless};
-ghost use Rattle.mc_schedules.specs.Doing.{Acts, Did, DoesAll, Finishes, Takes};
+ghost use Rattle.mc_schedules.specs.Doing.{Acts, Did, DoesAll, Finishes, TakesEvent};
 ghost use Rattle.uc_core.specs.Core.{new_core};
 ghost use Rattle.uc_core.specs.Run.{Given};
 
@@ -31,7 +31,8 @@ fn take<W: Watch>(
     replies: &mut Vec<(WorkerId, u64, Reply)>,
     watch: &mut W,
 ) -> Result<(), Fault>
-    ensures { Did (Takes line event) line core.old core.new replies.old.items replies.new.items result }
+    ensures { Did (TakesEvent line event) line core.old core.new replies.old.items replies.new.items
+        result }
 {
     let events = [event];
     if let Err(met) = core.run(&events, replies) {
@@ -67,7 +68,8 @@ fn act<W: Watch>(
     replies: &mut Vec<(WorkerId, u64, Reply)>,
     watch: &mut W,
 ) -> Result<(), Fault>
-    ensures { Did (Acts line action) line core.old core.new replies.old.items replies.new.items result }
+    ensures { Did (Acts line action) line core.old core.new replies.old.items replies.new.items
+        result }
 {
     match action {
         Action::Event(event) => take(core, line, event, replies, watch),

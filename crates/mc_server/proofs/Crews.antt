@@ -1,23 +1,10 @@
 -- Passes that were never used, and the workers that have them.
-use Rattle.std.proofs.Common.{◌≡◌, ℕ, ◌+◌, suc, List, [], ◌∷◌, Some, All, map, slice_get, ap, refl, arith}
-use Rattle.std.proofs.lemmas.Option.{slice_get-get_or}
+use Rattle.std.proofs.Common.{◌≡◌, ℕ, ◌+◌, suc, List, [], ◌∷◌, Some, map, slice_get, ap, refl, arith}
 use Rattle.mc_server.specs.Listeners.{CountsFrom}
-use Rattle.mc_server.specs.Network.{IsFresh}
 use Rattle.uc_log.specs.declared.log.Log.{Log}
 use Rattle.uc_log.specs.declared.pass.Pass.{Pass}
 use Rattle.uc_log.specs.Passes.{IsNew, worker}
-use Rattle.uc_places.specs.declared.view.View.{View}
-
-fresh : (log : Log) (number : ℕ) (pass : Pass) → IsNew log number pass → IsFresh log pass
-fresh log number pass new = record {
-  of = new.0;
-  idle = ap (λ (v : View). v.state.phase) new.1;
-  new = ap (λ (v : View). v.state.learned) new.1;
-  unused = ap (λ (v : View). v.state.announced) new.1;
-}
-
-pub all_fresh : (log : Log) (passes : List Pass) → ((number : ℕ) (pass : Pass) → slice_get passes number ≡ Some pass → IsNew log number pass) → All (IsFresh log) passes
-all_fresh log passes new = λ place other inside. fresh log place _ (new place _ (slice_get-get_or passes place other inside))
+use Rattle.uc_worker.specs.Cited.{View}
 
 -- passes that were never used come by their workers' numbers
 numbered_from : (first : ℕ) (passes : List Pass) → ((number : ℕ) (pass : Pass) → slice_get passes number ≡ Some pass → worker pass ≡ first + number) → CountsFrom first (map worker passes)

@@ -7,20 +7,18 @@ use Rattle.std.specs.List.{AllZip}
 use Rattle.mc_model.specs.declared.id.Ticket.{Ticket}
 use Rattle.mc_model.specs.declared.shown.LogSize.{LogSize}
 use Rattle.mc_model.specs.declared.shown.Phase.TheVariants.{Idle, Pending}
-use Rattle.mc_model.specs.Helping.{BeginsWith}
+use Rattle.lists.specs.Lists.{BeginsWith}
 use Rattle.mc_model.specs.Legal.{IsLegal, count}
 use Rattle.mc_model.specs.Settings.{Configuration}
 use Rattle.mc_server.specs.Listeners.{CountsFrom}
-use Rattle.mc_server.specs.Network.{AreOf, AreWorkersOf, HasMet, HaveMet, Meets, WasAnnounced, number_of, tickets_of}
+use Rattle.mc_server.specs.Network.{AreOf, AreWorkersOf, HasMet, HaveMet, MeetsAnother, WasAnnounced, number_of, tickets_of}
 use Rattle.uc_worker.specs.Going.{CatchesUp}
-use Rattle.uc_worker.specs.Worker.{IsUpToDate}
-use Rattle.uc_cells.specs.Sighting.{Sighting}
+use Rattle.uc_worker.specs.Worker.{IsUpToDate, announced_of, history_of, seat_of}
+use Rattle.uc_worker.specs.Cited.{Sighting}
 use Rattle.uc_log.specs.declared.log.Log.{Log}
-use Rattle.uc_worker.proofs.Going.{catches_self, catches_through, same_count}
-use Rattle.uc_worker.proofs.Lists.{begins_length, begins_self, begins_through, begins_whole}
-use Rattle.uc_worker.proofs.Onward.{rests_either}
+use Rattle.uc_worker.proofs.Public.{catches_self, catches_through, same_count, rests_either}
+use Rattle.lists.proofs.Public.{begins_longer, begins_self, begins_through, begins_whole}
 use Rattle.uc_worker.specs.declared.worker.Worker.{Worker}
-use Rattle.uc_worker.specs.Worker.{announced_of, history_of, seat_of}
 
 -- a history that is as long as the learned list has its tickets
 tickets_are : (history : List Sighting) (learned : List Ticket) →
@@ -64,7 +62,7 @@ has_met one other later of is equal whole =
     }
 
 -- one more has met the worker, while that one went on
-meets_still : (old one new other after : Worker) → CatchesUp one new → Meets old one other after → Meets old new other after
+meets_still : (old one new other after : Worker) → CatchesUp one new → MeetsAnother old one other after → MeetsAnother old new other after
 meets_still old one new other after step met = record {
   later = met.later;
   whole = met.whole;
@@ -72,8 +70,8 @@ meets_still old one new other after step met = record {
   front = begins_through (history_of new) (history_of one) (history_of after) step.continues.history met.front;
 }
 
-pub one_more_met : (old one new : Worker) (others met : List Worker) (other after : Worker) → AllZip (Meets old one) others met → CatchesUp one new → Meets old new other after
-    → AllZip (Meets old new) (others ++ other ∷ []) (met ++ after ∷ [])
+pub one_more_met : (old one new : Worker) (others met : List Worker) (other after : Worker) → AllZip (MeetsAnother old one) others met → CatchesUp one new → MeetsAnother old new other after
+    → AllZip (MeetsAnother old new) (others ++ other ∷ []) (met ++ after ∷ [])
 one_more_met old one new [] [] other after before step now = (now, tt)
 one_more_met old one new [] (y ∷ ys) other after before step now = absurd before
 one_more_met old one new (x ∷ xs) [] other after before step now = absurd before
@@ -81,7 +79,7 @@ one_more_met old one new (x ∷ xs) (y ∷ ys) other after before step now =
     (meets_still old one new x y step before.0, one_more_met old one new xs ys other after before.1 step now)
 
 -- the other's history is the worker's then
-pub meets : (old one new other after : Worker) → CatchesUp old one → CatchesUp one new → CatchesUp other after → history_of new ≡ history_of after → IsUpToDate after → Meets old new other after
+pub meets : (old one new other after : Worker) → CatchesUp old one → CatchesUp one new → CatchesUp other after → history_of new ≡ history_of after → IsUpToDate after → MeetsAnother old new other after
 meets old one new other after before step later equal whole = record {
   later = later;
   whole = whole;
@@ -94,7 +92,7 @@ pub all_later_self : (workers : List Worker) → AllZip CatchesUp workers worker
 all_later_self [] = tt
 all_later_self (x ∷ xs) = (catches_self x, all_later_self xs)
 
-pub all_later_on : (old new : Worker) (workers between after : List Worker) → AllZip CatchesUp workers between → AllZip (Meets old new) between after → AllZip CatchesUp workers after
+pub all_later_on : (old new : Worker) (workers between after : List Worker) → AllZip CatchesUp workers between → AllZip (MeetsAnother old new) between after → AllZip CatchesUp workers after
 all_later_on old new [] [] [] later met = tt
 all_later_on old new [] [] (z ∷ zs) later met = absurd met
 all_later_on old new [] (y ∷ ys) after later met = absurd later
@@ -102,7 +100,7 @@ all_later_on old new (x ∷ xs) [] after later met = absurd later
 all_later_on old new (x ∷ xs) (y ∷ ys) [] later met = absurd met
 all_later_on old new (x ∷ xs) (y ∷ ys) (z ∷ zs) later met = (catches_through x y z later.0 met.0.later, all_later_on old new xs ys zs later.1 met.1)
 
-pub all_of : (log : Log) (old new : Worker) (workers after : List Worker) → AllZip (Meets old new) workers after → AreOf log workers → AreOf log after
+pub all_of : (log : Log) (old new : Worker) (workers after : List Worker) → AllZip (MeetsAnother old new) workers after → AreOf log workers → AreOf log after
 all_of log old new [] [] met of = of
 all_of log old new [] (y ∷ ys) met of = absurd met
 all_of log old new (x ∷ xs) [] met of = absurd met
@@ -116,10 +114,10 @@ pub record HasCome (one worker after : Worker) : Type 0 where
   pub whole : IsUpToDate after
   pub equal : history_of one ≡ history_of after
 
-has_come : (old one worker between after : Worker) → length (history_of one) ≡ length (history_of old) → CatchesUp worker between → Meets old one between after → HasCome one worker after
+has_come : (old one worker between after : Worker) → length (history_of one) ≡ length (history_of old) → CatchesUp worker between → MeetsAnother old one between after → HasCome one worker after
 has_come old one worker between after still later met =
-    let few = begins_length (history_of one) (history_of after) met.front in
-    let most = begins_length (history_of after) (history_of old) met.most in
+    let few = begins_longer (history_of one) (history_of after) met.front in
+    let most = begins_longer (history_of after) (history_of old) met.most in
     record {
       later = catches_through worker between after later met.later;
       whole = met.whole;
@@ -128,7 +126,7 @@ has_come old one worker between after still later met =
 
 -- the same for all, after a round in which the worker learned nothing more
 pub all_have_come : (old one : Worker) (workers between after : List Worker) → length (history_of one) ≡ length (history_of old) → AllZip CatchesUp workers between
-    → AllZip (Meets old one) between after → AllZip (HasCome one) workers after
+    → AllZip (MeetsAnother old one) between after → AllZip (HasCome one) workers after
 all_have_come old one [] [] [] still later met = tt
 all_have_come old one [] [] (z ∷ zs) still later met = absurd met
 all_have_come old one [] (y ∷ ys) after still later met = absurd later

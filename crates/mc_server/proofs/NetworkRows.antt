@@ -10,16 +10,16 @@ use Rattle.std.specs.declared.net.socket_addr.SocketAddrV4.{SocketAddrV4}
 use Rattle.clap.specs.Faults.{fault_of}
 use Rattle.clap.specs.declared.error.kind.ErrorKind.TheVariants as kind
 use Rattle.clap.proofs.OnLiterals.{clap_on_literals}
-use Rattle.mc_server.specs.NetworkWords.{given_by, network_app, tenant_words}
+use Rattle.mc_server.specs.NetworkWords.{given_by_words, network_app, tenant_words}
 use Rattle.mc_server.specs.TenantWord.{IsName, Says, is_name_byte}
 
 -- ---- what words give
 
-one_tenant : given_by (codes "a=127.0.0.1:0,1,1" ∷ []) ≡ record { workers = 2; places = 65536; connections = 0; tenants = codes "a=127.0.0.1:0,1,1" ∷ [] }
+one_tenant : given_by_words (codes "a=127.0.0.1:0,1,1" ∷ []) ≡ record { workers = 2; places = 65536; connections = 0; tenants = codes "a=127.0.0.1:0,1,1" ∷ [] }
 unfolding clap_on_literals
 one_tenant = refl
 
-all_options : given_by (codes "--workers" ∷ codes "3" ∷ codes "a" ∷ codes "--places=4" ∷ codes "b" ∷ codes "--connections" ∷ codes "5" ∷ [])
+all_options : given_by_words (codes "--workers" ∷ codes "3" ∷ codes "a" ∷ codes "--places=4" ∷ codes "b" ∷ codes "--connections" ∷ codes "5" ∷ [])
     ≡ record { workers = 3; places = 4; connections = 5; tenants = codes "a" ∷ codes "b" ∷ [] }
 unfolding clap_on_literals
 all_options = refl

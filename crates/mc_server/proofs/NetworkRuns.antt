@@ -9,14 +9,14 @@ use Rattle.clap.specs.Walk.{Text}
 use Rattle.uc_worker.specs.Going.{Continues}
 use Rattle.mc_model.specs.declared.fault.Fault.{Fault}
 use Rattle.mc_model.specs.Settings.{Configuration}
-use Rattle.mc_net.specs.Running.{worker_of}
+use Rattle.mc_net.specs.Running.{returned_worker}
 use Rattle.mc_net.specs.declared.worker_thread.Returned.{Returned}
-use Rattle.mc_programs.proofs.Waited.{all_more, fails_more}
+use Rattle.mc_programs.proofs.Public.{all_more, fails_more}
 use Rattle.mc_server.proofs.Numbered.{all_below}
 use Rattle.mc_server.specs.Listeners.{CountsFrom, StopsListening}
-use Rattle.mc_server.specs.Network.{AreOf, AreWorkersOf, HaveMet, HaveServed, IsDone, IsReady, IsServed, WereServed, number_of, StopsAnnouncing, StopsFinishing, StopsRun, StopsServing, names_of}
+use Rattle.mc_server.specs.Network.{AreOf, AreWorkersOf, HaveMet, HaveServed, HasPrintedLength, IsReady, IsServed, WereServed, number_of, StopsAnnouncing, StopsFinishing, StopsRun, StopsServing, names_of}
 use Rattle.mc_server.specs.NetworkTexts.{done_line, ready_text}
-use Rattle.mc_server.specs.NetworkWords.{Asks, AsksFor, AsksForNone, AsksForService, AsksInVain, IsChecked, NetworkAsked, NetworkGiven, given_of, served_by}
+use Rattle.mc_server.specs.NetworkWords.{Asks, WordsGive, AsksForNone, AsksForService, AsksInVain, IsChecked, NetworkAsked, NetworkGiven, given_in, served_by}
 use Rattle.mc_server.specs.declared.network_words.NetworkWords.{NetworkWords}
 use Rattle.mc_server.specs.declared.network_words.Service.{Service}
 use Rattle.mc_server.specs.declared.listeners.Stop.{Stop}
@@ -33,12 +33,12 @@ announcing_stops settings fault listening before after stops = ⊎_elim (λ star
 
 -- the length of the log of workers that have served and come back was printed after them, or a
 -- fault came
-module _ (settings : Configuration) (log : Log) (workers : List Worker) (back : List Returned) (come : workers ≡ map worker_of back) (have : HaveServed settings log back) where
+module _ (settings : Configuration) (log : Log) (workers : List Worker) (back : List Returned) (come : workers ≡ map returned_worker back) (have : HaveServed settings log back) where
   were_served : (number : ℕ) → HaveMet workers number → WereServed settings number
   were_served number met = record { log = log; back = back; served = have; met = subst (λ known. HaveMet known number) come met }
 
   pub finished : (result : Result (Unit {0}) Fault) (listening : List Listening) (before now after : Outflow) → IsReady listening before now
-      → MatchResult result (λ _. IsDone workers now after) (StopsFinishing workers now after)
+      → MatchResult result (λ _. HasPrintedLength workers now after) (StopsFinishing workers now after)
       → MatchResult result (λ _. IsServed settings listening before after) (StopsServing settings listening before after)
   finished (Ok nothing) listening before now after ready done = (
     done.0,
@@ -92,9 +92,9 @@ listening_stops names asked (CannotListen name) before e stops = (subst (λ (kno
 listening_stops names asked (Failed fault) before e stops = inl (stops, refl)
 
 -- what the words that were read ask for is what the words ask for
-pub for_service : (words : List Text) (read : NetworkWords) (service : Service) → AsksFor words read → Asks (given_of read) (served_by service) → IsChecked service
+pub for_service : (words : List Text) (read : NetworkWords) (service : Service) → WordsGive words read → Asks (given_in read) (served_by service) → IsChecked service
     → AsksForService words (served_by service)
 for_service words read service reads asks checked = (reads.taken, subst (λ (known : NetworkGiven). Asks known (served_by service)) reads.given asks, checked.servable)
 
-pub for_none : (words : List Text) (read : NetworkWords) → AsksFor words read → AsksInVain (given_of read) → AsksForNone words
+pub for_none : (words : List Text) (read : NetworkWords) → WordsGive words read → AsksInVain (given_in read) → AsksForNone words
 for_none words read reads vain = (reads.taken, subst AsksInVain reads.given vain)

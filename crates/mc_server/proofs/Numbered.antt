@@ -1,11 +1,10 @@
 -- Lists under numbers that go up by one.
 use Rattle.std.proofs.Common.{◌≡◌, ℕ, ◌+◌, ◌<◌, List, [], ◌∷◌, ◌++◌, length, map, take, get_or, All, arith}
-use Rattle.std.proofs.lemmas.List.{map-append}
+use Rattle.std.proofs.lemmas.List.{map-append, length-map, take_more}
 use Rattle.std.proofs.lemmas.List.Elements.{All-cons, All-nil, All-weaker}
-use Rattle.std.proofs.lemmas.List.{length-map, take_more}
 use Rattle.std.proofs.lemmas.Slice.Zip.{all_zipped_more}
 use Rattle.std.specs.List.{AllZip}
-use Rattle.mc_server.specs.Listeners.{CountsFrom, IsTold}
+use Rattle.mc_server.specs.Listeners.{CountsFrom, IsListeningFor}
 use Rattle.mc_server.specs.TenantWord.{asked_of}
 use Rattle.mc_server.specs.declared.network_texts.Listening.{Listening}
 use Rattle.mc_server.specs.declared.tenant_word.Tenant.{Tenant}
@@ -23,11 +22,11 @@ one_more_numbered number list more x h e is =
 
 -- one more is printed
 pub one_more_told : (tenants : List Tenant) (place : ℕ) (some : Tenant) (told more : List Listening) (one : Listening) → place < length tenants
-    → AllZip IsTold (map asked_of (take place tenants)) told → IsTold (asked_of (get_or tenants place some)) one → more ≡ told ++ one ∷ []
-    → AllZip IsTold (map asked_of (take (place + 1) tenants)) more
+    → AllZip IsListeningFor (map asked_of (take place tenants)) told → IsListeningFor (asked_of (get_or tenants place some)) one → more ≡ told ++ one ∷ []
+    → AllZip IsListeningFor (map asked_of (take (place + 1) tenants)) more
 one_more_told tenants place some told more one low h new is =
     rw (is, take_more tenants place some low, map-append asked_of (take place tenants) (get_or tenants place some ∷ []))
-    (all_zipped_more IsTold (map asked_of (take place tenants)) told (asked_of (get_or tenants place some)) one h new)
+    (all_zipped_more IsListeningFor (map asked_of (take place tenants)) told (asked_of (get_or tenants place some)) one h new)
 
 -- none is above their count
 pub all_below : (first : ℕ) (numbers : List ℕ) → CountsFrom first numbers → All (λ number. number < first + length numbers) numbers

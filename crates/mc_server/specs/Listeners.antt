@@ -17,7 +17,7 @@ CountsFrom number (x ∷ xs) = (x ≡ number) × CountsFrom (number + 1) xs
 
 -- what is printed for a tenant's listener: the tenant's name and address, with the port that the
 -- listener was given if the address leaves it open
-pub record IsTold (tenant : TenantAsked) (listening : Listening) : Type 0 where
+pub record IsListeningFor (tenant : TenantAsked) (listening : Listening) : Type 0 where
   pub name : listening.name.now ≡ tenant.name
   pub given : ℕ
   pub address : listening.address ≡ told_address tenant.address given
@@ -26,7 +26,7 @@ pub record IsTold (tenant : TenantAsked) (listening : Listening) : Type 0 where
 pub record AreListenersOf (tenants : List Tenant) (bound : Listeners) : Type 0 where
   pub count : length bound.listeners.items ≡ length tenants
   pub numbers : CountsFrom 0 (map (λ listener. listener.0) bound.listeners.items)
-  pub told : AllZip IsTold (map asked_of tenants) bound.told.items
+  pub told : AllZip IsListeningFor (map asked_of tenants) bound.told.items
 
 -- why not all tenants have a listener: the address of a tenant with one of these names can't be
 -- listened on, or memory ran out

@@ -6,39 +6,30 @@ use Rattle.clap.specs.Walk.{Text}
 use Rattle.mc_model.specs.declared.fault.Fault.{Fault}
 use Rattle.mc_model.specs.declared.fault.Fault.TheVariants.{Memory, Input, BadSettings}
 use Rattle.mc_model.specs.declared.id.Ticket.{Ticket}
-use Rattle.mc_model.specs.declared.shown.Phase.TheVariants.{Idle}
-use Rattle.mc_model.specs.Helping.{BeginsWith}
+use Rattle.lists.specs.Lists.{BeginsWith}
 use Rattle.mc_model.specs.Legal.{IsLegal, count}
 use Rattle.mc_model.specs.Settings.{Configuration}
 use Rattle.mc_net.specs.Asking.{HasBeenAsked}
 use Rattle.mc_net.specs.Life.{HasAnswered}
-use Rattle.mc_net.specs.Running.{worker_of}
+use Rattle.mc_net.specs.Running.{returned_worker}
 use Rattle.mc_net.specs.declared.worker_thread.Returned.{Returned}
 use Rattle.mc_programs.specs.Faults.{fault_line}
-use Rattle.mc_server.specs.Listeners.{CountsFrom, IsTold}
+use Rattle.mc_server.specs.Listeners.{CountsFrom, IsListeningFor}
 use Rattle.mc_server.specs.NetworkTexts.{cannot_listen_line, done_line, ready_text}
 use Rattle.mc_server.specs.NetworkWords.{AsksForNone, AsksForService, NetworkAsked, network_app, settings_asked}
 use Rattle.mc_programs.specs.Waiting.{FailsToPush, PushesAll}
-use Rattle.mc_programs.specs.Words.{FailsToShow, Shows, TellsMistake}
+use Rattle.mc_programs.specs.Words.{FailsToShow, ShowsHelp, TellsMistake}
 use Rattle.mc_server.specs.declared.listeners.Stop.{Stop}
 use Rattle.mc_server.specs.declared.listeners.Stop.TheVariants.{CannotListen, Failed}
 use Rattle.mc_server.specs.declared.network_texts.Listening.{Listening}
 use Rattle.mc_stream.specs.Pushing.{PushesOrFails}
 use Rattle.mc_stream.specs.Stream.{Outflow, Streams, both}
-use Rattle.uc_cells.specs.Sighting.{Sighting}
+use Rattle.uc_worker.specs.Cited.{Sighting}
 use Rattle.uc_log.specs.declared.log.Log.{Log}
-use Rattle.uc_log.specs.declared.pass.Pass.{Pass}
-use Rattle.uc_log.specs.Passes.{IsOf, learned, state}
+use Rattle.uc_log.specs.Passes.{learned, state}
 use Rattle.uc_worker.specs.declared.worker.Worker.{Worker}
 use Rattle.uc_worker.specs.Going.{CatchesUp}
 use Rattle.uc_worker.specs.Worker.{IsUpToDate, announced_of, history_of, seat_of}
-
--- the pass is of the log, and its worker has done nothing
-pub record IsFresh (log : Log) (pass : Pass) : Type 0 where
-  pub of : IsOf log pass
-  pub idle : (state pass).phase ≡ Idle
-  pub new : learned pass ≡ []
-  pub unused : (state pass).announced ≡ 0
 
 -- the worker has announced nothing, and replayed nothing
 abbrev pub HasDoneNothing : Worker → Type 0
@@ -57,7 +48,8 @@ abbrev pub tickets_of : Worker → List Ticket
 tickets_of worker = map (λ (seen : Sighting). seen.ticket) (history_of worker)
 
 -- The workers of a log with these settings, one for each number.
-pub record AreWorkersOf (settings : Configuration) (log : Log) (workers : List Worker) : Type 0 where
+pub record AreWorkersOf (settings : Configuration) (log : Log)
+    (workers : List Worker) : Type 0 where
   pub opened : log.settings ≡ settings
   pub of : AreOf log workers
   pub many : length workers ≡ settings.workers
@@ -65,7 +57,9 @@ pub record AreWorkersOf (settings : Configuration) (log : Log) (workers : List W
 
 -- the workers of a log, at least one
 abbrev pub IsCrew : List Worker → Type 0
-IsCrew workers = (settings : Configuration) × (log : Log) × AreWorkersOf settings log workers × (0 < length workers)
+IsCrew workers =
+    (settings : Configuration) × (log : Log) × AreWorkersOf settings log workers
+    × (0 < length workers)
 
 -- This worker has met the other: its history begins with the other's, and each command that the
 -- other has announced is in it, except for at most one, which is pending (Herlihy, Wait-Free
@@ -79,7 +73,7 @@ pub record HasMet (one other : Worker) : Type 0 where
 -- While a worker went from `old` to `new`, another met it and went from `other` to `after`: then
 -- that one has replayed all that it has learned; its history begins with what the worker had
 -- replayed at first, and is a prefix of what the worker has replayed at last.
-pub record Meets (old new other after : Worker) : Type 0 where
+pub record MeetsAnother (old new other after : Worker) : Type 0 where
   pub later : CatchesUp other after
   pub whole : IsUpToDate after
   pub most : BeginsWith (history_of after) (history_of old)
@@ -111,7 +105,7 @@ pub record HaveMet (workers : List Worker) (number : ℕ) : Type 0 where
 -- command after its own tenant's commands before it; and each command that one has announced is one
 -- request of one of these connections.
 pub record HaveServed (settings : Configuration) (log : Log) (back : List Returned) : Type 0 where
-  pub all : AreWorkersOf settings log (map worker_of back)
+  pub all : AreWorkersOf settings log (map returned_worker back)
   pub begun : List Worker
   pub new : All HasDoneNothing begun
   pub answered : All HasAnswered back
@@ -123,7 +117,7 @@ pub record WereServed (settings : Configuration) (number : ℕ) : Type 0 where
   pub log : Log
   pub back : List Returned
   pub served : HaveServed settings log back
-  pub met : HaveMet (map worker_of back) number
+  pub met : HaveMet (map returned_worker back) number
 
 -- an output without an input
 abbrev pub alone : Outflow → Streams
@@ -134,23 +128,27 @@ abbrev pub IsReady : List Listening → Outflow → Outflow → Type 0
 IsReady listening before after = PushesAll (ready_text listening) before after
 
 -- these workers have met, and it was printed how long their history is
-abbrev pub IsDone : List Worker → Outflow → Outflow → Type 0
-IsDone workers before after = (number : ℕ) × HaveMet workers number × PushesAll (done_line number) before after
+abbrev pub HasPrintedLength : List Worker → Outflow → Outflow → Type 0
+HasPrintedLength workers before after =
+    (number : ℕ) × HaveMet workers number × PushesAll (done_line number) before after
 
 -- it was printed which tenant's listener is at which address, and then, when the tenants had been
 -- served, the length of the log
 abbrev pub IsServed : Configuration → List Listening → Outflow → Outflow → Type 0
 IsServed settings listening before after =
-    (number : ℕ) × WereServed settings number × PushesAll (ready_text listening ++ done_line number) before after
+    (number : ℕ) × WereServed settings number
+    × PushesAll (ready_text listening ++ done_line number) before after
 
 -- what was printed if a fault kept the listeners' lines from being printed
 abbrev pub StopsAnnouncing : List Listening → Outflow → Outflow → Fault → Type 0
-StopsAnnouncing listening before after fault = (fault ≡ Memory) × (after ≡ before) ⊎ FailsToPush (ready_text listening) before after fault
+StopsAnnouncing listening before after fault =
+    (fault ≡ Memory) × (after ≡ before) ⊎ FailsToPush (ready_text listening) before after fault
 
 -- what was printed if a fault kept the length of these workers' log from being printed
 abbrev pub StopsFinishing : List Worker → Outflow → Outflow → Fault → Type 0
 StopsFinishing workers before after fault =
-    (fault ≡ Memory) × (after ≡ before) ⊎ ((number : ℕ) × HaveMet workers number × FailsToPush (done_line number) before after fault)
+    (fault ≡ Memory) × (after ≡ before)
+    ⊎ ((number : ℕ) × HaveMet workers number × FailsToPush (done_line number) before after fault)
 
 -- what was printed if a fault ended the service: nothing, the listeners' lines, or a prefix of all
 -- that is to be printed
@@ -159,7 +157,8 @@ StopsServing settings listening before after fault =
     (fault ≡ Memory) × (after ≡ before)
     ⊎ ((fault ≡ Memory) ⊎ (fault ≡ Input)) × IsReady listening before after
     ⊎ FailsToPush (ready_text listening) before after fault
-    ⊎ ((number : ℕ) × WereServed settings number × FailsToPush (ready_text listening ++ done_line number) before after fault)
+    ⊎ ((number : ℕ) × WereServed settings number
+    × FailsToPush (ready_text listening ++ done_line number) before after fault)
 
 -- the tenants' names
 abbrev pub names_of : NetworkAsked → List Text
@@ -168,9 +167,12 @@ names_of asked = map (λ tenant. tenant.name) asked.tenants
 -- what was printed if a run stopped: nothing if an address can't be listened on, or memory ran out
 -- before all listeners were bound; and otherwise what the fault leaves
 abbrev pub StopsRun : NetworkAsked → Outflow → Outflow → Stop → Type 0
-StopsRun asked before after (CannotListen name) = Contains (names_of asked) name.now × (after ≡ before)
+StopsRun asked before after (CannotListen name) =
+    Contains (names_of asked) name.now × (after ≡ before)
 StopsRun asked before after (Failed fault) =
-    (fault ≡ Memory) × (after ≡ before) ⊎ ((listening : List Listening) × AllZip IsTold asked.tenants listening × StopsServing (settings_asked asked) listening before after fault)
+    (fault ≡ Memory) × (after ≡ before)
+    ⊎ ((listening : List Listening) × AllZip IsListeningFor asked.tenants listening
+    × StopsServing (settings_asked asked) listening before after fault)
 
 -- the line that reports why a run stopped
 abbrev pub stop_line : Stop → List ℕ
@@ -178,37 +180,42 @@ stop_line (CannotListen name) = cannot_listen_line name.now
 stop_line (Failed fault) = fault_line (codes "wfmc") fault
 
 -- A run stopped, and the reason was reported.
-pub record FailsToServe (asked : NetworkAsked) (before after errors_before errors : Outflow) : Type 0 where
+pub record FailsToServe (asked : NetworkAsked)
+    (before after errors_before errors : Outflow) : Type 0 where
   pub stop : Stop
   pub stops : StopsRun asked before after stop
   pub told : PushesOrFails (stop_line stop) errors_before errors
 
 -- Each tenant had a listener, all connections were served, and the listeners' lines and the length
 -- of the log were printed.
-pub record Serves (asked : NetworkAsked) (before after : Outflow) : Type 0 where
+pub record ServesTenants (asked : NetworkAsked) (before after : Outflow) : Type 0 where
   pub listening : List Listening
-  pub is_told : AllZip IsTold asked.tenants listening
+  pub is_told : AllZip IsListeningFor asked.tenants listening
   pub served : IsServed (settings_asked asked) listening before after
 
 -- what the words ask for was served, or help or the version was shown
-abbrev pub EndsWell : List Text → Outflow → Outflow → Type 0
-EndsWell words before after = ((asked : NetworkAsked) × AsksForService words asked × Serves asked before after) ⊎ Shows network_app words (alone before) (alone after)
+abbrev pub WfmcEndsWell : List Text → Outflow → Outflow → Type 0
+WfmcEndsWell words before after =
+    ((asked : NetworkAsked) × AsksForService words asked × ServesTenants asked before after)
+    ⊎ ShowsHelp network_app words (alone before) (alone after)
 
 -- an address can't be listened on, or a fault ended the service, or kept the words from being read
 -- or answered; it was reported
-abbrev pub EndsInFault : List Text → Outflow → Outflow → Outflow → Outflow → Type 0
-EndsInFault words before after errors_before errors =
-    ((asked : NetworkAsked) × AsksForService words asked × FailsToServe asked before after errors_before errors)
+abbrev pub WfmcEndsInFault : List Text → Outflow → Outflow → Outflow → Outflow → Type 0
+WfmcEndsInFault words before after errors_before errors =
+    ((asked : NetworkAsked) × AsksForService words asked
+    × FailsToServe asked before after errors_before errors)
     ⊎ FailsToShow (codes "wfmc") network_app words (alone before) (alone after) errors_before errors
 
 -- the words ask for nothing that can be served, or are a mistake, and that was reported
-abbrev pub RefusesWords : List Text → Outflow → Outflow → Type 0
-RefusesWords words errors_before errors =
-    AsksForNone words × PushesOrFails (fault_line (codes "wfmc") BadSettings) errors_before errors ⊎ TellsMistake network_app words errors_before errors
+abbrev pub WfmcRefuses : List Text → Outflow → Outflow → Type 0
+WfmcRefuses words errors_before errors =
+    AsksForNone words × PushesOrFails (fault_line (codes "wfmc") BadSettings) errors_before errors
+    ⊎ TellsMistake network_app words errors_before errors
 
 -- how a run of wfmc ends, by its status
-abbrev pub Ends : List Text → ℕ → Outflow → Outflow → Outflow → Outflow → Type 0
-Ends words status before after errors_before errors =
-    (status ≡ 0) × EndsWell words before after × (errors ≡ errors_before)
-    ⊎ (status ≡ 1) × EndsInFault words before after errors_before errors
-    ⊎ (status ≡ 2) × RefusesWords words errors_before errors × (after ≡ before)
+abbrev pub WfmcEnds : List Text → ℕ → Outflow → Outflow → Outflow → Outflow → Type 0
+WfmcEnds words status before after errors_before errors =
+    (status ≡ 0) × WfmcEndsWell words before after × (errors ≡ errors_before)
+    ⊎ (status ≡ 1) × WfmcEndsInFault words before after errors_before errors
+    ⊎ (status ≡ 2) × WfmcRefuses words errors_before errors × (after ≡ before)

@@ -13,11 +13,13 @@ told_address address given = if address.port == 0 then record address { port = g
 
 -- the line for a tenant's listener
 abbrev pub listening_line : Text → SocketAddrV4 → List ℕ
-listening_line name address = codes "listening " ++ (name ++ (codes " " ++ (socket_v4_text address ++ codes "\n")))
+listening_line name address =
+    codes "listening " ++ (name ++ (codes " " ++ (socket_v4_text address ++ codes "\n")))
 
 -- the lines for all listeners, in their order, and the line that ends them
 abbrev pub ready_text : List Listening → List ℕ
-ready_text listening = flat_map (λ one. listening_line one.name.now one.address) listening ++ codes "ready\n"
+ready_text listening =
+    flat_map (λ one. listening_line one.name.now one.address) listening ++ codes "ready\n"
 
 -- the line with the length of the log, once all connections were served
 abbrev pub done_line : ℕ → List ℕ

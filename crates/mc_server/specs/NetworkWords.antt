@@ -23,7 +23,11 @@ tenants_rule = record (new_rule (codes "tenants")) {
 
 -- the options: `--workers`, `--places` and `--connections`
 abbrev pub options_app : App
-options_app = with_rule (with_rule (with_rule (bare_app (codes "wfmc")) (number_rule (codes "workers"))) (number_rule (codes "places"))) (number_rule (codes "connections"))
+options_app =
+    with_rule
+    (with_rule (with_rule (bare_app (codes "wfmc")) (number_rule (codes "workers")))
+    (number_rule (codes "places")))
+    (number_rule (codes "connections"))
 
 -- the command: the options and the tenants' words
 abbrev pub network_app : App
@@ -40,8 +44,8 @@ pub record NetworkGiven : Type 0 where
   pub connections : ℕ
   pub tenants : List Text
 
-abbrev pub given_by : List Text → NetworkGiven
-given_by words = record {
+abbrev pub given_by_words : List Text → NetworkGiven
+given_by_words words = record {
   workers = number_asked network_app (codes "workers") 2 words;
   places = number_asked network_app (codes "places") 65536 words;
   connections = number_asked network_app (codes "connections") 0 words;
@@ -65,7 +69,11 @@ pub record Asks (given : NetworkGiven) (asked : NetworkAsked) : Type 0 where
 
 -- the settings that are asked for: each tenant's quotas, by the tenants' numbers
 abbrev pub settings_asked : NetworkAsked → Configuration
-settings_asked asked = record { workers = asked.workers; places = asked.places; tenants = map (λ tenant. tenant.limits) asked.tenants }
+settings_asked asked = record {
+  workers = asked.workers;
+  places = asked.places;
+  tenants = map (λ tenant. tenant.limits) asked.tenants;
+}
 
 -- each number is within its bounds, and no name is used twice
 pub record IsServable (asked : NetworkAsked) : Type 0 where
@@ -79,15 +87,21 @@ AsksInVain given = (asked : NetworkAsked) → Asks given asked → ¬ (IsServabl
 
 -- the command takes the words, and they ask for this, which can be served
 abbrev pub AsksForService : List Text → NetworkAsked → Type 0
-AsksForService words asked = (fault_of network_app words ≡ []) × Asks (given_by words) asked × IsServable asked
+AsksForService words asked =
+    (fault_of network_app words ≡ []) × Asks (given_by_words words) asked × IsServable asked
 
 -- the command takes the words, and they ask for nothing that can be served
 abbrev pub AsksForNone : List Text → Type 0
-AsksForNone words = (fault_of network_app words ≡ []) × AsksInVain (given_by words)
+AsksForNone words = (fault_of network_app words ≡ []) × AsksInVain (given_by_words words)
 
 -- what contracts see of the words that were read, and of what is to be served
-abbrev pub given_of : NetworkWords → NetworkGiven
-given_of words = record { workers = words.workers; places = words.places; connections = words.connections; tenants = map (λ word. word.now) words.tenants.items }
+abbrev pub given_in : NetworkWords → NetworkGiven
+given_in words = record {
+  workers = words.workers;
+  places = words.places;
+  connections = words.connections;
+  tenants = map (λ word. word.now) words.tenants.items;
+}
 
 abbrev pub served_by : Service → NetworkAsked
 served_by service = record {
@@ -98,9 +112,9 @@ served_by service = record {
 }
 
 -- The command takes the words, and they give this.
-pub record AsksFor (words : List Text) (read : NetworkWords) : Type 0 where
+pub record WordsGive (words : List Text) (read : NetworkWords) : Type 0 where
   pub taken : fault_of network_app words ≡ []
-  pub given : given_of read ≡ given_by words
+  pub given : given_in read ≡ given_by_words words
 
 -- The settings are those of what is to be served, and it can be served.
 pub record IsChecked (service : Service) : Type 0 where

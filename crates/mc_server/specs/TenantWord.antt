@@ -17,11 +17,14 @@ pub record TenantAsked : Type 0 where
 
 -- what contracts see of a tenant
 abbrev pub asked_of : Tenant → TenantAsked
-asked_of tenant = record { name = tenant.name.now; address = tenant.address; limits = tenant.limits }
+asked_of tenant =
+    record { name = tenant.name.now; address = tenant.address; limits = tenant.limits }
 
 -- `a` to `z`, `0` to `9`, `-` or `_`
 abbrev pub is_name_byte : ℕ → Bool
-is_name_byte byte = (nat_le 97 byte && nat_le byte 122) || (nat_le 48 byte && nat_le byte 57) || (byte == 45) || (byte == 95)
+is_name_byte byte =
+    (nat_le 97 byte && nat_le byte 122) || (nat_le 48 byte && nat_le byte 57)
+    || (byte == 45) || (byte == 95)
 
 -- 1 to 32 such bytes
 pub record IsName (name : Text) : Type 0 where
@@ -34,7 +37,8 @@ Lacks byte text = All (λ other. other ≢ byte) text
 
 -- the word made of these parts
 abbrev pub tenant_text : Text → Text → Text → Text → Text
-tenant_text name address items bytes = name ++ (codes "=" ++ (address ++ (codes "," ++ (items ++ (codes "," ++ bytes)))))
+tenant_text name address items bytes =
+    name ++ (codes "=" ++ (address ++ (codes "," ++ (items ++ (codes "," ++ bytes)))))
 
 -- The word is of the form, and says this tenant. Its quotas need not be within their bounds.
 pub record Says (word : Text) (tenant : TenantAsked) : Type 0 where

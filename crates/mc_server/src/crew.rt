@@ -2,7 +2,7 @@
 ghost use Rattle.std.specs.List.{AllZip};
 ghost use Rattle.std.specs.Prelude.{◌≡◌, All, MatchResult, length, slice_get, Some, ℕ};
 ghost use Rattle.mc_model.specs.declared.fault.Fault.TheVariants as faults;
-ghost use Rattle.mc_server.specs.Network.{AreOf, AreWorkersOf, HasDoneNothing, HaveMet, IsCrew, Meets};
+ghost use Rattle.mc_server.specs.Network.{AreOf, AreWorkersOf, HasDoneNothing, HaveMet, IsCrew, MeetsAnother};
 ghost use Rattle.uc_worker.specs.Going.{CatchesUp};
 ghost use Rattle.uc_worker.specs.Worker.{IsUpToDate};
 ghost use Rattle.uc_log.specs.Passes.{IsNew};
@@ -46,7 +46,7 @@ fn meet_others<'a>(
     requires log { AreOf one.old.log.now others.items }
     requires whole { IsUpToDate one.old }
     ensures outcome { MatchResult result
-        (λ met. AllZip (Meets one.old one.new) others.entry.items met.items × IsUpToDate one.new)
+        (λ met. AllZip (MeetsAnother one.old one.new) others.entry.items met.items × IsUpToDate one.new)
         (λ fault. fault ≡ faults.Memory) }
     ensures later { CatchesUp one.old one.new }
 {

@@ -2,7 +2,7 @@
 ghost use Rattle.std.specs.Prelude.{◌≡◌, ◌≤◌, IfOk, MatchResult, length, map};
 ghost use Rattle.mc_model.specs.declared.fault.Fault.TheVariants.{Memory};
 ghost use Rattle.mc_model.specs.declared.id.TheConstants.{TENANTS};
-ghost use Rattle.mc_server.specs.Listeners.{AreListenersOf, IsTold, StopsListening};
+ghost use Rattle.mc_server.specs.Listeners.{AreListenersOf, IsListeningFor, StopsListening};
 ghost use Rattle.mc_server.specs.TenantWord.{asked_of};
 ghost use Rattle.mc_server.specs.declared.listeners.Stop.TheVariants.{Failed};
 
@@ -49,7 +49,7 @@ impl<T: Drop> From<AllocFailed<T>> for Stop<'_> {
 ///
 /// Returns the system's error if it can't be bound or its port can't be found out.
 fn bind<'a, R: Net>(rt: &R, tenant: &Tenant<'a>) -> io::Result<(TcpListener, Listening<'a>)>
-    ensures { IfOk result (λ bound. IsTold (asked_of tenant.now) bound.1) }
+    ensures { IfOk result (λ bound. IsListeningFor (asked_of tenant.now) bound.1) }
 {
     let listener = TcpListener::bind(rt, SocketAddr::V4(tenant.address))?;
     let given = listener.local_addr()?.port();

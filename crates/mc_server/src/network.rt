@@ -1,7 +1,7 @@
 //! The program that serves several tenants.
 ghost use Rattle.std.specs.Prelude.{MatchResult, map, string_bytes};
 ghost use Rattle.mc_server.specs.Listeners.{AreListenersOf};
-ghost use Rattle.mc_server.specs.Network.{Ends, IsCrew, IsDone, IsReady, IsServed, Serves, StopsAnnouncing, StopsFinishing, StopsRun, StopsServing, stop_line};
+ghost use Rattle.mc_server.specs.Network.{WfmcEnds, IsCrew, HasPrintedLength, IsReady, IsServed, ServesTenants, StopsAnnouncing, StopsFinishing, StopsRun, StopsServing, stop_line};
 ghost use Rattle.mc_server.specs.NetworkWords.{IsChecked, served_by, settings_asked};
 ghost use Rattle.mc_stream.specs.Pushing.{PushesOrFails};
 
@@ -51,7 +51,7 @@ fn finish<R: Wait, O: Output>(
 ) -> Result<(), Fault>
     requires { IsCrew workers.items }
     ensures outcome { MatchResult result
-        (λ _. IsDone workers.entry.items (O.tells output.old) (O.tells output.new))
+        (λ _. HasPrintedLength workers.entry.items (O.tells output.old) (O.tells output.new))
         (StopsFinishing workers.entry.items (O.tells output.old) (O.tells output.new)) }
 {
     let count = meet_all(alloc, workers)?;
@@ -106,7 +106,7 @@ fn run_service<'a, R: Threads + Wait + Net + Sync, O: Output>(
 ) -> Result<(), Stop<'a>>
     requires { IsChecked service.now }
     ensures outcome { MatchResult result
-        (λ _. Serves (served_by service.now) (O.tells output.old) (O.tells output.new))
+        (λ _. ServesTenants (served_by service.now) (O.tells output.old) (O.tells output.new))
         (StopsRun (served_by service.now) (O.tells output.old) (O.tells output.new)) }
 {
     let bound = bind_all(rt, alloc, &service.tenants)?;
@@ -147,8 +147,8 @@ pub fn run_wfmc<R: Threads + Wait + Net + Sync, O: Output, E: Output>(
     errors: &mut E,
 ) -> u8
     // How the run ends and what is printed, by what the words ask for.
-    ensures { Ends (map string_bytes words.items) result (O.tells output.old) (O.tells output.new)
-        (E.tells errors.old) (E.tells errors.new) }
+    ensures { WfmcEnds (map string_bytes words.items) result
+        (O.tells output.old) (O.tells output.new) (E.tells errors.old) (E.tells errors.new) }
 {
     let given = match read_words(alloc, &words) {
         Ok(given) => given,

@@ -4,7 +4,7 @@ ghost use Rattle.std.specs.Prelude.{◌≡◌, ◌↔◌, ◌⊎◌, List, IfOk,
 ghost use Rattle.std.specs.Str.{bytes_eq};
 ghost use Rattle.clap.specs.Words.{HasKind, app_of, fault_of, rule_of};
 ghost use Rattle.mc_model.specs.declared.fault.Fault.TheVariants as faults;
-ghost use Rattle.mc_server.specs.NetworkWords.{Asks, AsksFor, AsksInVain, IsChecked, given_of, network_app, options_app, served_by, tenants_rule};
+ghost use Rattle.mc_server.specs.NetworkWords.{Asks, WordsGive, AsksInVain, IsChecked, given_in, network_app, options_app, served_by, tenants_rule};
 ghost use Rattle.mc_server.specs.TenantWord.{IsOnly, Says, TenantAsked, asked_of};
 
 use crate::tenant_word::{Tenant, read_tenant};
@@ -97,7 +97,7 @@ fn network_command<'a>(alloc: Global) -> Result<Command<'a>, AllocError>
 ///
 /// Returns clap's error if they ask for help or the version, are a mistake, or memory runs out.
 pub(crate) fn read_words(alloc: Global, words: &[String]) -> Result<NetworkWords<'_>, Error>
-    ensures outcome { MatchResult result (AsksFor (map string_bytes words.now))
+    ensures outcome { MatchResult result (WordsGive (map string_bytes words.now))
         (HasKind (fault_of network_app (map string_bytes words.now))) }
 {
     let matches = network_command(alloc)?.try_get_matches_from(words)?;
@@ -163,9 +163,9 @@ fn quotas_of(alloc: Global, tenants: &[Tenant]) -> Result<Vec<Limits>, AllocErro
 /// out of its bounds, or a name is used twice. Returns `Memory` if memory runs out.
 pub(crate) fn service_of<'a>(alloc: Global, words: &NetworkWords<'a>) -> Result<Service<'a>, Fault>
     ensures outcome { MatchResult result
-        (λ service. Asks (given_of words.now) (served_by service) × IsChecked service)
+        (λ service. Asks (given_in words.now) (served_by service) × IsChecked service)
         (λ fault. (fault ≡ faults.Memory)
-        ⊎ (fault ≡ faults.BadSettings) × AsksInVain (given_of words.now)) }
+        ⊎ (fault ≡ faults.BadSettings) × AsksInVain (given_in words.now)) }
 {
     let tenants = read_tenants(alloc, &words.tenants)?;
     let quotas = quotas_of(alloc, &tenants)?;

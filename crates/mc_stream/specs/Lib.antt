@@ -1,6 +1,5 @@
 pub mod Event
 pub mod Stream
 pub mod Pushing
-pub mod Pushed
 pub mod Memory
 pub mod Standard

@@ -30,22 +30,31 @@ PushesFront bytes before after = (rest : List ℕ) × Unqueues bytes rest before
 
 -- the last push found the output full, or the output failed once
 abbrev pub IsStopped : Outflow → Outflow → Type 0
-IsStopped before after = (had_to_wait after.events ≡ true) × IsUnfailed before after ⊎ FailsOnce before after
+IsStopped before after =
+    (had_to_wait after.events ≡ true) × IsUnfailed before after ⊎ FailsOnce before after
 
 -- nothing is left unsent, or the output was full or failed
 abbrev pub IsAllOrStopped : List ℕ → Outflow → Outflow → Type 0
-IsAllOrStopped unsent before after = (unsent ≡ []) × IsUnfailed before after ⊎ IsStopped before after
+IsAllOrStopped unsent before after =
+    (unsent ≡ []) × IsUnfailed before after ⊎ IsStopped before after
 
 -- as many of the bytes are pushed as the output takes at once
 abbrev pub PushesAtOnce : List ℕ → Outflow → Outflow → Type 0
-PushesAtOnce bytes before after = (rest : List ℕ) × Unqueues bytes rest before after × IsAllOrStopped rest before after
+PushesAtOnce bytes before after =
+    (rest : List ℕ) × Unqueues bytes rest before after × IsAllOrStopped rest before after
 
 -- the bytes are pushed, or a prefix of them if the output failed once
 abbrev pub PushesOrFails : List ℕ → Outflow → Outflow → Type 0
-PushesOrFails bytes before after = Pushes before after bytes × IsUnfailed before after ⊎ PushesFront bytes before after × FailsOnce before after
+PushesOrFails bytes before after =
+    Pushes before after bytes × IsUnfailed before after
+    ⊎ PushesFront bytes before after × FailsOnce before after
 
 -- why a push of `there` bytes stopped after `count` of them
 abbrev pub StopsAs : Stop → ℕ → ℕ → Outflow → Outflow → Type 0
-StopsAs All count there before after = (count ≡ there) × IsUnfailed before after × (waits after.events ≡ waits before.events)
-StopsAs Full count there before after = IsUnfailed before after × (had_to_wait after.events ≡ true) × (waits after.events ≡ waits before.events + 1)
-StopsAs Failed count there before after = FailsOnce before after × (waits after.events ≡ waits before.events)
+StopsAs All count there before after =
+    (count ≡ there) × IsUnfailed before after × (waits after.events ≡ waits before.events)
+StopsAs Full count there before after =
+    IsUnfailed before after × (had_to_wait after.events ≡ true)
+    × (waits after.events ≡ waits before.events + 1)
+StopsAs Failed count there before after =
+    FailsOnce before after × (waits after.events ≡ waits before.events)

@@ -54,4 +54,5 @@ written_of output = record { events = output.tape.events }
 abbrev pub WritesTaken : Option (List ℕ) → Option (List ℕ) → Push → List ℕ → Type 0
 WritesTaken old new (Taken count) bytes = Appends old new (take count bytes)
 WritesTaken old new Full bytes = Keeps old new
-WritesTaken old new OutputFailed bytes = (count : ℕ) × (count ≤ length bytes) × Appends old new (take count bytes)
+WritesTaken old new OutputFailed bytes =
+    (count : ℕ) × (count ≤ length bytes) × Appends old new (take count bytes)

@@ -5,7 +5,7 @@
 //! on, and that a write is flushed, is in the bodies of `pull` and `push`; the clauses `rest` and
 //! `written` tie their bytes to a stream that reports its own.
 ghost use Rattle.std.specs.IoError.{error_kind};
-ghost use Rattle.std.specs.Prelude.{◌≡◌, ◌∷◌, ◌<◌, ◌≤◌, [], IfOk, length};
+ghost use Rattle.std.specs.Prelude.{◌≡◌, ◌∷◌, ◌<◌, [], length};
 ghost use Rattle.mc_stream.specs.Standard.{WritesTaken, asks_again, pull_of, push_of, read_of, reader_of, writer_of, written_of};
 ghost use Rattle.mc_stream.specs.Stream.{GivesAtMost, TakesAtMost, pull_event, push_event};
 

@@ -31,8 +31,8 @@ unique_text (Some unique) = codes " " ++ decimal unique
 -- the line of an item, without the line's end
 abbrev pub value_line : Value → List ℕ
 value_line value =
-    codes "VALUE " ++ value.key ++ codes " " ++ decimal value.flags ++ codes " " ++ decimal (length value.block)
-    ++ unique_text value.unique
+    codes "VALUE " ++ value.key ++ codes " " ++ decimal value.flags
+    ++ codes " " ++ decimal (length value.block) ++ unique_text value.unique
 
 -- the text of an item
 abbrev pub value_text : Value → List ℕ

@@ -3,10 +3,10 @@
 #![tactic(auto)]
 
 ghost use Rattle.std.specs.Io.{StartsWith};
-ghost use Rattle.std.specs.Prelude.{◌≡◌, ℕ, ◌+◌, ◌≤◌, ◌++◌, codes, decimal, flat_map, length, vec_capacity, vec_len, OnErr, OnOk, IsOk, IsOkUnless};
+ghost use Rattle.std.specs.Prelude.{◌≡◌, ◌+◌, ◌≤◌, ◌++◌, codes, decimal, flat_map, length, vec_capacity, vec_len, OnErr, OnOk, IsOk, IsOkUnless};
 ghost use Rattle.mc_model.specs.declared.reply.Reply.TheVariants.{Refused};
 ghost use Rattle.mc_write.specs.Faults.{fault_text};
-ghost use Rattle.mc_write.specs.Text.{text, unique_text, value_line, value_text};
+ghost use Rattle.mc_write.specs.Text.{text, value_line, value_text};
 
 use itoa::Buffer;
 use mc_model::{Fault, Reply, Value, WireNo};

@@ -15,7 +15,8 @@ pub record CellsState : Type 0 where
 abbrev pub coded_cells : Coded CellsState
 coded_cells =
     code_by (ℕ × (ℕ × List ℕ)) (coded× coded_ℕ (coded× coded_ℕ (coded_list coded_ℕ)))
-    (λ c. (c.workers, (c.places, c.rows))) (λ p. record { workers = p.0; places = p.1.0; rows = p.1.1 }) (λ _. refl)
+    (λ c. (c.workers, (c.places, c.rows)))
+    (λ p. record { workers = p.0; places = p.1.0; rows = p.1.1 }) (λ _. refl)
 
 -- the ticket has a cell: its worker and number are below those of the cells
 abbrev pub HasCell : CellsState → Ticket → Type 0

@@ -8,7 +8,8 @@ use Rattle.uc_cells.specs.Cells.{place_in_row}
 abbrev pub RowCells : Type 0
 RowCells = List ℕ
 
-pub record IsKnown (ticket : Ticket) (known : Option RowCells) (cell : ℕ) (found : Option (Option Entry)) (value : Option Entry) : Type 0 where
+pub record IsKnown (ticket : Ticket) (known : Option RowCells) (cell : ℕ)
+    (found : Option (Option Entry)) (value : Option Entry) : Type 0 where
   pub row : RowCells
   pub knows_row : known ≡ Some row
   pub is_there : slice_get row (place_in_row ticket.number) ≡ Some cell

@@ -22,8 +22,10 @@ sighting ticket entry row = record { ticket = ticket; entry = entry; row = row }
 -- how a sighting is stored as a model's value
 abbrev pub coded_sighting : Coded Sighting
 coded_sighting =
-    code_by (Ticket × (Option Entry × ℕ)) (coded× ticket_row.the_row.coded (coded× (coded_option entry_row.the_row.coded) coded_ℕ))
-    (λ s. (s.ticket, (s.entry, s.row))) (λ p. record { ticket = p.0; entry = p.1.0; row = p.1.1 }) (λ _. refl)
+    code_by (Ticket × (Option Entry × ℕ))
+    (coded× ticket_row.the_row.coded (coded× (coded_option entry_row.the_row.coded) coded_ℕ))
+    (λ s. (s.ticket, (s.entry, s.row)))
+    (λ p. record { ticket = p.0; entry = p.1.0; row = p.1.1 }) (λ _. refl)
 
 -- what a cell's value counts as for a ticket: an entry of another ticket counts as absent
 abbrev pub counted : Ticket → Option Entry → Option Entry

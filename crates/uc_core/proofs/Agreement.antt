@@ -10,15 +10,15 @@ use Rattle.mc_model.specs.declared.request.Entry.{Entry}
 use Rattle.mc_model.specs.declared.shown.WorkerState.{WorkerState}
 use Rattle.mc_model.specs.Legal.{IsLegal, count}
 use Rattle.mc_model.specs.History.{state_from}
-use Rattle.mc_model.specs.Log.{Sighting, own, entries, entry_for, entry_of}
+use Rattle.mc_model.specs.Log.{PlaceSighting, own, entries_seen, entry_for, entry_seen}
 use Rattle.mc_model.specs.Replay.{EachStands, empty_tables}
 use Rattle.uc_core.specs.Core.{CoreState, ReplayState, entry_under, log_of}
 use Rattle.uc_core.specs.Headline.{HasReplica, LogIsSound, ReplicasAgree, StandsOnce, TablesStand, replica_of}
 use Rattle.uc_core.proofs.CoreLaws.{CoreLaw, stands_with_entry}
-use Rattle.uc_core.proofs.Lists.{take_more}
+use Rattle.lists.proofs.Public.{take_more}
 use Rattle.uc_core.proofs.Lookups.{map-agree, same_by_places}
 use Rattle.uc_core.proofs.Replays.{take-begins}
-use Rattle.uc_core.proofs.Tickets.{count_front, count_own}
+use Rattle.mc_model.proofs.Public.{count_front, count_own}
 
 -- a ticket that stands earlier in a legal list would be counted before the later place
 not_before : (tickets : List Ticket) (ticket : Ticket) (one other : ℕ) → IsLegal tickets →
@@ -44,7 +44,7 @@ pub log_is_sound : (core : CoreState) → CoreLaw core → LogIsSound core
 log_is_sound core law = record { once = stands_once core law.sound.legal; legal = law.sound.legal; announced = stands_with_entry core law }
 
 -- what is seen of a ticket
-abbrev seen : CoreState → Ticket → Sighting
+abbrev seen : CoreState → Ticket → PlaceSighting
 seen core ticket = record { ticket = ticket; entry = entry_under core ticket }
 
 -- an entry counts for its own ticket
@@ -76,7 +76,7 @@ module _ (core : CoreState) (law : CoreLaw core) where
   }
 
   -- each sighting's entry counts, so that the replica's entries are those of the log
-  counts : (place : ℕ) (ticket : Ticket) → slice_get core.shown.decided place ≡ Some ticket → entry_of (seen core ticket) ≡ entry_under core ticket
+  counts : (place : ℕ) (ticket : Ticket) → slice_get core.shown.decided place ≡ Some ticket → entry_seen (seen core ticket) ≡ entry_under core ticket
   counts place ticket at =
       let found = stands_with_entry core law place ticket at in
       ap (option_and_then (entry_for ticket)) found.1 ∙ own_entry found.0 ticket found.2 ∙ sym found.1
@@ -84,7 +84,7 @@ module _ (core : CoreState) (law : CoreLaw core) where
   pub tables_stand : TablesStand core
   tables_stand number worker replay has =
       let its = law.replays number worker replay has in
-      let same = ap entries (replica_is number worker replay has)
-      ∙ sym (take-map entry_of replay.replayed (map (seen core) core.shown.decided))
-      ∙ ap (take replay.replayed) (map-map entry_of (seen core) core.shown.decided ∙ map-agree _ (entry_under core) core.shown.decided counts) in
+      let same = ap entries_seen (replica_is number worker replay has)
+      ∙ sym (take-map entry_seen replay.replayed (map (seen core) core.shown.decided))
+      ∙ ap (take replay.replayed) (map-map entry_seen (seen core) core.shown.decided ∙ map-agree _ (entry_under core) core.shown.decided counts) in
       (its.few, subst (λ (log : List (Option Entry)). EachStands (empty_tables core.openings) log replay.tables) (sym same) its.stands)

@@ -1,6 +1,6 @@
 -- An event changes its own worker alone, and a worker that has stopped takes none, so it stays as
 -- it is.
-use Rattle.std.proofs.Common.{◌≡◌, ◌≢◌, ℕ, zero, suc, List, [], ◌∷◌, Option, Some, None, slice_get, ⊎_elim, refl, sym, ap, ◌∙◌}
+use Rattle.std.proofs.Common.{◌≡◌, ◌≢◌, ℕ, zero, suc, List, [], ◌∷◌, Option, Some, slice_get, ⊎_elim, refl, sym, ap, ◌∙◌}
 use Rattle.std.proofs.lemmas.Option.{none-some, same_Some, slice_get_within}
 use Rattle.mc_model.specs.declared.reply.Reply.{Reply}
 use Rattle.mc_model.specs.declared.shown.Phase.{Phase}
@@ -15,7 +15,7 @@ use Rattle.uc_core.specs.Run.{Given, Runs}
 use Rattle.uc_core.specs.Step.{CoreStep, actor}
 use Rattle.uc_core.specs.declared.event.Event.{Event}
 use Rattle.uc_core.specs.declared.event.Event.TheVariants.{Announce, Look, Propose, Read, Replay, Stop}
-use Rattle.uc_core.proofs.Lists.{set_elsewhere, set_here}
+use Rattle.lists.proofs.Public.{set_elsewhere, set_here}
 
 -- what is shown of a worker, and its replay
 abbrev workers_of : ℕ → ShownState → Option WorkerState

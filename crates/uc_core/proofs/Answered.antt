@@ -7,22 +7,21 @@ use Rattle.std.proofs.lemmas.Option.{slice_get-map, slice_get_within}
 use Rattle.std.specs.Option.{option_and_then, option_map_or}
 use Rattle.mc_model.specs.declared.id.Ticket.{Ticket}
 use Rattle.mc_model.specs.declared.reply.Reply.{Reply}
-use Rattle.mc_model.specs.declared.settings.Limits.{Limits}
 use Rattle.mc_model.specs.declared.shown.WorkerState.{WorkerState}
-use Rattle.mc_model.specs.Helping.{BeginsWith}
+use Rattle.lists.specs.Lists.{BeginsWith}
 use Rattle.mc_model.specs.History.{state_after, state_from}
 use Rattle.mc_model.specs.Log.{own}
 use Rattle.mc_model.specs.Replay.{reply_from}
 use Rattle.mc_model.specs.Settings.{Configuration}
 use Rattle.mc_model.specs.State.{TableState, empty_table, next_reply}
-use Rattle.uc_core.specs.Core.{CoreState, ReplayState, entry_under, log_of, new_core, size_of}
+use Rattle.uc_core.specs.Core.{CoreState, ReplayState, entry_under, log_of, new_core, core_size}
 use Rattle.uc_core.specs.Headline.{HasReplica, HasReply, OfEveryRun, OwnAreAnswered}
 use Rattle.uc_core.specs.Run.{Given, Runs, given_by, replayed_by}
 use Rattle.uc_core.specs.Step.{CoreStep, entry_at}
 use Rattle.uc_core.specs.declared.event.Event.{Event}
 use Rattle.uc_core.specs.declared.event.Event.TheVariants.{Announce, Look, Propose, Read, Replay, Stop}
 use Rattle.uc_core.proofs.CoreLaws.{CoreLaw, keeps, opens, stands_with_entry}
-use Rattle.uc_core.proofs.Lists.{at_replicated, set_elsewhere, set_here}
+use Rattle.lists.proofs.Public.{at_replicated, set_elsewhere, set_here}
 use Rattle.uc_core.proofs.Lookups.{at_further, at_longer, there}
 use Rattle.uc_core.proofs.Runs.{of_run, stands_on}
 use Rattle.uc_core.proofs.StateLaws.{learned_few}
@@ -80,7 +79,7 @@ module _ (old new : CoreState) (number : ℕ) (reply : Option Reply) (law : Core
   stood_here : (tickets : List Ticket) (ticket : Ticket) → BeginsWith tickets old.shown.decided → slice_get tickets step.3.replayed ≡ Some ticket →
       slice_get old.shown.decided step.3.replayed ≡ Some ticket
   stood_here tickets ticket begins at =
-      let inside : step.3.replayed < length old.shown.decided = omega (arith, step.5, learned_few (size_of old) old.shown number step.0 law.sound step.1) in
+      let inside : step.3.replayed < length old.shown.decided = omega (arith, step.5, learned_few (core_size old) old.shown number step.0 law.sound step.1) in
       let it = there old.shown.decided step.3.replayed inside in
       it.1 ∙ sym (stands_on tickets old.shown.decided begins step.3.replayed it.0 it.1) ∙ at
 

@@ -1,6 +1,6 @@
 -- What the events of a run say of the core that it leads to: by induction from the run's front, one
 -- event after another.
-use Rattle.std.proofs.Common.{◌≡◌, ◌≢◌, ℕ, ◌+◌, ◌≤◌, ◌==◌, Bool, cond, if◌then◌else◌, List, [], ◌∷◌, ◌++◌, length, length-set, map, replicate, Option, Some, None, slice_get, slice_set, option_map, ⊎_elim, refl, sym, ap, ◌∙◌, arith, eq-eqb, ne_eqb, append-nil, append_assoc}
+use Rattle.std.proofs.Common.{◌≡◌, ◌≢◌, ℕ, ◌+◌, ◌≤◌, Bool, cond, if◌then◌else◌, List, [], ◌∷◌, ◌++◌, length, map, Option, Some, None, slice_get, slice_set, option_map, ⊎_elim, refl, sym, ap, ◌∙◌, arith, eq-eqb, ne_eqb, append-nil, append_assoc}
 use Rattle.std.proofs.lemmas.Bool.{cases_eq}
 use Rattle.std.proofs.lemmas.List.{length-map, length-replicate, map-append}
 use Rattle.std.proofs.lemmas.List.Elements.{filter_map-append}
@@ -18,15 +18,15 @@ use Rattle.mc_model.specs.Lawful.{announced_by, next, turn}
 use Rattle.mc_model.specs.Legal.{ticket_of}
 use Rattle.mc_model.specs.Settings.{Configuration}
 use Rattle.mc_model.specs.Shown.{announce, look, new_worker, propose, read, stop}
-use Rattle.uc_core.specs.Asked.{AnnouncementsStand, ByEvents, FewProposals, IsOfSettings, ReplaysCount, announcement_of, announcements, is_replay_of, proposals_of, proposals_with}
-use Rattle.uc_core.specs.Core.{CoreState, ReplayState, entry_under, new_core, size_of}
+use Rattle.uc_core.specs.Asked.{AnnouncementsStand, ByEvents, FewProposals, IsOfSettings, ReplaysCount, announcement_of, announcements, is_replay_of, proposals_with}
+use Rattle.uc_core.specs.Core.{CoreState, ReplayState, entry_under, new_core, core_size}
 use Rattle.uc_core.specs.Run.{Given, IsRun, Runs, replayed_by}
 use Rattle.uc_core.specs.Step.{CoreStep, actor, announced_entry, with_entry}
 use Rattle.uc_core.specs.declared.event.Event.{Event}
 use Rattle.uc_core.specs.declared.event.Event.TheVariants.{Announce, Look, Propose, Read, Replay, Stop}
 use Rattle.uc_core.proofs.Alone.{steps_are_alone}
 use Rattle.uc_core.proofs.CoreLaws.{CoreLaw, grows, keeps, opens}
-use Rattle.uc_core.proofs.Lists.{at_replicated, set_elsewhere, set_here}
+use Rattle.lists.proofs.Public.{at_replicated, set_elsewhere, set_here}
 use Rattle.uc_core.proofs.Lookups.{there}
 use Rattle.uc_core.proofs.Runs.{law_of}
 use Rattle.uc_core.proofs.Soon.{shows_step}
@@ -46,7 +46,7 @@ made part make each old new (event ∷ events) given law runs =
     ∙ ap (λ it. fold make it events) (each old event runs.0 runs.1 law runs.3)
 
 -- the settings: no event changes them
-kept_size : EachMakes size_of (λ size event. size)
+kept_size : EachMakes core_size (λ size event. size)
 kept_size old event new reply law step = (shows_step old new event reply step).size
 
 kept_openings : EachMakes (λ core. core.openings) (λ openings event. openings)
@@ -58,8 +58,8 @@ nothing_made it (event ∷ events) = nothing_made it events
 
 pub is_of_settings : ByEvents (λ settings events core. IsOfSettings settings core)
 is_of_settings settings events core given run =
-    let size = made size_of (λ size event. size) kept_size (new_core settings) core events given (opens settings) run
-    ∙ nothing_made (size_of (new_core settings)) events in record {
+    let size = made core_size (λ size event. size) kept_size (new_core settings) core events given (opens settings) run
+    ∙ nothing_made (core_size (new_core settings)) events in record {
       workers = ap (λ (it : LogSize). it.workers) size ∙ length-replicate settings.workers new_worker;
       places = ap (λ (it : LogSize). it.places) size;
       tenants = made (λ core. core.openings) (λ openings event. openings) kept_openings (new_core settings) core events given (opens settings) run
@@ -309,7 +309,7 @@ proposals_made number old (Read worker) new reply law step =
     leaves_them number old (Read worker) new reply step.0.0 (read worker (next old.shown step.0.0) step.0.0) step step.0.1
     (ap (λ (it : ShownState). it.workers) step.0.4) (reading_proposes worker (next old.shown step.0.0) step.0.0)
 proposals_made number old (Look worker) new reply law step =
-    let whose = turn (size_of old) step.0.0 in
+    let whose = turn (core_size old) step.0.0 in
     leaves_them number old (Look worker) new reply step.0.0 (look whose (announced_by old.shown whose) step.0.0) step step.0.1
     (ap (λ (it : ShownState). it.workers) step.0.5) refl
 proposals_made number old (Propose worker) new reply law step = proposal_counts number old worker new reply step
@@ -329,7 +329,7 @@ few_by core law number = by_found (slice_get core.shown.workers number) refl
   where
     by_found : (found : Option WorkerState) → slice_get core.shown.workers number ≡ found → proposals_in found ≤ length core.shown.workers + 1
     by_found None at = omega arith
-    by_found (Some worker) at = ((is_lawful (size_of core) core.shown law.reached).each number worker at).proposals
+    by_found (Some worker) at = ((is_lawful (core_size core) core.shown law.reached).each number worker at).proposals
 
 pub few_proposals : ByEvents (λ settings events core. FewProposals settings events)
 few_proposals settings events core given run number =

@@ -11,20 +11,21 @@ use Rattle.mc_model.specs.declared.request.Entry.{Entry}
 use Rattle.mc_model.specs.declared.shown.LogSize.{LogSize}
 use Rattle.mc_model.specs.declared.shown.ShownState.{ShownState}
 use Rattle.mc_model.specs.declared.shown.WorkerState.{WorkerState}
-use Rattle.mc_model.specs.Helping.{BeginsWith}
+use Rattle.lists.specs.Lists.{BeginsWith}
 use Rattle.mc_model.specs.Lawful.{IsReached, IsWorker, ShownEvent, Step, announced_by, announces, looks, proposes, reads, stops, with_worker}
-use Rattle.mc_model.specs.Replay.{EachStands-none, TakeEffect, empty_tables}
+use Rattle.mc_model.proofs.Public.{EachStands-none}
+use Rattle.mc_model.specs.Replay.{TakeEffect, empty_tables}
 use Rattle.mc_model.specs.State.{TableState}
 use Rattle.mc_model.specs.Settings.{Configuration}
 use Rattle.mc_model.specs.Shown.{announce, new_log, new_worker}
-use Rattle.uc_core.specs.Core.{CoreState, ReplayState, entry_under, log_of, new_core, size_of}
+use Rattle.uc_core.specs.Core.{CoreState, ReplayState, entry_under, log_of, new_core, core_size}
 use Rattle.uc_core.specs.Headline.{HasReplica}
 use Rattle.uc_core.specs.Step.{CoreStep, announced_entry, entry_at, with_entry}
 use Rattle.uc_core.specs.declared.event.Event.{Event}
 use Rattle.uc_core.specs.declared.event.Event.TheVariants.{Announce, Look, Propose, Read, Replay, Stop}
 pub use Rattle.uc_core.proofs.Entries.{AreEntries, EntriesLaw, HasEntry, KeepsEntries}
 use Rattle.uc_core.proofs.Entries.{announcement-entries, announcement-keeps, entries_stay, has_entry, log-begins}
-use Rattle.uc_core.proofs.Lists.{at_replicated, at_set, begins_self}
+use Rattle.lists.proofs.Public.{at_replicated, at_set, begins_self}
 use Rattle.uc_core.proofs.Lookups.{there}
 use Rattle.uc_core.proofs.Moves.{IsQuiet, Moves, announced_elsewhere, looks_quietly, one_moves, proposes_quietly, reads_quietly, stops_quietly}
 pub use Rattle.uc_core.proofs.Replays.{AreReplays, ReplayLaw}
@@ -35,8 +36,8 @@ use Rattle.uc_core.proofs.StateLaws as state_laws
 -- events lead to what the log shows, which is sound, and every worker has its entries and its
 -- replay, which keep to their laws
 pub record CoreLaw (core : CoreState) : Type 0 where
-  pub reached : IsReached (size_of core) core.shown
-  pub sound : IsSound (size_of core) core.shown
+  pub reached : IsReached (core_size core) core.shown
+  pub sound : IsSound (core_size core) core.shown
   pub listed : length core.entries ≡ length core.shown.workers
   pub kept : length core.replays ≡ length core.shown.workers
   pub entries : AreEntries core
@@ -59,7 +60,7 @@ module _ (core : CoreState) (law : CoreLaw core) where
   stands_with_entry place ticket at = has_entry core ticket law.listed law.entries (law.sound.announced place ticket at)
 
   pub learned_in_log : (number : ℕ) (worker : WorkerState) → IsWorker core.shown number worker → length worker.learned ≤ length (log_of core)
-  learned_in_log number worker at = omega (arith, learned_few (size_of core) core.shown number worker law.sound at, length-map core.shown.decided (entry_under core))
+  learned_in_log number worker at = omega (arith, learned_few (core_size core) core.shown number worker law.sound at, length-map core.shown.decided (entry_under core))
 
 -- before any event nothing is announced and nothing replayed
 nothing_announced : (size : LogSize) (number : ℕ) → announced_by (new_log size) number ≡ 0
@@ -103,12 +104,12 @@ module _ (old : CoreState) (law : CoreLaw old) (shown : ShownState) (lists : Lis
   shown-grows : Moves old.shown shown → KeepsEntries old moved → Grows old moved
   shown-grows moves keeps = record { openings = refl; decided = moves.decided; log = log-begins old moved (stands_with_entry old law) moves.decided keeps }
 
-  shown-keeps : (event : ShownEvent) → Step (size_of old) old.shown event shown → Moves old.shown shown → KeepsEntries old moved →
+  shown-keeps : (event : ShownEvent) → Step (core_size old) old.shown event shown → Moves old.shown shown → KeepsEntries old moved →
       length lists ≡ length old.entries → AreEntries moved → CoreLaw moved
   shown-keeps event step moves keeps same entries =
-      let size : size_of old ≡ size_of moved = ap (λ n. let size : LogSize = record { workers = n; places = old.places } in size) (sym moves.many) in record {
+      let size : core_size old ≡ core_size moved = ap (λ n. let size : LogSize = record { workers = n; places = old.places } in size) (sym moves.many) in record {
         reached = subst (λ n. IsReached n shown) size (event ∷ law.reached.0, (old.shown, law.reached.1, step));
-        sound = subst (λ n. IsSound n shown) size (state_laws.keeps (size_of old) old.shown shown event law.sound step);
+        sound = subst (λ n. IsSound n shown) size (state_laws.keeps (core_size old) old.shown shown event law.sound step);
         listed = same ∙ law.listed ∙ sym moves.many;
         kept = law.kept ∙ sym moves.many;
         entries = entries;
@@ -124,7 +125,7 @@ Continues old new = CoreLaw new × Grows old new
 
 -- reading, looking, proposing and stopping announce nothing
 quiet-goes_on : (old : CoreState) (shown : ShownState) (event : ShownEvent) → CoreLaw old →
-    Step (size_of old) old.shown event shown → IsQuiet old.shown shown → Continues old (record old { shown = shown })
+    Step (core_size old) old.shown event shown → IsQuiet old.shown shown → Continues old (record old { shown = shown })
 quiet-goes_on old shown event law step quiet =
     let keeps : KeepsEntries old (record old { shown = shown }) = λ ticket entry at. at in (
       shown-keeps old law shown old.entries event step quiet.0 keeps refl (entries_stay old (record old { shown = shown }) law.entries refl refl quiet.1),
@@ -143,7 +144,7 @@ module _ (old : CoreState) (number tenant : ℕ) (command : Command) (worker : W
   abbrev shown : ShownState
   shown = with_worker old.shown number (announce worker)
 
-  announce-goes_on : Step (size_of old) old.shown (announces number) shown → Continues old announced
+  announce-goes_on : Step (core_size old) old.shown (announces number) shown → Continues old announced
   announce-goes_on step =
       let list = there old.entries number (omega (arith, law.listed, slice_get_within old.shown.workers number worker at)) in
       let moves = one_moves old.shown old.shown.decided number worker (announce worker) at (begins_self old.shown.decided) (le_refl (length worker.learned)) in
@@ -172,7 +173,7 @@ module _ (old : CoreState) (number : ℕ) (worker : WorkerState) (replay : Repla
 
   replay-goes_on : replay.replayed < length worker.learned → TakeEffect (entry_at old replay.replayed) replay.tables tables → Continues old replayed
   replay-goes_on more takes =
-      let inside : replay.replayed < length old.shown.decided = omega (arith, more, learned_few (size_of old) old.shown number worker law.sound has.0) in
+      let inside : replay.replayed < length old.shown.decided = omega (arith, more, learned_few (core_size old) old.shown number worker law.sound has.0) in
       let mine : ReplayLaw replayed worker further = replay_more replayed worker replay tables (stays_replayed number worker replay has) more inside takes in (
         record {
           reached = law.reached;
@@ -197,13 +198,13 @@ goes_on old new (Announce number tenant command) reply law step =
     subst (Continues old) (sym step.2) (subst (λ s. Continues old (record old { shown = s; entries = with_entry old.entries entry })) (sym step.1.4)
     (announce-goes_on old number tenant command step.1.0 law step.0 step.1.1 (step.1.0, step.1.1, step.1.2, step.1.3, refl)))
 goes_on old new (Read number) reply law step =
-    subst (Continues old) (sym step.1) (quiet-goes_on old new.shown (reads number) law step.0 (reads_quietly (size_of old) old.shown new.shown number step.0))
+    subst (Continues old) (sym step.1) (quiet-goes_on old new.shown (reads number) law step.0 (reads_quietly (core_size old) old.shown new.shown number step.0))
 goes_on old new (Look number) reply law step =
-    subst (Continues old) (sym step.1) (quiet-goes_on old new.shown (looks number) law step.0 (looks_quietly (size_of old) old.shown new.shown number step.0))
+    subst (Continues old) (sym step.1) (quiet-goes_on old new.shown (looks number) law step.0 (looks_quietly (core_size old) old.shown new.shown number step.0))
 goes_on old new (Propose number) reply law step =
-    subst (Continues old) (sym step.1) (quiet-goes_on old new.shown (proposes number) law step.0 (proposes_quietly (size_of old) old.shown new.shown number step.0))
+    subst (Continues old) (sym step.1) (quiet-goes_on old new.shown (proposes number) law step.0 (proposes_quietly (core_size old) old.shown new.shown number step.0))
 goes_on old new (Stop number) reply law step =
-    subst (Continues old) (sym step.1) (quiet-goes_on old new.shown (stops number) law step.0 (stops_quietly (size_of old) old.shown new.shown number step.0))
+    subst (Continues old) (sym step.1) (quiet-goes_on old new.shown (stops number) law step.0 (stops_quietly (core_size old) old.shown new.shown number step.0))
 goes_on old new (Replay number) reply law step =
     subst (Continues old) (sym step.8) (replay-goes_on old number step.0 step.3 step.6 law (step.1, step.4) step.5 step.7)
 

@@ -1,6 +1,6 @@
 -- A worked run of the core, tried on the definitions themselves, and what the theorem's words say
 -- of small logs: what they hold of, and what they don't.
-use Rattle.std.proofs.Common.{◌≡◌, ℕ, zero, suc, ◌+◌, ◌<◌, List, [], ◌∷◌, length, Option, Some, None, false, inl, inr, refl, ap, arith, slice_get}
+use Rattle.std.proofs.Common.{◌≡◌, ℕ, zero, suc, List, [], ◌∷◌, length, Some, None, false, inr, refl, ap, arith}
 use Rattle.std.proofs.lemmas.Option.{same_Some}
 use Rattle.mc_model.specs.declared.command.Command.{Command}
 use Rattle.mc_model.specs.declared.command.Command.TheVariants.{Flush, Get}
@@ -17,7 +17,6 @@ use Rattle.mc_model.specs.State.{TableState}
 use Rattle.uc_core.specs.Core.{CoreState, ReplayState}
 use Rattle.uc_core.specs.Headline.{Answered, LogsAgree}
 use Rattle.uc_core.specs.Run.{Given, IsRun}
-use Rattle.uc_core.specs.declared.event.Event.{Event}
 use Rattle.uc_core.specs.declared.event.Event.TheVariants.{Announce, Look, Propose, Read, Replay, Stop}
 
 abbrev ticket : Ticket

@@ -10,12 +10,12 @@ use Rattle.mc_model.specs.declared.request.Entry.{Entry}
 use Rattle.mc_model.specs.declared.settings.Limits.{Limits}
 use Rattle.mc_model.specs.declared.shown.ShownState.{ShownState}
 use Rattle.mc_model.specs.declared.shown.WorkerState.{WorkerState}
-use Rattle.mc_model.specs.Helping.{BeginsWith}
+use Rattle.lists.specs.Lists.{BeginsWith}
 use Rattle.mc_model.specs.Lawful.{announced_by}
 use Rattle.mc_model.specs.Legal.{ticket_of}
 use Rattle.uc_core.specs.Core.{CoreState, entry_under, log_of}
 use Rattle.uc_core.specs.Step.{entry_at, with_entry}
-use Rattle.uc_core.proofs.Lists.{at_pushed, set_elsewhere, set_here}
+use Rattle.lists.proofs.Public.{at_pushed, set_elsewhere, set_here}
 use Rattle.uc_core.proofs.Lookups.{at_longer, map-agree, there}
 
 -- a worker's entries: as many as it has announced, each under its own ticket and of a known tenant

@@ -1,7 +1,7 @@
 -- What follows of the core and of the replies along a run from a core that some run has led to.
 use Rattle.std.proofs.Common.{◌≡◌, ℕ, ◌+◌, List, ◌++◌, length, take, drop, Option, Some, slice_get, refl, sym, ap, ◌∙◌, subst}
 use Rattle.std.proofs.lemmas.List.{append_assoc, drop_at}
-use Rattle.mc_model.specs.Helping.{BeginsWith}
+use Rattle.lists.specs.Lists.{BeginsWith}
 use Rattle.mc_model.specs.Legal.{IsLegal}
 use Rattle.mc_model.specs.declared.reply.Reply.{Reply}
 use Rattle.uc_core.specs.Core.{CoreState}

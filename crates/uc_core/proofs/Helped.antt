@@ -10,13 +10,14 @@ use Rattle.mc_model.specs.declared.shown.Phase.{Phase}
 use Rattle.mc_model.specs.declared.shown.Phase.TheVariants.{Idle, Pending, Looked}
 use Rattle.mc_model.specs.declared.shown.ShownState.{ShownState}
 use Rattle.mc_model.specs.declared.shown.WorkerState.{WorkerState}
-use Rattle.mc_model.specs.Helping.{BeginsWith, IsHelped}
+use Rattle.lists.specs.Lists.{BeginsWith}
+use Rattle.mc_model.specs.Helping.{IsHelped}
 use Rattle.mc_model.specs.Lawful.{IsWorker, ShownEvent, Step, announced_by, announces, decided_with, looks, next, proposes, reads, stops, turn, with_worker}
 use Rattle.mc_model.specs.Legal.{count, ticket_of}
 use Rattle.mc_model.specs.Shown.{announce, is_latest, look, proposal, propose, read, stop}
-use Rattle.uc_core.proofs.Lists.{at_set, begins_longer, begins_self, nothing_next}
+use Rattle.lists.proofs.Public.{at_set, begins_longer, begins_self, nothing_next}
 use Rattle.uc_core.proofs.StateLaws.{IsSound, after, learned_is, proposal_legal, rises}
-use Rattle.uc_core.proofs.Tickets.{count_begins, count_known, count_own, stands}
+use Rattle.mc_model.proofs.Public.{count_begins, count_known, count_own, stands}
 
 -- the ticket is found at a look, or stands in what the worker has learned
 abbrev pub Finds : ℕ → ℕ → WorkerState → Type 0

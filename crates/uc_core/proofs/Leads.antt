@@ -1,10 +1,9 @@
 -- An event that meets no fault leads on, and an event that takes a worker to its next place learns
 -- it.
-use Rattle.std.proofs.Common.{◌≡◌, ℕ, zero, suc, ◌+◌, ◌<◌, List, [], ◌∷◌, ◌++◌, length, length-append, Option, Some, None, slice_get, slice_set, option_map, refl, sym, ap, ◌∙◌, arith}
+use Rattle.std.proofs.Common.{◌≡◌, ℕ, zero, suc, ◌+◌, List, [], ◌∷◌, length, length-append, Option, Some, None, slice_get, slice_set, option_map, refl, sym, ap, ◌∙◌, arith}
 use Rattle.std.proofs.lemmas.Option.{none-some, same_Some, slice_get_within}
 use Rattle.mc_model.specs.declared.fault.Fault.TheVariants.{BadEvent, LogFull}
 use Rattle.mc_model.specs.declared.id.Ticket.{Ticket}
-use Rattle.mc_model.specs.declared.reply.Reply.{Reply}
 use Rattle.mc_model.specs.declared.request.Entry.{Entry}
 use Rattle.mc_model.specs.declared.shown.ShownState.{ShownState}
 use Rattle.mc_model.specs.declared.shown.WorkerState.{WorkerState}
@@ -13,13 +12,13 @@ use Rattle.mc_model.specs.Log.{own_command}
 use Rattle.mc_model.specs.Replay.{TakeEffect, reply_from, with_command}
 use Rattle.mc_model.specs.Shown.{announce, look, proposal, propose, read, stop}
 use Rattle.mc_model.specs.State.{TableState}
-use Rattle.uc_core.specs.Core.{CoreState, ReplayState, size_of}
+use Rattle.uc_core.specs.Core.{CoreState, ReplayState, core_size}
 use Rattle.uc_core.specs.Headline.{StepsLeadOn, StepsLearn}
 use Rattle.uc_core.specs.Step.{actor, announced_entry, entry_at, refusal, refusal_by, refusal_of, with_entry}
 use Rattle.uc_core.specs.declared.event.Event.{Event}
 use Rattle.uc_core.specs.declared.event.Event.TheVariants.{Announce, Look, Propose, Read, Replay, Stop}
 use Rattle.uc_core.proofs.Enabled.{below, goes_on, has_some, idle, idle_or_pending, looked, met, pending, rest}
-use Rattle.uc_core.proofs.Lists.{set_here}
+use Rattle.lists.proofs.Public.{set_here}
 use Rattle.uc_core.proofs.Lookups.{there}
 
 -- there is a worker, and it has no fault
@@ -80,7 +79,7 @@ steps_lead_on core (Read number) free =
 steps_lead_on core (Look number) free =
     let (worker, at, replay, is, none) = is_free core (Look number) free in
     let later = rest _ BadEvent _ none in
-    let whose = turn (size_of core) worker in (
+    let whose = turn (core_size core) worker in (
       record core { shown = with_worker core.shown number (look whose (announced_by core.shown whose) worker) },
       None,
       (

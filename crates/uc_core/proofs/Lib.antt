@@ -1,7 +1,5 @@
 mod Rows
 mod CoreRows
-pub mod Lists
-pub mod Tickets
 pub mod StateLaws
 pub mod Helped
 pub mod Turns
@@ -27,3 +25,4 @@ mod Asked
 pub mod Shows
 mod Ties
 mod Followed
+pub mod Public

@@ -1,7 +1,7 @@
 -- What stands at a place of a list and of a longer one, and a list parted at a place.
 use Rattle.std.proofs.Common.{◌≡◌, ℕ, zero, suc, ◌+◌, ◌<◌, List, [], ◌∷◌, ◌++◌, length, map, take, drop, Some, slice_get, refl, sym, ap, ap₂, arith, add-one}
 use Rattle.std.proofs.lemmas.Option.{none-some, same_Some}
-use Rattle.uc_core.proofs.Lists.{take_more}
+use Rattle.lists.proofs.Public.{take_more}
 
 module _ {X : Type 0} where
   -- within the list there is an element

@@ -7,10 +7,10 @@ use Rattle.mc_model.specs.declared.id.Ticket.{Ticket}
 use Rattle.mc_model.specs.declared.shown.LogSize.{LogSize}
 use Rattle.mc_model.specs.declared.shown.ShownState.{ShownState}
 use Rattle.mc_model.specs.declared.shown.WorkerState.{WorkerState}
-use Rattle.mc_model.specs.Helping.{BeginsWith}
+use Rattle.lists.specs.Lists.{BeginsWith}
 use Rattle.mc_model.specs.Lawful.{IsWorker, Step, announced_by, decided_with, looks, next, proposes, reads, stops}
 use Rattle.mc_model.specs.Shown.{proposal, read}
-use Rattle.uc_core.proofs.Lists.{at_set, begins_self, set_elsewhere}
+use Rattle.lists.proofs.Public.{at_set, begins_self, set_elsewhere}
 use Rattle.uc_core.proofs.StateLaws.{after, announced_after, announced_is}
 
 -- a worker has learned no less than before

@@ -17,7 +17,7 @@ use Rattle.mc_model.specs.Log.{own_command}
 use Rattle.mc_model.specs.Replay.{reply_from, with_command}
 use Rattle.mc_model.specs.Shown.{announce, look, proposal, propose, read, stop}
 use Rattle.mc_model.specs.State.{TableState}
-use Rattle.uc_core.specs.Core.{CoreState, ReplayState, size_of}
+use Rattle.uc_core.specs.Core.{CoreState, ReplayState, core_size}
 use Rattle.uc_core.specs.Headline.{HasReplica, NobodyWaits, StepsAreEnabled, StepsAreOne, WorkersAreFree}
 use Rattle.uc_core.specs.Step.{CoreStep, actor, announced_entry, entry_at, is_idle, is_looked, is_pending, is_stopped, needs, refusal, refusal_by, refusal_of, with_entry}
 use Rattle.uc_core.specs.declared.event.Event.{Event}
@@ -131,10 +131,10 @@ shown_one size old (stops number) new other one two =
 
 -- of the other events but the announcement only what is shown changes
 only_shown : (old new other : CoreState) (event : ShownEvent) →
-    Step (size_of old) old.shown event new.shown → Step (size_of old) old.shown event other.shown →
+    Step (core_size old) old.shown event new.shown → Step (core_size old) old.shown event other.shown →
     new ≡ record old { shown = new.shown } → other ≡ record old { shown = other.shown } → new ≡ other
 only_shown old new other event one two new_is other_is =
-    new_is ∙ ap (λ (it : ShownState). record old { shown = it }) (shown_one (size_of old) old.shown event new.shown other.shown one two) ∙ sym other_is
+    new_is ∙ ap (λ (it : ShownState). record old { shown = it }) (shown_one (core_size old) old.shown event new.shown other.shown one two) ∙ sym other_is
 
 -- a replay: the tables that take one entry's effect are determined place by place
 module _ (old new other : CoreState) (number : ℕ) (reply other_reply : Option Reply)
@@ -158,7 +158,7 @@ module _ (old new other : CoreState) (number : ℕ) (reply other_reply : Option 
 pub steps_are_one : (core : CoreState) → StepsAreOne core
 steps_are_one core (Announce number tenant command) new other reply other_reply one two =
     let makes : ShownState → CoreState = λ it. record core { shown = it; entries = with_entry core.entries (announced_entry core number tenant command) } in
-    (one.2 ∙ ap makes (shown_one (size_of core) core.shown (announces number) new.shown other.shown one.1 two.1) ∙ sym two.2, one.3 ∙ sym two.3)
+    (one.2 ∙ ap makes (shown_one (core_size core) core.shown (announces number) new.shown other.shown one.1 two.1) ∙ sym two.2, one.3 ∙ sym two.3)
 steps_are_one core (Read number) new other reply other_reply one two =
     (only_shown core new other (reads number) one.0 two.0 one.1 two.1, one.2 ∙ sym two.2)
 steps_are_one core (Look number) new other reply other_reply one two =

@@ -5,8 +5,9 @@ use Rattle.std.proofs.lemmas.List.{take-append-le}
 use Rattle.mc_model.specs.declared.request.Entry.{Entry}
 use Rattle.mc_model.specs.declared.settings.Limits.{Limits}
 use Rattle.mc_model.specs.declared.shown.WorkerState.{WorkerState}
-use Rattle.mc_model.specs.Helping.{BeginsWith}
-use Rattle.mc_model.specs.Replay.{EachStands, EachStands-push, TakeEffect, empty_tables}
+use Rattle.lists.specs.Lists.{BeginsWith}
+use Rattle.mc_model.specs.Replay.{EachStands, TakeEffect, empty_tables}
+use Rattle.mc_model.proofs.Public.{EachStands-push}
 use Rattle.mc_model.specs.State.{TableState}
 use Rattle.uc_core.specs.Core.{CoreState, ReplayState, log_of}
 use Rattle.uc_core.specs.Headline.{HasReplica}

@@ -7,13 +7,14 @@ use Rattle.mc_model.specs.declared.reply.Reply.{Reply}
 use Rattle.mc_model.specs.declared.request.Entry.{Entry}
 use Rattle.mc_model.specs.declared.settings.Limits.{Limits}
 use Rattle.mc_model.specs.declared.shown.WorkerState.{WorkerState}
-use Rattle.mc_model.specs.Helping.{BeginsWith}
+use Rattle.lists.specs.Lists.{BeginsWith}
 use Rattle.mc_model.specs.History.{answer, answer_from}
 use Rattle.mc_model.specs.Log.{own}
-use Rattle.mc_model.specs.Replay.{empty_tables, reply_from, reply_to, reply_to-table}
+use Rattle.mc_model.specs.Replay.{empty_tables, reply_from, reply_to}
+use Rattle.mc_model.proofs.Public.{reply_to-table}
 use Rattle.mc_model.specs.Settings.{Configuration}
 use Rattle.mc_model.specs.State.{TableState, empty_table, next_reply}
-use Rattle.uc_core.specs.Core.{CoreState, ReplayState, entry_under, log_of, new_core, size_of}
+use Rattle.uc_core.specs.Core.{CoreState, ReplayState, entry_under, log_of, new_core, core_size}
 use Rattle.uc_core.specs.Headline.{HasReplica, IsAnswer, RepliesAreAnswers}
 use Rattle.uc_core.specs.Run.{Given, IsRun, Runs, given_by, replayed_by}
 use Rattle.uc_core.specs.Step.{CoreStep, actor, entry_at}
@@ -21,7 +22,7 @@ use Rattle.uc_core.specs.declared.event.Event.{Event}
 use Rattle.uc_core.specs.declared.event.Event.TheVariants.{Announce, Look, Propose, Read, Replay, Stop}
 use Rattle.uc_core.proofs.CoreLaws.{CoreLaw, Grows, Grows-itself, grows, keeps, opens, stands_with_entry}
 use Rattle.uc_core.proofs.Entries.{log-at}
-use Rattle.uc_core.proofs.Lists.{begins_through}
+use Rattle.lists.proofs.Public.{begins_through}
 use Rattle.uc_core.proofs.Lookups.{at_longer, there}
 use Rattle.uc_core.proofs.Replays.{take-begins}
 use Rattle.uc_core.proofs.StateLaws.{learned_few}
@@ -93,7 +94,7 @@ replay_answers : (core : CoreState) (number : ℕ) (worker : WorkerState) (repla
     reply_from number replay.tables (entry_at core replay.replayed) ≡ Some reply → IsAnswer core number replay.replayed reply
 replay_answers core number worker replay reply law has more told =
     let place = replay.replayed in
-    let inside : place < length core.shown.decided = omega (arith, more, learned_few (size_of core) core.shown number worker law.sound has.0) in
+    let inside : place < length core.shown.decided = omega (arith, more, learned_few (core_size core) core.shown number worker law.sound has.0) in
     let its = law.replays number worker replay has in
     let mine = answers_own number replay.tables (entry_at core place) reply told in
     let ticket = there core.shown.decided place inside in

@@ -5,7 +5,7 @@ use Rattle.mc_model.specs.declared.reply.Reply.{Reply}
 use Rattle.mc_model.specs.declared.shown.LogSize.{LogSize}
 use Rattle.mc_model.specs.declared.shown.ShownState.{ShownState}
 use Rattle.mc_model.specs.Lawful.{LeadOn, ShownEvent, Step, announces, looks, proposes, reads, stops}
-use Rattle.uc_core.specs.Core.{CoreState, size_of}
+use Rattle.uc_core.specs.Core.{CoreState, core_size}
 use Rattle.uc_core.specs.Headline.{IsDecidedSoon}
 use Rattle.uc_core.specs.Run.{Given, Runs}
 use Rattle.uc_core.specs.Step.{CoreStep}
@@ -28,12 +28,12 @@ workers_stay size old new (stops number) step = ap (λ (it : ShownState). length
 
 -- what an event of the core is to what the log shows: an event of the same size of log, or nothing
 pub record ShowsStep (old new : CoreState) : Type 0 where
-  pub size : size_of new ≡ size_of old
-  before : (last : ShownState) → LeadsOn (size_of old) new.shown last → LeadsOn (size_of old) old.shown last
+  pub size : core_size new ≡ core_size old
+  before : (last : ShownState) → LeadsOn (core_size old) new.shown last → LeadsOn (core_size old) old.shown last
 
-shows_event : (old new : CoreState) (event : ShownEvent) → Step (size_of old) old.shown event new.shown → new.places ≡ old.places → ShowsStep old new
+shows_event : (old new : CoreState) (event : ShownEvent) → Step (core_size old) old.shown event new.shown → new.places ≡ old.places → ShowsStep old new
 shows_event old new event step places = record {
-  size = λ i. record { workers = workers_stay (size_of old) old.shown new.shown event step i; places = places i };
+  size = λ i. record { workers = workers_stay (core_size old) old.shown new.shown event step i; places = places i };
   before = λ last on. (event ∷ on.0, (new.shown, step, on.1));
 }
 
@@ -44,12 +44,12 @@ shows_step old new (Look number) reply step = shows_event old new (looks number)
 shows_step old new (Propose number) reply step = shows_event old new (proposes number) step.0 (ap (λ (it : CoreState). it.places) step.1)
 shows_step old new (Stop number) reply step = shows_event old new (stops number) step.0 (ap (λ (it : CoreState). it.places) step.1)
 shows_step old new (Replay number) reply step = record {
-  size = ap (λ (it : CoreState). size_of it) step.8;
-  before = λ last on. subst (λ (shown : ShownState). LeadsOn (size_of old) shown last) (ap (λ (it : CoreState). it.shown) step.8) on;
+  size = ap (λ (it : CoreState). core_size it) step.8;
+  before = λ last on. subst (λ (shown : ShownState). LeadsOn (core_size old) shown last) (ap (λ (it : CoreState). it.shown) step.8) on;
 }
 
 -- a run, so
-shows_run : (old new : CoreState) (events : List Event) (given : List Given) → Runs old events new given → LeadsOn (size_of old) old.shown new.shown
+shows_run : (old new : CoreState) (events : List Event) (given : List Given) → Runs old events new given → LeadsOn (core_size old) old.shown new.shown
 shows_run old new [] given runs = ([], ap (λ (it : CoreState). it.shown) runs.0)
 shows_run old new (event ∷ events) given runs =
     let step = shows_step old runs.0 event runs.1 runs.3 in
@@ -59,4 +59,4 @@ pub decided_soon : (core : CoreState) → CoreLaw core → IsDecidedSoon core
 decided_soon core law number tenant command announced new events given step runs far =
     let same = (shows_step core announced (Announce number tenant command) None step).size in
     let on = subst (λ (size : LogSize). LeadsOn size announced.shown new.shown) same (shows_run announced new events given runs) in
-    is_soon_decided (size_of core) core.shown announced.shown new.shown number on.0 law.reached step.1 on.1 far
+    is_soon_decided (core_size core) core.shown announced.shown new.shown number on.0 law.reached step.1 on.1 far

@@ -13,12 +13,12 @@ use Rattle.mc_model.specs.declared.shown.Phase.{Phase}
 use Rattle.mc_model.specs.declared.shown.Phase.TheVariants.{Idle, Pending, Looked}
 use Rattle.mc_model.specs.declared.shown.ShownState.{ShownState}
 use Rattle.mc_model.specs.declared.shown.WorkerState.{WorkerState}
-use Rattle.mc_model.specs.Helping.{BeginsWith}
+use Rattle.lists.specs.Lists.{BeginsWith}
 use Rattle.mc_model.specs.Lawful.{HasRoom, IsWorker, Leads, ShownEvent, Step, announced_by, announces, decided_with, looks, next, proposes, reads, stops, turn, with_worker}
 use Rattle.mc_model.specs.Legal.{IsLegal, count, ticket_of}
 use Rattle.mc_model.specs.Shown.{announce, is_latest, learn, look, new_log, new_worker, proposal, propose, read, stop}
-use Rattle.uc_core.proofs.Lists.{at_pushed, at_replicated, at_set, begins_longer, begins_self, begins_through, front_is_taken, next_begins, nothing_next, set_elsewhere, set_here}
-use Rattle.uc_core.proofs.Tickets.{count_other, count_own, legal_push, stands}
+use Rattle.lists.proofs.Public.{at_pushed, at_replicated, at_set, begins_longer, begins_self, begins_through, front_is_taken, next_begins, nothing_next, set_elsewhere, set_here}
+use Rattle.mc_model.proofs.Public.{count_other, count_own, legal_push, stands}
 
 -- what is known of a worker: the law of workers but for its proposals
 pub record IsSoundWorker (size : LogSize) (state : ShownState) (number : ℕ) (worker : WorkerState) : Type 0 where

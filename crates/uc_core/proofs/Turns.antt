@@ -13,9 +13,9 @@ use Rattle.mc_model.specs.Lawful.{IsWorker, LeadOn, ShownEvent, announces, with_
 use Rattle.mc_model.specs.Legal.{StandsBefore, count, ticket_of}
 use Rattle.mc_model.specs.Shown.{announce}
 use Rattle.uc_core.proofs.Helped.{Helps, helps_keeps}
-use Rattle.uc_core.proofs.Lists.{at_set}
+use Rattle.lists.proofs.Public.{at_set}
 use Rattle.uc_core.proofs.StateLaws.{IsSound, announced_after, announced_is, count_announced, is_sound, keeps, learned_few}
-use Rattle.uc_core.proofs.Tickets.{count_begins, stands}
+use Rattle.mc_model.proofs.Public.{count_begins, stands}
 
 -- the next place after this one whose turn is the worker's
 pub turn_after : (place workers number : ℕ) → number < workers → (turn : ℕ) × (place < turn) × (turn ≤ place + workers) × (turn % workers ≡ number)

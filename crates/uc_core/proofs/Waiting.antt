@@ -15,9 +15,9 @@ use Rattle.mc_model.specs.Lawful.{IsReached, IsWorker, Leads, ShownEvent, Step, 
 use Rattle.mc_model.specs.Legal.{count}
 use Rattle.mc_model.specs.Shown.{announce, learn, look, marked, new_log, new_worker, proposal, propose, read, stop}
 use Rattle.uc_core.proofs.Helped.{Helps, helps_keeps, is_helped}
-use Rattle.uc_core.proofs.Lists.{at_replicated, at_set, begins_longer, nothing_next}
+use Rattle.lists.proofs.Public.{at_replicated, at_set, begins_longer, nothing_next}
 use Rattle.uc_core.proofs.StateLaws.{IsSound, after, announced_is, is_sound, learned_few}
-use Rattle.uc_core.proofs.Tickets.{count_begins, count_known}
+use Rattle.mc_model.proofs.Public.{count_begins, count_known}
 use Rattle.uc_core.proofs.Turns.{turn_after}
 
 -- what is known of a worker that waits, by its mark

@@ -14,7 +14,8 @@ use Rattle.uc_core.specs.declared.event.Event.TheVariants.{Announce, Look, Propo
 
 -- what the settings and the events say of a core is true of every run
 abbrev pub ByEvents : (Configuration → List Event → CoreState → Type 0) → Type 0
-ByEvents Holds = (settings : Configuration) (events : List Event) (core : CoreState) (given : List Given) →
+ByEvents Holds =
+    (settings : Configuration) (events : List Event) (core : CoreState) (given : List Given) →
     IsRun settings events core given → Holds settings events core
 
 -- the core has the workers, the places and the tenants' quotas of its settings
@@ -25,7 +26,8 @@ pub record IsOfSettings (settings : Configuration) (core : CoreState) : Type 0 w
 
 -- the tenant and the command, if the event is an announcement by this worker
 abbrev pub announcement_of : ℕ → Event → Option (ℕ × Command)
-announcement_of number (Announce worker tenant command) = if worker == number then Some (tenant, command) else None
+announcement_of number (Announce worker tenant command) =
+    if worker == number then Some (tenant, command) else None
 announcement_of number (Read worker) = None
 announcement_of number (Look worker) = None
 announcement_of number (Propose worker) = None
@@ -40,8 +42,10 @@ announcements number events = filter_map (announcement_of number) events
 -- number k are the tenant and the command of announcement number k.
 pub record AnnouncementsStand (events : List Event) (core : CoreState) : Type 0 where
   pub many : (number : ℕ) → announced_by core.shown number ≡ length (announcements number events)
-  pub each : (number k tenant : ℕ) (command : Command) → slice_get (announcements number events) k ≡ Some (tenant, command) →
-      entry_under core (ticket_of number k) ≡ Some (record { ticket = ticket_of number k; tenant = tenant; command = command })
+  pub each : (number k tenant : ℕ) (command : Command) →
+      slice_get (announcements number events) k ≡ Some (tenant, command) →
+      entry_under core (ticket_of number k)
+      ≡ Some (record { ticket = ticket_of number k; tenant = tenant; command = command })
 
 abbrev pub is_replay_of : ℕ → Event → Bool
 is_replay_of number (Announce worker tenant command) = false
@@ -53,7 +57,8 @@ is_replay_of number (Stop worker) = false
 
 -- a worker has replayed as many places as the run has replays of it
 abbrev pub ReplaysCount : List Event → CoreState → Type 0
-ReplaysCount events core = (number : ℕ) → replayed_by core number ≡ count_by (is_replay_of number) events
+ReplaysCount events core =
+    (number : ℕ) → replayed_by core number ≡ count_by (is_replay_of number) events
 
 -- the number of a worker's proposals since its latest announcement, after one more event
 abbrev pub proposals_with : ℕ → ℕ → Event → ℕ

@@ -30,8 +30,8 @@ pub record CoreState : Type 0 where
   pub entries : List (List Entry)
   pub replays : List ReplayState
 
-abbrev pub size_of : CoreState → LogSize
-size_of core = record { workers = length core.shown.workers; places = core.places }
+abbrev pub core_size : CoreState → LogSize
+core_size core = record { workers = length core.shown.workers; places = core.places }
 
 -- the core before any event
 abbrev pub new_core : Configuration → CoreState
@@ -40,12 +40,15 @@ new_core settings = record {
   openings = settings.tenants;
   shown = new_log (record { workers = settings.workers; places = settings.places });
   entries = replicate settings.workers [];
-  replays = replicate settings.workers (record { replayed = 0; tables = empty_tables settings.tenants });
+  replays = replicate settings.workers
+      (record { replayed = 0; tables = empty_tables settings.tenants });
 }
 
 -- the entry that was announced under a ticket
 abbrev pub entry_under : CoreState → Ticket → Option Entry
-entry_under core ticket = option_and_then (λ (announced : List Entry). slice_get announced ticket.number) (slice_get core.entries ticket.worker)
+entry_under core ticket =
+    option_and_then (λ (announced : List Entry). slice_get announced ticket.number)
+    (slice_get core.entries ticket.worker)
 
 -- the log: the entry of each decided place
 abbrev pub log_of : CoreState → List (Option Entry)
@@ -61,6 +64,14 @@ abbrev pub coded_core : Coded CoreState
 coded_core =
     code_by (ℕ × (List Limits × (ShownState × (List (List Entry) × List ReplayState))))
     (coded× coded_ℕ (coded× (coded_list coded_limits)
-    (coded× shown_row.the_row.coded (coded× (coded_list (coded_list entry_row.the_row.coded)) (coded_list coded_replay)))))
+    (coded× shown_row.the_row.coded
+    (coded× (coded_list (coded_list entry_row.the_row.coded)) (coded_list coded_replay)))))
     (λ c. (c.places, (c.openings, (c.shown, (c.entries, c.replays)))))
-    (λ p. record { places = p.0; openings = p.1.0; shown = p.1.1.0; entries = p.1.1.1.0; replays = p.1.1.1.1 }) (λ _. refl)
+    (λ p. record {
+      places = p.0;
+      openings = p.1.0;
+      shown = p.1.1.0;
+      entries = p.1.1.1.0;
+      replays = p.1.1.1.1;
+    })
+    (λ _. refl)

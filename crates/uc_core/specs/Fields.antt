@@ -14,7 +14,10 @@ abbrev pub core_of : Inside → CoreState
 core_of s = record {
   places = s.places;
   openings = s.openings.items;
-  shown = record { decided = s.decided.items; workers = map (shown_worker s.decided.items) s.workers.items };
+  shown = record {
+    decided = s.decided.items;
+    workers = map (shown_worker s.decided.items) s.workers.items;
+  };
   entries = map (λ (announced : Vec Entry). announced.items) s.entries.items;
   replays = map replay_of s.workers.items;
 }

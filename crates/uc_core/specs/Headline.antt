@@ -13,10 +13,10 @@ use Rattle.mc_model.specs.declared.shown.WorkerState.{WorkerState}
 use Rattle.mc_model.specs.History.{answer}
 use Rattle.mc_model.specs.Lawful.{HasRoom, IsWorker, announced_by}
 use Rattle.mc_model.specs.Legal.{IsLegal, StandsBefore, ticket_of}
-use Rattle.mc_model.specs.Log.{Sighting, entries, own}
+use Rattle.mc_model.specs.Log.{PlaceSighting, entries_seen, own}
 use Rattle.mc_model.specs.Replay.{EachStands, empty_tables}
 use Rattle.mc_model.specs.Settings.{Configuration}
-use Rattle.uc_core.specs.Core.{CoreState, ReplayState, entry_under, log_of, size_of}
+use Rattle.uc_core.specs.Core.{CoreState, ReplayState, entry_under, log_of, core_size}
 use Rattle.uc_core.specs.Run.{Given, IsRun, Runs}
 use Rattle.uc_core.specs.Step.{CoreStep, actor, refusal}
 use Rattle.uc_core.specs.declared.event.Event.{Event}
@@ -25,12 +25,15 @@ use Rattle.uc_core.specs.declared.event.Event.TheVariants.{Announce, Look, Propo
 -- true of every run, whatever the settings and the events: of the core that it leads to, and of the
 -- replies that it gives
 abbrev pub OfEveryRun : (CoreState → List Given → Type 0) → Type 0
-OfEveryRun Holds = (settings : Configuration) (events : List Event) (core : CoreState) (given : List Given) → IsRun settings events core given → Holds core given
+OfEveryRun Holds =
+    (settings : Configuration) (events : List Event) (core : CoreState) (given : List Given) →
+    IsRun settings events core given → Holds core given
 
 -- "each announced command stands at most once in the log": no ticket stands at two places
 abbrev pub StandsOnce : CoreState → Type 0
 StandsOnce core = (ticket : Ticket) (one other : ℕ) →
-    slice_get core.shown.decided one ≡ Some ticket → slice_get core.shown.decided other ≡ Some ticket → one ≡ other
+    slice_get core.shown.decided one ≡ Some ticket →
+    slice_get core.shown.decided other ≡ Some ticket → one ≡ other
 
 -- each worker's commands stand in the order in which it announced them, and nothing stands there
 -- that wasn't announced
@@ -38,31 +41,40 @@ pub record LogIsSound (core : CoreState) : Type 0 where
   pub once : StandsOnce core
   pub legal : IsLegal core.shown.decided
   pub announced : (place : ℕ) (ticket : Ticket) → slice_get core.shown.decided place ≡ Some ticket →
-      (entry : Entry) × (entry_under core ticket ≡ Some entry) × (entry.ticket ≡ ticket) × (entry.tenant < length core.openings)
+      (entry : Entry) × (entry_under core ticket ≡ Some entry) × (entry.ticket ≡ ticket)
+      × (entry.tenant < length core.openings)
 
 -- a worker's replica: what it has replayed of the places that it has learned, in their order
-abbrev pub replica_of : CoreState → WorkerState → ReplayState → List Sighting
+abbrev pub replica_of : CoreState → WorkerState → ReplayState → List PlaceSighting
 replica_of core worker replay =
-    take replay.replayed (map (λ (ticket : Ticket). let seen : Sighting = record { ticket = ticket; entry = entry_under core ticket } in seen) worker.learned)
+    take replay.replayed
+    (map (λ (ticket : Ticket).
+    let seen : PlaceSighting = record { ticket = ticket; entry = entry_under core ticket } in seen)
+    worker.learned)
 
 -- the worker with this number has this shown state and has replayed so
 abbrev pub HasReplica : CoreState → ℕ → WorkerState → ReplayState → Type 0
-HasReplica core number worker replay = IsWorker core.shown number worker × (slice_get core.replays number ≡ Some replay)
+HasReplica core number worker replay =
+    IsWorker core.shown number worker × (slice_get core.replays number ≡ Some replay)
 
 -- "all replicas agree on every replayed prefix": of two workers, the one that has replayed no more
 -- than the other has replayed the same tickets and entries at those places; if both have replayed
 -- as many, their tables are equal
 pub record ReplicasAgree (core : CoreState) : Type 0 where
-  pub prefixes : (one other : ℕ) (v w : WorkerState) (r s : ReplayState) → HasReplica core one v r → HasReplica core other w s →
+  pub prefixes : (one other : ℕ) (v w : WorkerState) (r s : ReplayState) →
+      HasReplica core one v r → HasReplica core other w s →
       r.replayed ≤ s.replayed → replica_of core v r ≡ take r.replayed (replica_of core w s)
-  pub tables : (one other : ℕ) (v w : WorkerState) (r s : ReplayState) → HasReplica core one v r → HasReplica core other w s →
-      r.replayed ≡ s.replayed → r.tables ≡ s.tables
+  pub tables : (one other : ℕ) (v w : WorkerState) (r s : ReplayState) → HasReplica core one v r →
+      HasReplica core other w s → r.replayed ≡ s.replayed → r.tables ≡ s.tables
 
 -- each worker has replayed no more than it has learned, and each of its tables stands for its
 -- tenant's commands that it has replayed
 abbrev pub TablesStand : CoreState → Type 0
-TablesStand core = (number : ℕ) (worker : WorkerState) (replay : ReplayState) → HasReplica core number worker replay →
-    (replay.replayed ≤ length worker.learned) × EachStands (empty_tables core.openings) (entries (replica_of core worker replay)) replay.tables
+TablesStand core = (number : ℕ) (worker : WorkerState) (replay : ReplayState) →
+    HasReplica core number worker replay →
+    (replay.replayed ≤ length worker.learned)
+    × EachStands (empty_tables core.openings)
+    (entries_seen (replica_of core worker replay)) replay.tables
 
 -- the reply to a worker's own command at a place is the answer after only its tenant's commands at
 -- the places before
@@ -78,28 +90,37 @@ pub record IsAnswer (core : CoreState) (worker place : ℕ) (reply : Reply) : Ty
 -- "each replied command's reply is the bytes that memcached's commands give on a table holding only
 -- its tenant's commands in log order"
 abbrev pub RepliesAreAnswers : CoreState → List Given → Type 0
-RepliesAreAnswers core given = (k worker place : ℕ) (reply : Reply) → slice_get given k ≡ Some (worker, place, reply) → IsAnswer core worker place reply
+RepliesAreAnswers core given = (k worker place : ℕ) (reply : Reply) →
+    slice_get given k ≡ Some (worker, place, reply) → IsAnswer core worker place reply
 
 -- some reply was given to the worker for the place
 abbrev pub HasReply : List Given → ℕ → ℕ → Type 0
-HasReply given worker place = (k : ℕ) × (reply : Reply) × (slice_get given k ≡ Some (worker, place, reply))
+HasReply given worker place =
+    (k : ℕ) × (reply : Reply) × (slice_get given k ≡ Some (worker, place, reply))
 
 -- each command of its own that a worker has replayed was answered
 abbrev pub OwnAreAnswered : CoreState → List Given → Type 0
-OwnAreAnswered core given = (number place : ℕ) (worker : WorkerState) (replay : ReplayState) (ticket : Ticket) → HasReplica core number worker replay →
-    place < replay.replayed → slice_get core.shown.decided place ≡ Some ticket → ticket.worker ≡ number → HasReply given number place
+OwnAreAnswered core given =
+    (number place : ℕ) (worker : WorkerState) (replay : ReplayState) (ticket : Ticket) →
+    HasReplica core number worker replay →
+    place < replay.replayed → slice_get core.shown.decided place ≡ Some ticket →
+    ticket.worker ≡ number → HasReply given number place
 
 -- a command that is announced while d places of a log of n workers are decided stands among the
 -- first d + n + 1 places once that many are decided, whatever happens in between and whichever
 -- workers stop
 abbrev pub IsDecidedSoon : CoreState → Type 0
-IsDecidedSoon old = (number tenant : ℕ) (command : Command) (announced new : CoreState) (events : List Event) (given : List Given) →
+IsDecidedSoon old =
+    (number tenant : ℕ) (command : Command) (announced new : CoreState)
+    (events : List Event) (given : List Given) →
     CoreStep old (Announce number tenant command) announced None → Runs announced events new given →
     length old.shown.decided + length old.shown.workers + 1 ≤ length new.shown.decided →
-    StandsBefore (length old.shown.decided + length old.shown.workers + 1) (ticket_of number (announced_by old.shown number)) new.shown.decided
+    StandsBefore (length old.shown.decided + length old.shown.workers + 1)
+    (ticket_of number (announced_by old.shown number)) new.shown.decided
 
 -- a reply was given to the tenant's command number j, from 0, of the log
-pub record Answered (core : CoreState) (given : List Given) (tenant j : ℕ) (reply : Reply) : Type 0 where
+pub record Answered (core : CoreState) (given : List Given) (tenant j : ℕ)
+    (reply : Reply) : Type 0 where
   pub at : ℕ
   pub worker : ℕ
   pub place : ℕ
@@ -113,18 +134,22 @@ pub record Answered (core : CoreState) (given : List Given) (tenant j : ℕ) (re
 -- with the same quotas, and the tenants' commands up to that one are the same
 pub record LogsAgree (one other : CoreState) (tenant other_tenant j : ℕ) : Type 0 where
   pub limits : slice_get one.openings tenant ≡ slice_get other.openings other_tenant
-  pub commands : take (j + 1) (own tenant (log_of one)) ≡ take (j + 1) (own other_tenant (log_of other))
+  pub commands :
+      take (j + 1) (own tenant (log_of one)) ≡ take (j + 1) (own other_tenant (log_of other))
 
 -- "runs whose logs agree for a tenant give equal replies": to each of the tenant's commands up to
 -- which they agree
 abbrev pub AnswerAlike : CoreState → List Given → CoreState → List Given → Type 0
-AnswerAlike one given other other_given = (tenant other_tenant j : ℕ) (reply other_reply : Reply) → LogsAgree one other tenant other_tenant j →
-    Answered one given tenant j reply → Answered other other_given other_tenant j other_reply → reply ≡ other_reply
+AnswerAlike one given other other_given = (tenant other_tenant j : ℕ) (reply other_reply : Reply) →
+    LogsAgree one other tenant other_tenant j → Answered one given tenant j reply →
+    Answered other other_given other_tenant j other_reply → reply ≡ other_reply
 
 -- "whichever workers stop for good": a worker that has stopped takes no more events, and its shown
 -- state and what it has replayed stay as they are
 abbrev pub StopsForGood : CoreState → Type 0
-StopsForGood old = (number : ℕ) (stopped new : CoreState) (reply : Option Reply) (events : List Event) (given : List Given) →
+StopsForGood old =
+    (number : ℕ) (stopped new : CoreState) (reply : Option Reply)
+    (events : List Event) (given : List Given) →
     CoreStep old (Stop number) stopped reply → Runs stopped events new given →
     ((k : ℕ) (event : Event) → slice_get events k ≡ Some event → actor event ≢ number)
     × (slice_get new.shown.workers number ≡ slice_get stopped.shown.workers number)
@@ -132,45 +157,56 @@ StopsForGood old = (number : ℕ) (stopped new : CoreState) (reply : Option Repl
 
 -- an event leads on from the core only if it meets no fault there
 abbrev pub StepsAreEnabled : CoreState → Type 0
-StepsAreEnabled core = (event : Event) (new : CoreState) (reply : Option Reply) → CoreStep core event new reply → refusal core event ≡ None
+StepsAreEnabled core = (event : Event) (new : CoreState) (reply : Option Reply) →
+    CoreStep core event new reply → refusal core event ≡ None
 
 -- an event leads from the core to one state alone, with one reply or with none
 abbrev pub StepsAreOne : CoreState → Type 0
 StepsAreOne core = (event : Event) (new other : CoreState) (reply other_reply : Option Reply) →
-    CoreStep core event new reply → CoreStep core event other other_reply → (new ≡ other) × (reply ≡ other_reply)
+    CoreStep core event new reply → CoreStep core event other other_reply →
+    (new ≡ other) × (reply ≡ other_reply)
 
 -- an event that meets no fault leads on
 abbrev pub StepsLeadOn : CoreState → Type 0
-StepsLeadOn core = (event : Event) → refusal core event ≡ None → (new : CoreState) × (reply : Option Reply) × CoreStep core event new reply
+StepsLeadOn core = (event : Event) → refusal core event ≡ None →
+    (new : CoreState) × (reply : Option Reply) × CoreStep core event new reply
 
 -- No worker waits for another: what it may do depends on its own shown state, and on whether it has
 -- places left. An announcement that finds none left is reported `LogFull`.
-pub record NobodyWaits (core : CoreState) (number : ℕ) (worker : WorkerState) (replay : ReplayState) : Type 0 where
-  pub announces : (tenant : ℕ) (command : Command) → worker.phase ≡ Idle → tenant < length core.openings → HasRoom (size_of core) worker →
+pub record NobodyWaits (core : CoreState) (number : ℕ) (worker : WorkerState)
+    (replay : ReplayState) : Type 0 where
+  pub announces : (tenant : ℕ) (command : Command) → worker.phase ≡ Idle →
+      tenant < length core.openings → HasRoom (core_size core) worker →
       refusal core (Announce number tenant command) ≡ None
-  pub reads : (worker.phase ≡ Idle) ⊎ (worker.phase ≡ Pending) → HasRoom (size_of core) worker → refusal core (Read number) ≡ None
-  pub looks : worker.phase ≡ Pending → HasRoom (size_of core) worker → worker.mark ≢ None → refusal core (Look number) ≡ None
+  pub reads : (worker.phase ≡ Idle) ⊎ (worker.phase ≡ Pending) → HasRoom (core_size core) worker →
+      refusal core (Read number) ≡ None
+  pub looks : worker.phase ≡ Pending → HasRoom (core_size core) worker → worker.mark ≢ None →
+      refusal core (Look number) ≡ None
   pub proposes : worker.phase ≡ Looked → refusal core (Propose number) ≡ None
-  pub replays : worker.phase ≢ Stopped → replay.replayed < length worker.learned → refusal core (Replay number) ≡ None
+  pub replays : worker.phase ≢ Stopped → replay.replayed < length worker.learned →
+      refusal core (Replay number) ≡ None
   pub stops : worker.phase ≢ Stopped → refusal core (Stop number) ≡ None
-  pub full : (tenant : ℕ) (command : Command) → worker.phase ≡ Idle → tenant < length core.openings → core.places ≤ length worker.learned →
+  pub full : (tenant : ℕ) (command : Command) → worker.phase ≡ Idle →
+      tenant < length core.openings → core.places ≤ length worker.learned →
       refusal core (Announce number tenant command) ≡ Some LogFull
 
 -- this holds for every worker
 abbrev pub WorkersAreFree : CoreState → Type 0
-WorkersAreFree core = (number : ℕ) (worker : WorkerState) (replay : ReplayState) → HasReplica core number worker replay →
-    NobodyWaits core number worker replay
+WorkersAreFree core = (number : ℕ) (worker : WorkerState) (replay : ReplayState) →
+    HasReplica core number worker replay → NobodyWaits core number worker replay
 
 -- an event leaves the shown state of every other worker, and what that worker has replayed, as they
 -- are
 abbrev pub StepsAreAlone : CoreState → Type 0
 StepsAreAlone core = (event : Event) (new : CoreState) (reply : Option Reply) (other : ℕ) →
     CoreStep core event new reply → other ≢ actor event →
-    (slice_get new.shown.workers other ≡ slice_get core.shown.workers other) × (slice_get new.replays other ≡ slice_get core.replays other)
+    (slice_get new.shown.workers other ≡ slice_get core.shown.workers other)
+    × (slice_get new.replays other ≡ slice_get core.replays other)
 
 -- a worker has learned this many places
 abbrev pub HasLearnedUpTo : CoreState → ℕ → ℕ → Type 0
-HasLearnedUpTo core number many = (worker : WorkerState) × IsWorker core.shown number worker × (length worker.learned ≡ many)
+HasLearnedUpTo core number many =
+    (worker : WorkerState) × IsWorker core.shown number worker × (length worker.learned ≡ many)
 
 -- a read of a decided place learns it, and a proposal learns its place
 pub record StepsLearn (core : CoreState) : Type 0 where

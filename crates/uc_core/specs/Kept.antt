@@ -34,7 +34,8 @@ is_latest_of number announced ticket = ticket.worker == number && ticket.number 
 
 -- these are the numbers of tickets of each worker in the list, indexed by worker number
 abbrev pub AreCounts : List Ticket → List ℕ → Type 0
-AreCounts tickets counts = (number many : ℕ) → slice_get counts number ≡ Some many → many ≡ count number tickets
+AreCounts tickets counts =
+    (number many : ℕ) → slice_get counts number ≡ Some many → many ≡ count number tickets
 
 -- In a log with these decided places: what a worker has learned is decided, and it counts the
 -- tickets of each worker there; one that has looked has a place left; it has announced at most one
@@ -48,7 +49,8 @@ pub record IsInOrder (workers places : ℕ) (decided : List Ticket) (worker : Wo
   pub proposals : worker.proposals ≤ worker.learned
   pub counted : length worker.counts.items ≡ workers
   pub counts : AreCounts (take worker.learned decided) worker.counts.items
-  pub uniques : (tenant : ℕ) (state : TableState) → slice_get worker.tables.items tenant ≡ Some state → state.last_unique ≤ worker.replayed
+  pub uniques : (tenant : ℕ) (state : TableState) →
+      slice_get worker.tables.items tenant ≡ Some state → state.last_unique ≤ worker.replayed
 
 -- a worker before any event, which is in order whatever the log
 pub record IsFresh (workers : ℕ) (openings : List Limits) (worker : Worker) : Type 0 where
@@ -57,8 +59,10 @@ pub record IsFresh (workers : ℕ) (openings : List Limits) (worker : Worker) : 
   pub order : (places : ℕ) (decided : List Ticket) → IsInOrder workers places decided worker
 
 abbrev pub AreFresh : ℕ → List Limits → List Worker → Type 0
-AreFresh many openings workers = (number : ℕ) (worker : Worker) → slice_get workers number ≡ Some worker → IsFresh many openings worker
+AreFresh many openings workers = (number : ℕ) (worker : Worker) →
+    slice_get workers number ≡ Some worker → IsFresh many openings worker
 
 -- nothing is announced
 abbrev pub AreEmpty : List (Vec Entry) → Type 0
-AreEmpty entries = (number : ℕ) (announced : Vec Entry) → slice_get entries number ≡ Some announced → announced.items ≡ []
+AreEmpty entries = (number : ℕ) (announced : Vec Entry) →
+    slice_get entries number ≡ Some announced → announced.items ≡ []

@@ -20,8 +20,12 @@ progress_of worker replay = record {
 -- the progress of the worker with this number, if there is one
 abbrev pub progress_by : CoreState → ℕ → Option Progress
 progress_by core number =
-    option_and_then (λ (worker : WorkerState). option_map (progress_of worker) (slice_get core.replays number)) (slice_get core.shown.workers number)
+    option_and_then
+    (λ (worker : WorkerState). option_map (progress_of worker) (slice_get core.replays number))
+    (slice_get core.shown.workers number)
 
 -- a tenant's table as a worker has replayed it
 abbrev pub table_by : CoreState → ℕ → ℕ → Option TableState
-table_by core number tenant = option_and_then (λ (replay : ReplayState). slice_get replay.tables tenant) (slice_get core.replays number)
+table_by core number tenant =
+    option_and_then (λ (replay : ReplayState). slice_get replay.tables tenant)
+    (slice_get core.replays number)

@@ -1,6 +1,6 @@
 //! Runs of the core: events one after another, and the replies that they give.
 ghost use Rattle.std.specs.Prelude.{◌≡◌, ◌<◌, ◌++◌, List, Option, length, take, drop, None, Some, slice_get, IfErr, OnOk, OnErr};
-ghost use Rattle.mc_model.specs.Helping.{BeginsWith};
+ghost use Rattle.lists.specs.Lists.{BeginsWith};
 ghost use Rattle.mc_model.specs.Legal.{IsLegal};
 ghost use Rattle.mc_model.specs.declared.reply.Reply.{Reply};
 ghost use Rattle.uc_core.specs.Headline.{RepliesAreAnswers};

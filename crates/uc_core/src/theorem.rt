@@ -10,7 +10,7 @@ ghost use Rattle.mc_model.specs.Lawful.{IsReached};
 ghost use Rattle.mc_model.specs.declared.shown.LogSize as size;
 ghost use Rattle.mc_model.specs.declared.shown.ShownState as state;
 ghost use Rattle.uc_core.specs.Asked.{AnnouncementsStand, ByEvents, FewProposals, IsOfSettings, ReplaysCount};
-ghost use Rattle.uc_core.specs.Core.{CoreState, size_of};
+ghost use Rattle.uc_core.specs.Core.{CoreState, core_size};
 ghost use Rattle.uc_core.specs.Headline.{AnswerAlike, IsDecidedSoon, LogIsSound, OfEveryRun, OwnAreAnswered, RepliesAreAnswers, ReplicasAgree, StepsAreAlone, StepsAreEnabled, StepsAreOne, StepsLeadOn, StepsLearn, StopsForGood, TablesStand, WorkersAreFree};
 
 /// What is true of every run: of any settings, and any events of any workers in any order.
@@ -37,7 +37,7 @@ pub fn laws()
     ensures stopped { OfEveryRun (λ core given. StopsForGood core) }
 
     // Whatever the log shows is reachable by events of the shown log alone.
-    ensures shown { OfEveryRun (λ core given. IsReached (size_of core) core.shown) }
+    ensures shown { OfEveryRun (λ core given. IsReached (core_size core) core.shown) }
 {}
 
 /// What is true of any two runs, of any workers, places and other tenants: if their logs agree for

@@ -10,7 +10,7 @@ use Rattle.uc_places.specs.declared.seats.Idle.{Idle}
 use Rattle.uc_places.specs.declared.view.View.{View}
 use Rattle.uc_places.specs.Calls.{IsSeatOf, known}
 use Rattle.uc_places.specs.Told.{new_seat}
-use Rattle.uc_log.proofs.Lists.{at_end, each_pushed, stands_longer}
+use Rattle.lists.proofs.Public.{last_at, each_pushed, at_longer}
 
 pub new_of : (log : Log) (number : ℕ) (pass : Pass) (d : Desk) → IsSeatOf log.places d → known d ≡ new_seat (size_of log) number → pass.desk ≡ d →
     own_sightings pass ≡ [] → IsNew log number pass
@@ -28,8 +28,8 @@ pub made_more : (passes new_passes : List Pass) (seats : List Idle) (pass : Pass
     length passes ≡ length seats → AreMadeOf passes seats → own_sightings pass ≡ [] → pass.desk ≡ seat.desk → AreMadeOf new_passes (seats ++ seat ∷ [])
 made_more passes new_passes seats pass seat is count made none same = each_pushed
     (λ number p. (own_sightings p ≡ []) × (s : Idle) × (slice_get (seats ++ seat ∷ []) number ≡ Some s) × (p.desk ≡ s.desk)) passes new_passes pass is
-    (λ number p at. let was = made number p at in (was.0, was.1, stands_longer seats (seat ∷ []) number was.1 was.2, was.3))
-    (none, seat, ap (λ (n : ℕ). slice_get (seats ++ seat ∷ []) n) count ∙ at_end seats seat, same)
+    (λ number p at. let was = made number p at in (was.0, was.1, at_longer seats (seat ∷ []) number was.1 was.2, was.3))
+    (none, seat, ap (λ (n : ℕ). slice_get (seats ++ seat ∷ []) n) count ∙ last_at seats seat, same)
 
 pub counted : (passes new_passes : List Pass) (seats : List Idle) (pass : Pass) (seat : Idle) → new_passes ≡ passes ++ pass ∷ [] →
     length passes ≡ length seats → length new_passes ≡ length (seats ++ seat ∷ [])

@@ -1,2 +1,3 @@
-pub mod Lists
 pub mod Fresh
+pub mod Unused
+pub mod Public

@@ -5,6 +5,7 @@ use Rattle.mc_model.specs.declared.id.Ticket.{Ticket}
 use Rattle.mc_model.specs.declared.request.Entry.{Entry}
 use Rattle.mc_model.specs.declared.shown.LogSize.{LogSize}
 use Rattle.mc_model.specs.declared.shown.WorkerState.{WorkerState}
+use Rattle.mc_model.specs.declared.shown.Phase.TheVariants as phase
 use Rattle.mc_model.specs.Legal.{ticket_of}
 use Rattle.uc_cells.specs.Cells.{row_at}
 use Rattle.uc_cells.specs.Sighting.{Sighting, sighting}
@@ -54,8 +55,10 @@ row_of log ticket = row_at log.cells ticket
 
 -- the pass was opened with the log, and what it put is in the log's cells
 abbrev pub IsOf : Log → Pass → Type 0
-IsOf log pass = IsSeatOf log.places pass.desk × (size pass ≡ size_of log)
-    × ((number : ℕ) (seen : Sighting) → slice_get (own_sightings pass) number ≡ Some seen → seen.row ≡ row_of log seen.ticket)
+IsOf log pass =
+    IsSeatOf log.places pass.desk × (size pass ≡ size_of log)
+    × ((number : ℕ) (seen : Sighting) → slice_get (own_sightings pass) number ≡ Some seen →
+    seen.row ≡ row_of log seen.ticket)
 
 -- the pass still belongs to the log, and what it put into the log's cells is unchanged
 pub record Keeps (log : Log) (old new : Pass) : Type 0 where
@@ -64,16 +67,28 @@ pub record Keeps (log : Log) (old new : Pass) : Type 0 where
 
 -- the entry that its next ticket would have with this tenant and command, and a sighting of it
 abbrev pub next_entry : Pass → ℕ → Command → Entry
-next_entry pass tenant command = record { ticket = next_ticket pass; tenant = tenant; command = command }
+next_entry pass tenant command =
+    record { ticket = next_ticket pass; tenant = tenant; command = command }
 
 abbrev pub next_sighting : Log → Pass → ℕ → Command → Sighting
-next_sighting log pass tenant command = sighting (next_ticket pass) (Some (next_entry pass tenant command)) (row_of log (next_ticket pass))
+next_sighting log pass tenant command =
+    sighting (next_ticket pass) (Some (next_entry pass tenant command))
+    (row_of log (next_ticket pass))
 
 -- the unused pass of the worker of this number
 abbrev pub IsNew : Log → ℕ → Pass → Type 0
 IsNew log number pass = IsOf log pass × (seat pass ≡ new_seat (size_of log) number)
 
+-- what that says to whoever doesn't ask for the number: the pass is of the log, and its worker has
+-- done nothing
+pub record IsUnusedPass (log : Log) (pass : Pass) : Type 0 where
+  pub of : IsOf log pass
+  pub idle : (state pass).phase ≡ phase.Idle
+  pub new : learned pass ≡ []
+  pub unused : (state pass).announced ≡ 0
+
 -- each pass has the seat of its number, and is unused
 abbrev pub AreMadeOf : List Pass → List Idle → Type 0
 AreMadeOf passes seats = (number : ℕ) (pass : Pass) → slice_get passes number ≡ Some pass →
-    (own_sightings pass ≡ []) × (seat : Idle) × (slice_get seats number ≡ Some seat) × (pass.desk ≡ seat.desk)
+    (own_sightings pass ≡ []) × (seat : Idle) × (slice_get seats number ≡ Some seat)
+    × (pass.desk ≡ seat.desk)

@@ -2,7 +2,7 @@
 ghost use Rattle.std.specs.Prelude.{◌≡◌, ℕ, [], Some, length, slice_get, IfOk, IsOkUnless};
 ghost use Rattle.mc_model.specs.declared.fault.Fault.TheVariants as faults;
 ghost use Rattle.uc_log.specs.Passes.{AreMadeOf, IsNew, own_sightings};
-ghost use Rattle.uc_places.specs.Calls.{known, size_of, worker_of};
+ghost use Rattle.uc_places.specs.Calls.{known, desk_size, worker_of};
 ghost use Rattle.uc_places.specs.Told.{new_seat};
 
 use crate::log::Log;
@@ -16,7 +16,7 @@ impl Pass {
     /// Returns a pass with this new seat. Its lists are reserved here, once, so that no later step
     /// of the pass allocates for them.
     fn open(alloc: Global, desk: Desk) -> Result<Pass, Fault>
-        requires { known desk ≡ new_seat (size_of desk) (worker_of desk) }
+        requires { known desk ≡ new_seat (desk_size desk) (worker_of desk) }
         ensures desk { IfOk result (λ pass. pass.desk ≡ desk) }
         ensures own { IfOk result (λ pass. own_sightings pass ≡ []) }
         ensures memory { IsOkUnless result faults.Memory }
@@ -35,7 +35,7 @@ impl Pass {
 /// Returns a pass with each of these new seats, in order.
 fn passes_of(alloc: Global, seats: Vec<Idle>) -> Result<Vec<Pass>, Fault>
     requires new { (number : ℕ) (seat : _) → slice_get seats.items number ≡ Some seat →
-        known seat.desk ≡ new_seat (size_of seat.desk) (worker_of seat.desk) }
+        known seat.desk ≡ new_seat (desk_size seat.desk) (worker_of seat.desk) }
     ensures count { IfOk result (λ passes. length passes.items ≡ length seats.items) }
     ensures passes { IfOk result (λ passes. AreMadeOf passes.items seats.items) }
     ensures memory { IsOkUnless result faults.Memory }

@@ -2,7 +2,7 @@
 ghost use Rattle.std.specs.Prelude.{◌≡◌, ◌≤◌, ℕ, Some, length, slice_get, vec_capacity};
 ghost use Rattle.mc_model.specs.Legal.{ticket_of};
 ghost use Rattle.uc_cells.specs.Sighting.{Sighting};
-ghost use Rattle.uc_places.specs.Calls.{size_of, state_of, worker_of};
+ghost use Rattle.uc_places.specs.Calls.{desk_size, state_of, worker_of};
 
 use mc_model::Ticket;
 use uc_cells::Sealed;
@@ -20,5 +20,5 @@ pub struct Pass {
     ghost learned_is: { learned.items ≡ (state_of desk).learned },
     ghost count: { length sealed.items ≡ (state_of desk).announced },
     ghost tickets: { (number : ℕ) (seen : Sighting) → slice_get sealed.items number ≡ Some seen → seen.ticket ≡ ticket_of (worker_of desk) number },
-    ghost room: { ((size_of desk).places ≤ vec_capacity learned) × ((size_of desk).places ≤ vec_capacity sealed) },
+    ghost room: { ((desk_size desk).places ≤ vec_capacity learned) × ((desk_size desk).places ≤ vec_capacity sealed) },
 }

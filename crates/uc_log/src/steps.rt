@@ -1,10 +1,10 @@
 //! The steps that a worker takes with its pass.
-ghost use Rattle.std.specs.Prelude.{◌≡◌, ◌≢◌, ◌⊎◌, ◌<◌, ◌∷◌, ◌++◌, [], length, slice_get, None, Some, IfOk, IfErr, IsOkUnless, OnErr, OnOk};
+ghost use Rattle.std.specs.Prelude.{◌≡◌, ◌≢◌, ◌⊎◌, ◌<◌, ◌∷◌, ◌++◌, [], length, slice_get, None, Some, IfOk, IfErr, IsOk, IsOkUnless, OnErr, OnOk};
 ghost use Rattle.mc_model.specs.declared.fault.Fault.TheVariants as faults;
 ghost use Rattle.mc_model.specs.declared.shown.Phase.TheVariants as phase;
 ghost use Rattle.mc_model.specs.Lawful.{HasRoom};
 ghost use Rattle.uc_log.specs.Passes.{IsOf, Keeps, desk, learned, next_sighting, own_sightings, row_of, size, state, worker};
-ghost use Rattle.uc_places.specs.Calls.{Announces, Looks, Proposes, Reads, Tells};
+ghost use Rattle.uc_places.specs.Calls.{Announces, Looks, Proposes, ReadsPlace, Tells};
 
 use crate::log::Log;
 use crate::pass::Pass;
@@ -62,7 +62,7 @@ impl Log {
         requires phase { ((state pass.old).phase ≡ phase.Idle)
             ⊎ ((state pass.old).phase ≡ phase.Pending) }
         requires room { HasRoom (size pass.old) (state pass.old) }
-        ensures read { Reads (desk pass.old) (desk pass.new) result }
+        ensures read { ReadsPlace (desk pass.old) (desk pass.new) result }
         ensures kept { Keeps self.now pass.old pass.new }
     {
         // In parts, since a ticket that is passed twice gets no proof.
@@ -113,6 +113,9 @@ impl Log {
         ensures own { IfOk result
             (λ seen. seen.ticket.worker ≡ worker pass.old →
             slice_get (own_sightings pass.old) seen.ticket.number ≡ Some seen) }
+        // An own ticket needs no memory.
+        ensures quiet { (ticket : _) → slice_get (learned pass.old) place ≡ Some ticket →
+            ticket.worker ≡ worker pass.old → IsOk result }
         ensures memory { IsOkUnless result faults.Memory }
         ensures same { pass.new ≡ pass.old }
     {

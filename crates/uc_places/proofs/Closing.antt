@@ -5,7 +5,7 @@ use Rattle.atomic_table.specs.Table.{Final, Seen}
 use Rattle.mc_model.specs.declared.shown.LogSize.{LogSize}
 use Rattle.mc_model.specs.declared.shown.ShownState.{ShownState}
 use Rattle.mc_model.specs.Lawful.{IsReached, IsWorker}
-use Rattle.uc_core.proofs.Lists.{at_pushed}
+use Rattle.lists.proofs.Public.{at_pushed}
 use Rattle.uc_places.specs.declared.seats.Idle.{Idle}
 use Rattle.uc_places.specs.declared.view.Kind.TheVariants.{Seated}
 use Rattle.uc_places.specs.declared.view.View.{View}

@@ -14,8 +14,8 @@ use Rattle.mc_model.specs.declared.shown.WorkerState.{WorkerState}
 use Rattle.mc_model.specs.Lawful.{reads, turn}
 use Rattle.mc_model.specs.Legal.{count, ticket_of}
 use Rattle.mc_model.specs.Shown.{is_latest, learn, look, proposal, propose, read}
-use Rattle.uc_core.proofs.Lists.{at_seam}
-use Rattle.uc_core.proofs.Tickets.{count_other, count_own}
+use Rattle.lists.proofs.Public.{at_seam}
+use Rattle.mc_model.proofs.Public.{count_other, count_own}
 use Rattle.uc_places.specs.declared.desk.Desk.{Desk}
 use Rattle.uc_places.specs.declared.desk.Numbers.{Numbers}
 use Rattle.uc_places.specs.declared.view.View.{View}

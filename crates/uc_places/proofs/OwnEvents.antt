@@ -5,13 +5,13 @@ use Rattle.mc_model.specs.declared.id.Ticket.{Ticket}
 use Rattle.mc_model.specs.declared.shown.LogSize.{LogSize}
 use Rattle.mc_model.specs.declared.shown.ShownState.{ShownState}
 use Rattle.mc_model.specs.declared.shown.WorkerState.{WorkerState}
-use Rattle.mc_model.specs.Helping.{BeginsWith}
+use Rattle.lists.specs.Lists.{BeginsWith}
 use Rattle.mc_model.specs.Lawful.{IsWorker, LeadOn, ShownEvent, Step, announces, decided_with, looks, next, proposes, reads, stops}
 use Rattle.mc_model.specs.Shown.{new_log, new_worker, proposal}
-use Rattle.uc_core.proofs.Lists.{begins_self, begins_through, set_elsewhere}
+use Rattle.lists.proofs.Public.{begins_self, begins_through, set_elsewhere}
 use Rattle.uc_places.specs.declared.desk.Desk.{Desk}
 use Rattle.uc_places.specs.declared.view.View.{View}
-use Rattle.uc_places.specs.Calls.{known, last_of, size_of, state_of, worker_of}
+use Rattle.uc_places.specs.Calls.{known, last_of, desk_size, state_of, worker_of}
 use Rattle.uc_places.specs.OneRun.{CallsLead, CallsLieOnOneRun, OthersLeaveIt, is_of, own_events}
 use Rattle.uc_places.specs.Rule.{AreOfOthers, OthersLead, taker}
 use Rattle.uc_places.specs.Told.{Happens}
@@ -62,7 +62,7 @@ one_call size number old next new event calls view state whose from its happens 
       later.3,
     )
 
-lie : (size : LogSize) (number : ℕ) (old new : Desk) (calls : List ShownEvent) → size_of old ≡ size → worker_of old ≡ number →
+lie : (size : LogSize) (number : ℕ) (old new : Desk) (calls : List ShownEvent) → desk_size old ≡ size → worker_of old ≡ number →
     IsWorker (last_of old) number (state_of old) → CallsLead old calls new → Lie size number old calls new
 lie size number old new [] sized whose at still = (
   [],
@@ -73,7 +73,7 @@ lie size number old new [] sized whose at still = (
 lie size number old new (event ∷ calls) sized whose at lead =
     let here = lead.0 in let next = lead.1 in let state = lead.2 in let still = lead.3 in let makes = lead.5 in
     let now = makes.2 in
-    let here_size : size_of here ≡ size = still.size ∙ sized in
+    let here_size : desk_size here ≡ size = still.size ∙ sized in
     let here_worker : worker_of here ≡ number = still.worker ∙ whose in
     let happens : Happens size event (known here) state (last_of next) =
     subst (λ (z : LogSize). Happens z event (known here) state (last_of next)) here_size makes.3 in

@@ -1,5 +1,5 @@
 -- The law of a seat's own list, at the opening and after each event.
-use Rattle.std.proofs.Common.{◌≡◌, ◌⊎◌, ℕ, zero, suc, ◌≤◌, Bool, true, false, if◌then◌else◌, List, [], ◌∷◌, ◌++◌, length, take, sym, refl, ap, ◌∙◌, subst, inl, inr, arith, slice_get, unwrap_or, Option, Some, None}
+use Rattle.std.proofs.Common.{◌≡◌, ◌⊎◌, ℕ, zero, suc, ◌≤◌, ◌<◌, Bool, true, false, if◌then◌else◌, List, [], ◌∷◌, ◌++◌, length, replicate, take, sym, refl, ap, ◌∙◌, subst, inl, inr, arith, slice_get, unwrap_or, Option, Some, None}
 use Rattle.std.proofs.lemmas.Option.{none-some}
 use Rattle.mc_model.specs.declared.id.Ticket.{Ticket}
 use Rattle.mc_model.specs.declared.shown.LogSize.{LogSize}
@@ -11,11 +11,12 @@ use Rattle.mc_model.specs.Helping.{LogLaw, WorkerLaw}
 use Rattle.mc_model.specs.Lawful.{IsReached, IsWorker, ShownEvent, announced_by}
 use Rattle.mc_model.specs.Legal.{IsLegal, count}
 use Rattle.mc_model.specs.Shown.{is_latest, new_worker, proposal, propose, read}
-use Rattle.uc_core.proofs.Lists.{begins_longer, take_longer}
-use Rattle.uc_core.proofs.Waiting.{is_lawful}
+use Rattle.lists.proofs.Public.{begins_longer, take_longer}
+use Rattle.uc_core.proofs.Public.{is_lawful}
 use Rattle.uc_places.specs.declared.view.View.{View}
+use Rattle.uc_places.specs.Reached.{LastIsReached}
 use Rattle.uc_places.specs.SeatLaw.{SeatLaw}
-use Rattle.uc_places.specs.Told.{Happens, moved_on}
+use Rattle.uc_places.specs.Told.{Happens, moved_on, new_seat, told_list}
 use Rattle.uc_places.proofs.Wording.{announced_in, ticket_small}
 
 -- an element of the front of a list is an element of the list
@@ -77,6 +78,33 @@ law_of_new size number = record {
   pending = λ is. cc;
   looked = λ is. cc;
 }
+
+-- the last state of a seat after an event, before the first, and of a seat with which a list is
+-- shared
+pub last_after : (view new : View) (event : ShownEvent) (state : WorkerState) → new ≡ moved_on view state new.last →
+    Happens view.size event view state new.last → LastIsReached new
+last_after view new event state is happens =
+    subst LastIsReached (sym is) (record {
+      reached = ∣ happens.4 ∣₁;
+      shown = happens.6;
+      decided = λ place ticket stands. let begins = ((is_lawful view.size new.last happens.4).each view.worker state happens.6).begins in
+          in_longer new.last.decided state.learned begins.0 place ticket begins.1 stands;
+    })
+
+pub last_of_new : (size : LogSize) (number : ℕ) → number < size.workers → LastIsReached (new_seat size number)
+last_of_new size number inside = record {
+  reached = ∣ ([], refl) ∣₁;
+  shown = all_new size.workers number inside;
+  decided = λ place ticket stands. absurd (none-some ticket stands);
+}
+  where
+    all_new : (workers number : ℕ) → number < workers → slice_get (replicate workers new_worker) number ≡ Some new_worker
+    all_new zero number inside = absurd (omega arith)
+    all_new (suc workers) zero inside = refl
+    all_new (suc workers) (suc number) inside = all_new workers number (omega arith)
+
+pub last_told : (view : View) (list : List Ticket) → LastIsReached view → LastIsReached (told_list view list)
+last_told view list last = record { reached = last.reached; shown = last.shown; decided = last.decided }
 
 -- between two steps a worker is idle or pending
 rests_if : (own : Bool) (phase : Phase) → phase ≡ Pending → ((if own then Idle else phase) ≡ Idle) ⊎ ((if own then Idle else phase) ≡ Pending)

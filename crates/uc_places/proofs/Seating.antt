@@ -7,7 +7,7 @@ use Rattle.atomic_table.specs.Table.{Joins, Splits, opening}
 use Rattle.atomic_table.proofs.Lists.{at_set, at_snoc, set_again}
 use Rattle.mc_model.specs.declared.shown.LogSize.{LogSize}
 use Rattle.mc_model.specs.declared.shown.ShownState.{ShownState}
-use Rattle.mc_model.specs.Helping.{BeginsWith}
+use Rattle.lists.specs.Lists.{BeginsWith}
 use Rattle.mc_model.specs.Shown.{new_log, new_worker}
 use Rattle.uc_places.specs.declared.view.Kind.{Kind}
 use Rattle.uc_places.specs.declared.view.Kind.TheVariants.{Spare, Seated, Note, Spent}

@@ -4,7 +4,7 @@ use mathlib.Core.Option.{some, some-injective, some-ne-none}
 use lib.ListN.{get_elem?}
 use Rattle.mc_model.specs.declared.id.TheConstants.{WORKERS}
 use Rattle.mc_model.specs.declared.id.Ticket.{Ticket}
-use Rattle.uc_core.proofs.Lists.{beyond, take_more}
+use Rattle.lists.proofs.Public.{beyond, take_more}
 use Rattle.uc_places.specs.Desk.{AreTickets, Spells}
 use Rattle.uc_places.specs.Words.{place_word, said_ticket, said_word}
 use Rattle.uc_places.proofs.Wording.{decoded}

@@ -13,7 +13,7 @@ use Rattle.mc_model.specs.declared.shown.WorkerState.{WorkerState}
 use Rattle.mc_model.specs.Helping.{LogLaw}
 use Rattle.mc_model.specs.Lawful.{IsWorker, announced_by, with_worker}
 use Rattle.mc_model.specs.Legal.{ticket_of}
-use Rattle.uc_core.proofs.Lists.{at_seam, set_elsewhere, set_here}
+use Rattle.lists.proofs.Public.{at_seam, set_elsewhere, set_here}
 use Rattle.uc_places.specs.Rule.{IsSmall}
 use Rattle.uc_places.specs.Told.{IsTicketOf}
 use Rattle.uc_places.specs.Words.{Shows, found_in, place_word, said_ticket, said_word}

@@ -7,12 +7,13 @@ use Rattle.mc_model.specs.declared.shown.Phase.{Phase}
 use Rattle.mc_model.specs.declared.shown.LogSize.{LogSize}
 use Rattle.mc_model.specs.declared.shown.ShownState.{ShownState}
 use Rattle.mc_model.specs.declared.shown.WorkerState.{WorkerState}
-use Rattle.mc_model.specs.Helping.{BeginsWith}
+use Rattle.lists.specs.Lists.{BeginsWith}
 use Rattle.mc_model.specs.Lawful.{HasRoom, ShownEvent, announced_by, announces, looks, proposes, reads, turn}
 use Rattle.mc_model.specs.Shown.{announce, look, propose, read}
 use Rattle.uc_places.specs.declared.desk.Desk.{Desk}
 use Rattle.uc_places.specs.declared.desk.Places.{Places}
 use Rattle.uc_places.specs.declared.view.View.{View}
+use Rattle.uc_places.specs.Reached.{LastIsReached}
 use Rattle.uc_places.specs.SeatLaw.{SeatLaw}
 use Rattle.uc_places.specs.Told.{Happens, moved_on, told_list}
 
@@ -21,8 +22,8 @@ use Rattle.uc_places.specs.Told.{Happens, moved_on, told_list}
 abbrev pub known : Desk → View
 known desk = desk.seat.me.0
 
-abbrev pub size_of : Desk → LogSize
-size_of desk = (known desk).size
+abbrev pub desk_size : Desk → LogSize
+desk_size desk = (known desk).size
 
 abbrev pub worker_of : Desk → ℕ
 worker_of desk = (known desk).worker
@@ -44,7 +45,7 @@ IsSeatOf places desk = desk.seat.table_id ≡ places.table.shared.table_id
 abbrev pub Makes : Desk → Desk → ShownEvent → WorkerState → Type 0
 Makes old new event state = (new.seat.table_id ≡ old.seat.table_id) × (new.seat.id ≡ old.seat.id)
     × (known new ≡ moved_on (known old) state (last_of new))
-    × Happens (size_of old) event (known old) state (last_of new)
+    × Happens (desk_size old) event (known old) state (last_of new)
 
 -- the worker announces its next command
 abbrev pub Announces : Desk → Desk → Type 0
@@ -52,34 +53,40 @@ Announces old new = Makes old new (announces (worker_of old)) (announce (state_o
 
 -- the worker reads its next place, and this is what stands there; it is the ticket that the list
 -- shared with the seat has at that place, if the list is long enough
-pub record Reads (old new : Desk) (found : Option Ticket) : Type 0 where
+pub record ReadsPlace (old new : Desk) (found : Option Ticket) : Type 0 where
   pub made : Makes old new (reads (worker_of old)) (read (worker_of old) found (state_of old))
   pub stands : slice_get (last_of new).decided (length (state_of old).learned) ≡ found
-  pub told : (ticket : Ticket) → slice_get (known old).told (length (state_of old).learned) ≡ Some ticket → found ≡ Some ticket
+  pub told : (ticket : Ticket) →
+      slice_get (known old).told (length (state_of old).learned) ≡ Some ticket → found ≡ Some ticket
 
 -- the worker looks up how many commands were announced by the worker whose turn it is at its next
 -- place
 abbrev pub Looks : Desk → Desk → Type 0
-Looks old new = let helped = turn (size_of old) (state_of old) in
-    Makes old new (looks (worker_of old)) (look helped (announced_by (last_of new) helped) (state_of old))
+Looks old new = let helped = turn (desk_size old) (state_of old) in
+    Makes old new (looks (worker_of old))
+    (look helped (announced_by (last_of new) helped) (state_of old))
 
 -- the worker proposes at its next place, and this ticket stands there afterwards
 pub record Proposes (old new : Desk) (ticket : Ticket) : Type 0 where
-  pub made : Makes old new (proposes (worker_of old)) (propose (worker_of old) (Some ticket) (state_of old))
+  pub made : Makes old new (proposes (worker_of old))
+      (propose (worker_of old) (Some ticket) (state_of old))
   pub stands : slice_get (last_of new).decided (length (state_of old).learned) ≡ Some ticket
 
 -- one seat shares what its worker has learned with another: the one knows what it knew, the other
 -- knows what it knew and the one's list, and one of the two learned lists begins with the other
 pub record Tells (one other new_one new_other : Desk) : Type 0 where
   pub first : (new_one.seat.table_id ≡ one.seat.table_id) × (known new_one ≡ known one)
-  pub second : (new_other.seat.table_id ≡ other.seat.table_id) × (known new_other ≡ told_list (known other) (state_of one).learned)
-  pub compared : BeginsWith (state_of one).learned (state_of other).learned ⊎ BeginsWith (state_of other).learned (state_of one).learned
+  pub second : (new_other.seat.table_id ≡ other.seat.table_id)
+      × (known new_other ≡ told_list (known other) (state_of one).learned)
+  pub compared : BeginsWith (state_of one).learned (state_of other).learned
+      ⊎ BeginsWith (state_of other).learned (state_of one).learned
 
--- this many places are learned
+-- this many places are learned, which are the first decided places of a reachable state
 pub record HasLearned (view : View) (learned : ℕ) : Type 0 where
   pub value : learned ≡ length view.state.learned
   pub few : learned ≤ view.size.places
   pub law : SeatLaw view.size view.worker view.state
+  pub reached : LastIsReached view
 
 -- this many proposals were made for the command that was announced last: at most one more than
 -- there are workers

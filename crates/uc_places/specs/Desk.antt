@@ -30,11 +30,13 @@ pub record Mirrors (view : View) (numbers : Numbers) : Type 0 where
   pub proposals_helped : numbers.proposals ≤ numbers.workers + 1
   pub mark : view.state.mark ≡ numbers.mark
   pub phase : view.state.phase ≡ numbers.phase
-  pub word : view.state.phase ≡ Looked → numbers.proposal ≡ said_word (proposal view.worker view.state)
+  pub word : view.state.phase ≡ Looked →
+      numbers.proposal ≡ said_word (proposal view.worker view.state)
   pub proposes : view.state.phase ≡ Looked → (proposal view.worker view.state).worker < WORKERS
   pub room : view.state.phase ≡ Looked → numbers.learned < view.size.places
   pub wide : length numbers.counts ≡ 16
-  pub counts : (worker : ℕ) → worker < 16 → slice_index numbers.counts worker ≡ count worker view.state.learned
+  pub counts : (worker : ℕ) → worker < 16 →
+      slice_index numbers.counts worker ≡ count worker view.state.learned
 
 -- the next place becomes the mark of a pending worker that has none
 abbrev pub marked_here : Numbers → Numbers
@@ -56,7 +58,9 @@ learned_one numbers ticket phase = record numbers {
 -- the ticket to propose where this many commands were found of the worker whose turn it is
 abbrev pub ticket_for : Numbers → ℕ → ℕ → Ticket
 ticket_for numbers turn found =
-    if ltb (slice_index numbers.counts turn) found then ticket_of turn (slice_index numbers.counts turn) else ticket_of numbers.worker (numbers.announced - 1)
+    if ltb (slice_index numbers.counts turn) found
+    then ticket_of turn (slice_index numbers.counts turn)
+    else ticket_of numbers.worker (numbers.announced - 1)
 
 -- the words at the opening
 pub record IsBlank (words : List ℕ) (workers places : ℕ) : Type 0 where
@@ -67,10 +71,13 @@ pub record IsBlank (words : List ℕ) (workers places : ℕ) : Type 0 where
 -- the words of the places encode this list, and those after it are 0
 pub record Spells (words : List ℕ) (first places : ℕ) (tickets : List Ticket) : Type 0 where
   pub few : length tickets ≤ places
-  pub at : (place : ℕ) → place < places → slice_index words (first + place) ≡ place_word (slice_get tickets place)
-  pub small : (place : ℕ) (ticket : Ticket) → slice_get tickets place ≡ Some ticket → ticket.worker < WORKERS
+  pub at : (place : ℕ) → place < places →
+      slice_index words (first + place) ≡ place_word (slice_get tickets place)
+  pub small : (place : ℕ) (ticket : Ticket) → slice_get tickets place ≡ Some ticket →
+      ticket.worker < WORKERS
 
 -- each word of a decided place encodes some worker's ticket
 abbrev pub AreTickets : List ℕ → ℕ → ℕ → Type 0
-AreTickets words first places = (place : ℕ) → place < places → slice_index words (first + place) ≢ 0 →
+AreTickets words first places =
+    (place : ℕ) → place < places → slice_index words (first + place) ≢ 0 →
     (said_ticket (slice_index words (first + place))).worker < WORKERS

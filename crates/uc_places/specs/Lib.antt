@@ -2,6 +2,7 @@ pub mod Words
 pub mod Rule
 pub mod Told
 pub mod SeatLaw
+pub mod Reached
 pub mod Desk
 pub mod Calls
 pub mod Seats

@@ -17,7 +17,7 @@ use Rattle.mc_model.specs.declared.id.TheConstants.{WORKERS}
 use Rattle.mc_model.specs.declared.settings.TheConstants.{MAX_PLACES}
 use Rattle.mc_model.specs.declared.shown.LogSize.{LogSize}
 use Rattle.mc_model.specs.declared.shown.ShownState.{ShownState}
-use Rattle.mc_model.specs.Helping.{BeginsWith}
+use Rattle.lists.specs.Lists.{BeginsWith}
 use Rattle.mc_model.specs.Lawful.{IsReached, IsWorker, LeadOn, ShownEvent, announces, looks, proposes, reads, stops}
 use Rattle.mc_model.specs.Shown.{new_log, new_worker}
 use Rattle.uc_places.specs.declared.view.Kind.{Kind}
@@ -40,7 +40,8 @@ AreOfOthers number (event ∷ events) = (taker event ≢ number) × AreOfOthers 
 
 -- events of other workers than this one lead from the one state to the other
 abbrev pub OthersLead : LogSize → ℕ → ShownState → ShownState → Type 0
-OthersLead size number old new = (events : List ShownEvent) × AreOfOthers number events × LeadOn size old events new
+OthersLead size number old new =
+    (events : List ShownEvent) × AreOfOthers number events × LeadOn size old events new
 
 -- a log can have this many workers and places
 abbrev pub IsSmall : LogSize → Type 0
@@ -52,11 +53,13 @@ module _ (size : LogSize) (log : ShownState) (owner : ℕ → ℕ) (id : ℕ) wh
   abbrev pub Knows : View → Kind → Type 0
   -- no worker from its own on has taken an event
   Knows view Spare = (number : ℕ) → view.worker ≤ number → number < size.workers →
-      (owner number ≡ id) × IsWorker log number new_worker × OthersLead size number (new_log size) log
+      (owner number ≡ id) × IsWorker log number new_worker
+      × OthersLead size number (new_log size) log
   -- it is its worker's seat, and shows that worker; the log begins with the list that was shared
   -- with it; only other workers have taken events since its last event
-  Knows view Seated = (owner view.worker ≡ id) × IsWorker log view.worker view.state × BeginsWith log.decided view.told
-      × OthersLead size view.worker view.last log
+  Knows view Seated =
+      (owner view.worker ≡ id) × IsWorker log view.worker view.state
+      × BeginsWith log.decided view.told × OthersLead size view.worker view.last log
   -- the log begins with the list that it knows
   Knows view Note = BeginsWith log.decided view.told
   -- nothing
@@ -72,4 +75,5 @@ pub record IsKept (size : LogSize) (table : State Unit View) : Type 0 where
   pub reached : IsReached size log
   pub shows : Shows size table.words log
   pub owner : ℕ → ℕ
-  pub fits : (id : ℕ) (view : View) → get_elem? table.views id ≡ some view → Fits size log owner id view
+  pub fits : (id : ℕ) (view : View) → get_elem? table.views id ≡ some view →
+      Fits size log owner id view

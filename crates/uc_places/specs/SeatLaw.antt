@@ -14,8 +14,10 @@ use Rattle.mc_model.specs.Legal.{IsLegal, count}
 pub record SeatLaw (size : LogSize) (number : ℕ) (worker : WorkerState) : Type 0 where
   pub legal : IsLegal worker.learned
   pub few : length worker.learned ≤ size.places
-  pub inside : (place : ℕ) (ticket : Ticket) → slice_get worker.learned place ≡ Some ticket → (ticket.worker < size.workers) × (ticket.number < size.places)
-  pub own : (place : ℕ) (ticket : Ticket) → slice_get worker.learned place ≡ Some ticket → ticket.worker ≡ number → ticket.number < worker.announced
+  pub inside : (place : ℕ) (ticket : Ticket) → slice_get worker.learned place ≡ Some ticket →
+      (ticket.worker < size.workers) × (ticket.number < size.places)
+  pub own : (place : ℕ) (ticket : Ticket) → slice_get worker.learned place ≡ Some ticket →
+      ticket.worker ≡ number → ticket.number < worker.announced
   pub idle : worker.phase ≡ Idle → count number worker.learned ≡ worker.announced
   pub pending : worker.phase ≡ Pending → count number worker.learned + 1 ≡ worker.announced
   pub looked : worker.phase ≡ Looked → count number worker.learned + 1 ≡ worker.announced

@@ -10,6 +10,6 @@ desk_of (seat.Idle idle) = idle.desk
 desk_of (seat.Pending pending) = pending.desk
 
 -- its worker has no pending command
-abbrev pub is_idle : Seat → Bool
-is_idle (seat.Idle idle) = true
-is_idle (seat.Pending pending) = false
+abbrev pub is_idle_seat : Seat → Bool
+is_idle_seat (seat.Idle idle) = true
+is_idle_seat (seat.Pending pending) = false

@@ -28,5 +28,7 @@ found_in (suc word) = Some (said_ticket (suc word))
 pub record Shows (size : LogSize) (words : List ℕ) (log : ShownState) : Type 0 where
   pub wide : length words ≡ 1 + size.workers + size.places
   pub first : slice_index words 0 ≡ size.workers
-  pub counts : (number : ℕ) → number < size.workers → slice_index words (1 + number) ≡ announced_by log number
-  pub places : (place : ℕ) → place < size.places → slice_index words (1 + size.workers + place) ≡ place_word (slice_get log.decided place)
+  pub counts : (number : ℕ) → number < size.workers →
+      slice_index words (1 + number) ≡ announced_by log number
+  pub places : (place : ℕ) → place < size.places →
+      slice_index words (1 + size.workers + place) ≡ place_word (slice_get log.decided place)

@@ -2,8 +2,8 @@
 ghost use Rattle.std.specs.Prelude.{◌≡◌, ◌<◌, ◌≤◌, true, false, length};
 ghost use Rattle.mc_model.specs.declared.settings.TheConstants.{MAX_PLACES};
 ghost use Rattle.mc_model.specs.declared.shown.Phase.TheVariants as phase;
-ghost use Rattle.uc_places.specs.Calls.{HasLearned, HasProposed, TellsFull, TellsMarked, TellsPhase, known, size_of, state_of, worker_of};
-ghost use Rattle.uc_places.specs.Seats.{desk_of, is_idle};
+ghost use Rattle.uc_places.specs.Calls.{HasLearned, HasProposed, TellsFull, TellsMarked, TellsPhase, known, desk_size, state_of, worker_of};
+ghost use Rattle.uc_places.specs.Seats.{desk_of, is_idle_seat};
 
 use crate::desk::Desk;
 use crate::seats::{Idle, Looked, Pending, Seat};
@@ -13,7 +13,7 @@ impl Desk {
     /// Returns the worker whose seat this is.
     pub fn worker(&self) -> WorkerId
         ensures value { result ≡ worker_of self.now }
-        ensures inside { result < (size_of self.now).workers }
+        ensures inside { result < (desk_size self.now).workers }
     {
         self.numbers.worker
     }
@@ -34,7 +34,7 @@ impl Desk {
 
     /// Returns the number of places of the log.
     pub fn places(&self) -> usize
-        ensures value { result ≡ (size_of self.now).places }
+        ensures value { result ≡ (desk_size self.now).places }
         ensures small { result ≤ MAX_PLACES }
     {
         self.numbers.places
@@ -128,6 +128,14 @@ impl Idle {
         self.desk.is_full()
     }
 
+    /// Returns the first place that the worker found empty while the command that it announced last
+    /// was pending, or `None` if it found none.
+    pub fn mark(&self) -> Option<u64>
+        ensures { result ≡ (state_of self.now.desk).mark }
+    {
+        self.desk.mark()
+    }
+
     /// Returns how many proposals the worker has made for the command that it announced last: at
     /// most one more than there are workers.
     pub fn proposals(&self) -> u64
@@ -185,6 +193,13 @@ impl Looked {
         self.desk.learned()
     }
 
+    /// Returns the first place that the worker found empty since it announced its pending command.
+    pub fn mark(&self) -> Option<u64>
+        ensures { result ≡ (state_of self.now.desk).mark }
+    {
+        self.desk.mark()
+    }
+
     /// Returns how many proposals the worker has made for its pending command: at most one more
     /// than there are workers.
     pub fn proposals(&self) -> u64
@@ -198,8 +213,8 @@ impl Seat {
     /// Returns the seat's desk.
     pub(crate) fn into_desk(self) -> Desk
         ensures desk { result ≡ desk_of self }
-        ensures idle { is_idle self ≡ true → (state_of result).phase ≡ phase.Idle }
-        ensures pending { is_idle self ≡ false → (state_of result).phase ≡ phase.Pending }
+        ensures idle { is_idle_seat self ≡ true → (state_of result).phase ≡ phase.Idle }
+        ensures pending { is_idle_seat self ≡ false → (state_of result).phase ≡ phase.Pending }
     {
         match self {
             Seat::Idle(Idle { desk }) | Seat::Pending(Pending { desk }) => desk,
@@ -208,7 +223,7 @@ impl Seat {
 
     /// Returns whether the worker has no pending command.
     pub fn is_idle(&self) -> bool
-        ensures { result ≡ is_idle self.now }
+        ensures { result ≡ is_idle_seat self.now }
     {
         matches!(self, Seat::Idle(_))
     }
@@ -234,6 +249,14 @@ impl Seat {
         ensures { TellsFull (known (desk_of self.now)) result }
     {
         self.desk().is_full()
+    }
+
+    /// Returns the first place that the worker found empty while the command that it announced last
+    /// was pending, or `None` if it found none.
+    pub fn mark(&self) -> Option<u64>
+        ensures { result ≡ (state_of (desk_of self.now)).mark }
+    {
+        self.desk().mark()
     }
 
     /// Returns how many proposals the worker has made for the command that it announced last: at

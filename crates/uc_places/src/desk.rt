@@ -1,7 +1,8 @@
 //! The shared words, and each seat's own numbers.
-ghost use Rattle.std.specs.Prelude.{◌≡◌, ◌≢◌, ◌+◌, ◌<◌, ◌^◌, [], length, slice_index};
+ghost use Rattle.std.specs.Prelude.{◌≡◌, ◌+◌, ◌<◌, ◌^◌, [], length, slice_index};
 ghost use Rattle.mc_model.specs.declared.id.TheConstants.{WORKERS};
 ghost use Rattle.uc_places.specs.Desk.{Mirrors, learned_one, marked_here, owns, ticket_for};
+ghost use Rattle.uc_places.specs.Reached.{LastIsReached};
 ghost use Rattle.uc_places.specs.Rule.{IsSmall};
 ghost use Rattle.uc_places.specs.SeatLaw.{SeatLaw};
 
@@ -48,6 +49,7 @@ pub struct Desk {
     ghost words: { seat.table_id.words ≡ 1 + seat.me.0.size.workers + seat.me.0.size.places },
     ghost mirrors: { Mirrors seat.me.0 numbers },
     ghost law: { SeatLaw seat.me.0.size seat.me.0.worker seat.me.0.state },
+    ghost reached: { LastIsReached seat.me.0 },
     ghost holds_no_slot: { seat.me.1 ≡ [] },
 }
 

@@ -2,7 +2,7 @@
 ghost use Rattle.std.specs.Prelude.{◌≡◌, ◌≢◌, ◌⊎◌, None};
 ghost use Rattle.mc_model.specs.declared.shown.Phase.TheVariants as phase;
 ghost use Rattle.mc_model.specs.Lawful.{HasRoom};
-ghost use Rattle.uc_places.specs.Calls.{Announces, IsSeatOf, Looks, Proposes, Reads, size_of, state_of};
+ghost use Rattle.uc_places.specs.Calls.{Announces, IsSeatOf, Looks, Proposes, ReadsPlace, desk_size, state_of};
 
 use crate::desk::{Desk, Places};
 use crate::rule::{Announcing, Looking, Proposing, Reading};
@@ -14,7 +14,7 @@ impl Desk {
     pub fn announce(&mut self, places: &Places)
         requires place { IsSeatOf places.now self.old }
         requires idle { (state_of self.old).phase ≡ phase.Idle }
-        requires room { HasRoom (size_of self.old) (state_of self.old) }
+        requires room { HasRoom (desk_size self.old) (state_of self.old) }
         ensures { Announces self.old self.new }
     {
         let word = self.numbers.own_word();
@@ -34,8 +34,8 @@ impl Desk {
         requires place { IsSeatOf places.now self.old }
         requires phase { ((state_of self.old).phase ≡ phase.Idle)
             ⊎ ((state_of self.old).phase ≡ phase.Pending) }
-        requires room { HasRoom (size_of self.old) (state_of self.old) }
-        ensures { Reads self.old self.new result }
+        requires room { HasRoom (desk_size self.old) (state_of self.old) }
+        ensures { ReadsPlace self.old self.new result }
     {
         let word = self.numbers.next_word();
         let shared = &places.table.shared;
@@ -55,7 +55,7 @@ impl Desk {
     pub fn look(&mut self, places: &Places)
         requires place { IsSeatOf places.now self.old }
         requires pending { (state_of self.old).phase ≡ phase.Pending }
-        requires room { HasRoom (size_of self.old) (state_of self.old) }
+        requires room { HasRoom (desk_size self.old) (state_of self.old) }
         requires marked { (state_of self.old).mark ≢ None }
         ensures { Looks self.old self.new }
     {

@@ -2,8 +2,8 @@
 ghost use Rattle.std.specs.Prelude.{◌≡◌, ◌≢◌, ◌⊎◌, None, true, false};
 ghost use Rattle.mc_model.specs.declared.shown.Phase.TheVariants as phase;
 ghost use Rattle.mc_model.specs.Lawful.{HasRoom};
-ghost use Rattle.uc_places.specs.Calls.{Announces, IsSeatOf, Looks, Proposes, Reads, size_of, state_of};
-ghost use Rattle.uc_places.specs.Seats.{desk_of, is_idle};
+ghost use Rattle.uc_places.specs.Calls.{Announces, IsSeatOf, Looks, Proposes, ReadsPlace, desk_size, state_of};
+ghost use Rattle.uc_places.specs.Seats.{desk_of, is_idle_seat};
 
 use crate::desk::{Desk, Places};
 use crate::seats::{Idle, Looked, Pending, Seat};
@@ -14,8 +14,8 @@ pub(crate) fn settled(desk: Desk) -> Seat
     requires rests { ((state_of desk).phase ≡ phase.Idle)
         ⊎ ((state_of desk).phase ≡ phase.Pending) }
     ensures desk { desk_of result ≡ desk }
-    ensures idle { is_idle result ≡ true → (state_of desk).phase ≡ phase.Idle }
-    ensures pending { is_idle result ≡ false → (state_of desk).phase ≡ phase.Pending }
+    ensures idle { is_idle_seat result ≡ true → (state_of desk).phase ≡ phase.Idle }
+    ensures pending { is_idle_seat result ≡ false → (state_of desk).phase ≡ phase.Pending }
 {
     if desk.is_idle() {
         Seat::Idle(Idle { desk })
@@ -28,7 +28,7 @@ impl Idle {
     /// Announces the worker's next command.
     pub fn announce(self, places: &Places) -> Pending
         requires place { IsSeatOf places.now self.desk }
-        requires room { HasRoom (size_of self.desk) (state_of self.desk) }
+        requires room { HasRoom (desk_size self.desk) (state_of self.desk) }
         ensures { Announces self.desk result.desk }
     {
         let Idle { mut desk } = self;
@@ -41,8 +41,8 @@ impl Idle {
     /// Returns that ticket, or `None` if the place is empty.
     pub fn read(&mut self, places: &Places) -> Option<Ticket>
         requires place { IsSeatOf places.now self.old.desk }
-        requires room { HasRoom (size_of self.old.desk) (state_of self.old.desk) }
-        ensures { Reads self.old.desk self.new.desk result }
+        requires room { HasRoom (desk_size self.old.desk) (state_of self.old.desk) }
+        ensures { ReadsPlace self.old.desk self.new.desk result }
     {
         self.desk.read(places)
     }
@@ -55,8 +55,8 @@ impl Pending {
     /// its worker's own. An empty place becomes the worker's mark, if it has none.
     pub fn read(self, places: &Places) -> (Seat, Option<Ticket>)
         requires place { IsSeatOf places.now self.desk }
-        requires room { HasRoom (size_of self.desk) (state_of self.desk) }
-        ensures { Reads self.desk (desk_of result.0) result.1 }
+        requires room { HasRoom (desk_size self.desk) (state_of self.desk) }
+        ensures { ReadsPlace self.desk (desk_of result.0) result.1 }
     {
         let Pending { mut desk } = self;
         let found = desk.read(places);
@@ -67,7 +67,7 @@ impl Pending {
     /// at the next place, if there is one.
     pub fn look(self, places: &Places) -> Looked
         requires place { IsSeatOf places.now self.desk }
-        requires room { HasRoom (size_of self.desk) (state_of self.desk) }
+        requires room { HasRoom (desk_size self.desk) (state_of self.desk) }
         requires marked { (state_of self.desk).mark ≢ None }
         ensures { Looks self.desk result.desk }
     {

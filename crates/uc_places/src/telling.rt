@@ -1,7 +1,7 @@
 //! Shares what one seat has learned with another.
 ghost use Rattle.std.specs.Prelude.{◌≡◌};
 ghost use Rattle.uc_places.specs.Calls.{IsSeatOf, Tells};
-ghost use Rattle.uc_places.specs.Seats.{desk_of, is_idle};
+ghost use Rattle.uc_places.specs.Seats.{desk_of, is_idle_seat};
 
 use crate::desk::{Desk, Places};
 use crate::rule::{Comparing, Noting};
@@ -33,7 +33,8 @@ pub fn tell(places: &Places, from: Seat, to: Seat) -> (Seat, Seat)
     requires { IsSeatOf places.now (desk_of from) × IsSeatOf places.now (desk_of to) }
     ensures told { Tells (desk_of from) (desk_of to) (desk_of result.0) (desk_of result.1) }
     // Neither changes between idle and pending.
-    ensures idle { (is_idle result.0 ≡ is_idle from) × (is_idle result.1 ≡ is_idle to) }
+    ensures idle { (is_idle_seat result.0 ≡ is_idle_seat from)
+        × (is_idle_seat result.1 ≡ is_idle_seat to) }
 {
     let mut first = from.into_desk();
     let mut second = to.into_desk();

@@ -6,7 +6,7 @@ ghost use Rattle.mc_model.specs.declared.id.Ticket as ticket;
 ghost use Rattle.mc_model.specs.declared.id.TheConstants.{WORKERS};
 ghost use Rattle.mc_model.specs.declared.settings.TheConstants.{MAX_PLACES};
 ghost use Rattle.mc_model.specs.declared.shown.ShownState as state;
-ghost use Rattle.mc_model.specs.Helping.{BeginsWith};
+ghost use Rattle.lists.specs.Lists.{BeginsWith};
 ghost use Rattle.mc_model.specs.Lawful.{IsReached};
 ghost use Rattle.mc_model.specs.Legal.{IsLegal};
 ghost use Rattle.uc_places.specs.Calls.{IsSeatOf, known, state_of};

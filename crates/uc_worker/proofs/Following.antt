@@ -2,13 +2,13 @@
 use Rattle.std.proofs.Common.{◌≡◌, ◌⊎◌, ◌≤◌, ◌<◌, ℕ, ◌+◌, List, [], ◌∷◌, ◌++◌, length, length-append, slice_get, Some, Result, Ok, Err, OnOk, OnErr, sym, ap, ◌∙◌, subst, ⊎_elim, arith}
 use Rattle.std.proofs.lemmas.Option.{same_Some}
 use Rattle.mc_model.specs.declared.id.Ticket.{Ticket}
-use Rattle.mc_model.specs.Helping.{BeginsWith}
+use Rattle.lists.specs.Lists.{BeginsWith}
 use Rattle.mc_replica.specs.Replica.{SameCells}
 use Rattle.uc_cells.specs.Sighting.{Sighting}
 use Rattle.uc_log.specs.declared.log.Log.{Log}
 use Rattle.uc_log.specs.Passes.{row_of}
 use Rattle.uc_worker.specs.Histories.{Follows}
-use Rattle.uc_worker.proofs.Lists.{at_longer, at_pushed}
+use Rattle.lists.proofs.Public.{at_longer, at_pushed}
 
 -- one more place is replayed
 pub follows_pushed : (log : Log) (history new : List Sighting) (learned : List Ticket) (seen : Sighting) (place : ℕ) → new ≡ history ++ seen ∷ [] →

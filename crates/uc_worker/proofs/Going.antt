@@ -9,7 +9,7 @@ use Rattle.uc_worker.specs.declared.worker.Answer.{Answer}
 use Rattle.uc_worker.specs.declared.worker.Worker.{Worker}
 use Rattle.uc_worker.specs.Going.{AnnouncesAtMost, CatchesUp, Continues, Submits}
 use Rattle.uc_worker.specs.Worker.{announced_of, history_of, next_of, seat_of}
-use Rattle.uc_worker.proofs.Lists.{begins_length, begins_self, begins_through}
+use Rattle.lists.proofs.Public.{begins_longer, begins_self, begins_through}
 
 pub continues_self : (worker : Worker) → Continues worker worker
 continues_self worker = record {
@@ -57,7 +57,7 @@ pub submits_through : (old middle new : Worker) (tenant : ℕ) (command : Comman
     Submits middle new tenant command answer → Submits old new tenant command answer
 submits_through old middle new tenant command answer on submits =
     let next = same_next old middle tenant command on in
-    let more = begins_length (history_of middle) (history_of old) on.continues.history in record {
+    let more = begins_longer (history_of middle) (history_of old) on.continues.history in record {
       announced = submits.announced ∙ (λ i. on.announced i ++ next i ∷ []);
       count = submits.count ∙ ap (λ n. n + 1) (same_count old middle on);
       place = omega (arith, more, submits.place);

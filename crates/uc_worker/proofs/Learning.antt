@@ -13,7 +13,7 @@ use Rattle.uc_places.specs.declared.view.View.{View}
 use Rattle.uc_places.specs.Calls.{Makes, known, state_of, worker_of}
 use Rattle.uc_places.specs.Told.{moved_on}
 use Rattle.uc_worker.specs.Steps.{Announced, Decided, IsSame, Later, Learns}
-use Rattle.uc_worker.proofs.Lists.{begins_length, begins_same, begins_self, begins_through, last_at}
+use Rattle.lists.proofs.Public.{begins_longer, begins_same, begins_self, begins_through, last_at}
 
 both_true : (p q : Bool) → (p && q) ≡ true → (p ≡ true) × (q ≡ true)
 both_true true true is = (refl, refl)
@@ -49,7 +49,7 @@ module _ (old new : View) (state : WorkerState) (last : ShownState) (is : new �
   told_of : new.told ≡ old.told
   told_of = ap (λ (v : View). v.told) is
 
-  state_is : new.state ≡ state
+  pub state_is : new.state ≡ state
   state_is = ap (λ (v : View). v.state) is
 
 pub later_self : (view : View) → Later view view
@@ -94,7 +94,7 @@ learns_proposed old new ticket made = let state = state_is (known old) (known ne
 decides : (one two three : View) (ticket : Ticket) → Later one two → Learns two three ticket → three.state.phase ≡ Idle →
     ticket ≡ ticket_of two.worker (two.state.announced - 1) → Decided one three
 decides one two three ticket later learns idle own =
-    let more = learns_more two three ticket learns in let long = begins_length _ _ later.learned in
+    let more = learns_more two three ticket learns in let long = begins_longer _ _ later.learned in
     let here : length three.state.learned - 1 ≡ length two.state.learned = omega arith in record {
       idle = idle;
       more = omega arith;

@@ -1,7 +1,9 @@
-pub mod Lists
 pub mod Learning
 pub mod Onward
 pub mod Following
 pub mod Told
 pub mod Replies
 pub mod Going
+pub mod Counting
+pub mod Lacking
+pub mod Public

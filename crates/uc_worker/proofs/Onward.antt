@@ -3,12 +3,12 @@ use Rattle.std.proofs.Common.{◌≡◌, ◌≢◌, ◌⊎◌, ℕ, ◌+◌, ◌
 use Rattle.mc_model.specs.declared.id.Ticket.{Ticket}
 use Rattle.mc_model.specs.declared.shown.Phase.{Phase}
 use Rattle.mc_model.specs.declared.shown.Phase.TheVariants.{Idle, Pending, Looked, Stopped}
-use Rattle.mc_model.specs.Helping.{BeginsWith}
+use Rattle.lists.specs.Lists.{BeginsWith}
 use Rattle.mc_model.specs.Legal.{ticket_of}
 use Rattle.uc_cells.specs.Sighting.{Sighting}
 use Rattle.uc_places.specs.declared.view.View.{View}
 use Rattle.uc_worker.specs.Steps.{Announced, Decided, IsSame, Later, Rests}
-use Rattle.uc_worker.proofs.Lists.{last_at}
+use Rattle.lists.proofs.Public.{last_at}
 
 pub idle_rests : (phase : Phase) → phase ≡ Idle → Rests phase
 idle_rests phase is = ((λ looked. (let e = sym is ∙ looked in cc)), (λ stopped. (let e = sym is ∙ stopped in cc)))

@@ -1,16 +1,19 @@
 -- The reply to a worker's own command that was decided.
-use Rattle.std.proofs.Common.{◌≡◌, ℕ, ◌+◌, ◌-◌, Bool, if◌then◌else◌, List, [], ◌∷◌, ◌++◌, length, take, slice_get, Option, Some, None, sym, ap, ◌∙◌, arith, eq-eqb}
-use Rattle.std.proofs.lemmas.Option.{same_Some}
+use Rattle.std.proofs.Common.{◌≡◌, ℕ, ◌+◌, ◌-◌, ◌<◌, Bool, if◌then◌else◌, List, [], ◌∷◌, ◌++◌, length, take, slice_get, Option, Some, None, refl, sym, ap, ◌∙◌, arith, eq-eqb}
+use Rattle.std.specs.Option.{option_map}
+use Rattle.std.proofs.lemmas.Option.{none-some, same_Some}
 use Rattle.mc_model.specs.declared.id.Ticket.{Ticket}
 use Rattle.mc_model.specs.declared.reply.Reply.{Reply}
 use Rattle.mc_model.specs.declared.request.Entry.{Entry}
+use Rattle.mc_model.specs.History.{answer_from}
+use Rattle.mc_model.specs.Log.{own}
 use Rattle.mc_model.specs.Replay.{answer_to, reply_to}
 use Rattle.mc_model.specs.State.{TableState}
 use Rattle.uc_cells.specs.Sighting.{Sighting, entries, sighting}
 use Rattle.uc_log.specs.declared.pass.Pass.{Pass}
 use Rattle.uc_log.specs.Passes.{own_sightings, state}
 use Rattle.uc_worker.specs.Worker.{entry_or, last_entry}
-use Rattle.uc_worker.proofs.Lists.{last_at, take_front}
+use Rattle.lists.proofs.Public.{beyond, last_at, take_front}
 
 -- what was seen is what was put
 pub seen_is : (learned : List Ticket) (own : List Sighting) (place worker : ℕ) (entry : Entry) (row : ℕ) (seen : Sighting) →
@@ -31,7 +34,7 @@ pub reply_is : (worker place : ℕ) (openings : List TableState) (history new : 
     seen ≡ sighting entry.ticket (Some entry) row → entry.ticket.worker ≡ worker → new ≡ history ++ seen ∷ [] → length history ≡ place →
     reply ≡ answer_to worker openings (entries history) seen.entry → reply ≡ reply_to openings (entries (take place new)) (Some entry)
 reply_is worker place openings history new entry row seen reply is mine pushed here answered =
-    let front : take place new ≡ history = ap (take place) pushed ∙ (ap (λ (k : ℕ). take k (history ++ seen ∷ [])) (sym here) ∙ take_front history seen) in
+    let front : take place new ≡ history = ap (take place) pushed ∙ (ap (λ (k : ℕ). take k (history ++ seen ∷ [])) (sym here) ∙ take_front history (seen ∷ [])) in
     answered ∙ (ap (λ (s : Sighting). answer_to worker openings (entries history) s.entry) is
     ∙ (own_answer worker openings (entries history) entry mine ∙ ap (λ (list : List Sighting). reply_to openings (entries list) (Some entry)) (sym front)))
 
@@ -45,3 +48,15 @@ pub last_is : (pass : Pass) (number : ℕ) (entry : Entry) (row : ℕ) → slice
     (state pass).announced ≡ number + 1 → last_entry pass ≡ entry
 last_is pass number entry row put announced = let last : (state pass).announced - 1 ≡ number = omega arith in
     ap entry_or (ap (slice_get (own_sightings pass)) last ∙ put)
+
+-- a tenant that is known gets a reply
+pub reply_stands : (openings : List TableState) (log : List (Option Entry)) (entry : Entry) → entry.tenant < length openings →
+    None ≡ reply_to openings log (Some entry) → ⊥
+reply_stands openings log entry known none = by_table (slice_get openings entry.tenant) refl
+  where
+    replied : TableState → Reply
+    replied opening = answer_from opening (own entry.tenant log) entry.command
+
+    by_table : (found : Option TableState) → slice_get openings entry.tenant ≡ found → ⊥
+    by_table None is = let out = beyond openings entry.tenant is in omega arith
+    by_table (Some opening) is = none-some (replied opening) (none ∙ ap (option_map replied) is)

@@ -1,9 +1,9 @@
 -- What a worker reads at the places of a list that was shared with it.
-use Rattle.std.proofs.Common.{◌≡◌, ◌+◌, ◌<◌, Bool, true, false, if◌then◌else◌, List, length, slice_get, Option, Some, sym, ap, ◌∙◌, subst}
+use Rattle.std.proofs.Common.{◌≡◌, ◌+◌, ◌<◌, Bool, true, false, if◌then◌else◌, List, length, slice_get, Option, Some, None, sym, ap, ◌∙◌, subst}
 use Rattle.mc_model.specs.declared.id.Ticket.{Ticket}
 use Rattle.mc_model.specs.declared.shown.Phase.{Phase}
 use Rattle.mc_model.specs.declared.shown.Phase.TheVariants.{Idle}
-use Rattle.mc_model.specs.Helping.{BeginsWith}
+use Rattle.lists.specs.Lists.{BeginsWith}
 use Rattle.mc_model.specs.Lawful.{reads}
 use Rattle.mc_model.specs.Shown.{is_latest, read}
 use Rattle.uc_places.specs.declared.desk.Desk.{Desk}
@@ -11,11 +11,18 @@ use Rattle.uc_places.specs.declared.view.View.{View}
 use Rattle.uc_places.specs.Calls.{Makes, known, state_of, worker_of}
 use Rattle.uc_worker.specs.Steps.{IsSame, Rests}
 use Rattle.uc_worker.proofs.Learning.{learns_more, learns_read}
-use Rattle.uc_worker.proofs.Lists.{next_of}
+use Rattle.lists.proofs.Public.{next_of}
 
 rests_if : (own : Bool) (phase : Phase) → Rests phase → Rests (if own then Idle else phase)
 rests_if true phase rests = ((λ same. cc), (λ same. cc))
 rests_if false phase rests = rests
+
+-- a worker rests after each read
+pub rests_read : (old new : Desk) (found : Option Ticket) → Makes old new (reads (worker_of old)) (read (worker_of old) found (state_of old)) →
+    Rests (state_of old).phase → Rests (state_of new).phase
+rests_read old new None made rests = subst Rests (sym (ap (λ (v : View). v.state.phase) made.2)) rests
+rests_read old new (Some ticket) made rests = subst Rests (sym (ap (λ (v : View). v.state.phase) made.2))
+    (rests_if (is_latest (worker_of old) (state_of old) ticket) (state_of old).phase rests)
 
 -- one more place, as in the shared list
 pub record ReadsTold (old new : View) : Type 0 where

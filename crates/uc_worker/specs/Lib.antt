@@ -1,5 +1,7 @@
 pub mod Steps
 pub mod Histories
+pub mod Counting
 pub mod Waiting
 pub mod Worker
 pub mod Going
+pub mod Cited

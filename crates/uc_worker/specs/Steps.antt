@@ -5,7 +5,7 @@ use Rattle.mc_model.specs.declared.fault.Fault.TheVariants.{Memory, LogFull, Tak
 use Rattle.mc_model.specs.declared.id.Ticket.{Ticket}
 use Rattle.mc_model.specs.declared.shown.Phase.{Phase}
 use Rattle.mc_model.specs.declared.shown.Phase.TheVariants.{Idle, Pending, Looked, Stopped}
-use Rattle.mc_model.specs.Helping.{BeginsWith}
+use Rattle.lists.specs.Lists.{BeginsWith}
 use Rattle.mc_model.specs.Legal.{ticket_of}
 use Rattle.uc_places.specs.declared.view.View.{View}
 
@@ -34,7 +34,9 @@ pub record Later (old new : View) : Type 0 where
 
 -- all places are learned, or the next one was empty in the log's state after the seat's last event
 abbrev pub HasReadOn : View → Type 0
-HasReadOn view = (length view.state.learned ≡ view.size.places) ⊎ (slice_get view.last.decided (length view.state.learned) ≡ None)
+HasReadOn view =
+    (length view.state.learned ≡ view.size.places)
+    ⊎ (slice_get view.last.decided (length view.state.learned) ≡ None)
 
 -- one command is announced, and is pending
 pub record Announced (old new : View) : Type 0 where
@@ -47,7 +49,8 @@ pub record Announced (old new : View) : Type 0 where
 pub record Decided (old new : View) : Type 0 where
   pub idle : new.state.phase ≡ Idle
   pub more : length old.state.learned < length new.state.learned
-  pub last : slice_get new.state.learned (length new.state.learned - 1) ≡ Some (ticket_of old.worker (old.state.announced - 1))
+  pub last : slice_get new.state.learned (length new.state.learned - 1)
+      ≡ Some (ticket_of old.worker (old.state.announced - 1))
 
 -- What a fault leaves. If memory ran out, at most the call's command is announced, and none is
 -- pending: by the seat's law it is then among what is learned, and takes effect. If the log is
@@ -55,8 +58,10 @@ pub record Decided (old new : View) : Type 0 where
 -- the command's cell holds another value, nothing is announced.
 pub record Leaves (fault : Fault) (old new : View) : Type 0 where
   pub which : (fault ≡ Memory) ⊎ (fault ≡ LogFull) ⊎ (fault ≡ Taken)
-  pub announced : (new.state.announced ≡ old.state.announced) ⊎ (new.state.announced ≡ old.state.announced + 1)
+  pub announced : (new.state.announced ≡ old.state.announced)
+      ⊎ (new.state.announced ≡ old.state.announced + 1)
   pub memory : fault ≡ Memory → new.state.phase ≡ Idle
   pub full : fault ≡ LogFull → length new.state.learned ≡ new.size.places
-  pub waits : fault ≡ LogFull → new.state.announced ≡ old.state.announced + 1 → new.state.phase ≡ Pending
+  pub waits : fault ≡ LogFull → new.state.announced ≡ old.state.announced + 1 →
+      new.state.phase ≡ Pending
   pub taken : fault ≡ Taken → (new.state.announced ≡ old.state.announced) × (new.state.phase ≡ Idle)

@@ -4,7 +4,7 @@ use Rattle.mc_model.specs.declared.command.Command.{Command}
 use Rattle.mc_model.specs.declared.fault.Fault.{Fault}
 use Rattle.mc_model.specs.declared.fault.Fault.TheVariants.{LogFull}
 use Rattle.mc_model.specs.declared.shown.Phase.TheVariants.{Idle, Pending}
-use Rattle.mc_model.specs.Helping.{BeginsWith}
+use Rattle.lists.specs.Lists.{BeginsWith}
 use Rattle.mc_model.specs.Lawful.{HasRoom}
 use Rattle.uc_log.specs.declared.log.Log.{Log}
 use Rattle.uc_log.specs.declared.pass.Pass.{Pass}
@@ -56,12 +56,15 @@ pub record Decides (log : Log) (old new : Pass) (tenant : ℕ) (command : Comman
   pub announced : (state new).announced ≡ (state old).announced + 1
   pub more : length (learned old) < length (learned new)
   pub last : slice_get (learned new) (length (learned new) - 1) ≡ Some (next_ticket old)
-  pub put : slice_get (own_sightings new) (state old).announced ≡ Some (next_sighting log old tenant command)
+  pub put : slice_get (own_sightings new) (state old).announced
+      ≡ Some (next_sighting log old tenant command)
   pub own : own_sightings new ≡ own_sightings old ++ next_sighting log old tenant command ∷ []
 
 -- a fault: at most the tenant's command was put, under the next number; if the log was full it is
 -- pending, or nothing was learned
-pub record LeavesUndecided (log : Log) (old new : Pass) (tenant : ℕ) (command : Command) (fault : Fault) : Type 0 where
+pub record LeavesUndecided (log : Log) (old new : Pass) (tenant : ℕ) (command : Command)
+    (fault : Fault) : Type 0 where
   pub leaves : Leaves fault (seat old) (seat new)
-  pub kept : (own_sightings new ≡ own_sightings old) ⊎ (own_sightings new ≡ own_sightings old ++ next_sighting log old tenant command ∷ [])
+  pub kept : (own_sightings new ≡ own_sightings old)
+      ⊎ (own_sightings new ≡ own_sightings old ++ next_sighting log old tenant command ∷ [])
   pub spends : fault ≡ LogFull → ((state new).phase ≡ Pending) ⊎ (learned new ≡ learned old)

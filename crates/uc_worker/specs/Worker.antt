@@ -11,13 +11,18 @@ use Rattle.mc_model.specs.State.{TableState}
 use Rattle.uc_cells.specs.Sighting.{Sighting, sighting}
 use Rattle.uc_log.specs.declared.log.Log.{Log}
 use Rattle.uc_log.specs.declared.pass.Pass.{Pass}
-use Rattle.uc_log.specs.Passes.{next_sighting, own_sightings, row_of, seat, state}
+use Rattle.uc_log.specs.Passes.{desk, next_sighting, own_sightings, row_of, seat, state}
+use Rattle.uc_places.specs.declared.desk.Desk.{Desk}
 use Rattle.uc_places.specs.declared.view.View.{View}
 use Rattle.uc_worker.specs.declared.worker.Worker.{Worker}
 
 -- what its seat knows, such as how many commands it has announced and which tickets it has learned
 abbrev pub seat_of : Worker → View
 seat_of worker = seat worker.pass
+
+-- its seat at the log's words, whose calls are its worker's events
+abbrev pub own_desk : Worker → Desk
+own_desk worker = desk worker.pass
 
 -- what it has replayed, place by place
 abbrev pub history_of : Worker → List Sighting
@@ -62,7 +67,8 @@ sighting_of log entry = sighting entry.ticket (Some entry) (row_of log entry.tic
 
 -- the entry of the command that a pass announced last, or a made-up one if it has announced none
 abbrev pub entry_or : Option Sighting → Entry
-entry_or (Some seen) = unwrap_or seen.entry (record { ticket = ticket_of 0 0; tenant = 0; command = Flush })
+entry_or (Some seen) =
+    unwrap_or seen.entry (record { ticket = ticket_of 0 0; tenant = 0; command = Flush })
 entry_or None = record { ticket = ticket_of 0 0; tenant = 0; command = Flush }
 
 abbrev pub last_entry : Pass → Entry

@@ -3,7 +3,8 @@ ghost use Rattle.std.specs.Bool.{MatchBool};
 ghost use Rattle.std.specs.Prelude.{◌≡◌, length, false, Err, MatchResult};
 ghost use Rattle.mc_model.specs.declared.fault.Fault.TheVariants as faults;
 ghost use Rattle.mc_model.specs.declared.shown.Phase.TheVariants as phase;
-ghost use Rattle.uc_log.specs.Passes.{IsOf, learned, size, state};
+ghost use Rattle.uc_log.specs.Passes.{IsOf, desk, learned, size, state};
+ghost use Rattle.uc_worker.specs.Counting.{TakesFew};
 ghost use Rattle.uc_worker.specs.Steps.{Rests};
 ghost use Rattle.uc_worker.specs.Waiting.{Advances, Decides, LearnsOn, LeavesUndecided, RunsOut};
 
@@ -21,6 +22,7 @@ pub(crate) fn settle<G: Gate>(log: &Log, pass: &mut Pass, gate: &mut G) -> bool
     requires rests { Rests (state pass.old).phase }
     ensures on { LearnsOn log.now pass.old pass.new }
     ensures outcome { MatchBool result ((state pass.new).phase ≡ phase.Idle) (RunsOut pass.new) }
+    ensures takes { TakesFew 1 (desk pass.old) (desk pass.new) }
     ensures spent { (state pass.old).phase ≡ phase.Pending →
         length (learned pass.old) ≡ (size pass.old).places → result ≡ false }
     ensures still { (state pass.old).phase ≡ phase.Idle → pass.new ≡ pass.old }
@@ -51,6 +53,7 @@ pub(crate) fn decide_new<G: Gate>(
     ensures advances { Advances log.now pass.old pass.new }
     ensures outcome { MatchResult result (λ _. Decides log.now pass.old pass.new tenant command)
         (LeavesUndecided log.now pass.old pass.new tenant command) }
+    ensures takes { TakesFew 2 (desk pass.old) (desk pass.new) }
     ensures spent { length (learned pass.old) ≡ (size pass.old).places →
         result ≡ Err faults.LogFull }
 {

@@ -5,8 +5,9 @@ ghost use Rattle.mc_model.specs.History.{state_from};
 ghost use Rattle.mc_model.specs.Lawful.{HasRoom};
 ghost use Rattle.mc_model.specs.Log.{own};
 ghost use Rattle.uc_cells.specs.Sighting.{entries};
-ghost use Rattle.uc_worker.specs.Histories.{Follows};
+ghost use Rattle.uc_worker.specs.Histories.{AreDecided, Follows, LacksAtMostOne};
 ghost use Rattle.uc_worker.specs.Worker.{history_of, openings_of, seat_of, tenants_of};
+ghost use Rattle.uc_places.specs.Reached.{LastIsReached};
 ghost use Rattle.uc_places.specs.SeatLaw.{SeatLaw};
 
 use crate::worker::Worker;
@@ -31,6 +32,11 @@ impl<'a> Worker<'a> {
             (seat_of self.now).state.learned }
         ensures law { SeatLaw (seat_of self.now).size (seat_of self.now).worker
             (seat_of self.now).state }
+        ensures lacks { LacksAtMostOne (seat_of self.now) (history_of self.now) }
+        // Events of the log lead to the state after the worker's last one, and the history's places
+        // are decided there.
+        ensures reached { LastIsReached (seat_of self.now) }
+        ensures decided { AreDecided (seat_of self.now).last (history_of self.now) }
     {
         self.replica.history()
     }

@@ -1,11 +1,12 @@
 //! Catching up with the log.
 ghost use Rattle.std.specs.Prelude.{◌≡◌, IsOkUnless, OnOk};
 ghost use Rattle.mc_model.specs.declared.fault.Fault.TheVariants as faults;
-ghost use Rattle.uc_log.specs.Passes.{IsOf, seat, state};
+ghost use Rattle.uc_log.specs.Passes.{IsOf, desk, seat, state};
+ghost use Rattle.uc_worker.specs.Counting.{TakesFew};
 ghost use Rattle.uc_worker.specs.Going.{CatchesUp};
 ghost use Rattle.uc_worker.specs.Steps.{HasReadOn, Rests};
 ghost use Rattle.uc_worker.specs.Waiting.{LearnsOn};
-ghost use Rattle.uc_worker.specs.Worker.{IsUpToDate, seat_of};
+ghost use Rattle.uc_worker.specs.Worker.{IsUpToDate, own_desk, seat_of};
 
 use crate::gate::{Gate, Step};
 use crate::worker::Worker;
@@ -19,6 +20,7 @@ fn read_up<G: Gate>(log: &Log, pass: &mut Pass, gate: &mut G)
     ensures on { LearnsOn log.now pass.old pass.new }
     ensures rests { Rests (state pass.new).phase }
     ensures read { HasReadOn (seat pass.new) }
+    ensures takes { TakesFew 1 (desk pass.old) (desk pass.new) }
 {
     for _place in pass.learned()..pass.places() {
         let found = log.read(pass);
@@ -39,6 +41,8 @@ impl<'a> Worker<'a> {
         // All places are learned, or the next one was empty in the log's state after the worker's
         // last event.
         ensures read { HasReadOn (seat_of self.new) }
+        // It takes at most two events for each place that it learns, and one more.
+        ensures takes { TakesFew 1 (own_desk self.old) (own_desk self.new) }
         ensures told { (seat_of self.new).told ≡ (seat_of self.old).told }
         ensures all { OnOk result (IsUpToDate self.new) }
         ensures memory { IsOkUnless result faults.Memory }

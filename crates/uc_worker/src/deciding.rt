@@ -2,7 +2,8 @@
 ghost use Rattle.std.specs.Bool.{MatchBool};
 ghost use Rattle.std.specs.Prelude.{◌≡◌, ◌≢◌, length, None, false};
 ghost use Rattle.mc_model.specs.declared.shown.Phase.TheVariants as phase;
-ghost use Rattle.uc_log.specs.Passes.{IsOf, learned, seat, size, state};
+ghost use Rattle.uc_log.specs.Passes.{IsOf, desk, learned, seat, size, state};
+ghost use Rattle.uc_worker.specs.Counting.{TakesFew};
 ghost use Rattle.uc_worker.specs.Steps.{Decided};
 ghost use Rattle.uc_worker.specs.Waiting.{IsMarked, LearnsOn, RunsOut};
 
@@ -17,6 +18,7 @@ fn read_on<G: Gate>(log: &Log, pass: &mut Pass, gate: &mut G) -> bool
     ensures on { LearnsOn log.now pass.old pass.new }
     ensures outcome { MatchBool result (Decided (seat pass.old) (seat pass.new))
         (IsMarked pass.new) }
+    ensures takes { TakesFew 1 (desk pass.old) (desk pass.new) }
 {
     for _place in pass.learned()..pass.places() {
         let found = log.read(pass);
@@ -40,6 +42,7 @@ fn propose_on<G: Gate>(log: &Log, pass: &mut Pass, gate: &mut G) -> bool
     ensures on { LearnsOn log.now pass.old pass.new }
     ensures outcome { MatchBool result (Decided (seat pass.old) (seat pass.new))
         (RunsOut pass.new) }
+    ensures takes { TakesFew 0 (desk pass.old) (desk pass.new) }
 {
     for _place in pass.learned()..pass.places() {
         log.look(pass);
@@ -61,6 +64,7 @@ pub(crate) fn decide<G: Gate>(log: &Log, pass: &mut Pass, gate: &mut G) -> bool
     ensures on { LearnsOn log.now pass.old pass.new }
     ensures outcome { MatchBool result (Decided (seat pass.old) (seat pass.new))
         (RunsOut pass.new) }
+    ensures takes { TakesFew 1 (desk pass.old) (desk pass.new) }
     ensures spent { length (learned pass.old) ≡ (size pass.old).places → result ≡ false }
 {
     if pass.is_full() {

@@ -1,12 +1,13 @@
 //! Two workers meet, and have the same history afterwards.
-ghost use Rattle.std.specs.Prelude.{◌≡◌, ◌≤◌, length, IsOkUnless, OnOk};
+ghost use Rattle.std.specs.Prelude.{◌≡◌, ◌⊎◌, ◌≤◌, length, IsOk, IsOkUnless, OnOk};
 ghost use Rattle.mc_model.specs.declared.fault.Fault.TheVariants as faults;
-ghost use Rattle.mc_model.specs.Helping.{BeginsWith};
-ghost use Rattle.uc_log.specs.Passes.{IsOf, learned, seat, size, state};
+ghost use Rattle.lists.specs.Lists.{BeginsWith};
+ghost use Rattle.uc_log.specs.Passes.{IsOf, desk, learned, seat, size, state};
+ghost use Rattle.uc_worker.specs.Counting.{TakesFew};
 ghost use Rattle.uc_worker.specs.Steps.{Rests};
 ghost use Rattle.uc_worker.specs.Waiting.{LearnsMore};
-ghost use Rattle.uc_worker.specs.Going.{CatchesUp};
-ghost use Rattle.uc_worker.specs.Worker.{IsUpToDate, history_of, openings_of, seat_of, tables_of};
+ghost use Rattle.uc_worker.specs.Going.{CatchesUp, LearnsTheSame, StandsStill};
+ghost use Rattle.uc_worker.specs.Worker.{IsUpToDate, history_of, openings_of, own_desk, seat_of, tables_of};
 
 use crate::gate::Open;
 use crate::worker::Worker;
@@ -22,6 +23,7 @@ fn read_told(log: &Log, pass: &mut Pass, end: usize)
     requires told { BeginsWith (seat pass.old).told (learned pass.old) }
     ensures more { LearnsMore log.now pass.old pass.new }
     ensures learned { learned pass.new ≡ (seat pass.old).told }
+    ensures takes { TakesFew 0 (desk pass.old) (desk pass.new) }
 {
     for _place in pass.learned()..end {
         log.read(pass);
@@ -35,6 +37,9 @@ fn even(log: &Log, one: &mut Pass, other: &mut Pass)
     ensures one { LearnsMore log.now one.old one.new }
     ensures other { LearnsMore log.now other.old other.new }
     ensures learned { learned one.new ≡ learned other.new }
+    ensures either { (learned one.new ≡ learned one.old) ⊎ (learned one.new ≡ learned other.old) }
+    ensures takes { TakesFew 0 (desk one.old) (desk one.new)
+        × TakesFew 0 (desk other.old) (desk other.new) }
 {
     if one.learned() < other.learned() {
         log.tell(other, one);
@@ -60,6 +65,15 @@ impl<'a> Worker<'a> {
         ensures all { OnOk result
             (IsUpToDate self.new
             × ((seat_of self.new).state.learned ≡ (seat_of other.new).state.learned)) }
+        ensures learned { LearnsTheSame self.old other.old self.new other.new }
+        // Each takes at most two events for each place that it learns.
+        ensures takes { TakesFew 0 (own_desk self.old) (own_desk self.new)
+            × TakesFew 0 (own_desk other.old) (own_desk other.new) }
+        // If both are up to date, and neither has learned more than the other, no memory is needed,
+        // and nothing changes: so it is where both have replayed the whole log.
+        ensures still { IsUpToDate self.old → IsUpToDate other.old →
+            length (seat_of self.old).state.learned ≡ length (seat_of other.old).state.learned →
+            IsOk result × StandsStill self.old self.new × StandsStill other.old other.new }
         ensures memory { IsOkUnless result faults.Memory }
     {
         even(self.log, &mut self.pass, &mut other.pass);

@@ -1,5 +1,5 @@
 //! Replaying what was learned.
-ghost use Rattle.std.specs.Prelude.{◌≡◌, ◌≤◌, ◌<◌, ◌+◌, ◌-◌, length, take, Some, IfOk, IsOk, IsOkUnless, OnOk, slice_get};
+ghost use Rattle.std.specs.Prelude.{◌≡◌, ◌≤◌, ◌<◌, ◌-◌, length, take, Some, IfOk, IsOk, IsOkUnless, OnOk, slice_get};
 ghost use Rattle.mc_model.specs.declared.fault.Fault.TheVariants as faults;
 ghost use Rattle.mc_model.specs.Replay.{reply_to};
 ghost use Rattle.uc_cells.specs.Sighting.{entries};

@@ -2,9 +2,10 @@
 ghost use Rattle.std.specs.Prelude.{◌≡◌, ◌⊎◌, ◌<◌, length, Err, IfOk, IfErr, IsOk, OnErr, OnOk};
 ghost use Rattle.mc_model.specs.declared.fault.Fault.TheVariants as faults;
 ghost use Rattle.mc_model.specs.declared.shown.Phase.TheVariants as phase;
+ghost use Rattle.uc_worker.specs.Counting.{TakesFew};
 ghost use Rattle.uc_worker.specs.Going.{AnnouncesAtMost, CatchesUp, Continues, Submits};
 ghost use Rattle.uc_worker.specs.Steps.{Leaves};
-ghost use Rattle.uc_worker.specs.Worker.{IsFull, IsSpent, IsUpToDate, openings_of, seat_of, tenants_of};
+ghost use Rattle.uc_worker.specs.Worker.{IsFull, IsSpent, IsUpToDate, openings_of, own_desk, seat_of, tenants_of};
 
 use crate::announcing::{decide_new, settle};
 use crate::gate::Gate;
@@ -20,6 +21,7 @@ impl<'a> Worker<'a> {
         ensures catches { CatchesUp self.old self.new }
         ensures idle { OnOk result ((seat_of self.new).state.phase ≡ phase.Idle) }
         ensures all { OnOk result (IsUpToDate self.new) }
+        ensures takes { TakesFew 1 (own_desk self.old) (own_desk self.new) }
         ensures faults { IfErr result
             (λ fault. ((fault ≡ faults.Memory) × ((seat_of self.new).state.phase ≡ phase.Idle))
             ⊎ ((fault ≡ faults.LogFull) × IsFull self.new
@@ -45,6 +47,7 @@ impl<'a> Worker<'a> {
         command: Command,
         gate: &mut G,
     ) -> Result<Answer, Fault>
+        requires all { IsUpToDate self.old }
         requires idle { (seat_of self.old).state.phase ≡ phase.Idle }
         requires tenant { tenant < length (openings_of self.old) }
         ensures continues { Continues self.old self.new }
@@ -52,6 +55,7 @@ impl<'a> Worker<'a> {
         ensures kept { OnErr result (AnnouncesAtMost self.old self.new tenant command) }
         ensures faults { IfErr result
             (λ fault. Leaves fault (seat_of self.old) (seat_of self.new)) }
+        ensures takes { TakesFew 2 (own_desk self.old) (own_desk self.new) }
         ensures spent { IsFull self.old → result ≡ Err faults.LogFull }
         ensures spends { IfErr result
             (λ fault. fault ≡ faults.LogFull → IsUpToDate self.old → IsSpent self.new) }
@@ -92,6 +96,9 @@ impl<'a> Worker<'a> {
         // What a fault leaves.
         ensures faults { IfErr result
             (λ fault. Leaves fault (seat_of self.old) (seat_of self.new)) }
+        // It takes at most two events for each place that it learns, and three more: so it ends,
+        // whatever the others do, after at most two for each place of the log and three.
+        ensures takes { TakesFew 3 (own_desk self.old) (own_desk self.new) }
         // Once a call has found the log full, each later call does.
         ensures spends { IfErr result (λ fault. fault ≡ faults.LogFull → IsSpent self.new) }
         ensures spent { IsSpent self.old → result ≡ Err faults.LogFull }

@@ -1,5 +1,6 @@
 use Rattle.std.proofs.Common.{ap, refl, ◌∙◌, ◌+◌, Bool, if◌then◌else◌, add-zero}
-use Rattle.mc_model.specs.History.{StandsFor-push, changes, changes-le}
+use Rattle.mc_model.proofs.Public.{StandsFor-push, changes-le}
+use Rattle.mc_model.specs.History.{changes}
 use Rattle.mc_laws.proofs.Histories.{after-none, after-push, changes-none, changes-push, quotas_stay}
 use Rattle.mc_laws.proofs.tables.commands_act_in_order.Goals as goal
 

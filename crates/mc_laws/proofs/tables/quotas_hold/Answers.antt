@@ -2,7 +2,7 @@ use Rattle.std.proofs.Common.{◌+◌}
 use Rattle.mc_model.specs.declared.item.Item.{Item}
 use Rattle.mc_model.specs.declared.reply.Reply.TheVariants.{Stored}
 use Rattle.mc_model.specs.History.{after, changes, limits_after}
-use Rattle.mc_model.specs.Use.{within_parts}
+use Rattle.mc_model.proofs.Public.{within_parts}
 use Rattle.mc_laws.proofs.Histories.{within_quotas}
 use Rattle.mc_laws.proofs.Quotas.{stored_refused}
 use Rattle.mc_laws.proofs.Refusals.{refused_exactly}

@@ -1,5 +1,5 @@
 use Rattle.std.proofs.Common.{◌<◌, length, ap, sym, Some, ◌∙◌, arith, rules}
-use Rattle.mc_model.specs.Numerals.{number_up_to-none, number_up_to-some}
+use Rattle.mc_model.proofs.NumberTests.{number_up_to-none, number_up_to-some}
 use Rattle.mc_model.proofs.number.read_number.Goals as goal
 
 pub returns-in_err-value-clause-number : goal.returns-in_err-value-clause-number

@@ -1,5 +1,5 @@
 use Rattle.std.proofs.Common.{◌≡◌, ap, arith, inl, inr, refl, subst, sym, true, ⊎_elim, ◌∙◌}
-use Rattle.mc_conn.proofs.Takings.{takes_self, takes_trans}
+use Rattle.mc_conn.proofs.Public.{takes_self, takes_trans}
 use Rattle.mc_conn.specs.declared.conn.State.TheVariants.{Busy, Closed}
 use Rattle.mc_stream.specs.Stream.{both}
 use Rattle.mc_net.proofs.Servings.{met_fault, once_few, served_later, served_turn, stands_later, stands_turn, state_answered, still_going}

@@ -1,7 +1,7 @@
 -- The workers so far and those that are left are all the workers.
 use Rattle.std.proofs.Common.{◌≡◌, ◌++◌, map}
-use Rattle.mc_net.specs.Running.{worker_of}
+use Rattle.mc_net.specs.Running.{returned_worker}
 use Rattle.mc_net.proofs.serving.into_workers.Given as goal
 
 abbrev pub invariant-loop-worker : goal.invariant-loop-worker
-invariant-loop-worker l = l.workers.items ++ map worker_of l.worker-iterator.rest.items ≡ map worker_of l.fn.back.items
+invariant-loop-worker l = l.workers.items ++ map returned_worker l.worker-iterator.rest.items ≡ map returned_worker l.fn.back.items

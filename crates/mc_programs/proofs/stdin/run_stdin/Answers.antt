@@ -1,8 +1,8 @@
 use Rattle.std.proofs.Common.{◌≡◌, ◌⊎◌, inl, inr, ⊎_elim, ap, map, string_bytes, subst, List, String, Global}
 use Rattle.clap.specs.Words.{kind_of}
 use Rattle.clap.specs.declared.error.kind.ErrorKind.TheVariants.{OutOfMemory}
-use Rattle.mc_programs.specs.Options.{AsksFor, stdin_app}
-use Rattle.mc_programs.specs.Words.{IsAnswered}
+use Rattle.mc_programs.specs.Options.{StdinAsksFor, stdin_app}
+use Rattle.mc_programs.specs.Words.{ClapReturns}
 use Rattle.mc_stream.specs.Stream.{both}
 use Rattle.mc_programs.proofs.Answered.{answered}
 use Rattle.mc_programs.proofs.stdin.run_stdin.Goals as goal
@@ -10,8 +10,8 @@ use Rattle.mc_programs.proofs.stdin.run_stdin.Goals as goal
 -- the words ask for no service
 pub returns-in-Err : goal.returns-in-Err
 returns-in-Err g c =
-    let failed : (kind_of c.in-Err.error ≡ OutOfMemory) ⊎ IsAnswered stdin_app (map string_bytes c.args.words.items) (kind_of c.in-Err.error) =
-    subst (λ (words : List (String Global)). (kind_of c.in-Err.error ≡ OutOfMemory) ⊎ IsAnswered stdin_app (map string_bytes words) (kind_of c.in-Err.error)) c.deref.ensures.value c.in-Err.ensures.outcome in
+    let failed : (kind_of c.in-Err.error ≡ OutOfMemory) ⊎ ClapReturns stdin_app (map string_bytes c.args.words.items) (kind_of c.in-Err.error) =
+    subst (λ (words : List (String Global)). (kind_of c.in-Err.error ≡ OutOfMemory) ⊎ ClapReturns stdin_app (map string_bytes words) (kind_of c.in-Err.error)) c.deref.ensures.value c.in-Err.ensures.outcome in
     ⊎_elim
     (λ shown. inl (shown.0, inr shown.1, shown.2))
     (λ others. inr (⊎_elim
@@ -23,8 +23,8 @@ returns-in-Err g c =
 -- a fault ended the service
 pub returns : goal.returns
 returns g c =
-    let asks : AsksFor (map string_bytes c.args.words.items) c.in-Ok.options =
-    subst (λ (words : List (String Global)). AsksFor (map string_bytes words) c.in-Ok.options) c.deref.ensures.value c.in-Ok.ensures.outcome in
+    let asks : StdinAsksFor (map string_bytes c.args.words.items) c.in-Ok.options =
+    subst (λ (words : List (String Global)). StdinAsksFor (map string_bytes words) c.in-Ok.options) c.deref.ensures.value c.in-Ok.ensures.outcome in
     let in_range = rw (asks.places, asks.limits) at c.is_in_range.ensures.0 c.if-not-is_in_range.false in
     let stops = rw (asks.places, asks.limits) at c.in-Err-serve_and_leave.ensures.outcome in
     inr (inl (c.fail.ensures.status, inl ((asks.taken, in_range), record { fault = c.in-Err-serve_and_leave.fault; stops = stops; told = c.fail.ensures.told })))

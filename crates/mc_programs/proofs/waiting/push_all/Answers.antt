@@ -1,7 +1,7 @@
 use Rattle.std.proofs.Common.{length, ◌+◌, ◌∙◌, ap, refl, length-drop, arith}
 use Rattle.std.proofs.lemmas.List.{take_rest}
 use Rattle.mc_stream.specs.Event.{failures, moved}
-use Rattle.mc_stream.specs.Pushed.{front_sent, sent_more}
+use Rattle.mc_stream.proofs.Public.{front_sent, sent_more}
 use Rattle.mc_programs.proofs.waiting.push_all.Goals as goal
 
 pub loop-preserved-in-Taken : goal.loop-preserved-in-Taken

@@ -1,5 +1,5 @@
 use Rattle.mc_read.specs.Line.{asked}
-use Rattle.mc_read.specs.Readings.{one_reading}
+use Rattle.mc_read.proofs.Readings.{one_reading}
 use Rattle.mc_read.proofs.laws.a_stream_reads_one_way.Goals as goal
 
 pub returns : goal.returns

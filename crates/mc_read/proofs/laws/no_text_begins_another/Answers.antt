@@ -1,5 +1,5 @@
 use Rattle.mc_read.specs.Line.{asked}
-use Rattle.mc_read.specs.Readings.{text_is_whole}
+use Rattle.mc_read.proofs.Readings.{text_is_whole}
 use Rattle.mc_read.proofs.laws.no_text_begins_another.Goals as goal
 
 pub returns : goal.returns

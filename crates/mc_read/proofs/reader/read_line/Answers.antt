@@ -3,7 +3,7 @@ use Rattle.std.proofs.lemmas.List.{drop_all}
 use Rattle.mc_read.specs.declared.line.Asked.TheVariants.{LineOnly, RefusedBlock, StoredBlock}
 use Rattle.mc_read.specs.Line.{asked, refused}
 use Rattle.mc_read.specs.Reading.{Kept, Swallowing}
-use Rattle.mc_read.specs.State.{IsAnswer, held_in}
+use Rattle.mc_read.specs.State.{IsNextAnswer, held_in}
 use Rattle.mc_read.proofs.Holdings.{held_after}
 use Rattle.mc_read.proofs.Steps.{answer_awaited, answer_swallowing, answer_taken, answer_whole, held_in_state_after}
 use Rattle.mc_read.proofs.reader.read_line.Goals as goal
@@ -18,7 +18,7 @@ returns-in-LineOnly-clause-answer c =
     let answer = answer_whole asked bytes line c.requires (LineOnly c.in-LineOnly.request) is_asked (omega (arith, c.requires.ends)) c.in-LineOnly.request left refl same_left in
     let held : held_in c.move_on-state.result c.move_on-state.new.buffer ≡ held_after c.in-LineOnly.request left =
     (λ i. held_in (c.move_on-state.ensures.state i) (c.move_on-state.ensures.bytes i)) ∙ held_in_state_after c.in-LineOnly.request left in
-    subst (λ h. IsAnswer asked (Kept bytes) (Some c.in-LineOnly.request) h) (sym held) answer
+    subst (λ h. IsNextAnswer asked (Kept bytes) (Some c.in-LineOnly.request) h) (sym held) answer
 
 pub returns-then-left-gt0-clause-answer : goal.returns-then-left-gt0-clause-answer
 returns-then-left-gt0-clause-answer c =
@@ -28,7 +28,7 @@ returns-then-left-gt0-clause-answer c =
     let is_asked : asked (take c.args.line bytes) ≡ RefusedBlock asks.length asks.refusal asks.quiet = sym (rw c.as_slice.ensures at c.in_ok-request.ensures.asked) ∙ asks.is in
     let answer = answer_swallowing asked bytes c.args.line c.requires asks.length left asks.refusal asks.quiet is_asked (omega (arith, c.swallow-left.ensures.left, c.if-left-gt0.true)) c.if-left-gt0.true in
     let nothing : c.swallow-left.new.buffer ≡ [] = c.swallow-left.ensures.bytes ∙ drop_all _ bytes (omega (arith, c.swallow-left.ensures.left, c.if-left-gt0.true)) in
-    subst (λ b. IsAnswer asked (Kept bytes) None (Swallowing (refused asks.refusal asks.quiet) left b)) (sym nothing) answer
+    subst (λ b. IsNextAnswer asked (Kept bytes) None (Swallowing (refused asks.refusal asks.quiet) left b)) (sym nothing) answer
 
 pub returns-else-left-gt0-clause-answer : goal.returns-else-left-gt0-clause-answer
 returns-else-left-gt0-clause-answer c =

@@ -1,12 +1,12 @@
 use Rattle.std.proofs.Common.{◌≡◌, ◌∙◌, ◌∷◌, [], ◌++◌, List, Some, length, refl, sym, ap, subst}
 use Rattle.std.proofs.lemmas.List.Elements.{All-pop, All-weaker, Contains-push}
 use Rattle.std.proofs.lemmas.Slice.Zip.{all_zipped_more}
-use Rattle.uc_cells.specs.Sighting.{Sighting}
+use Rattle.uc_worker.specs.Cited.{Sighting}
 use Rattle.uc_worker.specs.declared.worker.Worker.{Worker}
 use Rattle.uc_worker.specs.Worker.{history_of}
 use Rattle.mc_server.specs.Network.{AreWorkersOf, HaveMet}
 use Rattle.mc_server.proofs.Meetings.{HasCome, all_have_come, all_later_on, all_later_self, all_of, have_met}
-use Rattle.uc_worker.proofs.Going.{catches_self, catches_through}
+use Rattle.uc_worker.proofs.Public.{catches_self, catches_through}
 use Rattle.mc_server.proofs.crew.meet_all.Goals as goal
 
 pub loop-last-init : goal.loop-last-init

@@ -1,34 +1,35 @@
 -- The next pass was never used, and its worker is of the log, under the pass's number.
 use Rattle.std.proofs.Common.{◌≡◌, ◌∙◌, ◌∷◌, [], ◌++◌, All, List, length, map, ap, refl, sym, subst, arith, append_assoc, append-nil, length-append}
-use Rattle.std.proofs.lemmas.List.{nil_from_length}
-use Rattle.std.proofs.lemmas.List.{map-append}
+use Rattle.std.proofs.lemmas.List.{nil_from_length, map-append}
 use Rattle.std.proofs.lemmas.List.Elements.{All-head, All-nil, All-push, All-rest}
+use Rattle.uc_log.specs.Passes.{IsUnusedPass}
 use Rattle.mc_server.specs.Listeners.{CountsFrom}
-use Rattle.mc_server.specs.Network.{AreWorkersOf, HasDoneNothing, IsFresh, number_of}
+use Rattle.mc_server.specs.Network.{AreWorkersOf, HasDoneNothing, number_of}
 use Rattle.uc_log.specs.declared.pass.Pass.{Pass}
 use Rattle.uc_log.specs.Passes.{worker}
-use Rattle.uc_places.specs.declared.view.View.{View}
+use Rattle.uc_worker.specs.Cited.{View}
 use Rattle.uc_worker.specs.declared.worker.Worker.{Worker}
 use Rattle.uc_worker.specs.Worker.{announced_of}
-use Rattle.mc_server.proofs.Crews.{all_fresh, all_numbered}
+use Rattle.mc_server.proofs.Crews.{all_numbered}
+use Rattle.uc_log.proofs.Public.{all_unused}
 use Rattle.mc_server.proofs.crew.open_workers.Goals as goal
 
 pub loop-pass-init : goal.loop-pass-init
 loop-pass-init c =
     let gives = c.into_iter-pass-iterator.ensures.into_iter_gives.0 in
-    let passes : All (IsFresh c.args.log.now) c.args.passes.items = all_fresh c.args.log.now _ c.requires.passes in
+    let passes : All (IsUnusedPass c.args.log.now) c.args.passes.items = all_unused c.args.log.now _ c.requires.passes in
     let P = λ (worker : Worker). worker.log.now ≡ c.args.log.now in
     record {
       of = subst (All P) (sym c.in_ok-workers.ensures.items) (All-nil P);
       new = subst (All HasDoneNothing) (sym c.in_ok-workers.ensures.items) (All-nil HasDoneNothing);
-      left = subst (All (IsFresh c.args.log.now)) (sym gives) passes;
+      left = subst (All (IsUnusedPass c.args.log.now)) (sym gives) passes;
       count = omega (arith, ap length c.in_ok-workers.ensures.items, ap length gives);
       numbers = λ i. map number_of (c.in_ok-workers.ensures.items i) ++ map worker (gives i);
     }
 
 pub open-requires : goal.open-requires
 open-requires c =
-    let h = All-head (IsFresh c.args.log.now) c.in-Some.pass _ (subst (All (IsFresh c.args.log.now)) c.in-Some.ensures.steps.0 c.loop-pass.invariant.left) in
+    let h = All-head (IsUnusedPass c.args.log.now) c.in-Some.pass _ (subst (All (IsUnusedPass c.args.log.now)) c.in-Some.ensures.steps.0 c.loop-pass.invariant.left) in
     record { of = h.of; idle = h.idle; new = h.new }
 
 pub loop-pass-preserved : goal.loop-pass-preserved
@@ -37,13 +38,13 @@ loop-pass-preserved c =
     let workers = c.loop-pass.workers.items in
     let new = c.in_ok-open.field-0 in
     let left = map worker c.next.new.self.rest.items in
-    let fresh = All-head (IsFresh c.args.log.now) c.in-Some.pass _ (subst (All (IsFresh c.args.log.now)) c.in-Some.ensures.steps.0 before.left) in
+    let fresh = All-head (IsUnusedPass c.args.log.now) c.in-Some.pass _ (subst (All (IsUnusedPass c.args.log.now)) c.in-Some.ensures.steps.0 before.left) in
     let unused = ap (λ (view : View). view.state.announced) c.in_ok-open.ensures.seat in
     let nothing : HasDoneNothing new = (nil_from_length (announced_of new) (omega (arith, new.pass.count, unused, fresh.unused)), c.in_ok-open.ensures.history) in
     record {
       of = rw c.in_ok-push.ensures.items (All-push (λ (worker : Worker). worker.log.now ≡ c.args.log.now) _ _ before.of c.in_ok-open.ensures.log);
       new = rw c.in_ok-push.ensures.items (All-push HasDoneNothing _ _ before.new nothing);
-      left = All-rest (IsFresh c.args.log.now) c.in-Some.pass _ _ c.in-Some.ensures.steps.0 before.left;
+      left = All-rest (IsUnusedPass c.args.log.now) c.in-Some.pass _ _ c.in-Some.ensures.steps.0 before.left;
       count = omega (arith, ap length c.in_ok-push.ensures.items, length-append c.loop-pass.workers.items (c.in_ok-open.field-0 ∷ []), ap length c.in-Some.ensures.steps.0, before.count);
       numbers = ap (λ (workers : List Worker). map number_of workers ++ left) c.in_ok-push.ensures.items ∙ (ap (λ numbers. numbers ++ left) (map-append number_of workers (new ∷ []))
           ∙ (append_assoc (map number_of workers) (number_of new ∷ []) left

@@ -2,17 +2,17 @@ use Rattle.std.proofs.Common.{◌≡◌, ◌⊎◌, inl, inr, ⊎_elim, map, ref
 use Rattle.clap.specs.Words.{kind_of}
 use Rattle.clap.specs.declared.error.kind.ErrorKind.TheVariants.{OutOfMemory}
 use Rattle.mc_model.specs.declared.fault.Fault.TheVariants.{Memory, BadSettings}
-use Rattle.mc_server.specs.NetworkWords.{AsksForNone, AsksForService, AsksInVain, given_of, network_app, served_by}
-use Rattle.mc_programs.specs.Words.{IsAnswered}
-use Rattle.mc_programs.proofs.Answered.{answered}
+use Rattle.mc_server.specs.NetworkWords.{AsksForNone, AsksForService, AsksInVain, given_in, network_app, served_by}
+use Rattle.mc_programs.specs.Words.{ClapReturns}
+use Rattle.mc_programs.proofs.Public.{answered}
 use Rattle.mc_server.proofs.NetworkRuns.{for_none, for_service}
 use Rattle.mc_server.proofs.network.run_wfmc.Goals as goal
 
 -- the words ask for no service
 pub returns-in-Err : goal.returns-in-Err
 returns-in-Err g c =
-    let failed : (kind_of c.in-Err.error ≡ OutOfMemory) ⊎ IsAnswered network_app (map string_bytes c.args.words.items) (kind_of c.in-Err.error) =
-    subst (λ (words : List (String Global)). (kind_of c.in-Err.error ≡ OutOfMemory) ⊎ IsAnswered network_app (map string_bytes words) (kind_of c.in-Err.error)) c.deref.ensures.value c.in-Err.ensures.outcome in
+    let failed : (kind_of c.in-Err.error ≡ OutOfMemory) ⊎ ClapReturns network_app (map string_bytes c.args.words.items) (kind_of c.in-Err.error) =
+    subst (λ (words : List (String Global)). (kind_of c.in-Err.error ≡ OutOfMemory) ⊎ ClapReturns network_app (map string_bytes words) (kind_of c.in-Err.error)) c.deref.ensures.value c.in-Err.ensures.outcome in
     ⊎_elim
     (λ shown. inl (shown.0, inr shown.1, shown.2))
     (λ others. inr (⊎_elim (λ fails. inl (fails.0, inr fails.1)) (λ mistake. inr (mistake.0, inr mistake.1, mistake.2)) others))
@@ -21,8 +21,8 @@ returns-in-Err g c =
 -- the words ask for nothing that can be served
 pub returns-in-Err-BadSettings : goal.returns-in-Err-BadSettings
 returns-in-Err-BadSettings g c =
-    let known : (BadSettings ≡ Memory) ⊎ (BadSettings ≡ BadSettings) × AsksInVain (given_of c.in-Ok.given) = rw c.in-Err-BadSettings.field-0-is at c.in-Err-BadSettings.ensures.outcome in
-    let vain : AsksInVain (given_of c.in-Ok.given) = ⊎_elim (λ (memory : BadSettings ≡ Memory). absurd cc) (λ none. none.1) known in
+    let known : (BadSettings ≡ Memory) ⊎ (BadSettings ≡ BadSettings) × AsksInVain (given_in c.in-Ok.given) = rw c.in-Err-BadSettings.field-0-is at c.in-Err-BadSettings.ensures.outcome in
+    let vain : AsksInVain (given_in c.in-Ok.given) = ⊎_elim (λ (memory : BadSettings ≡ Memory). absurd cc) (λ none. none.1) known in
     let none = subst (λ (words : List (String Global)). AsksForNone (map string_bytes words)) c.deref.ensures.value (for_none _ c.in-Ok.given c.in-Ok.ensures.outcome vain) in
     inr (inr (refl, inl (none, c.tell_fault.ensures), refl))
 

@@ -1,6 +1,6 @@
 use Rattle.std.proofs.Common.{List, ℕ, ◌++◌, codes, subst}
 use Rattle.mc_stream.specs.Pushing.{PushesOrFails}
-use Rattle.mc_programs.proofs.Waited.{told}
+use Rattle.mc_programs.proofs.Public.{told}
 use Rattle.mc_server.proofs.network_texts.tell_cannot_listen.Goals as goal
 
 pub returns : goal.returns

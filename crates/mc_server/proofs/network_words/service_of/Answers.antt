@@ -5,7 +5,7 @@ use Rattle.std.specs.Str.{bytes_eq}
 use Rattle.mc_model.specs.declared.fault.Fault.TheVariants.{Memory, BadSettings}
 use Rattle.mc_model.specs.Settings.{Configuration, IsLawful}
 use Rattle.mc_model.specs.declared.settings.Limits.{Limits}
-use Rattle.mc_server.specs.NetworkWords.{Asks, AsksInVain, IsServable, NetworkAsked, given_of}
+use Rattle.mc_server.specs.NetworkWords.{Asks, AsksInVain, IsServable, NetworkAsked, given_in}
 use Rattle.mc_server.specs.TenantWord.{IsOnly, Says, TenantAsked, asked_of}
 use Rattle.mc_server.specs.declared.network_words.NetworkWords.{NetworkWords}
 use Rattle.mc_server.specs.declared.tenant_word.Tenant.{Tenant}
@@ -14,7 +14,7 @@ use Rattle.mc_server.proofs.network_words.service_of.Goals as goal
 
 -- the tenants that were read are those that are asked for
 read_are_asked : (words : NetworkWords) (lent : List (Bor (List ℕ))) (tenants : List Tenant) (asked : NetworkAsked)
-    → AllZip IsOnly (map (λ word. word.now) lent) (map asked_of tenants) → lent ≡ words.tenants.items → Asks (given_of words) asked
+    → AllZip IsOnly (map (λ word. word.now) lent) (map asked_of tenants) → lent ≡ words.tenants.items → Asks (given_in words) asked
     → asked.tenants ≡ map asked_of tenants
 read_are_asked words lent tenants asked only e asks =
     let P : List (Bor (List ℕ)) → Type 0 = λ ws. AllZip Says (map (λ word. word.now) ws) asked.tenants in all_only _ _ asked.tenants only (subst P (sym e) asks.tenants)
@@ -25,19 +25,19 @@ apart b passes fails = cc
 -- a tenant's word is of another form, or memory ran out
 pub returns-in_err-tenants : goal.returns-in_err-tenants
 returns-in_err-tenants c =
-    let vain = λ (none : (others : List TenantAsked) → AllZip Says (map (λ word. word.now) c.deref.result.now) others → ⊥) (asked : NetworkAsked) (asks : Asks (given_of c.args.words.now) asked) (servable : IsServable asked).
+    let vain = λ (none : (others : List TenantAsked) → AllZip Says (map (λ word. word.now) c.deref.result.now) others → ⊥) (asked : NetworkAsked) (asks : Asks (given_in c.args.words.now) asked) (servable : IsServable asked).
     let P : List (Bor (List ℕ)) → Type 0 = λ ws. AllZip Says (map (λ word. word.now) ws) asked.tenants in
     none asked.tenants (subst P (sym c.deref.ensures.value) asks.tenants)
     in
     let left = err_from_is_err_and c.from_residual.result c.from_residual.ensures.1 in
-    let fault : (c.in_err-tenants.field-0.0 ≡ Memory) ⊎ (c.in_err-tenants.field-0.0 ≡ BadSettings) × AsksInVain (given_of c.args.words.now) =
+    let fault : (c.in_err-tenants.field-0.0 ≡ Memory) ⊎ (c.in_err-tenants.field-0.0 ≡ BadSettings) × AsksInVain (given_in c.args.words.now) =
     ⊎_elim (λ starved. inl starved) (λ none. inr (none.0, vain none.1)) c.in_err-tenants.ensures.outcome in
     record { outcome = rw (left.1, left.2) fault }
 
 -- a number is out of its bounds
 pub returns-in_err-settings : goal.returns-in_err-settings
 returns-in_err-settings c =
-    let vain : AsksInVain (given_of c.args.words.now) = λ asked asks servable.
+    let vain : AsksInVain (given_in c.args.words.now) = λ asked asks servable.
     let tenants = read_are_asked c.args.words.now _ c.in_ok-tenants.tenants.items asked c.in_ok-tenants.ensures.outcome c.deref.ensures.value asks in
     let quotas = c.in_ok-quotas.ensures ∙ ap (map (λ tenant. tenant.limits)) c.deref-2.ensures.value in
     let same = settings_are _ asked c.in_ok-tenants.tenants.items _ asks tenants quotas in
@@ -49,7 +49,7 @@ returns-in_err-settings c =
 -- a name is used twice
 pub returns-then-not-have_own_names : goal.returns-then-not-have_own_names
 returns-then-not-have_own_names c =
-    let vain : AsksInVain (given_of c.args.words.now) = λ asked asks servable.
+    let vain : AsksInVain (given_in c.args.words.now) = λ asked asks servable.
     let tenants = read_are_asked c.args.words.now _ c.in_ok-tenants.tenants.items asked c.in_ok-tenants.ensures.outcome c.deref.ensures.value asks in
     let names = names_are asked c.in_ok-tenants.tenants.items tenants ∙ ap (map (λ tenant. tenant.name.now)) (sym c.deref-3.ensures.value) in
     apart _ (c.have_own_names.ensures.1 (subst (IsDistinct bytes_eq) names servable.names)) c.if-not-have_own_names.true
@@ -77,7 +77,7 @@ returns c =
       connections = c.args.words.now.connections;
       tenants = map asked_of tenants;
     } in
-    let asks : Asks (given_of c.args.words.now) asked = record {
+    let asks : Asks (given_in c.args.words.now) asked = record {
       workers = ap (λ (s : Configuration). s.workers) checked;
       places = ap (λ (s : Configuration). s.places) checked;
       connections = refl;

@@ -1,7 +1,7 @@
 use Rattle.std.proofs.Common.{length, ◌∙◌, ap, length-drop, arith}
 use Rattle.std.proofs.lemmas.List.{take_rest}
 use Rattle.mc_stream.specs.Event.{failures, moved, waits as waits_of}
-use Rattle.mc_stream.specs.Pushed.{sent_more}
+use Rattle.mc_stream.proofs.Pushed.{sent_more}
 use Rattle.mc_stream.proofs.pushing.push_front.Goals as goal
 
 pub loop-sent-preserved : goal.loop-sent-preserved

@@ -1,5 +1,5 @@
 use Rattle.std.proofs.Common.{inl, inr, refl}
-use Rattle.mc_stream.specs.Pushed.{at_once_sent}
+use Rattle.mc_stream.proofs.Pushed.{at_once_sent}
 use Rattle.mc_stream.proofs.pushing.push_while_taken.Goals as goal
 
 pub returns-in-Full-clause-pushed : goal.returns-in-Full-clause-pushed

@@ -3,7 +3,7 @@ use Rattle.std.proofs.Common.{rules, ◌≡◌, ◌∙◌, ◌∷◌, [], ◌++�
 use Rattle.uc_log.specs.Passes.{AreMadeOf}
 use Rattle.uc_places.specs.declared.seats.Idle.{Idle}
 use Rattle.uc_log.proofs.Fresh.{counted, made_more}
-use Rattle.uc_log.proofs.Lists.{all_taken}
+use Rattle.lists.proofs.Public.{all_taken}
 use Rattle.uc_log.proofs.opening.passes_of.Goals as goal
 
 pub loop-seat-preserved : goal.loop-seat-preserved

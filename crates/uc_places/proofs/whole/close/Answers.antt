@@ -4,14 +4,14 @@ use Rattle.std.proofs.Common.{Vec, Global, ◌≡◌, List, sym, ap, ◌∙◌, 
 use Rattle.std.proofs.lemmas.Option.{same_Some}
 use Rattle.mc_model.specs.declared.id.Ticket.{Ticket}
 use Rattle.mc_model.specs.declared.shown.ShownState.{ShownState}
-use Rattle.mc_model.specs.Helping.{BeginsWith}
+use Rattle.lists.specs.Lists.{BeginsWith}
 use Rattle.mc_model.specs.Lawful.{IsReached}
 use Rattle.mc_model.specs.Legal.{IsLegal}
 use Rattle.uc_places.specs.declared.desk.Desk.{Desk}
 use Rattle.uc_places.specs.Calls.{state_of}
 use Rattle.uc_places.specs.End.{IsPartOf}
 use Rattle.uc_places.specs.Seats.{desk_of}
-use Rattle.uc_core.proofs.Waiting.{is_lawful}
+use Rattle.uc_core.proofs.Public.{is_lawful}
 use Rattle.uc_places.proofs.Closing.{if_ok}
 use Rattle.uc_places.proofs.whole.close.Goals as goal
 

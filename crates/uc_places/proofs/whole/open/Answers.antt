@@ -3,9 +3,11 @@ use Rattle.std.proofs.Common.{rules, arith, ℕ, [], ◌<◌, sym, ap, ◌∙◌
 use Rattle.atomic_table.specs.Table.{opening}
 use Rattle.mc_model.specs.declared.shown.LogSize.{LogSize}
 use Rattle.uc_places.specs.Desk.{IsBlank}
+use Rattle.uc_places.specs.Reached.{LastIsReached}
 use Rattle.uc_places.specs.Rule.{IsKept}
 use Rattle.uc_places.specs.Told.{SeatState, fewer, first_of, spare_from}
 use Rattle.uc_places.proofs.Closing.{snoc_length, snoc_seats}
+use Rattle.uc_places.proofs.SeatLaws.{last_of_new}
 use Rattle.uc_places.proofs.Seating.{deals, starts}
 use Rattle.uc_places.proofs.whole.open.Goals as goal
 
@@ -41,3 +43,8 @@ loop-number-preserved c = let i = c.loop-number.invariant in let e = c.split_sea
         ∙ ap (λ (m : SeatState). first_of m.0) i.spare,
   );
 }
+
+pub invariant_of-push-clause-reached : goal.invariant_of-push-clause-reached
+invariant_of-push-clause-reached c = let i = c.loop-number.invariant in let e = c.split_seat-seat.ensures in
+    subst LastIsReached (sym (ap (λ m. m.0) e.4 ∙ ap (λ (m : SeatState). first_of m.0) i.spare))
+    (last_of_new _ c.loop-number.number c.loop-number-test.true)

@@ -1,8 +1,13 @@
--- The command is still pending, and has its mark.
+-- The command is still pending, and has its mark; each pair of events has taught a place.
 use Rattle.std.proofs.Common.{◌≢◌, None}
-use Rattle.uc_log.specs.Passes.{state}
+use Rattle.uc_log.specs.Passes.{desk, state}
+use Rattle.uc_worker.specs.Counting.{TakesFew}
 use Rattle.uc_worker.specs.Waiting.{IsWaiting}
 use Rattle.uc_worker.proofs.deciding.propose_on.Given as goal
 
 abbrev pub invariant-loop-place : goal.invariant-loop-place
-invariant-loop-place g l = record { waiting : IsWaiting l.log l.fn.pass l.pass l._place l._place-end; marked : (state l.pass).mark ≢ None }
+invariant-loop-place g l = record {
+  waiting : IsWaiting l.log l.fn.pass l.pass l._place l._place-end;
+  marked : (state l.pass).mark ≢ None;
+  takes : TakesFew 0 (desk l.fn.pass) (desk l.pass);
+}

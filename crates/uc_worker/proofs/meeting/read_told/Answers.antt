@@ -1,8 +1,9 @@
 -- The next place is read, as in the shared list.
 use Rattle.std.proofs.Common.{ℕ, ◌<◌, ◌+◌, List, length, sym, ap, ◌∙◌, arith}
 use Rattle.mc_model.specs.declared.id.Ticket.{Ticket}
-use Rattle.mc_model.specs.Helping.{BeginsWith}
+use Rattle.lists.specs.Lists.{BeginsWith}
 use Rattle.uc_places.specs.Calls.{known, state_of}
+use Rattle.uc_worker.proofs.Counting.{takes_learned}
 use Rattle.uc_worker.proofs.Told.{reads_told}
 use Rattle.uc_worker.proofs.meeting.read_told.Goals as goal
 
@@ -20,4 +21,5 @@ loop-place-preserved c =
       own = c.read.ensures.kept.own ∙ i.own;
       begins = (one.begins.0, sym i.told ∙ one.begins.1);
       here = one.more ∙ ap (λ (n : ℕ). n + 1) i.here;
+      takes = takes_learned c.args.pass.now.desk old new _ i.takes c.read.ensures.read.made one.more;
     }

@@ -1,11 +1,22 @@
 use Rattle.std.proofs.Common.{refl, ◌∙◌}
 use Rattle.std.proofs.lemmas.Result.{err_from_is_err_and}
+use Rattle.mc_conn.specs.declared.conn.Conn.{Conn}
+use Rattle.mc_conn.specs.Parts.{KeepsStreams}
 use Rattle.mc_conn.specs.Turn.{holding_of}
+use Rattle.uc_worker.specs.declared.worker.Worker.{Worker}
 use Rattle.mc_conn.proofs.Breakings.{breaks_later}
-use Rattle.uc_worker.proofs.Going.{continues_self, continues_through}
+use Rattle.uc_worker.proofs.Public.{continues_self, continues_through}
 use Rattle.mc_conn.proofs.Readings.{one_fewer}
 use Rattle.mc_conn.proofs.Takings.{did_not, did_then, does_nothing}
 use Rattle.mc_conn.proofs.conn.Conn.take.Goals as goal
+
+keeps_through : (old between new : Conn) (before during after : Worker) → KeepsStreams old between before during →
+    KeepsStreams between new during after → KeepsStreams old new before after
+keeps_through old between new before during after first second = record {
+  role = second.role ∙ first.role;
+  has_ended = second.has_ended ∙ first.has_ended;
+  onward = continues_through before during after first.onward second.onward;
+}
 
 pub loop-did-init : goal.loop-did-init
 loop-did-init g c = record {
@@ -22,16 +33,16 @@ pub loop-did-smaller : goal.loop-did-smaller
 loop-did-smaller g c = one_fewer (holding_of c.loop-did.self) (holding_of c.take_one.new.self) (c.in_ok-take_one.ensures.fewer c.if-branch.true)
 
 pub loop-did-preserved : goal.loop-did-preserved
-loop-did-preserved g c =
-    let before = c.loop-did.invariant.keeps in
-    let after = c.take_one.ensures.keeps in record {
-      does = λ streams. did_then _ _ _ _ _ c.if-branch.true (c.loop-did.invariant.does streams) (c.in_ok-take_one.ensures.outcome streams);
-      keeps = record {
-        role = after.role ∙ before.role;
-        has_ended = after.has_ended ∙ before.has_ended;
-        onward = continues_through _ _ _ before.onward after.onward;
-      };
-    }
+loop-did-preserved g c = record {
+  does = λ streams. did_then _ _ _ _ _ c.if-branch.true (c.loop-did.invariant.does streams) (c.in_ok-take_one.ensures.outcome streams);
+  keeps = keeps_through _ _ _ _ _ _ c.loop-did.invariant.keeps c.take_one.ensures.keeps;
+}
+
+pub returns-in_err-take_one-clause-keeps : goal.returns-in_err-take_one-clause-keeps
+returns-in_err-take_one-clause-keeps g c = keeps_through _ _ _ _ _ _ c.loop-did.invariant.keeps c.take_one.ensures.keeps
+
+pub returns-clause-keeps : goal.returns-clause-keeps
+returns-clause-keeps g c = keeps_through _ _ _ _ _ _ c.loop-did.invariant.keeps c.take_one.ensures.keeps
 
 pub returns-clause-outcome : goal.returns-clause-outcome
 returns-clause-outcome g c streams = did_not _ _ _ _ _ c.if-branch.false (c.loop-did.invariant.does streams) (c.in_ok-take_one.ensures.outcome streams)

@@ -1,5 +1,5 @@
 use Rattle.mc_stream.specs.Stream.{Streams}
-use Rattle.mc_conn.specs.Parts.{Does, Keeps}
+use Rattle.mc_conn.specs.Parts.{Does, KeepsStreams}
 use Rattle.mc_conn.specs.Turn.{holding_of, scene}
 use Rattle.mc_conn.proofs.Readings.{requests_held}
 use Rattle.mc_conn.proofs.conn.Conn.take.Given as goal
@@ -8,7 +8,7 @@ use Rattle.mc_conn.proofs.conn.Conn.take.Given as goal
 abbrev pub invariant-loop-did : goal.invariant-loop-did
 invariant-loop-did g l = record {
   does : (streams : Streams) → Does (scene l.fn.self l.fn.worker streams) (scene l.self l.worker streams) l.did;
-  keeps : Keeps l.fn.self l.self l.fn.worker l.worker;
+  keeps : KeepsStreams l.fn.self l.self l.fn.worker l.worker;
 }
 
 abbrev pub decreases-loop-did : goal.decreases-loop-did

@@ -1,6 +1,7 @@
 use Rattle.std.proofs.Common.{◌≡◌, [], ap, subst, sym}
 use Rattle.std.specs.FinMap as map
-use Rattle.mc_model.specs.History.{StandsFor, StandsFor-none}
+use Rattle.mc_model.specs.History.{StandsFor}
+use Rattle.mc_model.proofs.Public.{StandsFor-none}
 use Rattle.mc_model.specs.State.{TableState}
 use Rattle.mc_model.specs.Table.{Table}
 use Rattle.mc_items.specs.Held.{IsWithin, table_of_held}

@@ -3,7 +3,7 @@ use Rattle.mc_read.specs.declared.reader.State.TheVariants as state
 use Rattle.mc_read.specs.Line.{asked, refused}
 use Rattle.mc_read.specs.Reading.{IsNext, Kept, Swallowing}
 use Rattle.mc_read.proofs.Holdings.{swallowed_is_next}
-use Rattle.mc_read.specs.State.{EndsInRefusal, IsAnswer, IsStateOf, held_in}
+use Rattle.mc_read.specs.State.{EndsInRefusal, IsNextAnswer, IsStateOf, held_in}
 use Rattle.mc_read.specs.Text.{stored_if}
 use Rattle.mc_read.proofs.States.{kept_bytes, left_of_block, line_of_block, step_parts, swallowed_held, swallowing_parts}
 use Rattle.mc_read.proofs.Steps.{answer_awaited, answer_taken, not_too_long, not_unended}
@@ -31,7 +31,7 @@ returns-in_default-clause-answer c =
     let held : Kept bytes ≡ c.args.self.now.held = ap (λ s. held_in s bytes) (sym c.in-AwaitsBlock.is) ∙ ap (λ view. view.held) c.self.view_is in
     let after : Kept left ≡ held_in c.self.inside.state left = ap (λ s. held_in s left) (sym c.in-AwaitsBlock.is) in
     let answer = answer_awaited asked bytes c.in-AwaitsBlock.line is.0 c.in-AwaitsBlock.header is.1 is.2 left (rw c.in_default.is at c.in_ok-taken-in-AwaitsBlock.ensures.taken) in
-    subst (λ h. IsAnswer asked h None (held_in c.self.inside.state left)) held (subst (λ h. IsAnswer asked (Kept bytes) None h) after answer)
+    subst (λ h. IsNextAnswer asked h None (held_in c.self.inside.state left)) held (subst (λ h. IsNextAnswer asked (Kept bytes) None h) after answer)
 
 pub returns-in_default-clause-too_long : goal.returns-in_default-clause-too_long
 returns-in_default-clause-too_long c = λ text more request is_held is.
@@ -49,8 +49,8 @@ returns-in-AwaitsBlock-replace-clause-answer c =
     let same_header : c.in-AwaitsBlock-replace.header ≡ header = cc in
     let is_request : c.stored.result ≡ stored_if c.in-Some.ends_well header c.in-Some.block = rw same_header at c.stored.ensures in
     let answer = answer_taken asked bytes c.in-AwaitsBlock.line is.0 header is.1 (c.in-Some.block, c.in-Some.ends_well) left (rw c.in-Some.is at c.in_ok-taken-in-AwaitsBlock.ensures.taken) in
-    subst (λ h. IsAnswer asked h (Some c.stored.result) (held_in c.replace.new.dest left)) held
-    (subst (λ h. IsAnswer asked (Kept bytes) (Some c.stored.result) h) after (rw is_request answer))
+    subst (λ h. IsNextAnswer asked h (Some c.stored.result) (held_in c.replace.new.dest left)) held
+    (subst (λ h. IsNextAnswer asked (Kept bytes) (Some c.stored.result) h) after (rw is_request answer))
 
 pub returns-in-AwaitsBlock-replace-clause-unended : goal.returns-in-AwaitsBlock-replace-clause-unended
 returns-in-AwaitsBlock-replace-clause-unended c = λ bytes is_held is.
@@ -64,7 +64,7 @@ pub returns-in_ok-request-in-AwaitsLine-clause-answer : goal.returns-in_ok-reque
 returns-in_ok-request-in-AwaitsLine-clause-answer c =
     let step = c.in_ok-request-in-AwaitsLine in
     let kept : Kept c.self.inside.buffer ≡ c.args.self.now.held = ap (λ s. held_in s c.self.inside.buffer) (sym c.in-AwaitsLine.is) ∙ ap (λ view. view.held) c.self.view_is in
-    subst (λ h. IsAnswer asked h step.request (held_in step.state c.next_line.new.buffer)) kept step.ensures.answer
+    subst (λ h. IsNextAnswer asked h step.request (held_in step.state c.next_line.new.buffer)) kept step.ensures.answer
 
 pub returns-in_ok-request-in-AwaitsLine-clause-too_long : goal.returns-in_ok-request-in-AwaitsLine-clause-too_long
 returns-in_ok-request-in-AwaitsLine-clause-too_long c = λ text more request is_held is.

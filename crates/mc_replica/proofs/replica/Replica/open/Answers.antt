@@ -1,5 +1,6 @@
 use Rattle.std.proofs.Common.{rules}
-use Rattle.mc_model.specs.Replay.{EachStands-none, HaveRoom-empty, empty_tables}
+use Rattle.mc_model.proofs.Public.{EachStands-none, HaveRoom-empty}
+use Rattle.mc_model.specs.Replay.{empty_tables}
 use Rattle.mc_replica.proofs.replica.Replica.open.Goals as goal
 
 pub invariant_of-result : goal.invariant_of-result

@@ -1,7 +1,8 @@
 use Rattle.std.proofs.Common.{arith, rules, ◌<◌, [], ◌∷◌, ◌++◌, length, refl, sym, true≢false}
 use Rattle.std.proofs.lemmas.List.{length-map}
 use Rattle.uc_cells.specs.Sighting.{Sighting, entries}
-use Rattle.mc_model.specs.Replay.{empty_tables, uniques-few}
+use Rattle.mc_model.specs.Replay.{empty_tables}
+use Rattle.mc_model.proofs.Public.{uniques-few}
 use Rattle.mc_replica.proofs.Effects.{EachStands-seen, TakeEffect-nobody, tables-stay}
 use Rattle.mc_replica.proofs.replica.Replica.replay_for.Goals as goal
 

@@ -4,7 +4,7 @@ use Rattle.mc_model.specs.Legal.{ticket_of}
 use Rattle.uc_cells.specs.Sighting.{Sighting}
 use Rattle.uc_log.specs.Passes.{row_of}
 use Rattle.uc_places.specs.declared.view.View.{View}
-use Rattle.uc_log.proofs.Lists.{each_pushed}
+use Rattle.lists.proofs.Public.{each_pushed}
 use Rattle.uc_log.proofs.log.Log.announce.Goals as goal
 
 pub invariant_of-pass : goal.invariant_of-pass

@@ -11,7 +11,7 @@ use Rattle.uc_places.specs.Told.{SeatState, moved_on}
 use Rattle.uc_places.specs.Words.{said_word}
 use Rattle.uc_places.proofs.Mirroring.{mirrors_looked, words_of}
 use Rattle.uc_places.proofs.Moves.{looks_at_word}
-use Rattle.uc_places.proofs.SeatLaws.{law_after}
+use Rattle.uc_places.proofs.SeatLaws.{last_after, law_after}
 use Rattle.uc_places.proofs.desk.Desk.look.Goals as goal
 
 pub load-found-requires : goal.load-found-requires
@@ -38,5 +38,6 @@ invariant_of-self c =
       mirrors = subst (λ (v : View). Mirrors v (record d.numbers { proposal = c.word_of-self.result; phase = Looked })) (sym now) (mirrors_looked _ view d.numbers (d.numbers.learned % d.numbers.workers) c.load-found.result
           _ m below at here (c.word_of-self.ensures ∙ ap said_word c.proposed.ensures));
       law = law_after view c.load-found.new.seat.me.0 (looks view.worker) _ now tells.2;
+      reached = last_after view c.load-found.new.seat.me.0 (looks view.worker) _ now tells.2;
       holds_no_slot = ap (λ (z : SeatState). z.1) tells.0 ∙ d.holds_no_slot;
     }

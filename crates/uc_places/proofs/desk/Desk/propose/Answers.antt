@@ -11,7 +11,7 @@ use Rattle.uc_places.specs.Told.{SeatState, moved_on}
 use Rattle.uc_places.specs.Words.{found_in}
 use Rattle.uc_places.proofs.Mirroring.{mirrors_proposed, proposed_inside, stood, words_of}
 use Rattle.uc_places.proofs.Moves.{proposes_at}
-use Rattle.uc_places.proofs.SeatLaws.{law_after, seat_law}
+use Rattle.uc_places.proofs.SeatLaws.{last_after, law_after, seat_law}
 use Rattle.uc_places.proofs.desk.Desk.propose.Goals as goal
 use Rattle.uc_places.proofs.desk.Desk.propose.Goals.{then-found-eq0, else-found-eq0}
 
@@ -62,5 +62,6 @@ invariant_of-self c =
           (record n { proposals = n.proposals + 1 })) (sym c.learn.ensures)
           (mirrors_proposed _ view c.args.self.now.numbers c.ticket_in-ticket.result found m c.requires.looked stands (omega arith) tells.3));
       law = law_after view c.compare_exchange-found.new.seat.me.0 (proposes view.worker) _ now tells.4;
+      reached = last_after view c.compare_exchange-found.new.seat.me.0 (proposes view.worker) _ now tells.4;
       holds_no_slot = ap (λ (z : SeatState). z.1) tells.0 ∙ c.args.self.now.holds_no_slot;
     }

@@ -12,7 +12,7 @@ use Rattle.uc_places.specs.Told.{SeatState, moved_on}
 use Rattle.uc_places.specs.Words.{found_in}
 use Rattle.uc_places.proofs.Mirroring.{found_some, mirrors_learned, small_ticket, words_of}
 use Rattle.uc_places.proofs.Moves.{reads_at}
-use Rattle.uc_places.proofs.SeatLaws.{law_after}
+use Rattle.uc_places.proofs.SeatLaws.{last_after, law_after}
 use Rattle.uc_places.proofs.desk.Desk.read.Goals as goal
 
 pub load-found-requires : goal.load-found-requires
@@ -43,5 +43,10 @@ invariant_of-self-2 c =
           refl (ap (λ (p : Phase). (learn view.worker p ticket view.state).phase) m.phase) refl refl m.proposals small.0 (omega arith)
           (omega arith) m.proposals_helped));
       law = law_after view c.load-found.new.seat.me.0 (reads view.worker) _ (ap (λ (z : SeatState). z.0) tells.0) tells.4;
+      reached = last_after view c.load-found.new.seat.me.0 (reads view.worker) _ (ap (λ (z : SeatState). z.0) tells.0) tells.4;
       holds_no_slot = ap (λ (z : SeatState). z.1) tells.0 ∙ d.holds_no_slot;
     }
+
+pub invariant_of-self-clause-reached : goal.invariant_of-self-clause-reached
+invariant_of-self-clause-reached c = let view = c.args.self.now.seat.me.0 in let tells = c.load-found.ensures.2 in
+    last_after view c.load-found.new.seat.me.0 (reads view.worker) _ (ap (λ (z : SeatState). z.0) tells.0) tells.4

@@ -1,9 +1,11 @@
 -- A note of what the first has learned is made and shared with the second, and then compared
 -- (`Seating`, `Moves`).
-use Rattle.std.proofs.Common.{ap, ◌∙◌, arith}
+use Rattle.std.proofs.Common.{ap, sym, subst, ◌∙◌, arith}
 use Rattle.atomic_table.specs.Seated.{TableId}
+use Rattle.uc_places.specs.Reached.{LastIsReached}
 use Rattle.uc_places.specs.Told.{SeatState}
 use Rattle.uc_places.proofs.Moves.{compares_word}
+use Rattle.uc_places.proofs.SeatLaws.{last_told}
 use Rattle.uc_places.proofs.Seating.{informs, notes}
 use Rattle.uc_places.proofs.desk.Desk.tell.Goals as goal
 
@@ -27,3 +29,8 @@ load-requires c = let words = c.args.self.now.words in let few = ap (λ (z : Tab
   omega arith,
   compares_word _ _ c.join_seat.new.seat.me (ap (λ (m : SeatState). m.0.kind) j.2 ∙ c.args.other.now.mirrors.seated) _,
 )
+
+pub invariant_of-other-clause-reached : goal.invariant_of-other-clause-reached
+invariant_of-other-clause-reached c = subst LastIsReached
+    (sym (ap (λ (m : SeatState). m.0) (c.load.ensures.2.0 ∙ c.join_seat.ensures.2)))
+    (last_told c.args.other.now.seat.me.0 _ c.args.other.now.reached)

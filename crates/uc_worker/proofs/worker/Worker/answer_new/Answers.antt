@@ -4,9 +4,10 @@ use Rattle.mc_model.specs.declared.request.Entry.{Entry}
 use Rattle.mc_model.specs.Replay.{reply_to}
 use Rattle.uc_cells.specs.Sighting.{entries}
 use Rattle.uc_log.specs.declared.pass.Pass.{Pass}
-use Rattle.uc_log.specs.Passes.{learned, next_entry, next_ticket, own_sightings, row_of, state}
+use Rattle.uc_log.specs.Passes.{learned, next_entry, next_ticket, own_sightings, row_of, seat, state}
 use Rattle.uc_worker.specs.Worker.{announced_of, history_of, last_entry, openings_of, sighting_of}
-use Rattle.uc_worker.proofs.Lists.{begins_same, begins_self}
+use Rattle.lists.proofs.Public.{begins_same, begins_self}
+use Rattle.uc_worker.proofs.Lacking.{announced_few, lacks_announced}
 use Rattle.uc_worker.proofs.Replies.{last_is}
 use Rattle.uc_worker.proofs.worker.Worker.answer_new.Goals as goal
 
@@ -38,3 +39,10 @@ returns-clause-submits g c =
       reply = c.in_ok-reply.ensures.reply ∙ (λ i. reply_to (openings_of worker) (entries (take (long i - 1) (history_of new))) (Some (same i)));
       proposals = (c.proposals.ensures.value, c.proposals.ensures.few);
     }
+
+-- all that was learned before is replayed, so the new command is the only one that may be lacking
+pub invariant_of-self-clause-lacks : goal.invariant_of-self-clause-lacks
+invariant_of-self-clause-lacks g c = let self = c.args.self.now in let new = c.decide_new.new.pass in
+    lacks_announced (seat self.pass) (seat new) self.replica.history c.requires.all (self.pass.desk.law.idle c.requires.idle)
+    c.decide_new.ensures.advances.same.1
+    (announced_few c.decide_new.result self.log.now self.pass new c.args.tenant c.args.command c.decide_new.ensures.outcome) c.decide_new.ensures.advances.begins

@@ -1,9 +1,10 @@
 -- What was seen of the next place stands at the end then.
 use Rattle.std.proofs.Common.{◌≡◌, ◌<◌, length, sym, ap, ◌∙◌, subst, arith}
 use Rattle.uc_log.specs.declared.pass.Pass.{Pass}
-use Rattle.uc_log.specs.Passes.{learned}
-use Rattle.uc_worker.specs.Histories.{Follows}
+use Rattle.uc_log.specs.Passes.{learned, seat}
+use Rattle.uc_worker.specs.Histories.{Follows, LacksAtMostOne}
 use Rattle.uc_worker.proofs.Following.{follows_replayed, short_replayed}
+use Rattle.uc_worker.proofs.Lacking.{lacks_replayed}
 use Rattle.uc_worker.proofs.worker.Worker.replay_to.Goals as goal
 
 pub invariant_of-self-in-loop-place-clause-follows : goal.invariant_of-self-in-loop-place-clause-follows
@@ -20,3 +21,9 @@ invariant_of-self-in-loop-place-clause-short g c =
     let below : c.loop-place.place < length (learned c.seen.new.pass) = omega (arith, same, c.requires.learned, c.loop-place-test.true) in
     short_replayed c.advance.result c.loop-place.self.replica.history c.advance.new.self.history c.in_ok-seen.seen c.loop-place.place _
     c.advance.ensures.history c.advance.ensures.unchanged (λ same i. (same i).history) c.loop-place.invariant.here below
+
+pub invariant_of-self-in-loop-place-clause-lacks : goal.invariant_of-self-in-loop-place-clause-lacks
+invariant_of-self-in-loop-place-clause-lacks g c =
+    let worker = c.loop-place.self in let new = c.advance.new.self.history in
+    subst (λ (p : Pass). LacksAtMostOne (seat p) new) (sym c.seen.ensures.same) (lacks_replayed c.advance.result (seat worker.pass) worker.replica.history new
+    c.in_ok-seen.seen c.advance.ensures.history c.advance.ensures.unchanged (λ same i. (same i).history) worker.short worker.lacks)

@@ -4,11 +4,12 @@ use Rattle.mc_model.specs.Replay.{reply_to}
 use Rattle.mc_model.specs.State.{TableState}
 use Rattle.uc_cells.specs.Sighting.{entries}
 use Rattle.uc_log.specs.declared.pass.Pass.{Pass}
-use Rattle.uc_log.specs.Passes.{learned, own_sightings, row_of, worker}
-use Rattle.uc_worker.specs.Histories.{Follows}
+use Rattle.uc_log.specs.Passes.{learned, own_sightings, row_of, seat, worker}
+use Rattle.uc_worker.specs.Histories.{Follows, LacksAtMostOne}
 use Rattle.uc_worker.specs.Worker.{last_entry, sighting_of}
 use Rattle.uc_worker.proofs.Following.{follows_replayed, short_replayed}
-use Rattle.uc_worker.proofs.Replies.{reply_is, seen_is, stands_last}
+use Rattle.uc_worker.proofs.Lacking.{lacks_replayed}
+use Rattle.uc_worker.proofs.Replies.{reply_is, reply_stands, seen_is, stands_last}
 use Rattle.uc_worker.proofs.worker.Worker.reply_last.Goals as goal
 
 pub invariant_of-self-2-clause-follows : goal.invariant_of-self-2-clause-follows
@@ -57,3 +58,28 @@ returns-clause-reply g c =
     let mine : entry.ticket.worker ≡ replica.worker = c.requires.own ∙ (ap worker (sym same) ∙ sym c.replay_to.new.self.whose) in
     sym c.in-Some.is ∙ (reply_is replica.worker _ replica.openings replica.history _ entry (row_of log entry.ticket) seen _ is mine c.in_ok-reply.ensures.replays.history here
     c.in_ok-reply.ensures.reply ∙ ap (λ (openings : List TableState). reply_to openings (entries (take (length (learned pass) - 1) c.replay.new.self.history)) (Some entry)) c.replay_to.ensures.replays.openings)
+
+pub invariant_of-self-2-clause-lacks : goal.invariant_of-self-2-clause-lacks
+invariant_of-self-2-clause-lacks g c =
+    let self = c.replay_to.new.self in let new = c.replay.new.self.history in
+    subst (λ (p : Pass). LacksAtMostOne (seat p) new) (sym c.seen.ensures.same) (lacks_replayed c.replay.result (seat self.pass) self.replica.history new
+    c.in_ok-seen.seen c.replay.ensures.replays.history c.replay.ensures.replays.unchanged (λ same i. (same i).history) self.short self.lacks)
+
+-- the command's tenant is known, so there is a reply
+pub unreachable-requires : goal.unreachable-requires
+unreachable-requires g c =
+    let pass = c.args.self.now.pass in let log = c.args.self.now.log.now in let seen = c.in_ok-seen.seen in let same = c.replay_to.ensures.replays.pass in
+    let replica = c.replay_to.new.self.replica in
+    let last : c.learned-place.result - 1 ≡ length (learned pass) - 1 = ap (λ (n : ℕ). n - 1) c.learned-place.ensures.value in
+    let here : length replica.history ≡ length (learned pass) - 1 = c.in_ok-replay_to.ensures.all ∙ last in
+    let ticket : slice_get (learned pass) (length (learned pass) - 1) ≡ Some seen.ticket =
+    (λ i. slice_get (learned (sym same i)) (sym last i)) ∙ c.in_ok-seen.ensures.ticket in
+    let found : seen.ticket.worker ≡ worker pass → slice_get (own_sightings pass) seen.ticket.number ≡ Some seen =
+    subst (λ (p : Pass). seen.ticket.worker ≡ worker p → slice_get (own_sightings p) seen.ticket.number ≡ Some seen) same c.in_ok-seen.ensures.own in
+    let entry = last_entry pass in
+    let is = seen_is (learned pass) (own_sightings pass) _ (worker pass) entry (row_of log entry.ticket) seen c.requires.last c.requires.own c.requires.put
+    ticket found in
+    let mine : entry.ticket.worker ≡ replica.worker = c.requires.own ∙ (ap worker (sym same) ∙ sym c.replay_to.new.self.whose) in
+    reply_stands c.args.self.now.replica.openings (entries (take (length (learned pass) - 1) c.replay.new.self.history)) entry c.requires.tenant
+    (sym c.in-None.is ∙ (reply_is replica.worker _ replica.openings replica.history _ entry (row_of log entry.ticket) seen _ is mine c.in_ok-reply.ensures.replays.history here
+    c.in_ok-reply.ensures.reply ∙ ap (λ (openings : List TableState). reply_to openings (entries (take (length (learned pass) - 1) c.replay.new.self.history)) (Some entry)) c.replay_to.ensures.replays.openings))

@@ -1,0 +1,116 @@
+//! Each reply's text, with ample memory, and what is left if memory runs out.
+use crate::values::{assert_text, value_of};
+use mc_model::{Fault, Reply, ValueList, WireNo};
+use mc_write::{refusal_text, write_reply};
+use std::alloc::Global;
+use std::process::Abort;
+use std::test::Fail;
+
+#[test]
+fn writes_lines(rt: HostRuntime) -> Result<(), Fail> {
+    let cases = [
+        (Reply::Stored, "STORED\r\n"),
+        (Reply::NotStored, "NOT_STORED\r\n"),
+        (Reply::Exists, "EXISTS\r\n"),
+        (Reply::NotFound, "NOT_FOUND\r\n"),
+        (Reply::Deleted, "DELETED\r\n"),
+        (Reply::Ok, "OK\r\n"),
+        (Reply::Number(0), "0\r\n"),
+        (Reply::Number(u64::MAX), "18446744073709551615\r\n"),
+        (Reply::Version, "VERSION 1.0.0\r\n"),
+    ];
+    for (reply, line) in cases {
+        assert_text(&rt, rt.alloc(), &reply, line.as_bytes())?;
+    }
+    Ok(())
+}
+
+fn assert_refusal(rt: &impl Abort, alloc: Global, refusal: WireNo, line: &str) -> Result<(), Fail> {
+    assert!(rt; refusal_text(refusal) == line.as_bytes(), "{line}");
+    assert_text(rt, alloc, &Reply::Refused(refusal), line.as_bytes())
+}
+
+#[test]
+fn writes_refusals(rt: HostRuntime) -> Result<(), Fail> {
+    const CASES: [(WireNo, &str); 11] = [
+        (WireNo::E1, "ERROR\r\n"),
+        (WireNo::E2, "CLIENT_ERROR bad command line format\r\n"),
+        (WireNo::E3, "CLIENT_ERROR bad data chunk\r\n"),
+        (WireNo::E4, "CLIENT_ERROR expiry is not supported\r\n"),
+        (WireNo::E5, "CLIENT_ERROR line too long\r\n"),
+        (WireNo::E6, "SERVER_ERROR object too large for cache\r\n"),
+        (WireNo::E7, "SERVER_ERROR out of memory storing object\r\n"),
+        (
+            WireNo::E8,
+            "CLIENT_ERROR cannot increment or decrement non-numeric value\r\n",
+        ),
+        (
+            WireNo::E9,
+            "CLIENT_ERROR invalid numeric delta argument\r\n",
+        ),
+        (WireNo::E10, "SERVER_ERROR log full\r\n"),
+        (WireNo::E11, "SERVER_ERROR out of memory\r\n"),
+    ];
+    for (refusal, line) in CASES {
+        assert_refusal(&rt, rt.alloc(), refusal, line)?;
+    }
+    Ok(())
+}
+
+/// Returns the reply that shows one item.
+fn one_value(alloc: Global) -> Result<Reply, Fail> {
+    let value = value_of(alloc, ("k", 1, "data", Some(2)))?;
+    Ok(Reply::Values(ValueList::new(vec![in alloc; value]?)))
+}
+
+const ONE_VALUE: &str = "VALUE k 1 4 2\r\ndata\r\nEND\r\n";
+
+const AFTER_OLD_BYTES: &str = "oldVALUE k 1 4 2\r\ndata\r\nEND\r\n";
+
+/// The reply's text stands after what was there.
+#[test]
+fn appends_to_old_bytes(rt: HostRuntime) -> Result<(), Fail> {
+    let mut out = Vec::from_slice(rt.alloc(), b"STORED\r\n")?;
+    let none = Reply::Values(ValueList::new(Vec::new(rt.alloc())));
+    write_reply(&none, &mut out)?;
+    assert!(rt; out.as_slice() == b"STORED\r\nEND\r\n".as_slice());
+    Ok(())
+}
+
+#[test]
+fn writes_items(rt: HostRuntime) -> Result<(), Fail> {
+    let first = value_of(rt.alloc(), ("abc", 5, "a\r\nEND\r\nb", Some(70)))?;
+    let second = value_of(rt.alloc(), ("d", u32::MAX, "", None))?;
+    let values = vec![in rt.alloc(); first, second]?;
+    let text = "VALUE abc 5 9 70\r\na\r\nEND\r\nb\r\nVALUE d 4294967295 0\r\n\r\nEND\r\n";
+    let reply = Reply::Values(ValueList::new(values));
+    assert_text(&rt, rt.alloc(), &reply, text.as_bytes())
+}
+
+/// If an allocation fails (`rt try --test --fail-alloc N`), the old bytes stay.
+#[test]
+fn out_of_memory_keeps_old_bytes(rt: HostRuntime) -> Result<(), Fail> {
+    let mut out = Vec::from_slice(rt.alloc(), b"old")?;
+    let reply = one_value(rt.alloc())?;
+    match write_reply(&reply, &mut out) {
+        Ok(()) => {
+            assert!(rt; out.as_slice() == AFTER_OLD_BYTES.as_bytes());
+        }
+        Err(fault) => {
+            assert!(rt; fault == Fault::Memory && out.as_slice() == b"old".as_slice());
+        }
+    }
+    Ok(())
+}
+
+/// With as much room as the text needs no more is asked for, so no failing allocation falls in
+/// here.
+#[test]
+fn room_is_enough(rt: HostRuntime) -> Result<(), Fail> {
+    let reply = one_value(rt.alloc())?;
+    let mut out = Vec::with_capacity(rt.alloc(), ONE_VALUE.len())?;
+    let written = write_reply(&reply, &mut out);
+    assert!(rt; written.is_ok() && out.as_slice() == ONE_VALUE.as_bytes());
+    assert!(rt; out.capacity() == ONE_VALUE.len());
+    Ok(())
+}

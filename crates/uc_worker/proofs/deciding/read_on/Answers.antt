@@ -1,0 +1,30 @@
+-- A read, by which a place is learned, or which is the last.
+use Rattle.std.proofs.Common.{ℕ, ◌+◌, ap, ◌∙◌}
+use Rattle.uc_log.specs.Passes.{desk}
+use Rattle.uc_worker.proofs.Counting.{some_of, takes_learned, takes_read}
+use Rattle.uc_worker.proofs.Learning.{later_through, learns_later, learns_more, learns_read, waits_read}
+use Rattle.uc_worker.proofs.deciding.read_on.Goals as goal
+
+pub returns-then-is_none-clause-takes : goal.returns-then-is_none-clause-takes
+returns-then-is_none-clause-takes g c = takes_read (desk c.args.pass.now) (desk c.loop-place.pass) (desk c.read-found.new.pass) _
+    c.loop-place.invariant.takes c.read-found.ensures.read.made
+
+pub returns-then-is_idle-clause-takes : goal.returns-then-is_idle-clause-takes
+returns-then-is_idle-clause-takes g c = takes_read (desk c.args.pass.now) (desk c.loop-place.pass) (desk c.read-found.new.pass) _
+    c.loop-place.invariant.takes c.read-found.ensures.read.made
+
+pub loop-place-preserved : goal.loop-place-preserved
+loop-place-preserved g c =
+    let i = c.loop-place.invariant in let w = i.waiting in let old = desk c.loop-place.pass in let new = desk c.read-found.new.pass in
+    let made = c.read-found.ensures.read.made in let some = some_of _ _ c.is_none.ensures c.if-is_none.false in
+    let learns = learns_read old new _ some.0 some.1 made in record {
+      waiting = record {
+        of = c.read-found.ensures.kept.of;
+        pending = waits_read old new _ w.pending made (c.is_idle.ensures.other c.if-is_idle.false);
+        later = later_through _ _ _ w.later (learns_later _ _ _ learns);
+        here = learns_more _ _ _ learns ∙ ap (λ (n : ℕ). n + 1) w.here;
+        places = w.places;
+        own = c.read-found.ensures.kept.own ∙ w.own;
+      };
+      takes = takes_learned (desk c.args.pass.now) old new _ i.takes made (learns_more _ _ _ learns);
+    }

@@ -1,0 +1,78 @@
+#!/usr/bin/env python3
+"""Checks what keeps the crates apart, as text:
+
+- a definition's name stands once in the repository, so that who searches for it finds one;
+- a crate's proofs cite of another crate's proofs what its `proofs/Public.antt` lists, and nothing else;
+- specs/ holds definitions alone: no file there cites a proof;
+- crates.txt lists for a crate only those that it calls or cites, and for the crates of the network only those that they call:
+  these get the words of deeper crates from the `specs/Cited.antt` of the one that they call.
+"""
+
+import re
+import sys
+from collections import defaultdict
+
+from specifications import CRATES, Definitions, ROOT
+
+IMPORT = re.compile(r"\buse Rattle\.(\w+)\.(specs|proofs)\.(\w+)")
+CALL = re.compile(r"\b(\w+)::")
+CITED = re.compile(r"\bRattle\.(\w+)\.")
+# These list only crates whose code they call, and `lists`, which has none.
+CALLS_ALL = ("mc_conn", "mc_net", "mc_server")
+LISTED = re.compile(r"^(\w+)[^#\n:]*:(.*)$", re.MULTILINE)
+
+
+def sources(*kinds):
+    """The repository's files of these folders (src, specs, proofs), each with its crate."""
+    for file in sorted(CRATES.rglob("*")):
+        crate, *inside = file.relative_to(CRATES).parts
+        if file.suffix in (".rt", ".antt") and inside and inside[0] in kinds:
+            yield crate, file
+
+
+def listed():
+    """The libraries that crates.txt gives each crate, those of the kit too."""
+    return {crate: libraries.split() for crate, libraries in LISTED.findall((ROOT / "crates.txt").read_text(encoding="utf-8"))}
+
+
+def names_used_twice():
+    places = defaultdict(list)
+    for crate, module, name in Definitions().lines:
+        if name:
+            places[name].append(f"{crate}/specs/{module.replace('.', '/')}.antt")
+    return [f"{name} is defined in {' and in '.join(where)}" for name, where in sorted(places.items()) if len(where) > 1]
+
+
+def proofs_cited(crates):
+    """Imports of another crate's proofs, and imports of any proofs in specs/."""
+    for crate, file in sources("src", "specs", "proofs"):
+        kind = file.relative_to(CRATES).parts[1]
+        for other, folder, module in IMPORT.findall(file.read_text(encoding="utf-8")):
+            if folder == "proofs" and kind == "specs":
+                yield f"{file.relative_to(ROOT)} cites proofs of {other}"
+            elif folder == "proofs" and other in crates and other != crate and module != "Public":
+                yield f"{file.relative_to(ROOT)} cites {module} of {other}, which isn't public"
+
+
+def crates_listed_in_vain(crates):
+    called, cited = defaultdict(set), defaultdict(set)
+    for crate, file in sources("src", "specs", "proofs"):
+        text = file.read_text(encoding="utf-8")
+        cited[crate] |= set(CITED.findall(text))
+        if file.suffix == ".rt":
+            code = (line for line in text.splitlines() if not re.match(r"\s*(//|ghost use)", line))
+            called[crate] |= {name for line in code for name in CALL.findall(line)}
+    for crate, libraries in crates.items():
+        used = called[crate] | ({"lists"} if crate in CALLS_ALL else cited[crate])
+        yield from (f"crates.txt lists {library} for {crate} in vain" for library in libraries if library not in used)
+
+
+def main():
+    crates = listed()
+    faults = [*names_used_twice(), *proofs_cited(crates), *crates_listed_in_vain(crates)]
+    print("\n".join(faults) or "each definition has a name of its own, and no crate looks into another's proofs")
+    return 1 if faults else 0
+
+
+if __name__ == "__main__":
+    sys.exit(main())
