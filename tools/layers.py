@@ -70,7 +70,7 @@ def crates_listed_in_vain(crates):
 def main():
     crates = listed()
     faults = [*names_used_twice(), *proofs_cited(crates), *crates_listed_in_vain(crates)]
-    print("\n".join(faults) or "each definition has a name of its own, and no crate looks into another's proofs")
+    print("\n".join(faults) or "each definition has a name of its own, and of another's proofs only what is published is cited")
     return 1 if faults else 0
 
 

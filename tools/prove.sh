@@ -60,7 +60,7 @@ make_room() {
     done
 }
 
-# Proves one crate with so many jobs, in the background.
+# Proves one crate with the given number of jobs, in the background.
 logs=$(mktemp -d)
 declare -A state jobs_of process_of
 begun=0
