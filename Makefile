@@ -104,7 +104,7 @@ documents: ## writes docs/PROMISES.md and the numbers in docs/DEFINITIONS.md ane
 	@python3 tools/promises.py
 	@python3 tools/reading.py --write
 
-layers: ## checks that a definition's name is used once, and that a crate cites only the published laws of another's proofs; in the gate too
+layers: ## checks that a definition's name is used once, and that no crate cites another's proofs but those of a crate of lemmas; in the gate too
 	@python3 tools/layers.py
 
 definitions: ## lists the definitions that the headline's clauses stand on, and how long the definitions of each crate are

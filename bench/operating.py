@@ -1,12 +1,15 @@
 #!/usr/bin/env python3
-"""Prints the tables that docs/OPERATING.md shows of wfmc as built: what it takes in memory at the start, for each command, item and
-connection; what clients are answered when the log is full; what one reply of gigabytes costs without and with a limit on the process,
-and what its neighbours notice; a client that doesn't read; and the line that each mistake prints.
+"""Measures what docs/OPERATING.md says of wfmc as built: what it takes in memory at the start, for each command, item and connection;
+what clients are answered when the log is full; what one reply of gigabytes costs without and with a limit on the process, and what its
+neighbours notice; a client that doesn't read, or reads late; and the line that each mistake prints.
 
-Usage: bench/operating.py [BINARY [TABLE...]]; the binary is crates/wfmc/out/wfmc and all tables are printed where none is named.
+Prints a line `GROUP: CASE: WHAT<TAB>VALUE<TAB>UNIT` for each measurement. A value whose unit is `text` is a reply or an outcome.
+
+Usage: bench/operating.py [BINARY [GROUP...]]; the binary is crates/wfmc/out/wfmc and all groups are measured where none is named.
 It takes some minutes, up to 4 GB of memory and free ports, and ends what it starts.
 """
 
+import concurrent.futures
 import pathlib
 import signal
 import socket
@@ -16,8 +19,8 @@ import time
 
 sys.path.insert(0, str(pathlib.Path(__file__).parents[1] / "tests"))
 from harness import repository
-from harness.client import Client
-from harness.measures import Probe
+from harness.client import Client, late_reply
+from harness.measures import Probe, print_figure
 from harness.servers import LARGE, Server
 
 PROGRAM = sys.argv[1] if len(sys.argv) > 1 else repository.program("wfmc")
@@ -33,21 +36,19 @@ def serve(options=(), tenants=("a",), quotas=LARGE, **limits):
     return server
 
 
-def heading(text):
-    print(f"\n{text}\n", flush=True)
+def printer(group, *columns):
+    """A function that prints one case: a line for each of these columns, which are pairs of what is measured and its unit."""
 
+    def show(case, *values):
+        for (what, unit), value in zip(columns, values, strict=True):
+            if value is not None:
+                print_figure(f"{group}: {case}: {what}", value, unit)
 
-def row(*cells):
-    print("| " + " | ".join(str(cell) for cell in cells) + " |", flush=True)
-
-
-def table(*names):
-    row(*names)
-    row(*["---"] * len(names))
+    return show
 
 
 def mebibytes(size):
-    return f"{size / MEBIBYTE:,.1f}" if size < 100 * MEBIBYTE else f"{size / MEBIBYTE:,.0f}"
+    return size / MEBIBYTE
 
 
 def names(count):
@@ -72,13 +73,12 @@ def pieces(request, count, step=100):
 
 def show_start():
     """Every worker has a list of places, and a table for each tenant; each thread has an arena of addresses that it may never use."""
-    heading("start: before a command (MiB; address space counts for LimitAS)")
-    table("workers", "places", "tenants", "resident", "address space", "descriptors", "threads")
+    show = printer("start", ("resident", "MiB"), ("address space", "MiB"), ("descriptors", "count"), ("threads", "count"))
     for workers, places, tenants in [(1, 65536, 1), (2, 65536, 2), (2, 1048576, 2), (4, 1048576, 2), (16, 1048576, 2), (16, 1048576, 64)]:
         options = ["--workers", str(workers), "--places", str(places)]
         with serve(options, names(tenants), (1000, 1_000_000)) as server:
-            server_row = mebibytes(server.resident()), mebibytes(server.address_space()), server.descriptors(), server.threads()
-            row(workers, f"{places:,}", tenants, *server_row)
+            measured = mebibytes(server.resident()), mebibytes(server.address_space()), server.descriptors(), server.threads()
+            show(f"{workers} workers, {places:,} places, {tenants} tenants", *measured)
 
 
 def growth(workers, request, count, lines, before):
@@ -97,38 +97,39 @@ def growth(workers, request, count, lines, before):
 
 
 COMMANDS = [
-    ("`get` of a key of 16 bytes that isn't held", b"get 0123456789abcdef\r\n", 100_000, 1, None),
-    ("`get` of one that is held, 100 bytes of data", b"get 0123456789abcdef\r\n", 100_000, 3, a_set(b"0123456789abcdef", 100)),
-    ("`set` of a held key, 100 bytes of data", a_set(b"0123456789abcdef", 100), 100_000, 1, a_set(b"0123456789abcdef", 100)),
-    ("`set` of a held key, 1,000 bytes", a_set(b"0123456789abcdef", 1000), 50_000, 1, a_set(b"0123456789abcdef", 1000)),
-    ("`set` of a held key, 10,000 bytes", a_set(b"0123456789abcdef", 10_000), 20_000, 1, a_set(b"0123456789abcdef", 10_000)),
-    ("`incr` of a key of 16 bytes", b"incr 0123456789abcdef 1\r\n", 100_000, 1, b"set 0123456789abcdef 0 0 1\r\n1\r\n"),
-    ("`set` of a new key of 16 bytes, 100 bytes", lambda at: a_set(b"%016d" % at, 100), 100_000, 1, None),
-    ("`set` of a new key, 1,000 bytes", lambda at: a_set(b"%016d" % at, 1000), 50_000, 1, None),
-    ("`set` of a new key, 10,000 bytes", lambda at: a_set(b"%016d" % at, 10_000), 20_000, 1, None),
+    ("get of a key of 16 bytes that isn't held", b"get 0123456789abcdef\r\n", 100_000, 1, None),
+    ("get of one that is held, 100 bytes of data", b"get 0123456789abcdef\r\n", 100_000, 3, a_set(b"0123456789abcdef", 100)),
+    ("set of a held key, 100 bytes of data", a_set(b"0123456789abcdef", 100), 100_000, 1, a_set(b"0123456789abcdef", 100)),
+    ("set of a held key, 1,000 bytes", a_set(b"0123456789abcdef", 1000), 50_000, 1, a_set(b"0123456789abcdef", 1000)),
+    ("set of a held key, 10,000 bytes", a_set(b"0123456789abcdef", 10_000), 20_000, 1, a_set(b"0123456789abcdef", 10_000)),
+    ("incr of a key of 16 bytes", b"incr 0123456789abcdef 1\r\n", 100_000, 1, b"set 0123456789abcdef 0 0 1\r\n1\r\n"),
+    ("set of a new key of 16 bytes, 100 bytes", lambda at: a_set(b"%016d" % at, 100), 100_000, 1, None),
+    ("set of a new key, 1,000 bytes", lambda at: a_set(b"%016d" % at, 1000), 50_000, 1, None),
+    ("set of a new key, 10,000 bytes", lambda at: a_set(b"%016d" % at, 10_000), 20_000, 1, None),
 ]
 
 
 def show_commands():
-    heading("commands: bytes of memory that stay for each, once every worker has replayed it")
-    table("command", "1 worker", "2 workers", "4 workers")
+    """The memory that stays for each command, once every worker has replayed it."""
+    show = printer("commands", *((f"{workers} workers", "bytes") for workers in (1, 2, 4)))
     for what, request, count, lines, before in COMMANDS:
-        row(what, *(f"{growth(workers, request, count, lines, before):,.0f}" for workers in (1, 2, 4)))
+        show(what, *(growth(workers, request, count, lines, before) for workers in (1, 2, 4)))
 
 
 def show_connections():
-    """Each has sent one command and waits; or has sent half of a block; or asks for more than it reads."""
-    heading("connections: bytes of the process's memory for each of 500, without the kernel's own")
-    table("what it does", "bytes")
+    """The process's memory for each of 500, without the kernel's own. Each has sent one command and waits, or has sent half of a block."""
+    show = printer("connections", ("memory of each", "bytes"))
     for what, sent, taken in [
-        ("idle after a `get`", b"get -\r\n", b"END\r\n"),
-        ("idle after a `set` of 1,000,000 bytes", a_set(b"k", 1_000_000), b"STORED\r\n"),
+        ("idle after a get", b"get -\r\n", b"END\r\n"),
+        ("idle after a set of 1,000,000 bytes", a_set(b"k", 1_000_000), b"STORED\r\n"),
         ("in the middle of a block of 1,000,000 bytes", a_set(b"k", 1_000_000)[:-10], None),
         ("idle after a reply of 1,000,000 bytes", b"get big\r\n", b"END\r\n"),
+        ("idle after a reply of 4,153,445 bytes", b"get" + b" s" * 4080 + b"\r\n", b"END\r\n"),
     ]:
         with serve(["--workers", "1"]) as server:
             with server.client() as client:
                 client.ask(a_set(b"big", 1_000_000), b"\r\n")
+                client.ask(a_set(b"s", 1_000), b"\r\n")
                 once = per_command(server, client, sent, taken)
             clients = [server.client() for _ in range(500)]
             then = server.resident()
@@ -138,7 +139,7 @@ def show_connections():
                 else:
                     client.send(sent)
             time.sleep(2)
-            row(what, f"{(server.resident() - then) / 500 - once:,.0f}")
+            show(what, (server.resident() - then) / 500 - once)
             for client in clients:
                 client.close()
 
@@ -156,8 +157,7 @@ def per_command(server, client, sent, taken):
 
 def show_lag():
     """A worker replays with its next command all that others have brought into the log since its last."""
-    heading("lag: a worker whose connections were silent, at its next command")
-    table("commands since", "milliseconds until it is answered", "the one after")
+    show = printer("lag", ("time to the next reply", "ms"), ("time to the one after", "ms"))
     for count in (1000, 100_000, 1_000_000):
         with serve(["--workers", "2", *PLACES]) as server:
             with server.client(worker=0) as busy, server.client(worker=1) as silent:
@@ -168,26 +168,26 @@ def show_lag():
                     began = time.monotonic()
                     silent.ask(b"get -\r\n", b"END\r\n")
                     times.append(1000 * (time.monotonic() - began))
-                row(f"{count:,}", *(f"{it:,.1f}" for it in times))
+                show(f"{count:,} commands of others", *times)
 
 
 REQUESTS = [
-    (b"set b 0 0 1\r\nx\r\n", "`set`"),
-    (b"get a\r\n", "`get` of an item that is held"),
-    (b"incr n 1\r\n", "`incr`"),
-    (b"delete a\r\n", "`delete`"),
-    (b"flush_all\r\n", "`flush_all`"),
-    (b"set b 0 0 1 noreply\r\nx\r\nversion\r\n", "`set` with `noreply`, then `version`"),
-    (b"version\r\n", "`version`"),
-    (b"stats\r\n", "`stats`, or any other name"),
-    (b"set b 0 60 1\r\nx\r\n", "`set` with an exptime"),
-    (b"get \x01\r\n", "`get` of a malformed key"),
+    (b"set b 0 0 1\r\nx\r\n", "set"),
+    (b"get a\r\n", "get of an item that is held"),
+    (b"incr n 1\r\n", "incr"),
+    (b"delete a\r\n", "delete"),
+    (b"flush_all\r\n", "flush_all"),
+    (b"set b 0 0 1 noreply\r\nx\r\nversion\r\n", "set with noreply, then version"),
+    (b"version\r\n", "version"),
+    (b"stats\r\n", "stats, or any other name"),
+    (b"set b 0 60 1\r\nx\r\n", "set with an exptime"),
+    (b"get \x01\r\n", "get of a malformed key"),
 ]
 
 
 def show_full():
-    heading("full: what is answered before and after the last place of the log")
-    table("request", "before", "log full")
+    """The replies before and after the last place of the log."""
+    show = printer("full", ("reply before", "text"), ("reply when the log is full", "text"))
     for request, what in REQUESTS:
         lines = []
         for fills in (0, 20):
@@ -197,7 +197,7 @@ def show_full():
                 for _ in range(fills):
                     client.line(b"get -\r\n")
                 lines.append(client.line(request))
-        row(what, *("`" + it.replace("\n", " ").replace("\r", "") + "`" for it in lines))
+        show(what, *(it.replace("\n", " ").replace("\r", "") for it in lines))
 
 
 def many_names(count, key=b"b"):
@@ -205,9 +205,9 @@ def many_names(count, key=b"b"):
 
 
 def show_replies():
-    """One line over an item of 1 MiB; the client reads as fast as it can, and two others go on, one at the same worker."""
-    heading("replies: one line `get b b b ...` over an item of 1 MiB, no limit; others ask for a small item meanwhile")
-    table("names", "reply, MiB", "memory at its greatest, MiB more", "MiB kept afterwards", "seconds", "the longest wait at the same worker, ms", "at the other, ms")
+    """One line `get b b b ..` over an item of 1 MiB. The client reads as fast as it can; others ask for a small item meanwhile."""
+    show = printer("replies", ("reply", "MiB"), ("memory at its greatest", "MiB"), ("memory kept afterwards", "MiB"), ("time", "s"),
+                   ("longest wait at the same worker", "ms"), ("longest wait at the other", "ms"))
     for count in (1, 10, 100, 1000):
         with serve(["--workers", "2", *PLACES]) as server:
             probes, hog = others_and_hog(server)
@@ -222,7 +222,7 @@ def show_replies():
             kept = server.resident() - then
             (_, same, wrong), (_, other, also_wrong) = (probe.stop() for probe in probes)
             assert not wrong and not also_wrong, (wrong, also_wrong)
-            row(f"{count:,}", mebibytes(size), mebibytes(more), mebibytes(kept), f"{took:.2f}", f"{same:,.0f}", f"{other:,.0f}")
+            show(f"{count:,} names", mebibytes(size), mebibytes(more), mebibytes(kept), took, same, other)
 
 
 def others_and_hog(server):
@@ -243,11 +243,10 @@ def start_size(options, tenants=("a",)):
 
 
 def show_limits():
-    """The same under a limit on the address space, the start's size and this much more; three such clients one after another."""
-    heading("limits: a reply of 3,000 MiB under a limit on the address space (`prlimit --as`, `LimitAS=`)")
+    """A reply of 3,000 MiB under a limit on the address space, the start's size and this much more; three such clients one after another."""
     options = ["--workers", "2", *PLACES]
     least = start_size(options)
-    table("limit: MiB above the start", "what each of three such clients gets", "MiB resident then, at most", "neighbours' longest wait, ms", "wfmc afterwards")
+    show = printer("limits", ("what each client gets", "text"), ("resident at most", "MiB"), ("neighbours' longest wait", "ms"), ("wfmc afterwards", "text"))
     for more in (64, 256, 1024):
         with serve(options, address_space=least + more * MEBIBYTE) as server:
             probes, hog = others_and_hog(server)
@@ -255,17 +254,18 @@ def show_limits():
             for _ in range(3):
                 hog.send(many_names(3000))
                 size, last = hog.drain()
-                gets.append("`SERVER_ERROR out of memory`, closed" if last.endswith(b"SERVER_ERROR out of memory\r\n") else f"closed after {size:,} bytes")
+                gets.append("SERVER_ERROR out of memory, closed" if last.endswith(b"SERVER_ERROR out of memory\r\n") else f"closed after {size:,} bytes")
                 hog = server.client(worker=0)
             waits = [probe.stop() for probe in probes]
             wrong = [it for wait in waits for it in wait[2]]
             after = "serves" if server.is_running() and not wrong and server.client().line(b"version\r\n").startswith("VERSION") else f"{wrong} {server.end()}"
-            row(more, "; ".join(sorted(set(gets))), mebibytes(server.peak()) if server.is_running() else "", f"{max(wait[1] for wait in waits):,.0f}", after)
+            peak = mebibytes(server.peak()) if server.is_running() else None
+            show(f"{more} MiB above the start", "; ".join(sorted(set(gets))), peak, max(wait[1] for wait in waits), after)
 
 
 def show_used():
-    """One tenant's commands take all memory that is allowed; then another's, one connection after another, at each worker by turns."""
-    heading("used: one tenant sets 1 MiB again and again until it is refused, 400 MiB of address space allowed; then another asks by new connections")
+    """One tenant sets 1 MiB again and again until it is refused, 400 MiB of address space allowed; then another by 100 new connections."""
+    show = printer("used", ("sets until it is refused", "count"), ("reply then", "text"), ("small sets of the other tenant", "text"), ("wfmc afterwards", "text"))
     with serve(["--workers", "2", *PLACES], ("a", "b"), address_space=400 * MEBIBYTE) as server:
         sets, counts = 0, {}
         with server.client("a", worker=0) as greedy:
@@ -275,21 +275,21 @@ def show_used():
             with server.client("b") as other:
                 said = " ".join(other.line(b"set k 0 0 1\r\ny\r\n").split()[:4])
             counts[said] = counts.get(said, 0) + 1
-        table("sets until it is refused", "the reply then", "100 small sets of the other tenant", "wfmc afterwards")
-        answers = ", ".join(f"{count} `{said}`" for said, count in counts.items())
-        row(sets, f"`{line}`, closed", answers, "serves" if server.client("b").line(b"version\r\n").startswith("VERSION") else server.end())
+        answers = ", ".join(f"{count} {said}" for said, count in counts.items())
+        show("400 MiB of address space", sets, f"{line}, closed", answers, "serves" if server.client("b").line(b"version\r\n").startswith("VERSION") else server.end())
 
 
-def paced(wait):
-    """The median and the longest wait of a client, or what came in place of an answer."""
-    median, longest, wrong = wait
-    return wrong[0].decode(errors="replace") if wrong else f"{median:.2f}, {longest:.1f}"
+def waits_of(probe):
+    """The median and the longest wait of a client."""
+    median, longest, wrong = probe.stop()
+    assert not wrong, wrong
+    return median, longest
 
 
 def show_slow():
-    """Clients that ask for much and read nothing, and others next to them."""
-    heading("slow: clients that ask for 100 MiB in 1,000 `get`s of 100 KiB each and read nothing, others asking meanwhile")
-    table("such clients", "MiB resident more for each", "replies next to them at the same worker: median, longest, ms", "at the other: median, longest, ms", "processor use, in 100")
+    """Clients that ask for 100 MiB by 1,000 gets of 100 KiB each and read nothing, and others next to them."""
+    show = printer("slow", ("memory of each", "MiB"), ("median wait at the same worker", "ms"), ("longest wait at the same worker", "ms"),
+                   ("median wait at the other", "ms"), ("longest wait at the other", "ms"), ("processor use", "percent"))
     for count in (0, 1, 10, 100):
         with serve(["--workers", "2", *PLACES]) as server:
             with server.client(worker=0) as first:
@@ -306,10 +306,29 @@ def show_slow():
             began = server.processor_seconds()
             time.sleep(3)
             used = 100 * (server.processor_seconds() - began) / 3
-            waits = [probe.stop() for probe in probes]
-            row(count, mebibytes(more) if count else "-", *(paced(wait) for wait in waits), f"{used:.0f}")
+            waits = [wait for probe in probes for wait in waits_of(probe)]
+            show(f"{count} such clients", mebibytes(more) if count else None, *waits, used)
             for client in slow:
                 client.close()
+
+
+def show_late():
+    """40 clients that ask for an item of 400,000 bytes, end their streams, send more once the replies have begun, and read slowly."""
+    show = printer("late", ("replies lost in part, of 40", "count"))
+    value = b"VALUE k 0 400000\r\n" + data(400_000) + b"\r\nEND\r\n"
+    too_long = value + b"CLIENT_ERROR line too long\r\n"
+    for what, end, behind, wanted in [
+        ("quit", b"quit\r\n", 1_000, value),
+        ("quit", b"quit\r\n", 1_000_000, value),
+        ("a line that is too long", b"", 100_000, too_long),
+    ]:
+        with serve() as server:
+            with server.client() as client:
+                client.ask(a_set(b"k", 400_000), b"\r\n")
+            ask = lambda _: late_reply(server.ports["a"], b"get k\r\n" + end, b"a" * behind)
+            with concurrent.futures.ThreadPoolExecutor(40) as pool:
+                lost = sum(reply != (wanted, True) for reply in pool.map(ask, range(40)))
+            show(f"{what}, {behind:,} bytes behind it", lost)
 
 
 def lines_of(words, **limits):
@@ -329,8 +348,7 @@ def tenant(name="a", address="127.0.0.1:0", items="1000", size="1000000"):
 
 def show_errors():
     """Each mistake that people make with the words, and what it prints."""
-    heading("errors: the line that each mistake prints, and the status")
-    table("mistake", "on standard error", "status")
+    show = printer("errors", ("on standard error", "text"), ("status", "status"))
     with socket.socket() as taken:
         taken.bind(("127.0.0.1", 0))
         taken.listen()
@@ -359,12 +377,13 @@ def show_errors():
         ]
         for what, words, limits in mistakes:
             status, lines = lines_of(words, **limits)
-            row(what, "`" + "`, `".join(lines[:2] if lines[:1] == ["ready"] else lines[:1]) + "`", status)
+            show(what, ", ".join(lines[:2] if lines[:1] == ["ready"] else lines[:1]), status)
 
 
 def show_descriptors():
-    """Clients connect until no descriptor is left, and then one leaves."""
-    heading("descriptors: 64 are allowed, and 80 clients connect to 2 workers and 1 tenant")
+    """80 clients connect to 2 workers and 1 tenant until no descriptor is left, of 64; and then one leaves."""
+    show = printer("descriptors", ("answered", "clients"), ("wait without an answer", "clients"), ("processor use meanwhile", "percent"),
+                   ("the first that waits, once another has left", "text"), ("wfmc afterwards", "text"))
     with serve(["--workers", "2"], descriptors=64) as server:
         clients = [server.client() for _ in range(80)]
         answered = 0
@@ -381,13 +400,13 @@ def show_descriptors():
         clients[0].close()
         waiting.socket.settimeout(5)
         waited = waiting.socket.recv(100)
-        table("answered", "wait without an answer", "processor use meanwhile, in 100", "the first that waits, once another has left", "wfmc afterwards")
-        row(answered, 80 - answered, f"{used:.1f}", f"`{waited.decode().strip()}`", "serves" if server.is_running() else server.end())
+        afterwards = "serves" if server.is_running() else server.end()
+        show("64 descriptors, 80 clients", answered, 80 - answered, used, waited.decode().strip(), afterwards)
 
 
 def show_signals():
-    heading("signals: how it ends with a client connected, and whether a new one can listen at the same port at once")
-    table("signal", "status", "on standard error", "the client", "a new wfmc at the same port")
+    """How it ends with a client connected, and whether a new one can listen at the same port at once."""
+    show = printer("signals", ("status", "status"), ("on standard error", "text"), ("the client's next reply", "text"), ("a new wfmc at the same port", "text"))
     for how in (signal.SIGTERM, signal.SIGINT, signal.SIGHUP):
         with serve() as server, server.client() as client:
             client.line(b"set a 0 0 1\r\nx\r\n")
@@ -396,19 +415,19 @@ def show_signals():
             words = [f"a=127.0.0.1:{server.ports['a']},1000,1000"]
             with serve(words, ()) as new:
                 listens = "listens, with an empty table" if new.is_ready and Client(server.ports["a"]).line(b"get a\r\n") == "END" else new.end()
-            row(how.name, status, errors.decode() or "nothing", left, listens)
+            show(how.name, status, errors.decode() or "nothing", left or "nothing", listens)
 
 
-TABLES = {name[5:]: show for name, show in list(globals().items()) if name.startswith("show_")}
+GROUPS = {name[5:]: show for name, show in list(globals().items()) if name.startswith("show_")}
 
 
 def main():
     repository.enter(PROGRAM)
-    unknown = [name for name in sys.argv[2:] if name not in TABLES]
+    unknown = [name for name in sys.argv[2:] if name not in GROUPS]
     if unknown:
-        sys.exit(f"no table {unknown[0]}; there are {', '.join(TABLES)}")
-    for name in sys.argv[2:] or TABLES:
-        TABLES[name]()
+        sys.exit(f"no group {unknown[0]}; there are {', '.join(GROUPS)}")
+    for name in sys.argv[2:] or GROUPS:
+        GROUPS[name]()
 
 
 main()

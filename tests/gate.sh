@@ -1,8 +1,8 @@
 #!/usr/bin/env bash
 # The gate: the kit's own (every proof from nothing, the mutants of must-fail/, the tests, the programs on their stored runs), and then the
-# built programs on their golden tests, wfmc over sockets, whether its clients' histories are linearizable, a round of the fuzzer, that a
-# crate cites only the published laws of another's proofs, and that the picture of the crates and the generated documents are up to date. The
-# last line is 'N passed, M failed', in total.
+# built programs on their golden tests, wfmc over sockets, whether its clients' histories are linearizable, a round of the fuzzer, that no
+# crate cites another's proofs but those of a crate of lemmas, and that the picture of the crates and the generated documents are up to date.
+# The last line is 'N passed, M failed', in total.
 set -euo pipefail
 cd "$(dirname "$0")/.."
 

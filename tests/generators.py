@@ -146,7 +146,7 @@ STRAY = (b"core 1 1", b"tenant 1 1", b"tenant 0 1", b"core 17 1", b"core", b"ten
 # Words that fit few fields or none.
 WORDS = (
     b"+0 -0 -1 1.0 0x1 1_0 . # \xd9\xa1 \xc2\xb2 \t \r \x00 \x0b 0\r \t0 \xc2\xa0 core tenant submit announce read Read READ look propose replay "
-    b"stop jump get gets set SET Set cas delete incr decr flush_all version quit noreply add replace append prepend touch set\r a b 0 1 255 "
+    b"stop jump get gets set SET Set cas delete incr decr flush_all limit version quit noreply add replace append prepend touch set\r a b 0 1 255 "
     b"256 000 0255 00000000000000000000000000255 36893488147419103232 99999999999999999999"
 ).split(b" ") + [b"9" * 5000, b"0" * 5000 + b"1", b"d" * 3000]
 
@@ -171,6 +171,7 @@ class ListGenerator:
         pick, name = self.pick, self.pick(self.commands)
         likely = [b"%d" % unique for unique in [item[2] for item in table.items.values()] + [table.changes]]
         fields = {"k": self.keys, "f": FLAGS, "n": likely if name == b"cas" else DELTAS, "d": pick((DIGITS, DIGITS, OTHERS))}
+        fields.update(i=[b"%d" % it for it in ITEMS], b=[b"%d" % it for it in ROOMS])
         return [name] + [pick(fields[letter]) for letter in form_of(name, pick((1, 2, 5)) if name in READERS else 0)]
 
     def draw_event(self):
@@ -198,9 +199,9 @@ class ListGenerator:
 
     def edge(self, letter):
         """A word at a border of a field: of a worker's or tenant's number w, or of a command's field."""
-        limits = {"w": 255, "f": HALF_WORD, "n": WORD}
+        limits = {"w": 255, "f": HALF_WORD, "n": WORD, "i": self.pick((0, RANGES["items"])), "b": self.pick((0, RANGES["bytes"]))}
         if letter in limits:
-            return b"0" * self.pick((0, 0, 9)) + b"%d" % (limits[letter] + self.pick((-1, 0, 1, 1)))
+            return b"0" * self.pick((0, 0, 9)) + b"%d" % max(limits[letter] + self.pick((-1, 0, 1, 1)), 0)
         byte = b"%c" % self.pick((0, 1, 9, 11, 13, 31, 33, 126, 127, 127, 128, 255))
         return self.pick((b"k" * 250, b"k" * 251, byte, b"k" + byte))
 

@@ -4,8 +4,10 @@
 Every golden test of mc_stdin that a server can answer (tests/rows/mc_stdin): its input over one connection, whole and, where it is short, a
 byte at a time, by 1 and by 4 workers; the bytes that come back must be the same. Then clients that others must not notice: one that closes
 in the middle of a block, one that resets, one that never reads, more connections than a worker takes, two tenants with the same key, 500
-commands of 8 clients at once. And clients that nobody may forget: the process is stopped until many have connected, asked or left, and then
-goes on, while a worker is busy, or descriptors are scarce. Where no client is left, everything is given back, and no thread wakes.
+commands of 8 clients at once, all places of the longest log. And clients that nobody may forget: the process is stopped until many have
+connected, asked or left, and then goes on, while a worker is busy, or descriptors are scarce. Where no client is left, everything is given
+back, and no thread wakes. Clients that send more behind their last request, and read late, get all their replies; and where a wait for
+events fails (tests/fail_wait.c, which needs gcc), everything ends.
 Prints a line for each failure; the last line is 'N passed, M failed'.
 """
 
@@ -16,14 +18,16 @@ import pathlib
 import random
 import resource
 import select
+import shutil
 import signal
 import socket
+import subprocess
 import sys
 import threading
 import time
 
-from harness import repository
-from harness.client import exchange, reset
+from harness import preload, repository
+from harness.client import exchange, late_reply, reset
 from harness.results import Results
 from harness.servers import Server, free_port
 
@@ -44,13 +48,6 @@ def answer(server, tenant, sent):
     """The replies to these bytes, up to the end of the stream; `None` where it ends another way."""
     replies, ending = exchange(server.ports[tenant], [sent])
     return replies if ending == "end" else None
-
-
-def is_served(sent, wanted, replies, end):
-    """Whether replies are right. Where bytes follow a request that ends the stream, the system may reset the connection and lose replies."""
-    if end == "reset":
-        return (b"quit\r\n" in sent or b"a" * 65537 in sent) and wanted.startswith(replies)
-    return end == "end" and replies == wanted
 
 
 def options_of(words):
@@ -80,7 +77,8 @@ def check_golden_tests():
         for workers in ("1", "4"):
             for step in [None, 1] if len(sent) <= SHORT else [None]:
                 with Server(PROGRAM, ["--workers", workers, *options], {"a": quotas}) as server:
-                    check(f"{name}, {workers} workers, {'whole' if step is None else 'by bytes'}", is_served(sent, wanted, *exchange(server.ports["a"], in_steps(sent, step))))
+                    what = f"{name}, {workers} workers, {'whole' if step is None else 'by bytes'}"
+                    check(what, exchange(server.ports["a"], in_steps(sent, step)) == (wanted, "end"))
 
 
 LARGE = (1000, 100_000_000)
@@ -88,6 +86,7 @@ MEGABYTE = 1_000_000
 # Gets of this many keys keep a worker busy: of an item of a megabyte, and of no item.
 BLOCKS = 100
 MISSES = 30_000
+LATE_READERS = 40
 
 
 def ask(server, name, request=b"version\r\n"):
@@ -163,6 +162,15 @@ def rests(server, descriptors, wakes=0):
     return False
 
 
+def settled_descriptors(server):
+    """How many descriptors it has, once that stays the same for a while: a client may see its end before the server has closed the stream."""
+    count, before = server.descriptors(), -1
+    while count != before:
+        time.sleep(0.1)
+        count, before = server.descriptors(), count
+    return count
+
+
 def check_tenants():
     with Server(PROGRAM, ["--connections", "2"], {"a": LARGE, "b": LARGE}) as server:
         check("the first tenant's", answer(server, "a", b"set a 0 0 1\r\nx\r\ngets a\r\nquit\r\n") == b"STORED\r\nVALUE a 0 1 1\r\nx\r\nEND\r\n")
@@ -174,7 +182,7 @@ def check_others_unnoticed():
     """One worker, so that all clients share it."""
     with Server(PROGRAM, ["--workers", "1"], {"a": LARGE}) as server:
         check("a first client", answer(server, "a", b"version\r\n") == VERSION)
-        descriptors = server.descriptors()
+        descriptors = settled_descriptors(server)
         with server.connect("a") as client:
             client.sendall(b"set k 0 0 5\r\nab")
         client = server.connect("a")
@@ -241,7 +249,7 @@ def check_at_once():
     """Clients of two tenants come at once, ask at once, and leave at once, some in the middle of a block and some by a reset; one worker has them all."""
     with Server(PROGRAM, ["--workers", "1"], {"a": LARGE, "b": LARGE}) as server:
         check("a first client", answer(server, "a", b"version\r\n") == VERSION)
-        descriptors = server.descriptors()
+        descriptors = settled_descriptors(server)
         with stopped(server):
             clients = [ask(server, "ab"[number % 2]) for number in range(100)]
         check("clients that come at once", are_answered(clients))
@@ -318,7 +326,8 @@ def check_few_descriptors():
     """Where descriptors are scarce, clients of the first tenant who come again and again leave some to another's, and nobody is forgotten."""
     with Server(PROGRAM, ["--workers", "1"], {"a": LARGE, "b": LARGE}) as server:
         check("a client before descriptors are scarce", answer(server, "a", b"version\r\n") == VERSION)
-        least, most = server.descriptors(), server.descriptors() + 4
+        least = settled_descriptors(server)
+        most = least + 4
         resource.prlimit(server.pid, resource.RLIMIT_NOFILE, (most, most))
         waiting, other = [ask(server, "a") for _ in range(8)], ask(server, "b")
         check("descriptors are scarce, and it rests", rests(server, most, wakes=20))
@@ -422,6 +431,87 @@ def check_together():
             check(f"tenant {name} counts all", answer(server, name, b"get n\r\n") == b"VALUE n 0 4\r\n2000\r\nEND\r\n")
 
 
+def check_whole_log():
+    """Two clients at two workers count up until the longest log is full: no number is missing, and none comes twice."""
+    places = 1 << 20
+    with Server(PROGRAM, ["--workers", "2", "--places", str(places)], {"a": LARGE}) as server:
+        answer(server, "a", b"set n 0 0 1\r\n0\r\n")
+        with concurrent.futures.ThreadPoolExecutor(2) as pool:
+            replies = list(pool.map(lambda _: answer(server, "a", b"incr n 1\r\n" * (places // 2)) or b"", range(2)))
+        lines = [it.split(b"\r\n")[:-1] for it in replies]
+        counts = [[int(line) for line in it if line.isdigit()] for it in lines]
+        check("each client's numbers grow", all(it == sorted(set(it)) for it in counts))
+        check("each place of the log counts once", sorted(sum(counts, [])) == list(range(1, places)))
+        check("the last command finds the log full", [line for it in lines for line in it if not line.isdigit()] == [b"SERVER_ERROR log full"])
+
+
+def check_late_readers():
+    """Clients that ask for a large item, end their stream by `quit` or by a line that is too long, and send more."""
+    block = b"k" * 400_000
+    value = b"VALUE k 0 %d\r\n%s\r\nEND\r\n" % (len(block), block)
+    endings = ("quit", b"quit\r\n", value), ("a line too long", b"", value + b"CLIENT_ERROR line too long\r\n")
+    for name, last, wanted in endings:
+        behind = b"version\r\n" * 100 if last else b"a" * 100_000
+        with Server(PROGRAM, [], {"a": LARGE}) as server:
+            check("a large item", answer(server, "a", b"set k 0 0 %d\r\n%s\r\n" % (len(block), block)) == b"STORED\r\n")
+            descriptors = settled_descriptors(server)
+            with concurrent.futures.ThreadPoolExecutor(LATE_READERS) as pool:
+                ask_late = lambda _: late_reply(server.ports["a"], b"get k\r\n" + last, behind, PATIENCE)
+                whole = sum(reply == (wanted, True) for reply in pool.map(ask_late, range(LATE_READERS)))
+            check(f"replies before {name}, and more behind it", whole == LATE_READERS, f"{LATE_READERS - whole} of {LATE_READERS} were lost in part")
+            check(f"nobody is left after {name}, and it rests", rests(server, descriptors))
+
+
+def check_kept_streams():
+    """More clients that don't close after `quit` than a worker keeps the streams of: all others' are closed, and those of clients that send on."""
+    with Server(PROGRAM, ["--workers", "1"], {"a": LARGE}) as server:
+        check("a first client", answer(server, "a", b"version\r\n") == VERSION)
+        descriptors = settled_descriptors(server)
+        clients = [ask(server, "a", b"version\r\nquit\r\n") for _ in range(80)]
+        check("clients that don't close", are_answered(clients) and all(is_ended(client) for client in clients))
+        check("64 streams are kept", rests(server, descriptors + 64))
+        with contextlib.suppress(OSError):
+            for _ in range(2):
+                clients[-1].sendall(b"a" * 40_000)
+        check("one less is kept", rests(server, descriptors + 63))
+        for client in clients:
+            client.close()
+        check("no stream is kept", rests(server, descriptors))
+    with Server(PROGRAM, ["--connections", "1"], {"a": LARGE}) as server:
+        client, begun = ask(server, "a", b"version\r\nquit\r\n"), time.monotonic()
+        check("the last client", is_answered(client) and is_ended(client))
+        check("the end next to a client that doesn't close", server.wait() == (0, b"done 0\n", b"") and time.monotonic() - begun < PATIENCE)
+
+
+def ending_where_a_wait_fails(environment, poll, wait):
+    """How a server of two workers ends where a wait of this number fails at the poll of this number: the workers', and then the acceptor's. Where
+    it fails before all loops have begun, no port is printed."""
+    with Server(PROGRAM, [], {"a": LARGE}, environment={**environment, "POLL": str(poll), "WAIT": str(wait)}) as server:
+        clients = []
+        with contextlib.suppress(OSError):
+            for _ in range(PATIENCE * 100):
+                if not server.ports or not server.is_running():
+                    break
+                clients.append(ask(server, "a"))
+                time.sleep(0.01)
+        # A refused connection may come just before the end.
+        with contextlib.suppress(subprocess.TimeoutExpired):
+            return server.wait(PATIENCE)
+        return "not at all"
+
+
+def check_failing_waits():
+    """Where a wait for events fails in one thread, all others end too, with their clients, and it is reported. Without gcc it isn't tried."""
+    if not shutil.which("gcc"):
+        print("gcc isn't installed: no wait is made to fail")
+        return
+    with preload.library(preload.FAIL_WAIT) as environment:
+        for poll in (1, 2, 3):
+            for wait in (1, 2, 4):
+                ending = ending_where_a_wait_fails(environment, poll, wait)
+                check(f"the end where wait {wait} fails at poll {poll}", ending == (1, b"", b"wfmc: input failed\n"), ending)
+
+
 def main():
     repository.enter(PROGRAM)
     check_golden_tests()
@@ -439,6 +529,10 @@ def main():
     check_early()
     check_no_delay()
     check_together()
+    check_whole_log()
+    check_late_readers()
+    check_kept_streams()
+    check_failing_waits()
     results.finish()
 
 

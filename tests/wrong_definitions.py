@@ -16,7 +16,8 @@ from oracle.protocol import NOT_STORED, OK, STORED
 from oracle.table import Table
 
 SET, ADD, GETS, FLUSH = (b"set", b"a", 0, b"x", 0), (b"add", b"a", 0, b"x", 0), (b"gets", (b"a",)), (b"flush_all",)
-COMMANDS = [SET, ADD, GETS, FLUSH]
+TIGHT, ROOMY = (b"limit", 1, 1), (b"limit", 2, 50)
+COMMANDS = [SET, ADD, GETS, FLUSH, TIGHT, ROOMY]
 QUOTAS = [(1, 100), (2, 100)]
 RUNS, EVENTS = 60, 40
 
@@ -233,6 +234,8 @@ def broken_logs(definitions, rng):
         now = definitions.state_after(QUOTAS[0], commands + [command])
         if now != dataclasses.replace(then, changes=was.changes + (reply == STORED)):
             broken.add("mc_laws: commands_act_in_order")
+        if command[0] == b"limit" and now != dataclasses.replace(was, most_items=command[1], most_bytes=command[2]):
+            broken.add("mc_laws: quotas_are_those_set_last")
     return broken
 
 
@@ -287,6 +290,30 @@ def forbids(condition):
 
 def with_refused_changes(table, reply):
     return dataclasses.replace(table, changes=table.changes + (reply == NOT_STORED))
+
+
+def after_limit(change):
+    """A step of a table after which a command that sets quotas has this effect too, given the table before it."""
+
+    def next_state(self, table, command):
+        now = RIGHT.next_state(table, command)
+        return change(table, now) if command[0] == b"limit" else now
+
+    return next_state
+
+
+def with_limits_at_once(self, core, event):
+    """A step by which quotas are set at the announcement, in all workers' tables, and not by the log."""
+    if event.kind != "announce" or event.command[0] != b"limit" or not self.is_enabled(core, event):
+        return RIGHT.step(core, event)
+    stepped, reply = RIGHT.step(core, event)
+    quotas = dict(zip(("most_items", "most_bytes"), event.command[1:]))
+
+    def limited(replay):
+        tables = [dataclasses.replace(table, **quotas) if tenant == event.tenant else table for tenant, table in enumerate(replay.tables)]
+        return replay._replace(tables=tuple(tables))
+
+    return stepped._replace(replays=tuple(limited(replay) for replay in stepped.replays)), reply
 
 
 def has_room(core, worker):
@@ -386,6 +413,10 @@ wrong(
     "reply: from the opening tables",
     reply_from=lambda self, number, tables, entry: RIGHT.reply_from(number, tuple(Table(table.most_items, table.most_bytes) for table in tables), entry),
 )
+wrong("limit: drops the items", next_state=after_limit(lambda was, now: dataclasses.replace(now, items={}, size=0)))
+wrong("limit: takes a unique", next_state=after_limit(lambda was, now: dataclasses.replace(now, changes=now.changes + 1)))
+wrong("limit: keeps the old quotas", next_state=after_limit(lambda was, now: was))
+wrong("limit: outside the log, for all workers at once", step=with_limits_at_once)
 wrong(
     "reply: given under worker 0",
     given_by=lambda self, core, event, reply: tuple((0, place, it) for _, place, it in RIGHT.given_by(core, event, reply)),

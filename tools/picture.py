@@ -13,6 +13,7 @@ import sys
 SAYS = {
     "lists": "lemmas on lists",
     "mc_model": "values, commands, tables",
+    "model_lemmas": "lemmas on these",
     "mc_laws": "what follows from them",
     "mc_items": "one table, by its quotas",
     "uc_cells": "contents, set once",
@@ -25,6 +26,7 @@ SAYS = {
     "mc_schedules": "event lists",
     "mc_write": "replies to bytes",
     "mc_stream": "pulls and pushes",
+    "stream_lemmas": "lemmas on these",
     "mc_conn": "one connection, by turns",
     "mc_net": "sockets and threads",
     "mc_programs": "programs over streams",
@@ -34,8 +36,9 @@ SAYS = {
     "wfmc": "the server",
 }
 PROGRAMS = ("mc_stdin", "mc_schedule", "wfmc")
-# A box's ground and ink, by whether it is a program, and how its crate's name begins if it isn't.
-KINDS = {"program": ("#ffe3a8", "#8a6100"), "li": ("#e6e6e6", "#5a5a5a"), "mc": ("#cfe6ff", "#1f5f99"), "uc": ("#d5f0d2", "#2f7a33")}
+LEMMAS = ("lists", "model_lemmas", "stream_lemmas")
+# A box's ground and ink, by whether it is a program or has lemmas alone, and how its crate's name begins otherwise.
+KINDS = {"program": ("#ffe3a8", "#8a6100"), "lemmas": ("#e6e6e6", "#5a5a5a"), "mc": ("#cfe6ff", "#1f5f99"), "uc": ("#d5f0d2", "#2f7a33")}
 WIDTH, HEIGHT, GAP, STEP, EDGE = 178, 46, 26, 84, 14
 
 
@@ -157,7 +160,7 @@ def line(path, x, y):
 
 
 def box(name, x, y):
-    ground, ink = KINDS["program" if name in PROGRAMS else name[:2]]
+    ground, ink = KINDS["program" if name in PROGRAMS else "lemmas" if name in LEMMAS else name[:2]]
     return (
         f'<rect x="{x - WIDTH / 2:.1f}" y="{y}" width="{WIDTH}" height="{HEIGHT}" rx="6" fill="{ground}" stroke="{ink}"/>'
         f'<text x="{x}" y="{y + 19}" class="name">{name}</text><text x="{x}" y="{y + 36}">{SAYS[name]}</text>'

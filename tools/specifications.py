@@ -18,7 +18,7 @@ FUNCTION = re.compile(r"^ *(?:pub )?fn (\w+)")
 TYPE = re.compile(r"^pub (struct|enum|trait) (\w+)")
 GHOST = re.compile(r"^(?: *///?.*\n)* *(?:pub )?ghost (?!use )(\w+).*\n(?:^ {8,}.*\n)*", re.MULTILINE)
 MEMBER = re.compile(r"^(?: *///?.*\n)* *(?:pub (?!fn)|ghost (?!use )).*\n(?:^ {8,}.*\n)*", re.MULTILINE)
-PROOF = re.compile(r"laws|total|matches_\w+")
+PROOF = re.compile(r"laws|total|matches_\w+|continues_\w+")
 CLAUSE = re.compile(r"^ *(requires|ensures) (?:(\w+) )?\{")
 
 

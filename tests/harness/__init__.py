@@ -6,5 +6,5 @@
 - `servers`: wfmc, memcached and a relay, each on free ports
 - `client`: connections
 - `measures`: how a measurement is printed, and how long a client waits
-- `preload`: libraries that refuse or count a program's allocations
+- `preload`: libraries that refuse or count a program's allocations, or fail its waits
 """

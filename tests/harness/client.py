@@ -33,6 +33,23 @@ def exchange(port, pieces, seconds=SECONDS):
     return both_ways.finish(), both_ways.ending
 
 
+def late_reply(port, request, behind, seconds=SECONDS):
+    """What a client receives, and whether its end follows, that sends more once the reply has begun, and reads slowly."""
+    received = bytearray()
+    with connect(port, seconds, receive_buffer=4096) as client:
+        try:
+            client.sendall(request)
+            received += client.recv(1)
+            client.sendall(behind)
+            time.sleep(0.05)
+            while piece := client.recv(8192):
+                received += piece
+                time.sleep(0.0005)
+        except OSError:
+            return bytes(received), False
+    return bytes(received), True
+
+
 class Client:
     """A connection that waits for the reply to each request, whose last bytes are known."""
 

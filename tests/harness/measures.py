@@ -13,8 +13,9 @@ def runs_wanted(usual):
 
 
 def print_figure(name, value, unit):
-    """Prints a measurement. The value has no more than three decimals."""
-    print(name, f"{value:.3f}".rstrip("0").rstrip("."), unit, sep="\t", flush=True)
+    """Prints a measurement. A number has no more than three decimals; any other value is printed as it is."""
+    text = f"{value:.3f}".rstrip("0").rstrip(".") if isinstance(value, (int, float)) else value
+    print(name, text, unit, sep="\t", flush=True)
 
 
 def print_spread(name, values, unit):

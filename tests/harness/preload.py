@@ -11,6 +11,7 @@ import tempfile
 from .repository import ROOT, require
 
 REFUSE = ROOT / "tests/refuse.c"
+FAIL_WAIT = ROOT / "tests/fail_wait.c"
 COUNT = ROOT / "bench/count.c"
 
 # What `costs` counts, and the unit of each.

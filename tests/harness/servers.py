@@ -61,7 +61,7 @@ class Server(Process):
         return Client(self.ports[tenant], receive_buffer)
 
     def await_workers(self, tenant="a"):
-        """Waits for a first answer, since the workers' tables are made after the server says that it is ready."""
+        """Waits for a first answer."""
         with self.client(tenant) as client:
             client.line(b"version\r\n")
 

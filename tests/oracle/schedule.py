@@ -14,7 +14,7 @@ RANGES = {"workers": 16, "places": 1 << 20, "items": 1 << 20, "bytes": 1 << 30}
 
 STORES = (b"set", b"add", b"replace", b"append", b"prepend")
 COUNTERS, READERS = (b"incr", b"decr"), (b"get", b"gets")
-COMMANDS = STORES + COUNTERS + READERS + (b"cas", b"delete", b"flush_all")
+COMMANDS = STORES + COUNTERS + READERS + (b"cas", b"delete", b"flush_all", b"limit")
 SINGLE = tuple(kind.encode() for kind in TRANSITIONS)
 
 Line = namedtuple("Line", "number event")
@@ -40,6 +40,18 @@ def key(word):
     return word
 
 
+def quota(name):
+    """A quota is a number from 1 to the greatest of its name."""
+
+    def read(word):
+        value = number(word, RANGES[name])
+        if value < 1:
+            raise BadLine("quota of 0")
+        return value
+
+    return read
+
+
 def data(word):
     """Data are a word of printable bytes; a point means none."""
     if any(not 33 <= byte <= 126 for byte in word):
@@ -47,9 +59,10 @@ def data(word):
     return b"" if word == b"." else word
 
 
-# The fields of a command: a key, flags, a number (unique or delta) or data. Readers have any number of keys.
+# The fields of a command: a key, flags, a number (unique or delta), data, or a quota of items or bytes. Readers have any number of keys.
 FIELDS = {"k": key, "f": lambda word: number(word, HALF_WORD), "n": lambda word: number(word, WORD), "d": data}
-FORMS = {b"cas": "kfnd", b"incr": "kn", b"decr": "kn", b"delete": "k", b"flush_all": "", **dict.fromkeys(STORES, "kfd")}
+FIELDS.update(i=quota("items"), b=quota("bytes"))
+FORMS = {b"cas": "kfnd", b"incr": "kn", b"decr": "kn", b"delete": "k", b"flush_all": "", b"limit": "ib", **dict.fromkeys(STORES, "kfd")}
 
 
 def form_of(name, count):

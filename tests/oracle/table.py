@@ -1,7 +1,8 @@
 """One tenant's table, and the reply to each command.
 
 A command is a tuple: `(name, key, flags, data, unique)` for those that store, where the unique counts for `cas` alone; `(name, keys)` for
-`get` and `gets`; `(name, key, delta)` for `incr` and `decr`; `(b"delete", key)`; and `(b"flush_all",)`.
+`get` and `gets`; `(name, key, delta)` for `incr` and `decr`; `(b"delete", key)`; `(b"flush_all",)`; and `(b"limit", items, bytes)`, which
+sets the quotas.
 """
 
 import copy
@@ -14,7 +15,7 @@ from .protocol import (
 
 @dataclasses.dataclass
 class Table:
-    """The flags, data and unique under each key, within quotas; and how many changes there were."""
+    """The flags, data and unique under each key, the quotas, and how many changes there were."""
 
     most_items: int
     most_bytes: int
@@ -38,6 +39,9 @@ class Table:
             return self._delete(command[1])
         if name == b"flush_all":
             self.items, self.size = {}, 0
+            return OK
+        if name == b"limit":
+            self.most_items, self.most_bytes = command[1:]
             return OK
         return self._count(*command)
 
@@ -90,7 +94,7 @@ class Table:
         """Puts data under a key, unless that exceeds a quota."""
         held = self.items.get(key)
         size = self.size + len(data) - len(held[1]) if held else self.size + len(key) + len(data)
-        if size > self.most_bytes or (held is None and len(self.items) >= self.most_items):
+        if size > self.most_bytes or len(self.items) + (held is None) > self.most_items:
             return False
         self.size = size
         self.changes += 1

@@ -6,7 +6,7 @@ use Rattle.mc_model.specs.declared.id.Ticket.{Ticket}
 use Rattle.mc_model.specs.declared.reply.Reply.{Reply}
 use Rattle.mc_model.specs.Legal.{count, ticket_of}
 use Rattle.lists.proofs.Public.{beyond, take_more}
-use Rattle.mc_model.proofs.Public.{count_own}
+use Rattle.model_lemmas.proofs.Tickets.{count_own}
 use Rattle.uc_worker.specs.declared.worker.Worker.{Worker}
 use Rattle.uc_worker.specs.Worker.{seat_of}
 use Rattle.mc_conn.specs.Onward.{own_sighting}

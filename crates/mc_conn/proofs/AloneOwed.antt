@@ -13,7 +13,8 @@ use Rattle.mc_model.specs.declared.request.Request.{Request}
 use Rattle.mc_model.specs.declared.request.Request.TheVariants.{Local, Logged, Quit, TooLong}
 use Rattle.mc_model.specs.declared.settings.Limits.{Limits}
 use Rattle.mc_model.specs.History.{answer, answer_from, state_after}
-use Rattle.mc_model.proofs.Public.{answer-more, own-push}
+use Rattle.model_lemmas.proofs.Histories.{answer-more}
+use Rattle.model_lemmas.proofs.Logs.{own-push}
 use Rattle.mc_model.specs.Log.{own}
 use Rattle.mc_write.specs.Text.{text}
 use Rattle.uc_worker.specs.Cited.{Sighting, entries}

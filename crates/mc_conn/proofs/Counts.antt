@@ -3,7 +3,7 @@ use Rattle.std.proofs.Common.{◌≡◌, ℕ, ◌+◌, ◌<◌, suc, List, take,
 use Rattle.mc_model.specs.declared.id.Ticket.{Ticket}
 use Rattle.mc_model.specs.Legal.{IsLegal, count}
 use Rattle.lists.proofs.Public.{take_more}
-use Rattle.mc_model.proofs.Public.{count_front, count_own}
+use Rattle.model_lemmas.proofs.Tickets.{count_front, count_own}
 
 -- in a legal list a worker's tickets have numbers below how many they are
 pub number_below : (tickets : List Ticket) (worker place : ℕ) (ticket : Ticket) → IsLegal tickets → slice_get tickets place ≡ Some ticket → ticket.worker ≡ worker →

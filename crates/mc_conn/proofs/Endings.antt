@@ -1,6 +1,8 @@
 -- How the parts of a turn make up its state, and a fault what it leaves.
 use Rattle.std.proofs.Common.{◌≡◌, ◌≢◌, ◌⊎◌, ℕ, ◌+◌, ◌≤◌, ◌<◌, ◌||◌, ◌&&◌, Bool, true, false, List, [], ◌∷◌, ◌++◌, length, Option, Some, None, is_some, sym, refl, ap, ◌∙◌, subst, inl, inr, ⊎_elim, arith, append-nil, length-append}
+use Rattle.std.proofs.lemmas.Bool.{ltb-false}
 use Rattle.std.specs.Bool.{MatchBool, ◌==◌}
+use Rattle.std.specs.Prelude.{nat_lt}
 use Rattle.mc_model.specs.declared.fault.Fault.{Fault}
 use Rattle.mc_model.specs.declared.fault.Fault.TheVariants.{Memory, Taken, Input, Output}
 use Rattle.mc_model.specs.declared.request.Request.{Request}
@@ -57,6 +59,12 @@ none_held old new some long ended same held is none =
     absurd (behind.0 (no_some old.waiting (sym is ∙ or_left some long (or_left (some || long) ended none)))))
     held)
 
+-- the queue isn't too long before a push, so it isn't after it
+pub within_bound : (old new : List ℕ) (len : ℕ) (some ended : Bool) → len ≡ length old → ((some || nat_lt QUEUE_BYTES len) || ended) ≡ false → length new ≤ length old → length new ≤ QUEUE_BYTES
+within_bound old new len some ended is none shorter =
+    let short = ltb-false QUEUE_BYTES len (or_right some (nat_lt QUEUE_BYTES len) (or_left (some || nat_lt QUEUE_BYTES len) ended none)) in
+    omega (arith, is, short, shorter)
+
 and_left : (over empty : Bool) → empty ≡ true → (over && empty) ≡ false → over ≡ false
 and_left true empty is none = let no : true ≡ false = sym is ∙ none in cc
 and_left false empty is none = refl
@@ -67,15 +75,16 @@ still_on queue over empty Full is going left =
     ⊎_elim (λ (none : queue ≡ []). inl (none, and_left over empty (is ∙ ap (λ bytes. length bytes == 0) none) going)) inr left
 
 -- a pull after a push
-pulls_late : (a between z : Scene) → Takes a between → HoldsNone (holding_of between.conn) →
+pulls_late : (a between z : Scene) → Takes a between → HoldsNone (holding_of between.conn) → length (queue_of between.conn) ≤ QUEUE_BYTES →
     (queue_of between.conn ≡ []) × (between.conn.is_over ≡ false) ⊎ (waits between.streams.output.events ≡ waits a.streams.output.events + 1) →
     (event : Event) → z.streams.input.events ≡ event ∷ between.streams.input.events → length (last_moved z.streams.input.events) ≤ PULL_BYTES →
     z.streams.output ≡ between.streams.output → PullsLate a z
-pulls_late a between z first none left event pull short same = inr (
+pulls_late a between z first none within left event pull short same = inr (
   between,
   record {
     first = first;
     taken = none;
+    within = within;
     sent = ⊎_elim inl (λ (full : waits between.streams.output.events ≡ waits a.streams.output.events + 1). inr (omega (arith, full))) left;
     event = event;
     pull = pull;
@@ -86,13 +95,13 @@ pulls_late a between z first none left event pull short same = inr (
   },
 )
 
-pub pulls_once : (a between z : Scene) → Takes a between → between.streams.input ≡ a.streams.input → HoldsNone (holding_of between.conn) →
+pub pulls_once : (a between z : Scene) → Takes a between → between.streams.input ≡ a.streams.input → HoldsNone (holding_of between.conn) → length (queue_of between.conn) ≤ QUEUE_BYTES →
     (queue_of between.conn ≡ []) × (between.conn.is_over ≡ false) ⊎ (waits between.streams.output.events ≡ waits a.streams.output.events + 1) →
     (event : Event) → z.streams.input.events ≡ event ∷ between.streams.input.events → length (last_moved z.streams.input.events) ≤ PULL_BYTES →
     z.streams.output ≡ between.streams.output → Pulls a z
-pulls_once a between z first before none left event pull short same = record {
+pulls_once a between z first before none within left event pull short same = record {
   once = inr (event, pull ∙ ap (λ (input : Inflow). event ∷ input.events) before, short);
-  late = pulls_late a between z first none left event pull short same;
+  late = pulls_late a between z first none within left event pull short same;
 }
 
 -- more is sent after the last pull
@@ -106,6 +115,7 @@ late_more a n z late same more went waited =
       record {
         first = pulled.1.first;
         taken = pulled.1.taken;
+        within = pulled.1.within;
         sent = pulled.1.sent;
         event = pulled.1.event;
         pull = ap (λ (input : Inflow). input.events) same ∙ pulled.1.pull;
@@ -124,6 +134,7 @@ late_behind a m n between one pulled = inr (
   record {
     first = takes_trans a m between one pulled.first;
     taken = pulled.taken;
+    within = pulled.within;
     sent = ⊎_elim inl (λ (full : waits m.streams.output.events < waits between.streams.output.events). inr (omega (arith, full, one.taken.waited))) pulled.sent;
     event = pulled.event;
     pull = pulled.pull;
@@ -159,7 +170,7 @@ late_later a b c one first second more went waited =
     (λ (pulled : (between : Scene) × PullsAfter b between c). late_behind a b c pulled.0 one pulled.1)
     second
 
--- what the client is told at a fault is sent after the last pull
+-- what the client gets at a fault is sent after the last pull
 untold_pushes : (before after : Outflow) → after ≡ before → (more : List ℕ) × Pushes before after more × (waits before.events ≤ waits after.events)
 untold_pushes before after same = (
   [],
@@ -284,7 +295,12 @@ module _ (a m n z : Scene) (before pulled last : Bool) (one : Does a m before) (
   state_of Busy is = ((λ done. is.0 (done_rests z.conn done)), did_much _ _ is.1 all.did_is)
 
   pub turns : (state : State) → StateIs z.conn ((before || pulled) || last) state → Turns a z state
-  turns state is = record { takes = all.takes; state_is = state_of state is; held = held_behind }
+  turns state is = record {
+    takes = all.takes;
+    state_is = state_of state is;
+    held = held_behind;
+    left = ⊎_elim inl (λ full. inr (omega (arith, full, waits_so_far))) left;
+  }
 
 -- what closing reports of a fault is what is reported of its cause
 told_of : (cause : ConnFault) (fault : Fault) (queue : List ℕ) (before after : Outflow) → fault ≡ fault_of cause → TellsOf fault queue before after → IsTold cause queue before after

@@ -8,4 +8,3 @@ pub mod Outcomes
 pub mod Endings
 pub mod Alone
 pub mod AloneOwed
-pub mod Public

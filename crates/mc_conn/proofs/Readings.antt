@@ -1,16 +1,15 @@
 -- What is held reads on.
-use Rattle.std.proofs.Common.{◌≢◌, ◌⊎◌, inl, inr, ◌≡◌, ℕ, ◌+◌, ◌<◌, Bool, true, false, List, [], ◌∷◌, ◌++◌, length, drop, Option, Some, None, sym, refl, ap, ◌∙◌, subst, arith, append_assoc, length-append}
+use Rattle.std.proofs.Common.{◌≢◌, ◌⊎◌, inl, inr, ◌≡◌, ℕ, ◌+◌, ◌<◌, ◌≤◌, Bool, true, false, List, [], ◌∷◌, ◌++◌, length, drop, Option, Some, None, sym, refl, ap, ◌∙◌, subst, arith, append_assoc, length-append}
 use Rattle.std.specs.Option.{is_some}
-use Rattle.std.specs.Bool.{MatchBool, nat_lt}
+use Rattle.std.specs.Bool.{MatchBool}
 use Rattle.mc_model.specs.declared.request.Request.{Request}
-use Rattle.mc_read.specs.Reading.{Ended, GoesOn, HasNone, Held, IsFed, IsNext, Kept, ReadAlike, ReadsAs, ReadsOn, Swallowing}
-use Rattle.mc_read.proofs.Public.{has_reading, one_reading}
+use Rattle.mc_read.specs.Reading.{GoesOn, HasNone, Held, IsFed, IsNext, ReadAlike, ReadsOn}
 use Rattle.mc_read.specs.State.{IsNextAnswer}
 use Rattle.mc_read.specs.Text.{Lines}
 use Rattle.mc_read.specs.Line.{asked}
 use Rattle.mc_conn.specs.declared.conn.Role.{Role}
 use Rattle.mc_conn.specs.declared.conn.Role.TheVariants.{Tenant}
-use Rattle.mc_conn.specs.Held.{Follow, Holding, HoldsNone, HoldsOn, IsRead, WaitsThen, lines_of}
+use Rattle.mc_conn.specs.Held.{Follow, Holding, HoldsNone, HoldsOn, IsRead, lines_of, most_held}
 
 pub read_refl : (a : Holding) → IsRead a [] [] a
 read_refl a more all = (λ reads. (all, refl, reads), λ (others, same, reads). subst (HoldsOn a more) (sym same) reads)
@@ -62,61 +61,9 @@ module _ (lines : Lines) where
     λ (others, same, reads). subst (GoesOn request (ReadsOn lines held more)) (sym same) (refl, reads),
   )
 
-  -- how many requests are held
-  swallowed_reads : (short : Bool) (request : Request) (bytes : List ℕ) → (requests : List Request) × MatchBool short (requests ≡ []) (GoesOn request (ReadsAs lines bytes) requests)
-  swallowed_reads true request bytes = ([], refl)
-  swallowed_reads false request bytes = let rest = has_reading lines bytes in (request ∷ rest.0, (refl, (rest.1, rest.2)))
-
-  reads_on : (held : Held) (more : List ℕ) → (requests : List Request) × ReadsOn lines held more requests
-  reads_on (Kept bytes) more = let reading = has_reading lines (bytes ++ more) in (reading.0, (reading.1, reading.2))
-  reads_on (Swallowing request left bytes) more = swallowed_reads (nat_lt (length more) left) request (bytes ++ drop left more)
-  reads_on Ended more = ([], refl)
-
-  one_as : (bytes : List ℕ) (requests others : List Request) → ReadsAs lines bytes requests → ReadsAs lines bytes others → requests ≡ others
-  one_as bytes requests others a b = (one_reading lines bytes requests others a.0 b.0 a.1 b.1).0
-
-  one_behind : (request : Request) (bytes : List ℕ) (requests others : List Request) → GoesOn request (ReadsAs lines bytes) requests → GoesOn request (ReadsAs lines bytes) others → requests ≡ others
-  one_behind request bytes [] others never b = absurd never
-  one_behind request bytes (first ∷ requests) [] a never = absurd never
-  one_behind request bytes (first ∷ requests) (second ∷ others) a b = let tails = one_as bytes requests others a.1 b.1 in λ i. (a.0 ∙ sym b.0) i ∷ tails i
-
-  one_swallowed : (short : Bool) (request : Request) (bytes : List ℕ) (requests others : List Request) → MatchBool short (requests ≡ []) (GoesOn request (ReadsAs lines bytes) requests) → MatchBool short (others ≡ []) (GoesOn request (ReadsAs lines bytes) others) → requests ≡ others
-  one_swallowed true request bytes requests others a b = a ∙ sym b
-  one_swallowed false request bytes requests others a b = one_behind request bytes requests others a b
-
-  one_on : (held : Held) (more : List ℕ) (requests others : List Request) → ReadsOn lines held more requests → ReadsOn lines held more others → requests ≡ others
-  one_on (Kept bytes) more requests others a b = one_as (bytes ++ more) requests others a b
-  one_on (Swallowing request left bytes) more requests others a b = one_swallowed (nat_lt (length more) left) request (bytes ++ drop left more) requests others a b
-  one_on Ended more requests others a b = a ∙ sym b
-
-  waits_on : (waiting : Option Request) (held : Held) (more : List ℕ) → (requests : List Request) × WaitsThen waiting (ReadsOn lines held more) requests
-  waits_on None held more = reads_on held more
-  waits_on (Some request) held more = let rest = reads_on held more in (request ∷ rest.0, (refl, rest.1))
-
-  one_goes : (request : Request) (held : Held) (more : List ℕ) (requests others : List Request) → GoesOn request (ReadsOn lines held more) requests → GoesOn request (ReadsOn lines held more) others → requests ≡ others
-  one_goes request held more [] others never b = absurd never
-  one_goes request held more (first ∷ requests) [] a never = absurd never
-  one_goes request held more (first ∷ requests) (second ∷ others) a b = let tails = one_on held more requests others a.1 b.1 in λ i. (a.0 ∙ sym b.0) i ∷ tails i
-
-  one_waits : (waiting : Option Request) (held : Held) (more : List ℕ) (requests others : List Request) → WaitsThen waiting (ReadsOn lines held more) requests → WaitsThen waiting (ReadsOn lines held more) others → requests ≡ others
-  one_waits None held more requests others a b = one_on held more requests others a b
-  one_waits (Some request) held more requests others a b = one_goes request held more requests others a b
-
-pub requests_held : Holding → ℕ
-requests_held a = length (waits_on a.lines a.waiting a.held []).0
-
-pub taken_counts : (a b : Holding) (requests : List Request) → IsRead a [] requests b → requests_held a ≡ length requests + requests_held b
-unfolding requests_held
-taken_counts a b requests is =
-    let mine = waits_on a.lines a.waiting a.held [] in
-    let theirs = waits_on b.lines b.waiting b.held [] in
-    let follows = (is [] mine.0).0 mine.1 in
-    let same = one_waits b.lines b.waiting b.held [] follows.0 theirs.0 follows.2 theirs.1 in
-    ap length follows.1 ∙ (length-append requests follows.0 ∙ ap (λ (l : List Request). length requests + length l) same)
-
 module _ (lines : Lines) where
   looked_from : (before after : Held) (waiting : Option Request) → IsNextAnswer lines before waiting after → IsRead (record { lines = lines; waiting = None; held = before }) [] [] (record { lines = lines; waiting = waiting; held = after })
-  looked_from before after (Some request) answer = read_next lines before after request answer
+  looked_from before after (Some request) answer = read_next lines before after request answer.0
   looked_from before after None answer = read_alike lines before after answer.1
 
   -- the reader is asked when no request is waiting
@@ -142,13 +89,20 @@ module _ (lines : Lines) where
   pub read_same : (old new : Option Request) (held : Held) → new ≡ old → IsRead (record { lines = lines; waiting = old; held = held }) [] [] (record { lines = lines; waiting = new; held = held })
   read_same old new held same = subst (λ w. IsRead (record { lines = lines; waiting = old; held = held }) [] [] (record { lines = lines; waiting = w; held = held })) (sym same) (read_refl (record { lines = lines; waiting = old; held = held }))
 
-pub fewer_after : (did : Bool) (a b c : Holding) (Q : Type 0) → IsRead a [] [] b → MatchBool did ((request : Request) × IsRead b [] (request ∷ []) c) Q → did ≡ true → (request : Request) × IsRead a [] (request ∷ []) c
-fewer_after true a b c Q looked taken is = (taken.0, read_trans a b c [] [] [] (taken.0 ∷ []) looked taken.1)
-fewer_after false a b c Q looked taken is = let e : false ≡ true = is in cc
+-- fewer are held whole once one was taken, and no more after a look for one
+pub fewer_after : (did : Bool) (before between after : ℕ) (Q : Type 0) → between ≤ before → MatchBool did (after < between) Q → did ≡ true → after < before
+fewer_after true before between after Q looked taken is = omega arith
+fewer_after false before between after Q looked taken is = let e : false ≡ true = is in cc
 
--- fewer are held
-pub one_fewer : (a c : Holding) → (request : Request) × IsRead a [] (request ∷ []) c → requests_held c < requests_held a
-one_fewer a c taken = omega (arith, taken_counts a c (taken.0 ∷ []) taken.1)
+pub fewer_taken : (lines : Lines) (old new : Option Request) (held : Held) (request : Request) → old ≡ Some request → new ≡ None →
+    most_held (record { lines = lines; waiting = new; held = held }) < most_held (record { lines = lines; waiting = old; held = held })
+fewer_taken lines old new held request is none = rw (is, none) (omega arith)
+
+pub most_looked : (lines : Lines) (waiting found : Option Request) (before after : Held) → is_some waiting ≡ false → IsNextAnswer lines before found after →
+    most_held (record { lines = lines; waiting = found; held = after }) ≤ most_held (record { lines = lines; waiting = waiting; held = before })
+most_looked lines None None before after none answer = omega (arith, answer.3)
+most_looked lines None (Some request) before after none answer = omega (arith, answer.1)
+most_looked lines (Some request) found before after none answer = let e : true ≡ false = none in cc
 
 -- a tenant's connection reads a tenant's lines
 are_lines : (role : Role) → lines_of role ≡ asked

@@ -21,7 +21,7 @@ use Rattle.mc_conn.specs.Parts.{Does, LooksForNext, Responds}
 use Rattle.mc_conn.specs.Turn.{NeitherFails, RemembersTheEnd, Scene, Taken, Takes, amount, holding_of, queue_of, scene}
 use Rattle.lists.proofs.Public.{appended_twice, joined}
 use Rattle.mc_conn.proofs.Owings.{owes_append, owes_grow, owes_nothing}
-use Rattle.uc_worker.proofs.Public.{continues_self, continues_through}
+use Rattle.uc_worker.specs.contracts.laws.WorkerGoesOn.TheImpl.{continues_self-value, continues_through-value}
 use Rattle.mc_conn.proofs.Readings.{read_refl, read_trans}
 
 -- the end is remembered through two parts
@@ -91,7 +91,7 @@ taken_none old new worker before after came sent pulled consumed pushed role byt
   consumed = consumed;
   pushed = pushed;
   role = role;
-  onward = continues_self worker;
+  onward = continues_self-value.it worker;
   owes = owes_nothing worker old.role;
   bytes = bytes ∙ sym (append-nil (queue_of old));
   waited = waited;
@@ -113,7 +113,7 @@ taken_trans a b c to one two = record {
   consumed = Consumes-trans _ _ _ _ _ one.consumed two.consumed;
   pushed = appended_twice _ _ _ one.sent two.sent one.pushed two.pushed;
   role = two.role ∙ one.role;
-  onward = continues_through _ _ _ one.onward two.onward;
+  onward = continues_through-value.it _ _ _ one.onward two.onward;
   owes =
       owes_append c.worker a.conn.role (mark_of a.worker) one.requests two.requests one.owed two.owed (mark_of b.worker) to
       (owes_grow b.worker c.worker two.onward a.conn.role (mark_of a.worker) one.requests one.owed (mark_of b.worker) one.owes)

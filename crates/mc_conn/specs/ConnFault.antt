@@ -41,7 +41,7 @@ TellsStarved queue before after =
     PushesAtOnce (queue ++ text (Refused OUT_OF_MEMORY)) before after
     × (waits before.events ≤ waits after.events)
 
--- what the client is told of a fault: that memory ran out, and nothing of any other
+-- what the client gets at a fault: that memory ran out is reported, and nothing at any other
 abbrev pub IsTold : ConnFault → List ℕ → Outflow → Outflow → Type 0
 IsTold OutOfMemory queue before after = TellsStarved queue before after
 IsTold CellTaken queue before after = after ≡ before

@@ -49,11 +49,12 @@ HoldsOnlyBehind {before} {after} takes =
     × (QUEUE_BYTES < length takes.taken.sent + length (queue_of after.conn))
 
 -- What was done before the last pull, that pull, and what was sent after it. Before it all requests
--- that had come whole were taken; and all that is owed for them was sent and none of them had ended
--- the stream, or else the output took no more.
+-- that had come whole were taken, and no more was queued than may be; and all that is owed for them
+-- was sent and none of them had ended the stream, or else the output took no more.
 pub record PullsAfter (before between after : Scene) : Type 0 where
   pub first : Takes before between
   pub taken : HoldsNone (holding_of between.conn)
+  pub within : length (queue_of between.conn) ≤ QUEUE_BYTES
   pub sent : (queue_of between.conn ≡ []) × (between.conn.is_over ≡ false)
       ⊎ (waits before.streams.output.events < waits between.streams.output.events)
   pub event : Event
@@ -82,11 +83,13 @@ pub record Pulls (before after : Scene) : Type 0 where
   pub once : PullsOnce before.streams.input after.streams.input
   pub late : PullsLate before after
 
--- a turn without a fault
+-- a turn without a fault: what is queued then is what the output didn't take in it
 pub record Turns (before after : Scene) (state : State) : Type 0 where
   pub takes : Takes before after
   pub state_is : IsState takes state
   pub held : HoldsOnlyBehind takes
+  pub left : (queue_of after.conn ≡ [])
+      ⊎ (waits before.streams.output.events < waits after.streams.output.events)
 
 -- the command to be logged, if there is one, was announced after the mark or wasn't; no other was
 abbrev pub MayStandBehind : Worker → Mark → Demand → Type 0
@@ -117,8 +120,8 @@ pub record Breaks (before after : Scene) (fault : Fault) : Type 0 where
   pub meets : Meets after.worker before.conn.role to met
   pub failures : CountsFailures cause before.streams after.streams
 
--- what a fault leaves: the connection was served up to it, then the client is told of it, and the
--- connection is closed for good
+-- what a fault leaves: the connection was served up to it, then the client gets what is sent about
+-- it, and the connection is closed for good
 pub record Stops (before after : Scene) (fault : Fault) : Type 0 where
   pub told_from : Outflow
   pub breaks : Breaks before

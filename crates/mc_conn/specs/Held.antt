@@ -1,10 +1,11 @@
 -- What a connection reads as: the request that waits in it, if there is one, and then what its
 -- reader holds. After memcached's doc/protocol.txt, "Protocol": a connection is a stream of request
 -- texts, one after another.
-use Rattle.std.specs.Prelude.{◌≡◌, ◌↔◌, ℕ, List, [], ◌++◌, Option, Some, None}
+use Rattle.std.specs.Prelude.{◌≡◌, ◌↔◌, ℕ, ◌+◌, cond, is_some, List, [], ◌++◌, Option, Some, None}
 use Rattle.mc_model.specs.declared.request.Request.{Request}
 use Rattle.mc_read.specs.Line.{asked}
 use Rattle.mc_read.specs.Reading.{GoesOn, HasNone, Held, Kept, ReadsOn}
+use Rattle.mc_read.specs.State.{most_requests}
 use Rattle.mc_read.specs.Text.{Lines}
 use Rattle.mc_conn.specs.declared.conn.Role.{Role}
 use Rattle.mc_conn.specs.declared.conn.Role.TheVariants.{Tenant}
@@ -42,6 +43,10 @@ Follow requests P all = (others : List Request) × (all ≡ requests ++ others) 
 abbrev pub IsRead : Holding → List ℕ → List Request → Holding → Type 0
 IsRead before came requests after = (more : List ℕ) (all : List Request) →
     HoldsOn before (came ++ more) all ↔ Follow requests (HoldsOn after more) all
+
+-- no more requests than this are held whole
+abbrev pub most_held : Holding → ℕ
+most_held holding = cond (is_some holding.waiting) 1 0 + most_requests holding.held
 
 -- no whole request is held
 abbrev pub HoldsNone : Holding → Type 0

@@ -102,7 +102,7 @@ StateIs conn did Closed = IsAtRest conn
 StateIs conn did Idle = ¬ (IsAtRest conn) × (did ≡ false)
 StateIs conn did Busy = ¬ (IsAtRest conn) × (did ≡ true)
 
--- what the client is told when a fault closes the connection
+-- what the client gets when a fault closes the connection
 abbrev pub TellsOf : Fault → List ℕ → Outflow → Outflow → Type 0
 TellsOf fault queue before after =
     (fault ≡ Memory → TellsStarved queue before after) × (fault ≢ Memory → after ≡ before)

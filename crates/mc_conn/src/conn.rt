@@ -9,7 +9,7 @@ use mc_model::{Request, TenantId};
 use mc_read::Reader;
 use std::alloc::Global;
 
-/// A request is taken only while at most this many bytes are queued.
+/// A request is taken, and bytes are pulled, only while at most this many bytes are queued.
 pub const QUEUE_BYTES: usize = 1_048_576;
 
 /// How many bytes a pull asks for.

@@ -1,14 +1,28 @@
 //! What follows from the definitions. A law is the contract of a function with an empty body.
-ghost use Rattle.std.specs.Prelude.{◌≡◌, ℕ, ◌≤◌, List, []};
+ghost use Rattle.std.specs.Prelude.{◌≡◌, ℕ, ◌≤◌, List, [], ◌++◌};
 ghost use Rattle.mc_model.specs.declared.command.Command.{Command};
+ghost use Rattle.mc_model.specs.declared.fault.Fault.{Fault};
 ghost use Rattle.mc_model.specs.declared.reply.Reply.{Reply};
 ghost use Rattle.mc_model.specs.declared.request.Request.{Request};
 ghost use Rattle.mc_model.specs.declared.settings.Limits.{Limits};
 ghost use Rattle.uc_worker.specs.declared.worker.Worker.{Worker};
+ghost use Rattle.uc_worker.specs.Going.{Continues};
 ghost use Rattle.uc_worker.specs.Worker.{seat_of};
+ghost use Rattle.mc_conn.specs.declared.conn.Role.{Role};
 ghost use Rattle.mc_conn.specs.declared.conn.Role.TheVariants.{Tenant};
+ghost use Rattle.mc_conn.specs.declared.conn.TheConstants.{PULL_BYTES, QUEUE_BYTES};
 ghost use Rattle.mc_conn.specs.Alone.{IsAlone, IsAloneOver, first_mark, owed, owed_after};
+ghost use Rattle.mc_conn.specs.Ending.{Stops};
+ghost use Rattle.mc_conn.specs.Held.{Holding, IsRead};
 ghost use Rattle.mc_conn.specs.Owed.{IsPlaced, IsTurnedAway, Mark, Owes};
+ghost use Rattle.mc_conn.specs.Turn.{Scene, Takes};
+
+/// The bounds of a connection: how many bytes may be queued while requests are taken and bytes are
+/// pulled, and how many bytes a pull asks for.
+pub fn bounds_of_a_connection()
+    ensures queue { QUEUE_BYTES ≡ 1048576 }
+    ensures pull { PULL_BYTES ≡ 16384 }
+{}
 
 /// In a log of one worker a command stands at the place of its number, and is turned away only
 /// after as many commands as there are places: so what is owed there doesn't depend on when one
@@ -32,4 +46,23 @@ pub fn a_worker_alone_answers_in_order()
         IsAloneOver limits base places worker →
         Owes worker (Tenant 0) first_mark requests bytes to →
         bytes ≡ owed_after limits base places [] requests }
+{}
+
+/// Turns add up: no turn, turns after turns, and a turn that stops after turns that went well.
+pub fn turns_add_up()
+    ensures none { (a : Scene) → Takes a a }
+    ensures through { (a b c : Scene) → Takes a b → Takes b c → Takes a c }
+    ensures stops { (fault : Fault) (a b c : Scene) → Takes a b → Stops b c fault →
+        Stops a c fault }
+{}
+
+/// What was read in one part and in the next was read in both, and what is owed stays owed while
+/// the worker goes on.
+pub fn parts_add_up()
+    ensures read { (a b c : Holding) (came later : List ℕ) (first second : List Request) →
+        IsRead a came first b → IsRead b later second c →
+        IsRead a (came ++ later) (first ++ second) c }
+    ensures stays { (old new : Worker) → Continues old new → (role : Role) (from : Mark)
+        (requests : List Request) (bytes : List ℕ) (to : Mark) →
+        Owes old role from requests bytes to → Owes new role from requests bytes to }
 {}

@@ -9,7 +9,7 @@ use std::alloc::Global;
 use std::marker::Model;
 
 /// How many bytes of memory a queue keeps at most once all that it held is pushed.
-const KEPT_BYTES: usize = 4_194_304;
+const KEPT_BYTES: usize = 65_536;
 
 /// Bytes that are appended as replies and pushed from the front.
 ///
@@ -87,7 +87,7 @@ impl Queue {
     /// Moves what is to be pushed to the front of the vector, if it is no longer than what was
     /// pushed since the last move.
     ///
-    /// Gives back the room after it if the vector has more than a queue keeps.
+    /// If the vector has more memory than a queue keeps, and little of it is used, gives it back.
     fn settle(&mut self)
         ensures { self.new ≡ self.old }
     {
@@ -96,7 +96,7 @@ impl Queue {
             self.bytes.copy_within(self.pushed.., 0);
             self.bytes.truncate(left);
             self.pushed = 0;
-            if self.bytes.capacity() > KEPT_BYTES {
+            if left <= self.bytes.capacity() / 64 && self.bytes.capacity() > KEPT_BYTES {
                 self.bytes.shrink_to_fit();
             }
         }

@@ -43,6 +43,7 @@ impl Conn {
         ensures left { OnOk result
             ((queue_of self.new ≡ [])
             ⊎ (waits (O.tells output.new).events ≡ waits (O.tells output.old).events + 1)) }
+        ensures within { length (queue_of self.new) ≤ length (queue_of self.old) }
         ensures same { IsSameBesideQueue self.old self.new }
     {
         let (count, stop) = push_queue(&mut self.queue, output);

@@ -1,11 +1,10 @@
 //! Reading requests and taking them.
 ghost use Rattle.std.specs.Bool.{MatchBool};
-ghost use Rattle.std.specs.Prelude.{◌≡◌, ◌≢◌, ◌⊎◌, ◌<◌, ◌∷◌, [], true, false, None, IfOk, IsOkUnless, MatchResult, OnOk};
+ghost use Rattle.std.specs.Prelude.{◌≡◌, ◌≢◌, ◌⊎◌, ◌<◌, ◌≤◌, [], true, false, None, IfOk, IsOkUnless, MatchResult, OnOk};
 ghost use Rattle.mc_model.specs.declared.fault.Fault.TheVariants as faults;
-ghost use Rattle.mc_model.specs.declared.request.Request.{Request};
 ghost use Rattle.mc_stream.specs.Stream.{Streams};
 ghost use Rattle.mc_conn.specs.Ending.{Breaks};
-ghost use Rattle.mc_conn.specs.Held.{HoldsNone, IsRead};
+ghost use Rattle.mc_conn.specs.Held.{HoldsNone, IsRead, most_held};
 ghost use Rattle.mc_conn.specs.Parts.{Does, IsHeldBehind, KeepsStreams, LooksForNext};
 ghost use Rattle.mc_conn.specs.Owed.{FitsLog};
 ghost use Rattle.mc_conn.specs.Turn.{holding_of, scene};
@@ -24,6 +23,8 @@ impl Conn {
         ensures read { OnOk result (IsRead (holding_of self.old) [] [] (holding_of self.new)) }
         ensures found { OnOk result (HoldsNone (holding_of self.new) ⊎ (self.new.waiting ≢ None)) }
         ensures looks { LooksForNext self.old self.new }
+        ensures most { OnOk result
+            (most_held (holding_of self.new) ≤ most_held (holding_of self.old)) }
         ensures memory { IsOkUnless result faults.Memory }
     {
         if self.waiting.is_none() {
@@ -44,9 +45,8 @@ impl Conn {
             Does (scene self.old worker.old streams) (scene self.new worker.new streams) did)
             (λ fault. (streams : Streams) →
             Breaks (scene self.old worker.old streams) (scene self.new worker.new streams) fault) }
-        ensures read { IfOk result (λ did. MatchBool did
-            ((request : Request)
-            × IsRead (holding_of self.old) [] (request ∷ []) (holding_of self.new))
+        ensures fewer { IfOk result (λ did. MatchBool did
+            (most_held (holding_of self.new) < most_held (holding_of self.old))
             ((self.old.waiting ≡ None) × (self.new ≡ self.old))) }
         ensures keeps { KeepsStreams self.old self.new worker.old worker.new }
     {
@@ -71,8 +71,8 @@ impl Conn {
             (λ fault. (streams : Streams) →
             Breaks (scene self.old worker.old streams) (scene self.new worker.new streams) fault) }
         ensures fewer { IfOk result
-            (λ did. did ≡ true → (request : Request)
-            × IsRead (holding_of self.old) [] (request ∷ []) (holding_of self.new)) }
+            (λ did. did ≡ true →
+            most_held (holding_of self.new) < most_held (holding_of self.old)) }
         ensures held { IfOk result (λ did. did ≡ false → IsHeldBehind self.new) }
         ensures keeps { KeepsStreams self.old self.new worker.old worker.new }
     {

@@ -13,8 +13,8 @@ use mc_stream::{Input, Output, push_while_taken};
 use mc_write::refusal_text;
 use uc_worker::{Gate, Worker};
 
-/// Tells the client that memory ran out, after the queued replies, as far as the output takes it at
-/// once.
+/// Sends the client the refusal that memory ran out, after the queued replies, as far as the output
+/// takes them at once.
 fn tell_starved<O: Output>(queue: &[u8], output: &mut O)
     ensures { TellsStarved queue.now (O.tells output.old) (O.tells output.new) }
 {
@@ -37,7 +37,7 @@ impl Conn {
         }
     }
 
-    /// Makes a turn as `turn` does, but at a fault neither tells the client nor closes the
+    /// Makes a turn as `turn` does, but at a fault neither sends the client anything nor closes the
     /// connection.
     ///
     /// It pushes before the pull as well as at the end, since an input may wait for its next bytes.
@@ -66,7 +66,7 @@ impl Conn {
         Ok(self.state(first | taken | pulled | last))
     }
 
-    /// Closes the connection for good. If memory ran out, the client is told so.
+    /// Closes the connection for good. If memory ran out, that is reported to the client.
     fn close<O: Output>(&mut self, fault: Fault, output: &mut O)
         ensures closed { self.new.is_closed ≡ true }
         ensures same { (self.new.role ≡ self.old.role) × (queue_of self.new ≡ queue_of self.old) }
@@ -81,14 +81,15 @@ impl Conn {
     /// Makes one turn: pushes what is queued, takes whole requests, pulls once, takes requests
     /// again, and pushes their replies.
     ///
-    /// Requests are taken while no more than `QUEUE_BYTES` are queued. Bytes are pulled only if no
-    /// whole request is held then, and into the buffer, which the caller may use again afterwards.
+    /// Requests are taken, and bytes pulled, while no more than `QUEUE_BYTES` are queued. Bytes are
+    /// pulled only if no whole request is held then, and into the buffer, which the caller may use
+    /// again afterwards.
     /// A full log is a reply, not an error.
     ///
     /// Each error closes the connection for good; later turns return `Closed` and do nothing.
-    /// Returns `Memory` if memory runs out, which the client is told as far as the output takes it
-    /// at once; `Taken` if a command's cell holds another value; `Input` or `Output` if the input
-    /// or the output fails.
+    /// Returns `Memory` if memory runs out, which is reported to the client as far as the output
+    /// takes it at once; `Taken` if a command's cell holds another value; `Input` or `Output` if
+    /// the input or the output fails.
     pub fn turn<I: Input, O: Output, G: Gate>(
         &mut self,
         worker: &mut Worker<'_>,
@@ -98,15 +99,15 @@ impl Conn {
         buffer: &mut [u8; PULL_BYTES],
     ) -> Result<State, Fault>
         requires role { FitsLog self.old.role worker.old }
-        // What was sent and is queued then is what was queued and what is owed for the requests that
-        // were taken; after a fault, what was sent is a prefix of that.
+        // What was sent and is queued then is what was queued and what is owed for the requests
+        // that were taken; after a fault, what was sent is a prefix of that.
         ensures outcome { self.old.is_closed ≡ false → MatchResult result
             (Turns (scene self.old worker.old (both (I.tells input.old) (O.tells output.old)))
             (scene self.new worker.new (both (I.tells input.new) (O.tells output.new))))
             (Stops (scene self.old worker.old (both (I.tells input.old) (O.tells output.old)))
             (scene self.new worker.new (both (I.tells input.new) (O.tells output.new)))) }
-        // It pulls at most once, and only after what had come before was answered, unless the output
-        // took no more.
+        // It pulls at most once, and only after what had come before was answered, unless the
+        // output took no more; and never while more than `QUEUE_BYTES` are queued.
         ensures pulls { Pulls
             (scene self.old worker.old (both (I.tells input.old) (O.tells output.old)))
             (scene self.new worker.new (both (I.tells input.new) (O.tells output.new))) }

@@ -7,7 +7,7 @@ use Rattle.std.specs.Option.{option_map}
 use Rattle.mc_model.specs.State.{TableState, next_reply, next_state}
 use Rattle.mc_model.specs.declared.request.Entry.{Entry}
 use Rattle.mc_model.specs.Replay.{EachStands, TakeEffect, reply_to, with_command}
-use Rattle.mc_model.proofs.Public.{reply_to-table}
+use Rattle.model_lemmas.proofs.Replays.{reply_to-table}
 use Rattle.mc_model.specs.declared.reply.Reply.{Reply}
 use Rattle.mc_items.specs.Asker.{answer_for, is_own, reply_for}
 

@@ -1,4 +1,4 @@
--- The totals of a table and what its quotas allow.
+-- What a table counts for in total, and what its quotas allow.
 use Rattle.std.proofs.Common.{◌≡◌, ℕ, ◌+◌, ◌-◌, ◌≤◌, ◌<◌, ◌&&◌, Bool, true, false, T, nat_le, nat_lt, cond, if◌then◌else◌, List, length, Result, Ok, Err, Some, None, refl, sym, ap, subst, ◌∙◌, arith}
 use Rattle.std.proofs.lemmas.Grind.{common_steps}
 use Rattle.std.proofs.lemmas.Option.{none-some, same_Some}
@@ -16,61 +16,42 @@ use Rattle.mc_model.specs.declared.reply.WireNo.{WireNo}
 use Rattle.mc_model.specs.declared.settings.Limits.{Limits}
 use Rattle.mc_model.specs.State.{TableState}
 use Rattle.mc_model.specs.Table.{Table, count_of, is_within, key_cmp, key_cmp_total, use_of, weight}
-use Rattle.mc_model.proofs.Public.{count-remove, use-empty, use-insert, use-remove, within_parts}
+use Rattle.model_lemmas.proofs.Uses.{count-remove, use-empty, use-insert, use-remove, within_parts}
 use Rattle.mc_model.specs.Use.{use_under, weight_of}
-use Rattle.mc_items.specs.Held.{IsWithin}
+use Rattle.mc_items.specs.Held.{IsUseOf}
 use Rattle.mc_items.specs.Storing.{allows, joined_or_refusal, weight_at}
-
--- an empty table is within any quotas
-pub empty_within : (limits : Limits) → IsWithin limits map.empty 0
-empty_within limits = record {
-  total_is = sym use-empty;
-  bytes = omega arith;
-  items = omega (arith, len-empty key_cmp Item);
-}
 
 -- what is under a key is a part of the total
 pub under_le : (table : Table) (key : Key) → use_under table key ≤ use_of table
 under_le table key = omega (arith, use-remove table key)
 
--- taking a key out keeps a table within its quotas, and lowers the total
-pub removed_within : (limits : Limits) (table : Table) (key : Key) (total : ℕ) → IsWithin limits table total →
-    IsWithin limits (map.remove table key) (total - use_under table key)
-removed_within limits table key total within =
-    let sum = use-remove table key in
-    let count = count-remove table key in
-    record {
-      total_is = omega (arith, sum, within.total_is);
-      bytes = omega (arith, within.bytes);
-      items = omega (arith, count, within.items);
-    }
+pub under_total : (table : Table) (key : Key) (total : ℕ) → IsUseOf table total → use_under table key ≤ total
+under_total table key total is = omega (arith, under_le table key, is)
 
--- putting an item under a key where the quotas allow it
-inserted_within : (limits : Limits) (table : Table) (key : Key) (item : Item) (total : ℕ) → IsWithin limits table total → is_within limits (map.insert table key item) ≡ true →
-    IsWithin limits (map.insert table key item) ((total - use_under table key) + (length key + length item.block))
-inserted_within limits table key item total within allowed =
-    let sum = use-insert table key item in
-    let part = under_le table key in
-    let limited = within_parts limits (map.insert table key item) allowed in
-    let total_is : (total - use_under table key) + (length key + length item.block) ≡ use_of (map.insert table key item) = omega (arith, sum, part, within.total_is) in
-    record {
-      total_is = total_is;
-      bytes = omega (arith, total_is, limited.0);
-      items = limited.1;
-    }
+-- taking a key out lowers the total
+pub removed_total : (table : Table) (key : Key) (total : ℕ) → IsUseOf table total → IsUseOf (map.remove table key) (total - use_under table key)
+removed_total table key total is = omega (arith, use-remove table key, is)
+
+-- an item's key and data count in place of what was under the key
+inserted_total : (table : Table) (key : Key) (item : Item) (total : ℕ) → IsUseOf table total →
+    IsUseOf (map.insert table key item) ((total - use_under table key) + (length key + length item.block))
+inserted_total table key item total is = omega (arith, use-insert table key item, under_le table key, is)
 
 -- the same of the totals as the code has them
-pub put_within : (limits : Limits) (old new : Table) (key : Key) (item : Item) (total under added : ℕ) → IsWithin limits old total → is_within limits (map.insert old key item) ≡ true →
-    new ≡ map.insert old key item → under ≡ use_under old key → added ≡ length key + length item.block → IsWithin limits new (total - under + added)
-put_within limits old new key item total under added within allowed table_is under_is added_is =
-    subst (λ (table : Table). IsWithin limits table (total - under + added)) (sym table_is)
-    (subst (λ n. IsWithin limits (map.insert old key item) (total - n + added)) (sym under_is)
-    (subst (λ n. IsWithin limits (map.insert old key item) (total - use_under old key + n)) (sym added_is)
-    (inserted_within limits old key item total within allowed)))
+pub put_total : (old new : Table) (key : Key) (item : Item) (total under added : ℕ) → IsUseOf old total →
+    new ≡ map.insert old key item → under ≡ use_under old key → added ≡ length key + length item.block → IsUseOf new (total - under + added)
+put_total old new key item total under added is table_is under_is added_is =
+    subst (λ (table : Table). IsUseOf table (total - under + added)) (sym table_is)
+    (subst (λ n. IsUseOf (map.insert old key item) (total - n + added)) (sym under_is)
+    (subst (λ n. IsUseOf (map.insert old key item) (total - use_under old key + n)) (sym added_is)
+    (inserted_total old key item total is)))
 
--- a part of the total is at most the total
-pub under_total : (limits : Limits) (table : Table) (key : Key) (total : ℕ) → IsWithin limits table total → use_under table key ≤ total
-under_total limits table key total within = omega (arith, under_le table key, within.total_is)
+-- which is no more than the quota of bytes, where the quotas allow it
+pub put_bound : (limits : Limits) (old : Table) (key : Key) (item : Item) (total under added : ℕ) → IsUseOf old total → is_within limits (map.insert old key item) ≡ true →
+    under ≡ use_under old key → added ≡ length key + length item.block → total - under + added ≤ limits.bytes
+put_bound limits old key item total under added is allowed under_is added_is =
+    let limited = within_parts limits (map.insert old key item) allowed in
+    omega (arith, use-insert old key item, under_le old key, is, limited.0, under_is, added_is)
 
 -- the weight of what is held under a key is what counts for it
 pub weight_held : (table : Table) (key : Key) (found : ℕ) → Some found ≡ weight_at table key → (old : Item) × (map.get table key ≡ Some old) × (found ≡ use_under table key)
@@ -93,17 +74,8 @@ weight_or_none table key found is = ap (λ (w : Option ℕ). unwrap_or w 0) is �
     of_there None = refl
     of_there (Some item) = refl
 
-held_test : (needed under total bytes new count items : ℕ) → new + under ≡ total + needed → under ≤ total → total ≤ bytes → count ≤ items →
-    nat_le needed (bytes - (total - under)) ≡ (nat_le new bytes && nat_le count items)
-held_test needed under total bytes new count items sum part limited few = grind (arith, common_steps)
-
-absent_test : (needed total bytes new count items : ℕ) → new ≡ total + needed → total ≤ bytes → needed ≤ bytes - total →
-    nat_lt count items ≡ (nat_le new bytes && nat_le (count + 1) items)
-absent_test needed total bytes new count items sum limited room = grind (arith, common_steps)
-
-absent_refused : (needed total bytes new : ℕ) (few : Bool) → new ≡ total + needed → total ≤ bytes → bytes - total < needed →
-    nat_le needed (bytes - total) ≡ (nat_le new bytes && few)
-absent_refused needed total bytes new few sum limited no_room = grind (arith, common_steps)
+one_more : (n m : ℕ) → nat_lt n m ≡ nat_le (n + 1) m
+one_more n m = grind (arith, common_steps)
 
 held_count : (table : Table) (key : Key) (item old : Item) → map.get table key ≡ Some old → count_of (map.insert table key item) ≡ count_of table
 held_count table key item old there =
@@ -113,25 +85,23 @@ absent_count : (table : Table) (key : Key) (item : Item) → map.get table key �
 absent_count table key item there =
     len-insert key_cmp_total table key item ∙ ap (λ (o : Option Item). cond (is_some o) (count_of table) (count_of table + 1)) there
 
-module _ (limits : Limits) (table : Table) (key : Key) (item : Item) (total needed : ℕ) (within : IsWithin limits table total) (needed_is : needed ≡ length key + length item.block) where
+module _ (limits : Limits) (table : Table) (key : Key) (item : Item) (total needed : ℕ) (is : IsUseOf table total) (needed_is : needed ≡ length key + length item.block) where
   -- over a held key the count stays
-  pub fits_held : (old : Item) → map.get table key ≡ Some old → nat_le needed (limits.bytes - (total - use_under table key)) ≡ is_within limits (map.insert table key item)
+  pub fits_held : (old : Item) → map.get table key ≡ Some old →
+      (nat_le (total - use_under table key + needed) limits.bytes && nat_le (count_of table) limits.items) ≡ is_within limits (map.insert table key item)
   fits_held old there =
-      held_test needed (use_under table key) total limits.bytes (use_of (map.insert table key item)) (count_of table) limits.items
-      (omega (arith, use-insert table key item, within.total_is, needed_is)) (under_total limits table key total within) within.bytes within.items
-      ∙ ap (λ n. nat_le (use_of (map.insert table key item)) limits.bytes && nat_le n limits.items) (sym (held_count table key item old there))
+      let sum : total - use_under table key + needed ≡ use_of (map.insert table key item) =
+      omega (arith, use-insert table key item, is, needed_is, under_total table key total is) in
+      let count = sym (held_count table key item old there) in
+      λ i. nat_le (sum i) limits.bytes && nat_le (count i) limits.items
 
-  absent_sum : map.get table key ≡ None → use_of (map.insert table key item) ≡ total + needed
-  absent_sum there = omega (arith, use-insert table key item, within.total_is, needed_is, ap (weight_of key) there)
-
-  pub fits_absent : map.get table key ≡ None → needed ≤ limits.bytes - total → nat_lt (count_of table) limits.items ≡ is_within limits (map.insert table key item)
-  fits_absent there room =
-      absent_test needed total limits.bytes (use_of (map.insert table key item)) (count_of table) limits.items (absent_sum there) within.bytes room
-      ∙ ap (λ n. nat_le (use_of (map.insert table key item)) limits.bytes && nat_le n limits.items) (sym (absent_count table key item there))
-
-  pub fits_not : map.get table key ≡ None → limits.bytes - total < needed → nat_le needed (limits.bytes - total) ≡ is_within limits (map.insert table key item)
-  fits_not there no_room =
-      absent_refused needed total limits.bytes (use_of (map.insert table key item)) (nat_le (count_of (map.insert table key item)) limits.items) (absent_sum there) within.bytes no_room
+  pub fits_absent : map.get table key ≡ None →
+      (nat_le (total + needed) limits.bytes && nat_lt (count_of table) limits.items) ≡ is_within limits (map.insert table key item)
+  fits_absent there =
+      let sum : total + needed ≡ use_of (map.insert table key item) = omega (arith, use-insert table key item, is, needed_is, ap (weight_of key) there) in
+      let count : nat_lt (count_of table) limits.items ≡ nat_le (count_of (map.insert table key item)) limits.items =
+      one_more (count_of table) limits.items ∙ ap (λ n. nat_le n limits.items) (sym (absent_count table key item there)) in
+      λ i. nat_le (sum i) limits.bytes && count i
 
 -- joined data that weren't refused
 joined_whole : (short fits : Bool) (whole block : List ℕ) → Ok whole ≡ (if short then (if fits then Ok block else Err NO_ROOM) else Err TOO_LARGE) → (fits ≡ true) × (whole ≡ block)

@@ -1,17 +1,17 @@
 //! The table itself: its calls, and how each command is carried out.
 ghost use Rattle.std.specs.FinMap as map;
 ghost use Rattle.std.specs.Option.{option_copied};
-ghost use Rattle.std.specs.Prelude.{◌≡◌, ℕ, ◌+◌, ◌-◌, ◌^◌, ◌<◌, ◌≤◌, true, false, List, [], ◌++◌, length, IfOk, OnOk, OnErr, decimal, IsOk, IsOkUnless};
+ghost use Rattle.std.specs.Prelude.{◌≡◌, ℕ, ◌+◌, ◌-◌, ◌^◌, ◌<◌, ◌≤◌, true, false, List, [], ◌++◌, length, nat_le, IfOk, OnOk, OnErr, decimal, IsOk, IsOkUnless};
 ghost use Rattle.mc_model.specs.declared.command.Command.{Command};
-ghost use Rattle.mc_model.specs.declared.command.Command.TheVariants.{Store, Cas, Get, Delete, Incr, Decr, Flush};
+ghost use Rattle.mc_model.specs.declared.command.Command.TheVariants.{Store, Cas, Get, Delete, Incr, Decr, Flush, Limit};
 ghost use Rattle.mc_model.specs.declared.item.Item.{Item};
 ghost use Rattle.mc_model.specs.declared.item.TheConstants.{DATA_BYTES};
 ghost use Rattle.mc_model.specs.declared.settings.Limits.{Limits};
 ghost use Rattle.mc_model.specs.declared.reply.Reply.TheVariants.{Number, Stored};
 ghost use Rattle.mc_model.specs.Effect.{is_refusal};
 ghost use Rattle.mc_model.specs.History.{StandsFor, StandsForMore, answer};
-ghost use Rattle.mc_model.specs.Kinds.{IsRetrieval, IsTakingOut};
-ghost use Rattle.mc_model.specs.State.{empty_table, left_by, next_reply, next_state};
+ghost use Rattle.mc_model.specs.Kinds.{IsRetrieval, NeedsNoMemory};
+ghost use Rattle.mc_model.specs.State.{empty_table, left_by, limits_by, next_reply, next_state};
 ghost use Rattle.mc_model.specs.Table.{count_of, is_within, use_of};
 ghost use Rattle.mc_items.specs.Storing.{allows, joined_or_refusal, stored_in, weight_at, with_item};
 
@@ -23,7 +23,16 @@ use std::alloc::Global;
 use std::collections::BTreeMap;
 use std::marker::Model;
 
-/// A tenant's table as an ordered map of keys and items, always within the tenant's quotas.
+/// Returns whether a total stays within a quota with this much more. It may be above the quota
+/// already, since that may have been lowered.
+fn has_room(used: u64, needed: u64, most: u64) -> bool
+    ensures { result ≡ nat_le (used + needed) most }
+{
+    used <= most && needed <= most - used
+}
+
+/// A tenant's table as an ordered map of keys and items. What would take it above the tenant's
+/// quotas is refused; it is above them only after they were lowered.
 #[derive(Debug, Drop)]
 pub struct Items {
     alloc: Global,
@@ -37,7 +46,7 @@ pub struct Items {
 
 impl Model for Items {
     ghost use Rattle.mc_model.specs.State.{TableState, coded_state};
-    ghost use Rattle.mc_items.specs.Held.{IsWithin, table_of_held};
+    ghost use Rattle.mc_items.specs.Held.{IsUseOf, table_of_held};
 
     ghost Value = { TableState };
 
@@ -45,7 +54,7 @@ impl Model for Items {
 
     ghost view = { λ s. record { limits = s.limits; table = table_of_held s.held; last_unique = s.last_unique } };
 
-    ghost invariant = { λ s. IsWithin s.limits (table_of_held s.held) s.used };
+    ghost invariant = { λ s. IsUseOf (table_of_held s.held) s.used };
 }
 
 impl Items {
@@ -65,7 +74,7 @@ impl Items {
 
     /// Carries out a command on the table and returns the reply. Returns `Memory` if an allocation
     /// fails; the table is unchanged then. A command that is refused never fails so, nor does a
-    /// delete or a flush.
+    /// delete, a flush or one that sets quotas.
     pub fn apply(&mut self, command: &Command) -> Result<Reply, Fault>
         requires { self.old.last_unique < 2 ^ 64 - 1 }
 
@@ -73,7 +82,7 @@ impl Items {
         ensures reply { IfOk result (λ reply. reply ≡ next_reply self.old command.now) }
         ensures state { OnOk result (self.new ≡ next_state self.old command.now) }
 
-        ensures limits { OnOk result (self.new.limits ≡ self.old.limits) }
+        ensures limits { OnOk result (self.new.limits ≡ limits_by self.old.limits command.now) }
 
         // The same for every list of commands that may have led to this table, and for the quotas
         // that it was opened with.
@@ -82,7 +91,7 @@ impl Items {
             (opening : Limits) (list : List Command) → StandsFor opening list self.old →
             reply ≡ answer opening list command.now) }
 
-        ensures takes_out { IsTakingOut command.now → IsOk result }
+        ensures no_memory { NeedsNoMemory command.now → IsOk result }
         ensures refused { is_refusal (next_reply self.old command.now) ≡ true → IsOk result }
         ensures memory { IsOkUnless result Fault.Memory }
         ensures unchanged { OnErr result (self.new ≡ self.old) }
@@ -105,26 +114,27 @@ impl Items {
             Command::Incr { key, by } => self.incr(key, *by),
             Command::Decr { key, by } => self.decr(key, *by),
             Command::Flush => Ok(self.flush()),
+            Command::Limit { limits } => Ok(self.set_limits(*limits)),
         }
     }
 
     /// Changes the table as `apply` does, without a reply. Returns `Memory` if an allocation fails;
     /// the table is unchanged then. A command that is refused never fails so, nor does a get, a
-    /// delete or a flush.
+    /// delete, a flush or one that sets quotas.
     pub fn advance(&mut self, command: &Command) -> Result<(), Fault>
         requires { self.old.last_unique < 2 ^ 64 - 1 }
 
         // What the definitions say of this command on this table.
         ensures state { OnOk result (self.new ≡ next_state self.old command.now) }
 
-        ensures limits { OnOk result (self.new.limits ≡ self.old.limits) }
+        ensures limits { OnOk result (self.new.limits ≡ limits_by self.old.limits command.now) }
 
         // The same for every list of commands that may have led to this table, and for the quotas
         // that it was opened with.
         ensures stands { OnOk result (StandsForMore self.old command.now self.new) }
 
         ensures reads { IsRetrieval command.now → IsOk result }
-        ensures takes_out { IsTakingOut command.now → IsOk result }
+        ensures no_memory { NeedsNoMemory command.now → IsOk result }
         ensures refused { is_refusal (next_reply self.old command.now) ≡ true → IsOk result }
         ensures memory { IsOkUnless result Fault.Memory }
         ensures unchanged { OnErr result (self.new ≡ self.old) }
@@ -289,6 +299,15 @@ impl Items {
         Reply::Ok
     }
 
+    /// Sets the quotas. Items stay, even if there are more than these allow. Allocates nothing.
+    fn set_limits(&mut self, limits: Limits) -> Reply
+        ensures reply { result ≡ next_reply self.old (Limit limits) }
+        ensures state { self.new ≡ next_state self.old (Limit limits) }
+    {
+        self.limits = limits;
+        Reply::Ok
+    }
+
     /// Removes a key. Allocates nothing.
     fn delete(&mut self, key: &Key) -> Reply
         ensures reply { result ≡ next_reply self.old (Delete key.now) }
@@ -432,8 +451,13 @@ impl Items {
     {
         let needed = weight_with(key, len);
         match old_weight {
-            Some(old) => needed <= self.limits.bytes - (self.used - old),
-            None => needed <= self.limits.bytes - self.used && self.count() < self.limits.items,
+            Some(old) => {
+                has_room(self.used - old, needed, self.limits.bytes)
+                    && self.count() <= self.limits.items
+            }
+            None => {
+                has_room(self.used, needed, self.limits.bytes) && self.count() < self.limits.items
+            }
         }
     }
 }

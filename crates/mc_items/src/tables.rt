@@ -1,7 +1,7 @@
 //! The tables of all tenants, indexed by tenant number.
 ghost use Rattle.std.specs.Option.{option_copied};
 ghost use Rattle.std.specs.Prelude.{◌≡◌, false, ℕ, ◌-◌, ◌^◌, ◌<◌, List, Option, Some, slice_get, IfOk, IfSome, OnOk, OnErr, IsOk, IsOkUnless};
-ghost use Rattle.mc_model.specs.Kinds.{IsRetrieval, IsTakingOut};
+ghost use Rattle.mc_model.specs.Kinds.{IsRetrieval, NeedsNoMemory};
 ghost use Rattle.mc_items.specs.Asker.{answer_for, is_own, reply_for};
 ghost use Rattle.mc_model.specs.Replay.{EachStands, IsRefused, TakeEffect, empty_tables};
 ghost use Rattle.mc_model.specs.State.{TableState, empty_table};
@@ -61,7 +61,7 @@ pub fn take_effect(
         (λ reply. reply ≡ reply_for asker tables.old.items (option_copied found.entry)) }
     ensures tables { OnOk result
         (TakeEffect (option_copied found.entry) tables.old.items tables.new.items) }
-    ensures takes_out { IfSome (option_copied found.entry) (λ entry. IsTakingOut entry.command) →
+    ensures no_memory { IfSome (option_copied found.entry) (λ entry. NeedsNoMemory entry.command) →
         IsOk result }
     ensures reads { IfSome (option_copied found.entry)
         (λ entry. IsRetrieval entry.command × (is_own asker entry ≡ false)) → IsOk result }

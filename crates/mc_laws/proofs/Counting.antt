@@ -16,7 +16,7 @@ use Rattle.mc_model.specs.Effect.{Effect, effect, is_refusal, none_or_some, renu
 use Rattle.mc_model.specs.Number.{is_numeral, number_up_to, numeric_value}
 use Rattle.mc_model.specs.Table.{Table, is_within}
 use Rattle.mc_laws.proofs.Effects.{stored_there}
-use Rattle.mc_model.proofs.Public.{number_test, number_up_to-some}
+use Rattle.model_lemmas.proofs.NumberTests.{number_test, number_up_to-some}
 use Rattle.mc_laws.proofs.OneKey.{stored_or_refused}
 use Rattle.mc_laws.proofs.Quotas.{replaced_within}
 
@@ -62,7 +62,11 @@ module _ (limits : Limits) (table : Table) (unique : ℕ) (key : Key) (old : Ite
       effect limits table unique (Incr key by) ≡ stored limits table key (numbered ((number + by) % (2 ^ 64))) (Number ((number + by) % (2 ^ 64)))
   incr_there number by is value = rw (is, value) refl
 
-  -- a smaller number has no more digits, so the quotas let it through
+  pub decr_spelt : (number by : ℕ) → map.get table key ≡ Some old → numeric_value old.block ≡ Some number →
+      effect limits table unique (Decr key by) ≡ stored limits table key (numbered (number - by)) (Number (number - by))
+  decr_spelt number by is value = rw (is, value) refl
+
+  -- a smaller number has no more digits, so the quotas let it through in a table that is within them
   pub decr_there : (number by : ℕ) → is_within limits table ≡ true → map.get table key ≡ Some old → numeric_value old.block ≡ Some number →
       effect limits table unique (Decr key by) ≡ record { table = map.insert table key (numbered (number - by)); reply = Number (number - by) }
   decr_there number by within is value =

@@ -1,11 +1,11 @@
 -- Each effect has one of three shapes: nothing changes, an item goes under a key, or items are
 -- taken out.
-use Rattle.std.proofs.Common.{◌≡◌, ◌⊎◌, inl, inr, ℕ, ◌+◌, ◌-◌, ◌%◌, ◌^◌, Bool, true, false, if◌then◌else◌, ◌++◌, length, Option, Some, None, refl}
+use Rattle.std.proofs.Common.{◌≡◌, ◌⊎◌, inl, inr, ℕ, ◌≤◌, ◌+◌, ◌-◌, ◌%◌, ◌^◌, Bool, true, false, if◌then◌else◌, ◌++◌, length, Option, Some, None, refl}
 use Rattle.std.specs.Prelude.{nat_le, ◌==◌, decimal}
 use Rattle.std.specs.FinMap as map
 use Rattle.std.specs.FinMap.{get-empty}
 use Rattle.mc_model.specs.declared.command.Command.{Command}
-use Rattle.mc_model.specs.declared.command.Command.TheVariants.{Store, Cas, Get, Delete, Incr, Decr, Flush}
+use Rattle.mc_model.specs.declared.command.Command.TheVariants.{Store, Cas, Get, Delete, Incr, Decr, Flush, Limit}
 use Rattle.mc_model.specs.declared.command.Verb.TheVariants.{Set, Add, Replace, Append, Prepend}
 use Rattle.mc_model.specs.declared.item.Data.{Data}
 use Rattle.mc_model.specs.declared.item.Item.{Item}
@@ -18,8 +18,9 @@ use Rattle.mc_model.specs.declared.settings.Limits.{Limits}
 use Rattle.mc_model.specs.Effect.{Effect, none_or_some, renumbered, effect, is_acceptance, is_refusal, joined, stored, unchanged}
 use Rattle.mc_laws.specs.Words.{ActsOn}
 use Rattle.mc_model.specs.Number.{numeric_value}
-use Rattle.mc_model.specs.Table.{Table, is_within, key_cmp}
-use Rattle.mc_laws.proofs.Quotas.{empty_within, remove_within}
+use Rattle.mc_model.specs.State.{limits_by}
+use Rattle.mc_model.specs.Table.{Table, count_of, is_within, key_cmp, use_of}
+use Rattle.mc_laws.proofs.Quotas.{empty_less, remove_less}
 use Rattle.mc_laws.proofs.Puts.{get-insert_same, taken_out_cases}
 
 -- the table stays; only a refused command acts on a key without changing it
@@ -43,15 +44,15 @@ pub record IsChange (limits : Limits) (table : Table) (unique : ℕ) (command : 
 
 -- what is under a key after items were taken out: nothing where the command acts on it, else what
 -- was there
-pub record IsTakenOut (limits : Limits) (table : Table) (command : Command) (done : Effect) : Type 0 where
+pub record IsTakenOut (table : Table) (command : Command) (done : Effect) : Type 0 where
   pub no_change : is_acceptance done.reply ≡ false
   pub granted : is_refusal done.reply ≡ false
-  pub within : is_within limits table ≡ true → is_within limits done.table ≡ true
+  pub less : (use_of done.table ≤ use_of table) × (count_of done.table ≤ count_of table)
   pub left : (key : Key) →
       (ActsOn key command × (map.get done.table key ≡ None)) ⊎ ((ActsOn key command → ⊥) × (map.get done.table key ≡ map.get table key))
 
 abbrev pub Shape : Limits → Table → ℕ → Command → Effect → Type 0
-Shape limits table unique command done = IsNothing table command done ⊎ (IsChange limits table unique command done ⊎ IsTakenOut limits table command done)
+Shape limits table unique command done = IsNothing table command done ⊎ (IsChange limits table unique command done ⊎ IsTakenOut table command done)
 
 -- a shape by the cases of what is there, and by a test
 shape_none_or_some : {A : Type 0} (limits : Limits) (table : Table) (unique : ℕ) (command : Command) (there : Option A) (absent : Effect) (held : A → Effect) →
@@ -122,7 +123,7 @@ module _ (limits : Limits) (table : Table) (unique : ℕ) where
   shape (Delete key) =
       shape_none_or_some limits table unique (Delete key) (map.get table key) _ _
       (kept (Delete key) NotFound refl refl)
-      (λ old. inr (inr (record { no_change = refl; granted = refl; within = remove_within limits table key; left = taken_out_cases table key })))
+      (λ old. inr (inr (record { no_change = refl; granted = refl; less = remove_less table key; left = taken_out_cases table key })))
   shape (Incr key by) =
       shape_none_or_some limits table unique (Incr key by) (map.get table key) _ _
       (kept (Incr key by) NotFound refl refl)
@@ -131,7 +132,30 @@ module _ (limits : Limits) (table : Table) (unique : ℕ) where
       shape_none_or_some limits table unique (Decr key by) (map.get table key) _ _
       (kept (Decr key by) NotFound refl refl)
       (λ old. shape_renumbered (Decr key by) key old (λ number. number - by) (λ other acts. acts) refl)
-  shape Flush = inr (inr (record { no_change = refl; granted = refl; within = λ before. empty_within limits; left = λ key. inl (tt, get-empty key_cmp key) }))
+  shape (Limit new) = inl (record { same = refl; no_change = refl; refused = λ other acts. absurd acts })
+  shape Flush = inr (inr (record { no_change = refl; granted = refl; less = empty_less table; left = λ key. inl (tt, get-empty key_cmp key) }))
+
+-- a command that is refused sets no quotas
+pub refused_keeps : (limits : Limits) (table : Table) (unique : ℕ) (command : Command) → is_refusal (effect limits table unique command).reply ≡ true → limits_by limits command ≡ limits
+refused_keeps limits table unique (Store verb key flags block) refused = refl
+refused_keeps limits table unique (Cas key flags block seen) refused = refl
+refused_keeps limits table unique (Get keys uniques) refused = refl
+refused_keeps limits table unique (Delete key) refused = refl
+refused_keeps limits table unique (Incr key by) refused = refl
+refused_keeps limits table unique (Decr key by) refused = refl
+refused_keeps limits table unique Flush refused = refl
+refused_keeps limits table unique (Limit new) refused = absurd (let no : false ≡ true = refused in cc)
+
+-- nor one that is accepted
+pub accepted_keeps : (limits : Limits) (table : Table) (unique : ℕ) (command : Command) → is_acceptance (effect limits table unique command).reply ≡ true → limits_by limits command ≡ limits
+accepted_keeps limits table unique (Store verb key flags block) accepted = refl
+accepted_keeps limits table unique (Cas key flags block seen) accepted = refl
+accepted_keeps limits table unique (Get keys uniques) accepted = refl
+accepted_keeps limits table unique (Delete key) accepted = refl
+accepted_keeps limits table unique (Incr key by) accepted = refl
+accepted_keeps limits table unique (Decr key by) accepted = refl
+accepted_keeps limits table unique Flush accepted = refl
+accepted_keeps limits table unique (Limit new) accepted = absurd (let no : false ≡ true = accepted in cc)
 
 -- what was stored is under its key
 pub stored_there : (limits : Limits) (table : Table) (key : Key) (item : Item) (reply : Reply) → is_refusal (stored limits table key item reply).reply ≡ false →

@@ -5,17 +5,20 @@ use Rattle.std.proofs.lemmas.List.{reverse-append, reverse-reverse}
 use Rattle.std.specs.FinMap as map
 use Rattle.std.specs.FinMap.{get-empty}
 use Rattle.mc_model.specs.declared.command.Command.{Command}
+use Rattle.mc_model.specs.declared.command.Command.TheVariants.{Store, Cas, Get, Delete, Incr, Decr, Flush, Limit}
+use Rattle.mc_model.specs.Kinds.{SetsLimits}
 use Rattle.mc_model.specs.declared.item.Item.{Item}
 use Rattle.mc_model.specs.declared.key.Key.{Key}
 use Rattle.mc_model.specs.declared.settings.Limits.{Limits}
 use Rattle.mc_model.specs.Effect.{Effect, is_refusal}
-use Rattle.mc_model.specs.History.{accepts, after, answer, changes, state_after}
-use Rattle.mc_model.proofs.Public.{state_after-none, state_after-push}
-use Rattle.mc_laws.specs.Words.{ActsOn, IsStoredBy, IsUntouched, Touches, effect_after}
-use Rattle.mc_model.specs.State.{TableState, next_reply, next_state}
-use Rattle.mc_model.specs.Table.{is_within, key_cmp}
-use Rattle.mc_laws.proofs.Effects.{IsChange, IsNothing, IsTakenOut, Shape, shape}
-use Rattle.mc_laws.proofs.Quotas.{empty_within}
+use Rattle.mc_model.specs.History.{accepts, after, answer, changes, limits_after, state_after, state_from}
+use Rattle.model_lemmas.proofs.Histories.{state_after-none, state_after-push, state_from-more, state_from-none, state_from-push}
+use Rattle.model_lemmas.proofs.Uses.{within_parts}
+use Rattle.mc_laws.specs.Words.{ActsOn, IsStoredBy, IsUntouched, IsWithinQuotas, KeepsLimits, Touches, effect_after}
+use Rattle.mc_model.specs.State.{TableState, empty_table, limits_by, next_reply, next_state}
+use Rattle.mc_model.specs.Table.{count_of, is_within, key_cmp, use_of}
+use Rattle.mc_laws.proofs.Effects.{IsChange, IsNothing, IsTakenOut, Shape, accepted_keeps, refused_keeps, shape}
+use Rattle.mc_laws.proofs.Quotas.{empty_within, less_within}
 use Rattle.mc_laws.proofs.Puts.{put_cases}
 
 -- what holds of no command, and of one more command at the end, holds of each list
@@ -39,11 +42,6 @@ module _ (limits : Limits) where
 
   pub changes-push : (list : List Command) (command : Command) → changes limits (list ++ command ∷ []) ≡ changes limits list + (if accepts limits list command then 1 else 0)
   changes-push list command = ap (λ (s : TableState). s.last_unique) (state_after-push limits list command)
-
-  -- the quotas stay those that the table was opened with
-  pub quotas_stay : (list : List Command) → (state_after limits list).limits ≡ limits
-  quotas_stay = push_induction (λ list. (state_after limits list).limits ≡ limits) (ap (λ (s : TableState). s.limits) (state_after-none limits))
-      (λ list command before. ap (λ (s : TableState). s.limits) (state_after-push limits list command) ∙ before)
 
   abbrev pub quotas : List Command → Limits
   quotas list = (state_after limits list).limits
@@ -80,31 +78,38 @@ module _ (limits : Limits) where
   pub no_change : (list : List Command) (command : Command) → accepts limits list command ≡ false → changes limits (list ++ command ∷ []) ≡ changes limits list
   no_change list command is = changes_pushed list command false is ∙ add-zero (changes limits list)
 
-  quotas_pushed : (list : List Command) (command : Command) → quotas (list ++ command ∷ []) ≡ quotas list
+  pub quotas_pushed : (list : List Command) (command : Command) → quotas (list ++ command ∷ []) ≡ limits_by (quotas list) command
   quotas_pushed list command = ap (λ (s : TableState). s.limits) (state_after-push limits list command)
 
-  -- a command that changes nothing can be left out
-  pub nothing_is_alike : (list : List Command) (command : Command) → IsNothing (after limits list) command (effect_after limits list command) → AreAlike (list ++ command ∷ []) list
-  nothing_is_alike list command is = λ i. record {
-    limits = quotas_pushed list command i;
+  -- a command that changes nothing, and no quotas, can be left out
+  abbrev pub KeepsQuotas : List Command → Command → Type 0
+  KeepsQuotas list command = limits_by (quotas list) command ≡ quotas list
+
+  pub nothing_is_alike : (list : List Command) (command : Command) → IsNothing (after limits list) command (effect_after limits list command) → KeepsQuotas list command →
+      AreAlike (list ++ command ∷ []) list
+  nothing_is_alike list command is keeps = λ i. record {
+    limits = (quotas_pushed list command ∙ keeps) i;
     table = (after-push list command ∙ is.same) i;
     last_unique = no_change list command is.no_change i;
   }
 
-  pub alike_without : (earlier later : List Command) (command : Command) → IsNothing (after limits earlier) command (effect_after limits earlier command) →
+  pub alike_without : (earlier later : List Command) (command : Command) → IsNothing (after limits earlier) command (effect_after limits earlier command) → KeepsQuotas earlier command →
       AreAlike (earlier ++ command ∷ later) (earlier ++ later)
-  alike_without earlier later command is =
-      subst (λ list. AreAlike list (earlier ++ later)) (append_assoc earlier (command ∷ []) later) (alike_more (earlier ++ command ∷ []) earlier later (nothing_is_alike earlier command is))
+  alike_without earlier later command is keeps =
+      subst (λ list. AreAlike list (earlier ++ later)) (append_assoc earlier (command ∷ []) later) (alike_more (earlier ++ command ∷ []) earlier later (nothing_is_alike earlier command is keeps))
 
-  pub same_answer : (earlier later : List Command) (command next : Command) → IsNothing (after limits earlier) command (effect_after limits earlier command) →
+  pub same_answer : (earlier later : List Command) (command next : Command) → IsNothing (after limits earlier) command (effect_after limits earlier command) → KeepsQuotas earlier command →
       answer limits (earlier ++ command ∷ later) next ≡ answer limits (earlier ++ later) next
-  same_answer earlier later command next is =
-      ap (λ (s : TableState). next_reply s next) (alike_without earlier later command is)
+  same_answer earlier later command next is keeps =
+      ap (λ (s : TableState). next_reply s next) (alike_without earlier later command is keeps)
 
   -- a refused command changes nothing
   pub refusal_is_nothing : (list : List Command) (command : Command) → is_refusal (answer limits list command) ≡ true → IsNothing (after limits list) command (effect_after limits list command)
   refusal_is_nothing list command refused =
       ⊎_elim (λ nothing. nothing) (⊎_elim (λ change. absurd (both_ways _ change.granted refused)) (λ out. absurd (both_ways _ out.granted refused))) (shape_of list command)
+
+  pub refusal_keeps : (list : List Command) (command : Command) → is_refusal (answer limits list command) ≡ true → KeepsQuotas list command
+  refusal_keeps list command refused = refused_keeps (quotas list) (after limits list) (changes limits list + 1) command refused
 
   -- What one more command does to what is under a key: it stays, is taken out, or gives way to an
   -- item with the next unique; the latter two only where the command touches the key.
@@ -147,7 +152,7 @@ module _ (limits : Limits) where
           (λ there. inl (λ touches. there.0 (is.only key touches.0), found ∙ there.1))
           (put_cases (after limits list) is.under key is.item)
 
-      by_taking_out : IsTakenOut (quotas list) (after limits list) command done → Stays list command key ⊎ Moves list command key
+      by_taking_out : IsTakenOut (after limits list) command done → Stays list command key ⊎ Moves list command key
       by_taking_out is = ⊎_elim
           (λ gone. inr ((gone.0, is.granted), inl (get_pushed list command key ∙ gone.1)))
           (λ kept. inl (λ touches. kept.0 touches.0, get_pushed list command key ∙ kept.1))
@@ -323,13 +328,73 @@ module _ (limits : Limits) where
           ap (λ list. map.get (after limits list) key) (sym (append_assoc earlier between (command ∷ [])))
           ∙ (untouched_push (earlier ++ between) command key (untouched between [] command refl) ∙ kept)
 
-  -- a table is never above the quotas
-  pub within_quotas : (list : List Command) → is_within (quotas list) (after limits list) ≡ true
-  within_quotas = push_induction (λ list. is_within (quotas list) (after limits list) ≡ true)
-      (ap (λ (s : TableState). is_within s.limits s.table) (state_after-none limits) ∙ empty_within limits)
-      (λ list command before.
-      ap (λ (s : TableState). is_within s.limits s.table) (state_after-push limits list command)
-      ∙ ⊎_elim (λ nothing. ap (is_within (quotas list)) nothing.same ∙ before) (⊎_elim (λ change. change.within) (λ out. out.within before)) (shape_of list command))
+  -- what is accepted leaves the table within the quotas, and what isn't leaves no more than there was
+  pub accepted_within : (list : List Command) (command : Command) → accepts limits list command ≡ true → IsWithinQuotas limits (list ++ command ∷ [])
+  accepted_within list command accepted =
+      let kept = quotas_pushed list command ∙ accepted_keeps (quotas list) (after limits list) (changes limits list + 1) command accepted in
+      let within : is_within (quotas list) (effect_after limits list command).table ≡ true = ⊎_elim
+      (λ nothing. absurd (both_ways _ nothing.no_change accepted))
+      (⊎_elim (λ change. change.within) (λ out. absurd (both_ways _ out.no_change accepted)))
+      (shape_of list command) in
+      within_parts (quotas (list ++ command ∷ [])) (after limits (list ++ command ∷ []))
+      (ap (λ (l : Limits). is_within l (after limits (list ++ command ∷ []))) kept
+      ∙ (ap (is_within (quotas list)) (after-push list command) ∙ within))
 
-  pub stays_within : (list : List Command) → is_within limits (after limits list) ≡ true
-  stays_within list = subst (λ l. is_within l (after limits list) ≡ true) (quotas_stay list) (within_quotas list)
+  pub others_leave_less : (list : List Command) (command : Command) → accepts limits list command ≡ false →
+      (use_of (after limits (list ++ command ∷ [])) ≤ use_of (after limits list)) × (count_of (after limits (list ++ command ∷ [])) ≤ count_of (after limits list))
+  others_leave_less list command refused =
+      subst (λ table. (use_of table ≤ use_of (after limits list)) × (count_of table ≤ count_of (after limits list))) (sym (after-push list command))
+      (⊎_elim
+      (λ nothing. let same = nothing.same in (omega (arith, ap use_of same), omega (arith, ap count_of same)))
+      (⊎_elim (λ change. absurd (both_ways _ refused change.accepted)) (λ out. out.less))
+      (shape_of list command))
+
+-- a command that sets no quotas keeps them
+keeps : (limits : Limits) (command : Command) → ¬ (SetsLimits command) → limits_by limits command ≡ limits
+keeps limits (Store verb key flags block) none = refl
+keeps limits (Cas key flags block seen) none = refl
+keeps limits (Get keys uniques) none = refl
+keeps limits (Delete key) none = refl
+keeps limits (Incr key by) none = refl
+keeps limits (Decr key by) none = refl
+keeps limits Flush none = refl
+keeps limits (Limit new) none = absurd (none tt)
+
+-- and so does a list of such commands, which leaves a table within them that was within them
+list_keeps : (list : List Command) (state : TableState) → KeepsLimits list → (state_from state list).limits ≡ state.limits
+list_keeps [] state none = ap (λ (s : TableState). s.limits) (state_from-none state)
+list_keeps (command ∷ list) state none =
+    ap (λ (s : TableState). s.limits) (state_from-more state (command ∷ []) list)
+    ∙ (list_keeps list (state_from state (command ∷ [])) none.1
+    ∙ (ap (λ (s : TableState). s.limits) (state_from-push state [] command ∙ ap (λ s. next_state s command) (state_from-none state))
+    ∙ keeps state.limits command none.0))
+
+pub limits_of_opening : (opening : Limits) (list : List Command) → KeepsLimits list → limits_after opening list ≡ opening
+limits_of_opening opening list none = list_keeps list (empty_table opening) none
+
+pub limits_set_last : (opening new : Limits) (earlier later : List Command) → KeepsLimits later → limits_after opening (earlier ++ Limit new ∷ later) ≡ new
+limits_set_last opening new earlier later none =
+    ap (λ (list : List Command). limits_after opening list) (sym (append_assoc earlier (Limit new ∷ []) later))
+    ∙ (ap (λ (s : TableState). s.limits) (state_from-more (empty_table opening) (earlier ++ Limit new ∷ []) later)
+    ∙ (list_keeps later (state_after opening (earlier ++ Limit new ∷ [])) none ∙ quotas_pushed opening earlier (Limit new)))
+
+pub stays_within : (opening : Limits) (list : List Command) → KeepsLimits list → IsWithinQuotas opening list
+stays_within opening list none = within_parts (limits_after opening list) (after opening list) (from (empty_table opening) list none (empty_within opening))
+  where
+    stepped : (state : TableState) (command : Command) → ¬ (SetsLimits command) → is_within state.limits state.table ≡ true →
+        is_within (next_state state command).limits (next_state state command).table ≡ true
+    stepped state command none within =
+        subst (λ (l : Limits). is_within l (next_state state command).table ≡ true) (sym (keeps state.limits command none))
+        (⊎_elim
+        (λ nothing. ap (is_within state.limits) nothing.same ∙ within)
+        (⊎_elim (λ change. change.within) (λ out. less_within state.limits state.table _ out.less.0 out.less.1 within))
+        (shape state.limits state.table (state.last_unique + 1) command))
+
+    from : (state : TableState) (list : List Command) → KeepsLimits list → is_within state.limits state.table ≡ true →
+        is_within (state_from state list).limits (state_from state list).table ≡ true
+    from state [] none within = subst (λ (s : TableState). is_within s.limits s.table ≡ true) (sym (state_from-none state)) within
+    from state (command ∷ list) none within =
+        let one : state_from state (command ∷ []) ≡ next_state state command = state_from-push state [] command ∙ ap (λ s. next_state s command) (state_from-none state) in
+        subst (λ (s : TableState). is_within s.limits s.table ≡ true)
+        (sym (state_from-more state (command ∷ []) list ∙ ap (λ (s : TableState). state_from s list) one))
+        (from (next_state state command) list none.1 (stepped state command none.0 within))

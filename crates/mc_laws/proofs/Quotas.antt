@@ -11,7 +11,7 @@ use Rattle.mc_model.specs.declared.reply.TheConstants.WireNo.{NO_ROOM}
 use Rattle.mc_model.specs.declared.settings.Limits.{Limits}
 use Rattle.mc_model.specs.Effect.{stored, unchanged}
 use Rattle.mc_model.specs.Table.{Table, count_of, is_within, key_cmp, key_cmp_total, use_of}
-use Rattle.mc_model.proofs.Public.{count-remove, removed, restored, use-empty, use-insert, use-remove, within_from, within_parts}
+use Rattle.model_lemmas.proofs.Uses.{count-remove, removed, restored, use-empty, use-insert, use-remove, within_from, within_parts}
 use Rattle.mc_model.specs.Use.{weight_of}
 
 -- a table with no more than one within the quotas is within them
@@ -23,9 +23,12 @@ less_within limits table other bytes items within =
 pub empty_within : (limits : Limits) → is_within limits map.empty ≡ true
 empty_within limits = within_from limits map.empty (omega (arith, use-empty)) (omega (arith, len-empty key_cmp Item))
 
-pub remove_within : (limits : Limits) (table : Table) (key : Key) → is_within limits table ≡ true → is_within limits (map.remove table key) ≡ true
-remove_within limits table key =
-    less_within limits table (map.remove table key) (omega (arith, use-remove table key)) (count-remove table key)
+-- what taking out leaves is no more than what was there
+pub remove_less : (table : Table) (key : Key) → (use_of (map.remove table key) ≤ use_of table) × (count_of (map.remove table key) ≤ count_of table)
+remove_less table key = (omega (arith, use-remove table key), count-remove table key)
+
+pub empty_less : (table : Table) → (use_of map.empty ≤ use_of table) × (count_of map.empty ≤ count_of table)
+empty_less table = (omega (arith, use-empty), omega (arith, len-empty key_cmp Item))
 
 -- an item under a new key, one in the place of another, and one that is taken out
 same_count : (there : Option Item) (n : ℕ) (old : Item) → there ≡ Some old → cond (is_some there) n (n + 1) ≡ n

@@ -8,7 +8,7 @@ use Rattle.std.proofs.lemmas.Int.Digits.{digits_value-lt}
 use Rattle.std.specs.FinMap as map
 use Rattle.std.specs.FinMap.{get-empty, gets, len-empty}
 use Rattle.mc_model.specs.declared.command.Command.{Command}
-use Rattle.mc_model.specs.declared.command.Command.TheVariants.{Store, Cas, Get, Delete, Incr, Decr, Flush}
+use Rattle.mc_model.specs.declared.command.Command.TheVariants.{Store, Cas, Get, Delete, Incr, Decr, Flush, Limit}
 use Rattle.mc_model.specs.declared.command.Verb.TheVariants.{Set, Add, Replace, Append, Prepend}
 use Rattle.mc_model.specs.declared.item.Item.{Item}
 use Rattle.mc_model.specs.declared.item.TheConstants.{DATA_BYTES}
@@ -20,8 +20,9 @@ use Rattle.mc_model.specs.declared.reply.Value.{Value}
 use Rattle.mc_model.specs.declared.request.Entry.{Entry}
 use Rattle.mc_model.specs.declared.settings.Limits.{Limits}
 use Rattle.mc_model.specs.History.{StandsFor, after, answer}
-use Rattle.mc_model.proofs.Public.{StandsFor-none, StandsFor-push, state_after-none, state_after-push, use-empty, within_from}
-use Rattle.mc_model.specs.State.{TableState, next_reply}
+use Rattle.model_lemmas.proofs.Histories.{StandsFor-none, StandsFor-push, state_after-none, state_after-push}
+use Rattle.model_lemmas.proofs.Uses.{use-empty, within_from}
+use Rattle.mc_model.specs.State.{TableState, limits_by, next_reply, next_state}
 use Rattle.mc_model.specs.Effect.{Effect, effect, is_acceptance, stored, unchanged}
 use Rattle.mc_model.specs.Key.{is_lawful_key}
 use Rattle.mc_model.specs.Log.{own}
@@ -155,17 +156,26 @@ Stands limits list table number = StandsFor limits list (state_of limits table n
 Stands-none : (limits : Limits) → Stands limits [] map.empty 0
 Stands-none limits = StandsFor-none limits
 
--- the first of them, by what it does to a table that stands for the commands before it
-answered : (limits : Limits) (earlier : List Command) (table : Table) (number : ℕ) (command : Command) (next : Table) (reply : Reply) (commands : List Command) (replies : List Reply) →
-    Stands limits earlier table number → effect limits table (number + 1) command ≡ record { table = next; reply = reply } →
-    (Stands limits (earlier ++ command ∷ []) next (number + (if is_acceptance reply then 1 else 0)) → AreAnswered limits (earlier ++ command ∷ []) commands replies) →
+-- the first of them, by what it does to a table that stands for the commands before it, and which quotas
+-- it leaves
+answered_under : (limits now later : Limits) (earlier : List Command) (table : Table) (number : ℕ) (command : Command) (next : Table) (reply : Reply) (commands : List Command) (replies : List Reply) →
+    limits_by now command ≡ later → StandsFor limits earlier (state_of now table number) → effect now table (number + 1) command ≡ record { table = next; reply = reply } →
+    (StandsFor limits (earlier ++ command ∷ []) (state_of later next (number + (if is_acceptance reply then 1 else 0))) → AreAnswered limits (earlier ++ command ∷ []) commands replies) →
     AreAnswered limits earlier (command ∷ commands) (reply ∷ replies)
 unfolding AreAnswered
-answered limits earlier table number command next reply commands replies stands is rest = (
+answered_under limits now later earlier table number command next reply commands replies quotas stands is rest = (
   sym (ap (λ (s : TableState). next_reply s command) stands) ∙ ap (λ (e : Effect). e.reply) is,
-  rest (subst (λ (e : Effect). Stands limits (earlier ++ command ∷ []) e.table (number + (if is_acceptance e.reply then 1 else 0))) is
-      (StandsFor-push (state_of limits table number) command limits earlier stands)),
+  rest (subst (λ (e : Effect). StandsFor limits (earlier ++ command ∷ []) (state_of later e.table (number + (if is_acceptance e.reply then 1 else 0)))) is
+      (subst (λ (l : Limits). StandsFor limits (earlier ++ command ∷ []) (record (next_state (state_of now table number) command) { limits = l })) quotas
+      (StandsFor-push (state_of now table number) command limits earlier stands))),
 )
+
+-- the same of a command that keeps the quotas of the opening
+answered : (limits : Limits) (earlier : List Command) (table : Table) (number : ℕ) (command : Command) (next : Table) (reply : Reply) (commands : List Command) (replies : List Reply) →
+    limits_by limits command ≡ limits → Stands limits earlier table number → effect limits table (number + 1) command ≡ record { table = next; reply = reply } →
+    (Stands limits (earlier ++ command ∷ []) next (number + (if is_acceptance reply then 1 else 0)) → AreAnswered limits (earlier ++ command ∷ []) commands replies) →
+    AreAnswered limits earlier (command ∷ commands) (reply ∷ replies)
+answered limits = answered_under limits limits limits
 
 -- an item is stored where the table then is within the quotas, and refused where it isn't
 there_is_room : (limits : Limits) (table : Table) (key : Key) (item : Item) (reply : Reply) → use_of (map.insert table key item) ≤ limits.bytes → count_of (map.insert table key item) ≤ limits.items →
@@ -215,9 +225,9 @@ flush_keeps_uniques =
     let append_y : effect limits map.empty 2 (Store Append a 0 (codes "y")) ≡ unchanged map.empty NotStored = rw (get-empty key_cmp a) refl in
     let set_z = there_is_room limits map.empty a of_z Stored (omega (arith, z.0)) (omega (arith, z.1)) in
     let get_z : effect limits (alone a of_z) 3 (Get (a ∷ a ∷ []) true) ≡ unchanged (alone a of_z) (Values (with_unique a (codes "z") 2 ∷ with_unique a (codes "z") 2 ∷ [])) = rw (get_first a of_z) refl in
-    answered limits _ map.empty 0 _ _ _ _ _ (Stands-none limits) set_x (λ one. answered limits _ (alone a of_x) 1 _ map.empty _ _ _ one refl (λ two.
-    answered limits _ map.empty 1 _ _ _ _ _ two append_y (λ three. answered limits _ map.empty 1 _ _ _ _ _ three set_z (λ four.
-    answered limits _ (alone a of_z) 2 _ _ _ _ _ four get_z (λ five. all_answered limits _)))))
+    answered limits _ map.empty 0 _ _ _ _ _ refl (Stands-none limits) set_x (λ one. answered limits _ (alone a of_x) 1 _ map.empty _ _ _ refl one refl (λ two.
+    answered limits _ map.empty 1 _ _ _ _ _ refl two append_y (λ three. answered limits _ map.empty 1 _ _ _ _ _ refl three set_z (λ four.
+    answered limits _ (alone a of_z) 2 _ _ _ _ _ refl four get_z (λ five. all_answered limits _)))))
 
 -- a second key where the quota is one item is refused and uses no unique; the key that is held gets
 -- new data
@@ -242,9 +252,41 @@ item_quota =
     let set_y = there_is_none limits one b of_y Stored (inr (omega (arith, x.1, y.1))) in
     let set_z = there_is_room limits one a of_z Stored (omega (arith, x.0, z.0)) (omega (arith, x.1, z.1)) in
     let get_z : effect limits two 3 (Get (a ∷ b ∷ []) true) ≡ unchanged two (Values (with_unique a (codes "z") 2 ∷ [])) = simp gets in
-    answered limits _ map.empty 0 _ _ _ _ _ (Stands-none limits) set_x (λ stands_one. answered limits _ one 1 _ _ _ _ _ stands_one get_x (λ stands_two.
-    answered limits _ one 1 _ _ _ _ _ stands_two set_y (λ stands_three. answered limits _ one 1 _ _ _ _ _ stands_three set_z (λ stands_four.
-    answered limits _ two 2 _ _ _ _ _ stands_four get_z (λ stands_five. all_answered limits _)))))
+    answered limits _ map.empty 0 _ _ _ _ _ refl (Stands-none limits) set_x (λ stands_one. answered limits _ one 1 _ _ _ _ _ refl stands_one get_x (λ stands_two.
+    answered limits _ one 1 _ _ _ _ _ refl stands_two set_y (λ stands_three. answered limits _ one 1 _ _ _ _ _ refl stands_three set_z (λ stands_four.
+    answered limits _ two 2 _ _ _ _ _ refl stands_four get_z (λ stands_five. all_answered limits _)))))
+
+-- a command raises the quota of items and lowers that of bytes: the second key is stored then, and one
+-- more byte is refused
+quota_by_command : AreAnswered (record { items = 1; bytes = 100 }) []
+    (Store Set (codes "a") 0 (codes "x") ∷ Store Set (codes "b") 0 (codes "y") ∷ Limit (record { items = 2; bytes = 4 }) ∷ Store Set (codes "b") 0 (codes "y")
+    ∷ Store Append (codes "b") 0 (codes "z") ∷ Get (codes "a" ∷ codes "b" ∷ []) true ∷ [])
+    (Stored ∷ Refused NO_ROOM ∷ Ok ∷ Stored ∷ Refused NO_ROOM ∷ Values (with_unique (codes "a") (codes "x") 1 ∷ with_unique (codes "b") (codes "y") 2 ∷ []) ∷ [])
+quota_by_command =
+    let limits : Limits = record { items = 1; bytes = 100 } in
+    let later : Limits = record { items = 2; bytes = 4 } in
+    let a : Key = codes "a" in
+    let b : Key = codes "b" in
+    let of_x = item_of (codes "x") 1 in
+    let of_y = item_of (codes "y") 2 in
+    let of_yz = item_of (codes "yz") 3 in
+    let one : Table = alone a of_x in
+    let two : Table = map.insert one b of_y in
+    let x = first_item a of_x in
+    let no_b : map.get one b ≡ None = simp gets in
+    let y = added one b of_y no_b in
+    let has_b : map.get two b ≡ Some of_y = get-insert_same one b of_y in
+    let yz = replaced two b of_y of_yz has_b in
+    let set_x = there_is_room limits map.empty a of_x Stored (omega (arith, x.0)) (omega (arith, x.1)) in
+    let set_y = there_is_none limits one b of_y Stored (inr (omega (arith, x.1, y.1))) in
+    let set_y_later = there_is_room later one b of_y Stored (omega (arith, x.0, y.0)) (omega (arith, x.1, y.1)) in
+    let no_room = there_is_none later two b of_yz Stored (inl (omega (arith, x.0, y.0, yz.0))) in
+    let append_z : effect later two 3 (Store Append b 0 (codes "z")) ≡ unchanged two (Refused NO_ROOM) = rw has_b no_room in
+    let get_both : effect later two 3 (Get (a ∷ b ∷ []) true) ≡ unchanged two (Values (with_unique a (codes "x") 1 ∷ with_unique b (codes "y") 2 ∷ [])) = simp gets in
+    answered limits _ map.empty 0 _ _ _ _ _ refl (Stands-none limits) set_x (λ stands_one. answered limits _ one 1 _ _ _ _ _ refl stands_one set_y (λ stands_two.
+    answered_under limits limits later _ one 1 _ one _ _ _ refl stands_two refl (λ stands_three. answered_under limits later later _ one 1 _ _ _ _ _ refl stands_three set_y_later (λ stands_four.
+    answered_under limits later later _ two 2 _ _ _ _ _ refl stands_four append_z (λ stands_five. answered_under limits later later _ two 2 _ _ _ _ _ refl stands_five get_both (λ stands_six.
+    all_answered limits _))))))
 
 -- keys and data count where the quota is four bytes; a refused set leaves the item and uses no
 -- unique, and a delete makes room
@@ -282,10 +324,10 @@ byte_quota =
     let delete_ab : effect limits two 3 (Delete ab) ≡ record { table = none; reply = Deleted } = rw held refl in
     let set_yyy = there_is_room limits none key of_yyy Stored (omega (arith, xy.0, x.0, out.0, yyy.0)) (omega (arith, xy.1, x.1, out.1, yyy.1)) in
     let get_yyy : effect limits three 4 (Get (ab ∷ key ∷ []) true) ≡ unchanged three (Values (with_unique key (codes "yyy") 3 ∷ [])) = simp gets in
-    answered limits _ map.empty 0 _ _ _ _ _ (Stands-none limits) set_xy (λ stands_one. answered limits _ one 1 _ _ _ _ _ stands_one set_xyz (λ stands_two.
-    answered limits _ one 1 _ _ _ _ _ stands_two replace_x (λ stands_three. answered limits _ two 2 _ _ _ _ _ stands_three set_y (λ stands_four.
-    answered limits _ two 2 _ _ _ _ _ stands_four delete_ab (λ stands_five. answered limits _ none 2 _ _ _ _ _ stands_five set_yyy (λ stands_six.
-    answered limits _ three 3 _ _ _ _ _ stands_six get_yyy (λ stands_seven. all_answered limits _)))))))
+    answered limits _ map.empty 0 _ _ _ _ _ refl (Stands-none limits) set_xy (λ stands_one. answered limits _ one 1 _ _ _ _ _ refl stands_one set_xyz (λ stands_two.
+    answered limits _ one 1 _ _ _ _ _ refl stands_two replace_x (λ stands_three. answered limits _ two 2 _ _ _ _ _ refl stands_three set_y (λ stands_four.
+    answered limits _ two 2 _ _ _ _ _ refl stands_four delete_ab (λ stands_five. answered limits _ none 2 _ _ _ _ _ refl stands_five set_yyy (λ stands_six.
+    answered limits _ three 3 _ _ _ _ _ refl stands_six get_yyy (λ stands_seven. all_answered limits _)))))))
 
 -- 9 and one more are two digits, where the quota is two bytes and the key takes one; one less is as
 -- long
@@ -308,8 +350,8 @@ byte_quota_on_arithmetic =
     let incr_nine : effect limits one 2 (Incr n 1) ≡ unchanged one (Refused NO_ROOM) = rw held no_room in
     let room = there_is_room limits one n eight (Number 8) (omega (arith, with_nine.0, with_eight.0)) (omega (arith, with_nine.1, with_eight.1)) in
     let decr_nine : effect limits one 2 (Decr n 1) ≡ record { table = map.insert one n eight; reply = Number 8 } = rw (held, decimal_digit 8 (omega arith)) room in
-    answered limits _ map.empty 0 _ _ _ _ _ (Stands-none limits) set_nine (λ stands_one. answered limits _ one 1 _ _ _ _ _ stands_one incr_nine (λ stands_two.
-    answered limits _ one 1 _ _ _ _ _ stands_two decr_nine (λ stands_three. all_answered limits _)))
+    answered limits _ map.empty 0 _ _ _ _ _ refl (Stands-none limits) set_nine (λ stands_one. answered limits _ one 1 _ _ _ _ _ refl stands_one incr_nine (λ stands_two.
+    answered limits _ one 1 _ _ _ _ _ refl stands_two decr_nine (λ stands_three. all_answered limits _)))
 
 -- tenants with equal keys: the one's three changes are none of the other's, whose item gets the
 -- unique 1
@@ -330,7 +372,7 @@ tenants_answers =
     let q = first_item a of_q in
     let set_q = there_is_room limits map.empty a of_q Stored (omega (arith, q.0)) (omega (arith, q.1)) in
     let get_q : effect limits (alone a of_q) 2 (Get (a ∷ []) true) ≡ unchanged (alone a of_q) (Values (with_unique a (codes "q") 1 ∷ [])) = rw (get_first a of_q) refl in
-    answered limits _ map.empty 0 _ _ _ _ _ (Stands-none limits) set_q (λ stands_one. answered limits _ (alone a of_q) 1 _ _ _ _ _ stands_one get_q (λ stands_two. all_answered limits _))
+    answered limits _ map.empty 0 _ _ _ _ _ refl (Stands-none limits) set_q (λ stands_one. answered limits _ (alone a of_q) 1 _ _ _ _ _ refl stands_one get_q (λ stands_two. all_answered limits _))
 
 -- keys of 250 bytes are valid, those of 251 aren't
 key_of_250_bytes : is_lawful_key (replicate 250 107) ≡ true

@@ -1,9 +1,9 @@
--- Terms of the laws: what they say of commands on one key, and of the change that stored an item.
--- Only the contracts of laws rest on them.
-use Rattle.std.specs.Prelude.{◌≡◌, ◌≢◌, ◌⊎◌, false, IsTrue, List, [], ◌∷◌, ◌++◌, Some}
+-- Terms of the laws: what they say of commands on one key, of quotas, and of the change that stored
+-- an item. Only the contracts of laws rest on them.
+use Rattle.std.specs.Prelude.{◌≡◌, ◌≢◌, ◌⊎◌, ◌≤◌, false, IsTrue, List, [], ◌∷◌, ◌++◌, Some}
 use Rattle.std.specs.FinMap as map
 use Rattle.mc_model.specs.declared.command.Command.{Command}
-use Rattle.mc_model.specs.declared.command.Command.TheVariants.{Store, Cas, Get, Delete, Incr, Decr, Flush}
+use Rattle.mc_model.specs.declared.command.Command.TheVariants.{Store, Cas, Get, Delete, Incr, Decr, Flush, Limit}
 use Rattle.mc_model.specs.declared.item.Item.{Item}
 use Rattle.mc_model.specs.declared.key.Key.{Key}
 use Rattle.mc_model.specs.declared.reply.Reply.{Reply}
@@ -11,8 +11,10 @@ use Rattle.mc_model.specs.declared.reply.Reply.TheVariants.{Stored, Refused}
 use Rattle.mc_model.specs.declared.reply.TheConstants.WireNo.{NO_ROOM}
 use Rattle.mc_model.specs.declared.settings.Limits.{Limits}
 use Rattle.mc_model.specs.Effect.{Effect, is_refusal}
-use Rattle.mc_model.specs.History.{accepts, after, answer, changes, state_after}
+use Rattle.mc_model.specs.History.{accepts, after, answer, changes, limits_after, state_after}
+use Rattle.mc_model.specs.Kinds.{SetsLimits}
 use Rattle.mc_model.specs.State.{next_effect}
+use Rattle.mc_model.specs.Table.{count_of, use_of}
 
 -- the effect of a command after a list: two commands with the same effect do the same there
 abbrev pub effect_after : Limits → List Command → Command → Effect
@@ -31,6 +33,7 @@ ActsOn key (Delete other) = other ≡ key
 ActsOn key (Incr other by) = other ≡ key
 ActsOn key (Decr other by) = other ≡ key
 ActsOn key Flush = Unit {0}
+ActsOn key (Limit limits) = ⊥
 
 -- after a list, the command changes the item under the key or removes it
 abbrev pub Touches : Limits → List Command → Key → Command → Type 0
@@ -41,6 +44,17 @@ Touches opening list key command =
 abbrev pub IsUntouched : Limits → List Command → Key → List Command → Type 0
 IsUntouched opening earlier key between = (front back : List Command) (command : Command) →
     between ≡ front ++ command ∷ back → Touches opening (earlier ++ front) key command → ⊥
+
+-- no command of the list sets quotas
+abbrev pub KeepsLimits : List Command → Type 0
+KeepsLimits [] = Unit {0}
+KeepsLimits (command ∷ list) = ¬ (SetsLimits command) × KeepsLimits list
+
+-- after a list, the table has no more bytes and no more items than the quotas allow
+abbrev pub IsWithinQuotas : Limits → List Command → Type 0
+IsWithinQuotas opening list =
+    (use_of (after opening list) ≤ (limits_after opening list).bytes)
+    × (count_of (after opening list) ≤ (limits_after opening list).items)
 
 -- the change that stored an item: the key didn't hold the item before the change, and holds it
 -- right after

@@ -1,10 +1,10 @@
 //! What commands do to one tenant's table and what their replies are. Each law holds for all quotas
 //! and every list of commands.
 ghost use Rattle.std.specs.FinMap as map;
-ghost use Rattle.std.specs.Prelude.{◌≡◌, ◌≢◌, ◌↔◌, ◌⊎◌, ℕ, ◌+◌, ◌%◌, ◌^◌, ◌<◌, ◌≤◌, Bool, true, false, decimal, List, [], ◌∷◌, ◌++◌, length, Some, None, IsSome, IsNone, IsSomeAnd};
+ghost use Rattle.std.specs.Prelude.{◌≡◌, ◌≢◌, ◌↔◌, ◌⊎◌, ℕ, ◌+◌, ◌-◌, ◌%◌, ◌^◌, ◌<◌, ◌≤◌, Bool, true, false, decimal, List, [], ◌∷◌, ◌++◌, length, Some, None, IsSome, IsNone, IsSomeAnd};
 ghost use Rattle.std.specs.Str.Parse.{IsNumeral, digits_value};
 ghost use Rattle.mc_model.specs.declared.command.Command.{Command};
-ghost use Rattle.mc_model.specs.declared.command.Command.TheVariants.{Store, Cas, Get, Delete, Incr, Decr, Flush};
+ghost use Rattle.mc_model.specs.declared.command.Command.TheVariants.{Store, Cas, Get, Delete, Incr, Decr, Flush, Limit};
 ghost use Rattle.mc_model.specs.declared.command.Verb.{Verb};
 ghost use Rattle.mc_model.specs.declared.command.Verb.TheVariants.{Set, Add, Replace, Append, Prepend};
 ghost use Rattle.mc_model.specs.declared.item.Data.{Data};
@@ -17,16 +17,16 @@ ghost use Rattle.mc_model.specs.declared.reply.TheConstants.WireNo.{NOT_A_NUMBER
 ghost use Rattle.mc_model.specs.declared.reply.Value.{Value};
 ghost use Rattle.mc_model.specs.declared.reply.WireNo.{WireNo};
 ghost use Rattle.mc_model.specs.declared.settings.Limits.{Limits};
-ghost use Rattle.mc_model.specs.Effect.{effect, is_refusal};
+ghost use Rattle.mc_model.specs.Effect.{effect, is_acceptance, is_refusal};
 ghost use Rattle.mc_model.specs.History.{StandsForMore, accepts, after, answer, changes, limits_after};
-ghost use Rattle.mc_laws.specs.Words.{IsLetThrough, IsStoredBy, IsUntouched, effect_after};
+ghost use Rattle.mc_laws.specs.Words.{IsLetThrough, IsStoredBy, IsUntouched, IsWithinQuotas, KeepsLimits, effect_after};
 ghost use Rattle.mc_model.specs.Number.{numeric_value};
 ghost use Rattle.mc_model.specs.State.{TableState, next_state};
 ghost use Rattle.mc_model.specs.Table.{Table, count_of, use_of};
 
 /// A list of commands acts from its front: the table is empty at first, and each command acts,
 /// under the quotas, on what those before it have left, a change with the next unique. So no list
-/// has more changes than commands. The quotas stay those that the table was opened with.
+/// has more changes than commands.
 pub fn commands_act_in_order()
     ensures nothing { (opening : Limits) → after opening [] ≡ map.empty }
     ensures no_change { (opening : Limits) → changes opening [] ≡ 0 }
@@ -46,8 +46,6 @@ pub fn commands_act_in_order()
         changes opening (list ++ command ∷ []) ≡ changes opening list }
     ensures at_most { (opening : Limits) (list : List Command) →
         changes opening list ≤ length list }
-    ensures quotas { (opening : Limits) (list : List Command) →
-        limits_after opening list ≡ opening }
 
     // One step of a table that stands for a list.
     ensures stands { (state : TableState) (command : Command) →
@@ -93,20 +91,44 @@ pub fn commands_leave_other_keys()
         ≡ map.get (after opening list) other }
 {}
 
-/// A table never has more bytes or more items than its tenant's quotas allow. A command is refused
-/// for them exactly when the table that it would leave has more, which is the one it leaves under
-/// quotas that don't refuse it. A set would leave the table with its item.
+/// The quotas are those that the last command that sets them has set, or else those that the table
+/// was opened with. Such a command is answered with OK and is no change, and the items stay.
+pub fn quotas_are_those_set_last()
+    ensures opening { (opening : Limits) (list : List Command) → KeepsLimits list →
+        limits_after opening list ≡ opening }
+    ensures set { (opening new : Limits) (earlier later : List Command) → KeepsLimits later →
+        limits_after opening (earlier ++ Limit new ∷ later) ≡ new }
+    ensures ok { (opening new : Limits) (list : List Command) →
+        answer opening list (Limit new) ≡ Ok }
+    ensures items { (opening new : Limits) (list : List Command) →
+        after opening (list ++ Limit new ∷ []) ≡ after opening list }
+    ensures uniques { (opening new : Limits) (list : List Command) →
+        changes opening (list ++ Limit new ∷ []) ≡ changes opening list }
+{}
+
+/// A command that is accepted leaves no more bytes and no more items than the quotas allow, and one
+/// that isn't leaves no more than there were. So a table is within its tenant's quotas as long as
+/// no command sets others.
+///
+/// The quotas refuse a command exactly when it would be accepted under others and the table that it
+/// would leave then has more than they allow. A set would leave the table with its item.
 pub fn quotas_hold()
-    ensures bytes { (opening : Limits) (list : List Command) →
-        use_of (after opening list) ≤ (limits_after opening list).bytes }
-    ensures items { (opening : Limits) (list : List Command) →
-        count_of (after opening list) ≤ (limits_after opening list).items }
+    ensures within { (opening : Limits) (list : List Command) → KeepsLimits list →
+        IsWithinQuotas opening list }
+    ensures accepted { (opening : Limits) (list : List Command) (command : Command) →
+        accepts opening list command ≡ true →
+        IsWithinQuotas opening (list ++ command ∷ []) }
+    ensures others { (opening : Limits) (list : List Command) (command : Command) →
+        accepts opening list command ≡ false →
+        (use_of (after opening (list ++ command ∷ [])) ≤ use_of (after opening list))
+        × (count_of (after opening (list ++ command ∷ [])) ≤ count_of (after opening list)) }
     ensures refused { (opening other : Limits) (list : List Command) (command : Command) →
         let would = effect other (after opening list) (changes opening list + 1) command in
         would.reply ≢ Refused NO_ROOM →
         (answer opening list command ≡ Refused NO_ROOM)
-        ↔ (((limits_after opening list).bytes < use_of would.table)
-        ⊎ ((limits_after opening list).items < count_of would.table)) }
+        ↔ ((is_acceptance would.reply ≡ true)
+        × (((limits_after opening list).bytes < use_of would.table)
+        ⊎ ((limits_after opening list).items < count_of would.table))) }
     ensures set { (opening : Limits) (list : List Command) (key : Key) (flags : ℕ) (block : Data) →
         let next = map.insert (after opening list) key
         (record { flags = flags; block = block; unique = changes opening list + 1 }) in
@@ -327,7 +349,7 @@ pub fn incr_and_decr_want_a_number()
 {}
 
 /// Incr adds modulo 2^64, unless the quotas refuse the sum's digits. Decr subtracts and stops at 0;
-/// the quotas never refuse it.
+/// the quotas don't refuse it in a table that is within them.
 pub fn incr_wraps_and_decr_stops()
     ensures sum { (opening : Limits) (list : List Command) (key : Key) (old : Item)
         (number by : ℕ) →
@@ -349,14 +371,27 @@ pub fn incr_wraps_and_decr_stops()
         ↔ (((limits_after opening list).bytes < use_of next)
         ⊎ ((limits_after opening list).items < count_of next)) }
     ensures difference { (opening : Limits) (list : List Command) (key : Key) (old : Item)
-        (left by : ℕ) →
+        (left by : ℕ) → IsWithinQuotas opening list →
         map.get (after opening list) key ≡ Some old → numeric_value old.block ≡ Some (left + by) →
         answer opening list (Decr key by) ≡ Number left }
     ensures zero { (opening : Limits) (list : List Command) (key : Key) (old : Item)
-        (number by : ℕ) →
+        (number by : ℕ) → IsWithinQuotas opening list →
         map.get (after opening list) key ≡ Some old → numeric_value old.block ≡ Some number →
         number ≤ by →
         answer opening list (Decr key by) ≡ Number 0 }
+    ensures above { (opening : Limits) (list : List Command) (key : Key) (old : Item)
+        (number by : ℕ) →
+        map.get (after opening list) key ≡ Some old → numeric_value old.block ≡ Some number →
+        let difference : Item =
+        record {
+          flags = old.flags;
+          block = decimal (number - by);
+          unique = changes opening list + 1;
+        } in
+        let next = map.insert (after opening list) key difference in
+        (answer opening list (Decr key by) ≡ Refused NO_ROOM)
+        ↔ (((limits_after opening list).bytes < use_of next)
+        ⊎ ((limits_after opening list).items < count_of next)) }
 {}
 
 /// A get after an incr or a decr that answered a number returns its decimal digits with the old
@@ -391,7 +426,7 @@ pub fn numbers_keep_the_flags()
 {}
 
 /// A decr undoes an incr by the same number that didn't wrap, if no command in between has changed
-/// or removed the key: the quotas never refuse it.
+/// or removed the key and the table is within its quotas.
 pub fn decr_undoes_incr()
     ensures { (opening : Limits) (earlier between : List Command) (key : Key) (old : Item)
         (number by : ℕ) →
@@ -399,6 +434,7 @@ pub fn decr_undoes_incr()
         number + by < 2 ^ 64 →
         answer opening earlier (Incr key by) ≡ Number (number + by) →
         IsUntouched opening (earlier ++ Incr key by ∷ []) key between →
+        IsWithinQuotas opening (earlier ++ Incr key by ∷ between) →
         answer opening (earlier ++ Incr key by ∷ between) (Decr key by) ≡ Number number }
 {}
 

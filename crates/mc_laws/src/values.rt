@@ -1,15 +1,16 @@
 //! Which values are valid, and when two of them are equal.
 ghost use Rattle.std.specs.Prelude.{◌≡◌, ◌≢◌, ◌↔◌, ◌⊎◌, ℕ, ◌<◌, ◌≤◌, All, Bool, List, length, IsTrue};
 ghost use Rattle.mc_model.specs.declared.command.Command.{Command};
-ghost use Rattle.mc_model.specs.declared.command.Command.TheVariants.{Delete, Flush, Get};
+ghost use Rattle.mc_model.specs.declared.command.Command.TheVariants.{Delete, Flush, Get, Limit};
 ghost use Rattle.mc_model.specs.declared.id.TheConstants.{TENANTS, WORKERS};
 ghost use Rattle.mc_model.specs.declared.item.TheConstants.{DATA_BYTES};
 ghost use Rattle.mc_model.specs.declared.key.Key.{Key};
 ghost use Rattle.mc_model.specs.declared.key.KeyList.{KeyList};
 ghost use Rattle.mc_model.specs.declared.key.TheConstants.{KEY_BYTES};
+ghost use Rattle.mc_model.specs.declared.settings.Limits.{Limits};
 ghost use Rattle.mc_model.specs.declared.settings.TheConstants.{MAX_BYTES, MAX_ITEMS, MAX_PLACES};
 ghost use Rattle.mc_model.specs.Key.{is_lawful_key};
-ghost use Rattle.mc_model.specs.Kinds.{IsRetrieval, IsTakingOut};
+ghost use Rattle.mc_model.specs.Kinds.{IsRetrieval, NeedsNoMemory, SetsLimits};
 ghost use Rattle.mc_model.specs.Settings.{Configuration, IsLawful};
 
 use mc_model::{Data, Key, KeyList, ValueList};
@@ -45,13 +46,15 @@ pub fn lawful_settings_are_in_range()
         × ((1 ≤ limits.bytes) × (limits.bytes ≤ 1073741824))) settings.tenants) }
 {}
 
-/// A retrieval is a get of some keys and no other command; a command that only removes keys is a
-/// delete or a flush and no other.
+/// A retrieval is a get of some keys and no other command; a command that needs no memory is a
+/// delete, a flush or one that sets quotas, and no other.
 pub fn kinds_are_by_name()
     ensures retrieval { (command : Command) → IsRetrieval command
         ↔ ((keys : KeyList) × (uniques : Bool) × (command ≡ Get keys uniques)) }
-    ensures takes_out { (command : Command) → IsTakingOut command
-        ↔ (((key : Key) × (command ≡ Delete key)) ⊎ (command ≡ Flush)) }
+    ensures no_memory { (command : Command) → NeedsNoMemory command
+        ↔ (((key : Key) × (command ≡ Delete key)) ⊎ (command ≡ Flush) ⊎ SetsLimits command) }
+    ensures sets_limits { (command : Command) → SetsLimits command
+        ↔ ((limits : Limits) × (command ≡ Limit limits)) }
 {}
 
 /// Two keys are equal exactly when their bytes are.

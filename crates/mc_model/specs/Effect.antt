@@ -1,13 +1,14 @@
 -- What a command does to a table and what the reply is, after memcached's doc/protocol.txt,
 -- "Storage commands", "Retrieval command", "Deletion", "Increment/Decrement" and, for flush_all,
 -- "Other commands"; one equation per command. The order of the refusals, the refusal of joined data
--- that are too long, the quotas and a decr without padding are this project's profile.
+-- that are too long, the quotas, the command that sets them and a decr without padding are this
+-- project's profile.
 use Rattle.std.specs.Prelude.{ℕ, ◌+◌, ◌-◌, ◌%◌, ◌^◌, ◌==◌, nat_le, Bool, true, false, if◌then◌else◌, ◌++◌, length, decimal, Option, Some, None}
 use Rattle.std.specs.List.{filter_map}
 use Rattle.std.specs.Option.{option_map}
 use Rattle.std.specs.FinMap as map
 use Rattle.mc_model.specs.declared.command.Command.{Command}
-use Rattle.mc_model.specs.declared.command.Command.TheVariants.{Store, Cas, Get, Delete, Incr, Decr, Flush}
+use Rattle.mc_model.specs.declared.command.Command.TheVariants.{Store, Cas, Get, Delete, Incr, Decr, Flush, Limit}
 use Rattle.mc_model.specs.declared.command.Verb.TheVariants.{Set, Add, Replace, Append, Prepend}
 use Rattle.mc_model.specs.declared.item.Data.{Data}
 use Rattle.mc_model.specs.declared.item.Item.{Item}
@@ -106,6 +107,7 @@ effect limits table unique (Decr key by) =
     none_or_some (map.get table key) (unchanged table NotFound)
     (λ old. renumbered limits table unique key old (λ number. number - by))
 effect limits table unique Flush = record { table = map.empty; reply = Ok }
+effect limits table unique (Limit new) = unchanged table Ok
 
 -- whether a reply says that a command counts as a change: that it gave an item a unique
 abbrev pub is_acceptance : Reply → Bool

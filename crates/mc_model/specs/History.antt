@@ -21,7 +21,8 @@ answer_from opening list command = next_reply (state_from opening list) command
 abbrev pub state_after : Limits → List Command → TableState
 state_after opening list = state_from (empty_table opening) list
 
--- the quotas that apply from then on: those of the opening, as long as no command changes them
+-- the quotas that apply from then on: those of the last command that sets them, or else those of
+-- the opening
 abbrev pub limits_after : Limits → List Command → Limits
 limits_after opening list = (state_after opening list).limits
 

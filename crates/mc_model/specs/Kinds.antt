@@ -1,14 +1,20 @@
 -- Kinds of commands, by what they do to any table.
 use Rattle.mc_model.specs.declared.command.Command.{Command}
-use Rattle.mc_model.specs.declared.command.Command.TheVariants.{Get, Delete, Flush}
+use Rattle.mc_model.specs.declared.command.Command.TheVariants.{Get, Delete, Flush, Limit}
 
 -- the command only reads
 abbrev pub IsRetrieval : Command → Type 0
 IsRetrieval (Get keys uniques) = Unit {0}
 IsRetrieval _ = ⊥
 
--- the command only removes keys
-abbrev pub IsTakingOut : Command → Type 0
-IsTakingOut (Delete key) = Unit {0}
-IsTakingOut Flush = Unit {0}
-IsTakingOut _ = ⊥
+-- the command stores and shows no data: it removes keys, or sets quotas
+abbrev pub NeedsNoMemory : Command → Type 0
+NeedsNoMemory (Delete key) = Unit {0}
+NeedsNoMemory Flush = Unit {0}
+NeedsNoMemory (Limit limits) = Unit {0}
+NeedsNoMemory _ = ⊥
+
+-- the command sets the tenant's quotas
+abbrev pub SetsLimits : Command → Type 0
+SetsLimits (Limit limits) = Unit {0}
+SetsLimits _ = ⊥

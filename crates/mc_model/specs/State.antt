@@ -6,6 +6,7 @@ use Rattle.std.specs.Prelude.{ℕ, ◌+◌, if◌then◌else◌, refl}
 use Rattle.std.specs.Coded.{Coded, code_by, coded×, coded_ℕ}
 use Rattle.std.specs.FinMap as map
 use Rattle.mc_model.specs.declared.command.Command.{Command}
+use Rattle.mc_model.specs.declared.command.Command.TheVariants.{Limit}
 use Rattle.mc_model.specs.declared.reply.Reply.{Reply}
 use Rattle.mc_model.specs.declared.settings.Limits.{Limits}
 use Rattle.mc_model.specs.Effect.{Effect, effect, is_acceptance}
@@ -37,9 +38,15 @@ next_effect state command = effect state.limits state.table (state.last_unique +
 abbrev pub next_reply : TableState → Command → Reply
 next_reply state command = (next_effect state command).reply
 
+-- the quotas from a command on
+abbrev pub limits_by : Limits → Command → Limits
+limits_by limits (Limit new) = new
+limits_by limits _ = limits
+
 -- the state that it leaves
 abbrev pub next_state : TableState → Command → TableState
-next_state state command = left_by state (next_effect state command)
+next_state state command =
+    record (left_by state (next_effect state command)) { limits = limits_by state.limits command }
 
 -- how a state is stored as a model's value
 abbrev pub coded_limits : Coded Limits

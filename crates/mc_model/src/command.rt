@@ -1,7 +1,7 @@
 //! Commands on a tenant's table.
 ghost use Rattle.std.specs.Prelude.{◌≡◌, IfOk, IsOkUnless};
 
-use crate::{Data, Fault, Key, KeyList};
+use crate::{Data, Fault, Key, KeyList, Limits};
 
 /// The kind of a storage command.
 #[derive(Clone, Copy, Debug, PartialEq, Eq)]
@@ -56,6 +56,10 @@ pub enum Command {
     },
     /// Removes all keys.
     Flush,
+    /// Sets the tenant's quotas. Items that are there stay.
+    Limit {
+        limits: Limits,
+    },
 }
 
 impl Command {
@@ -103,6 +107,7 @@ impl Command {
                 by: *by,
             },
             Command::Flush => Command::Flush,
+            Command::Limit { limits } => Command::Limit { limits: *limits },
         })
     }
 }

@@ -1,9 +1,10 @@
 //! The settings of a server, and the quotas of its tenants.
-ghost use Rattle.std.specs.Prelude.{◌≡◌, ◌↔◌, IsTrue, IsOk, IfOk, IsOkUnless};
-ghost use Rattle.mc_model.specs.Settings.{AreLawfulLimits, Configuration, IsLawful};
+ghost use Rattle.std.specs.Prelude.{◌≡◌, ◌↔◌, IsTrue, IsOk, IfOk, IfSome, IsOkUnless};
+ghost use Rattle.mc_model.specs.Number.{number_up_to};
+ghost use Rattle.mc_model.specs.Settings.{AreLawfulLimits, Configuration, IsLawful, limits_named, positive};
 
-use crate::Fault;
 use crate::id::{TENANTS, WORKERS};
+use crate::{Fault, read_number};
 use std::marker::Model;
 
 /// The largest quota of items.
@@ -23,7 +24,28 @@ pub struct Limits {
     pub bytes: u64,
 }
 
+/// Returns the number that a word names in decimal digits, from 1 to a limit.
+fn read_quota(word: &[u8], limit: u64) -> Option<u64>
+    ensures { result ≡ positive (number_up_to limit word.now) }
+{
+    match read_number(word, limit) {
+        Some(0) => None,
+        number => number,
+    }
+}
+
 impl Limits {
+    /// Returns the quotas that two words name in decimal digits, or `None` if one of them isn't a
+    /// number from 1 to `MAX_ITEMS` or `MAX_BYTES`.
+    pub fn read(items: &[u8], bytes: &[u8]) -> Option<Limits>
+        ensures named { result ≡ limits_named items.now bytes.now }
+        ensures lawful { IfSome result AreLawfulLimits }
+    {
+        let items = read_quota(items, MAX_ITEMS)?;
+        let bytes = read_quota(bytes, MAX_BYTES)?;
+        Some(Limits { items, bytes })
+    }
+
     /// Returns whether both quotas are at least 1 and at most `MAX_ITEMS` and `MAX_BYTES`.
     pub fn are_lawful(&self) -> bool
         ensures { IsTrue result ↔ AreLawfulLimits self.now }

@@ -7,31 +7,32 @@ use Rattle.std.proofs.lemmas.Bool.{eqb-true}
 use Rattle.mc_conn.specs.Ending.{Breaks, Stops}
 use Rattle.mc_conn.specs.Held.{HoldsOn, lines_of}
 use Rattle.mc_conn.specs.Onward.{own_sighting}
-use Rattle.uc_worker.specs.Going.{Continues}
+use Rattle.uc_worker.specs.Going.{CatchesUp, Continues}
 use Rattle.mc_conn.specs.declared.conn.Role.{Role}
 use Rattle.mc_conn.specs.Owed.{mark_of}
 use Rattle.mc_conn.specs.Turn.{Takes, holding_of, scene}
 use Rattle.mc_conn.specs.declared.conn.State.{State}
 use Rattle.mc_conn.specs.declared.conn.State.TheVariants.{Closed}
-use Rattle.mc_conn.proofs.Public.{same_sighting}
 use Rattle.mc_model.specs.declared.fault.Fault.{Fault}
 use Rattle.mc_model.specs.declared.request.Request.{Request}
+use Rattle.mc_model.specs.Legal.{ticket_of}
 use Rattle.mc_net.specs.Asking.{Announcement, HasBeenAsked, IsAnnounced, IsEarlier, IsLogged, WasAsked}
 use Rattle.mc_net.specs.Life.{came_of}
 use Rattle.mc_net.specs.Serving.{Becomes, IsNewConnection, IsServedLater, connection_at, scene_of}
-use Rattle.mc_net.specs.Working.{HasServed, IsUnused, ServesOne, Standing, TakesIn, Works, begins, goes_on, standing}
+use Rattle.mc_net.specs.Working.{HasServed, IsUnused, KeepsUp, ServesOne, Standing, TakesIn, Works, begins, goes_on, standing}
 use Rattle.mc_net.specs.declared.listener.Arrival.{Arrival}
 use Rattle.mc_net.specs.declared.ended.Ended.{Ended}
 use Rattle.mc_net.specs.declared.worker_thread.Returned.{Returned}
 use Rattle.mc_net.specs.declared.connections.Connection.{Connection}
-use Rattle.mc_net.proofs.Lives.{IsSound, nothing_at, reads_from_earlier, same_key, sound_first, sound_working}
+use Rattle.mc_net.specs.declared.connections.Connections.{Connections}
+use Rattle.mc_net.proofs.Lives.{IsSound, PartsAddUp, nothing_at, reads_from_earlier, same_key, sound_first, sound_working}
 use Rattle.mc_net.proofs.Numbers.{IsAt, Numbers, met_numbers, owed_numbers, taken_numbers}
 use Rattle.mc_conn.specs.Cited.{ReadsAs}
 use Rattle.mc_stream.specs.Event.{moved}
 use Rattle.mc_stream.specs.Stream.{Outflow, both}
 use Rattle.lists.proofs.Public.{at_longer}
 use Rattle.uc_worker.specs.declared.worker.Worker.{Worker}
-use Rattle.uc_worker.specs.Worker.{announced_of}
+use Rattle.uc_worker.specs.Worker.{announced_of, sighting_of}
 
 module _ {X : Type 0} where
   at_behind : (front list : List X) (place there : ℕ) (x : X) → there ≡ length front + place → slice_get list place ≡ Some x → slice_get (front ++ list) there ≡ Some x
@@ -174,7 +175,7 @@ announced_on : (before after : Worker) → Continues before after → (number te
 announced_on before after on number tenant command at =
     ap (λ list. slice_get list number) on.announced.1
     ∙ at_longer (announced_of before) on.announced.0 number _ at
-    ∙ ap (λ seen. Some seen) (same_sighting before after on number tenant command)
+    ∙ (λ i. Some (sighting_of (sym on.log i).now (record { ticket = ticket_of (sym on.same.1 i) number; tenant = tenant; command = command })))
 
 logged_on : (before after : Worker) → Continues before after → (role : Role) (request : Request) (number : ℕ) → IsLogged before role request number → IsLogged after role request number
 logged_on before after on role request number logged = record {
@@ -433,6 +434,36 @@ module _ (from : ℕ) (v : View) (asking : Asking from v) (key : ℕ) (fresh : C
     in_order = asking.in_order;
   }
 
+-- The worker catches up, and announces nothing.
+module _ (from : ℕ) (v : View) (asking : Asking from v) (after : Worker) (caught : CatchesUp v.worker after) where
+  abbrev caught_up : View
+  caught_up = view after v.live v.ended
+
+  found_caught : (number : ℕ) (who : Who) (request : ℕ) → Found v asking.taken number who request → Found caught_up asking.taken number who request
+  found_caught number (ended_after asker) request found = was_asked_on v.worker after caught.continues v.ended number asker request found
+  found_caught number (stands_under key) request found = record {
+    connection = found.connection;
+    there = found.there;
+    asked = record {
+      request = found.asked.request;
+      at = found.asked.at;
+      logged = logged_on v.worker after caught.continues found.connection.conn.role found.asked.request number found.asked.logged;
+    };
+  }
+
+  announced_then : (number : ℕ) → number < length (announced_of after) → number < length (announced_of v.worker)
+  announced_then number high = subst (λ list. number < length list) caught.announced high
+
+  asking_caught : Asking from caught_up
+  asking_caught = record {
+    taken = asking.taken;
+    has_taken = asking.has_taken;
+    asker = asking.asker;
+    request = asking.request;
+    found = λ number low high. found_caught number (asking.asker number) (asking.request number) (asking.found number low (announced_then number high));
+    in_order = λ one two low less high same. asking.in_order one two low less (announced_then two high) same;
+  }
+
 fresh_taken : (connection : Connection) (arrival : Arrival _) → IsNewConnection connection arrival → HasTaken connection []
 fresh_taken connection arrival fresh more all reads = (
   all,
@@ -501,11 +532,22 @@ asking_serving from before after sound asking one =
     asking_at from before after one.state one.key (connection_at before.connections one.key) (connection_at after.connections one.key) asking
     (λ connection at. (sound.lives one.key connection at).going) refl refl one.serves.others one.serves.becomes
 
+asking_catching : (from : ℕ) (before after : Standing) → Asking from (view_of before) → KeepsUp before after → Asking from (view_of after)
+asking_catching from before after asking caught =
+    subst (Asking from)
+    (same_view after.worker after.worker (connection_at before.connections) (connection_at after.connections) before.connections.ended.connections after.connections.ended.connections refl
+    (λ key. ap (λ (connections : Connections). connection_at connections key) caught.connections)
+    (ap (λ (connections : Connections). connections.ended.connections) caught.connections))
+    (asking_caught from (view_of before) asking after.worker caught.worker)
+
 asking_working : (from : ℕ) (first last : Standing) → IsSound first → Asking from (view_of first) → Works first last → Asking from (view_of last)
 asking_working from first _ sound asking begins = asking
 asking_working from first _ sound asking (goes_on between last works step) =
     let so_far = asking_working from first between sound asking works in
-    ⊎_elim (asking_taking from between last so_far) (asking_serving from between last (sound_working first between sound works) so_far) step
+    ⊎_elim
+    (asking_taking from between last so_far)
+    (⊎_elim (asking_serving from between last (sound_working first between sound works) so_far) (asking_catching from between last so_far))
+    step
 
 -- with no connection yet nothing was asked for, and nothing announced
 asking_first : (standing : Standing) → IsUnused standing.connections → Asking (length (announced_of standing.worker)) (view_of standing)
@@ -563,15 +605,15 @@ module _ (before after : Worker) where
       ⊎_elim (λ (log : one.log < two.log). let no : ⊥ = omega (arith, first, second, log) in absurd no) (λ both. both.1) earlier
 
 -- a worker that has served was asked for all that it announced
-has_been_asked : (worker : Worker) (back : Returned) → HasServed worker back → HasBeenAsked worker back
-has_been_asked worker back served =
+has_been_asked : PartsAddUp → (worker : Worker) (back : Returned) → HasServed worker back → HasBeenAsked worker back
+has_been_asked laws worker back served =
     let first = standing worker served.first in
     let last = standing back.worker served.last in
     let from = length (announced_of worker) in
     let live = connection_at served.last in
     let asking =
     subst (Asking from) (same_view back.worker back.worker live live served.last.ended.connections back.ended.connections refl (λ key. refl) (ap (λ (ended : Ended). ended.connections) (sym served.ended)))
-    (asking_working from first last (sound_first first served.new) (asking_first first served.new) served.works)
+    (asking_working from first last (sound_first laws first served.new) (asking_first first served.new) served.works)
     in
     let nobody = nothing_at served.last.by_key.slots (eqb-true _ 0 served.over) in
     let end = view back.worker live back.ended.connections in
@@ -588,8 +630,8 @@ has_been_asked worker back served =
           in_order_ended from end asking nobody one.number two.number here.2 (number_before worker back.worker one two here.1 there.1 earlier) there.3 same;
     }
 
-pub all_have_been_asked : (workers : List Worker) (back : List Returned) → AllZip HasServed workers back → AllZip HasBeenAsked workers back
-all_have_been_asked [] [] served = tt
-all_have_been_asked [] (z ∷ zs) served = absurd served
-all_have_been_asked (x ∷ xs) [] served = absurd served
-all_have_been_asked (x ∷ xs) (z ∷ zs) served = (has_been_asked x z served.0, all_have_been_asked xs zs served.1)
+pub all_have_been_asked : PartsAddUp → (workers : List Worker) (back : List Returned) → AllZip HasServed workers back → AllZip HasBeenAsked workers back
+all_have_been_asked laws [] [] served = tt
+all_have_been_asked laws [] (z ∷ zs) served = absurd served
+all_have_been_asked laws (x ∷ xs) [] served = absurd served
+all_have_been_asked laws (x ∷ xs) (z ∷ zs) served = (has_been_asked laws x z served.0, all_have_been_asked laws xs zs served.1)

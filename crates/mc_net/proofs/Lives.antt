@@ -19,8 +19,7 @@ use Rattle.mc_conn.specs.Owed.{Mark, Owes, mark_of}
 use Rattle.mc_conn.specs.Turn.{Takes, holding_of, queue_of, scene}
 use Rattle.mc_conn.specs.declared.conn.State.{State}
 use Rattle.mc_conn.specs.declared.conn.State.TheVariants.{Closed, Idle, Busy}
-use Rattle.mc_conn.proofs.Public.{owes_grow, read_refl, read_trans}
-use Rattle.uc_worker.proofs.Public.{continues_self}
+use Rattle.uc_worker.specs.contracts.laws.WorkerGoesOn.TheImpl.{continues_self-value}
 use Rattle.lists.specs.Lists.{BeginsWith}
 use Rattle.mc_model.specs.declared.fault.Fault.{Fault}
 use Rattle.mc_model.specs.declared.reply.Reply.TheVariants.{Refused}
@@ -33,11 +32,12 @@ use Rattle.uc_worker.specs.declared.worker.Worker.{Worker}
 use Rattle.lists.proofs.Public.{begins_longer}
 use Rattle.mc_net.specs.Life.{FailedSoOften, HasAnswered, HasFault, WasAnswered, IsBehind, OwesInLogs, OwesInParts, and_then, next_log, no_log, came_of, none_yet, sent_of, words_of}
 use Rattle.mc_net.specs.Serving.{Becomes, HasEnded, IsNewConnection, IsServedLater, connection_at, scene_of}
-use Rattle.mc_net.specs.Working.{HasServed, IsUnused, ServesOne, Standing, TakesIn, Works, begins, goes_on, standing}
+use Rattle.mc_net.specs.Working.{HasServed, IsUnused, KeepsUp, ServesOne, Standing, TakesIn, Works, begins, goes_on, standing}
 use Rattle.mc_net.specs.declared.listener.Arrival.{Arrival}
 use Rattle.mc_net.specs.declared.ended.Ended.{Ended}
 use Rattle.mc_net.specs.declared.worker_thread.Returned.{Returned}
 use Rattle.mc_net.specs.declared.connections.Connection.{Connection}
+use Rattle.mc_net.specs.declared.connections.Connections.{Connections}
 
 -- the end that a turn remembers was found
 end_seen : (X Y : Type 0) (is was : Bool) (before after : Inflow) → MatchBool is ((was ≡ true) × (after ≡ before) ⊎ (has_ended after.events ≡ true) × X) Y →
@@ -56,9 +56,16 @@ whole_of role came requests holding reads none =
     let all : ReadsAs (lines_of role) (came ++ []) (requests ++ []) = (reads [] (requests ++ [])).1 ([], refl, nothing) in
     subst (λ (bytes : List ℕ). ReadsAs (lines_of role) bytes requests) (append-nil came) (subst (ReadsAs (lines_of role) (came ++ [])) (append-nil requests) all)
 
+-- the laws of what was read in parts, and of what is owed while the worker goes on
+pub record PartsAddUp : Type 0 where
+  pub read : (a b c : Holding) (came later : List ℕ) (first second : List Request) → IsRead a came first b → IsRead b later second c → IsRead a (came ++ later) (first ++ second) c
+  pub owed : (old new : Worker) → Continues old new → (role : Role) (from : Mark) (requests : List Request) (bytes : List ℕ) (to : Mark) →
+      Owes old role from requests bytes to → Owes new role from requests bytes to
+
 -- a connection that no fault has closed: what it has taken and was sent, and what it holds of the
 -- rest
 pub record Lives (worker : Worker) (connection : Connection) : Type 0 where
+  pub laws : PartsAddUp
   pub going : connection.conn.is_closed ≡ false
   unfailed : FailedSoOften connection 0 0
   requests : List Request
@@ -72,11 +79,11 @@ pub record Lives (worker : Worker) (connection : Connection) : Type 0 where
   end : connection.conn.has_ended ≡ true → has_ended connection.received.events ≡ true
 
 -- what is owed in parts stays owed
-parts_grow : (old new : Worker) → Continues old new → (role : Role) (requests : List Request) (bytes : List ℕ) (to : Mark) → OwesInParts old role requests bytes to →
+parts_grow : PartsAddUp → (old new : Worker) → Continues old new → (role : Role) (requests : List Request) (bytes : List ℕ) (to : Mark) → OwesInParts old role requests bytes to →
     OwesInParts new role requests bytes to
-parts_grow old new on role _ _ _ none_yet = none_yet
-parts_grow old new on role _ _ _ (and_then requests more bytes others to from last parts behind owes) =
-    and_then requests more bytes others to from last (parts_grow old new on role requests bytes to parts) behind (owes_grow old new on role from more others last owes)
+parts_grow laws old new on role _ _ _ none_yet = none_yet
+parts_grow laws old new on role _ _ _ (and_then requests more bytes others to from last parts behind owes) =
+    and_then requests more bytes others to from last (parts_grow laws old new on role requests bytes to parts) behind (laws.owed old new on role from more others last owes)
 
 -- requests that one worker took, on one log
 pub in_one_log : (worker : Worker) (role : Role) (requests : List Request) (owed : List ℕ) (to : Mark) → OwesInParts worker role requests owed to → OwesInLogs role (worker ∷ []) requests owed
@@ -107,10 +114,10 @@ owes_alone role _ _ _ (next_log worker workers requests more bytes others to par
 pub of_one_log : (worker : Worker) (role : Role) (requests : List Request) (owed : List ℕ) → OwesInLogs role (worker ∷ []) requests owed → (to : Mark) × OwesInParts worker role requests owed to
 of_one_log worker role requests owed owes = owes_alone role (worker ∷ []) requests owed owes
 
-one_log_grows : (old new : Worker) → Continues old new → (role : Role) (requests : List Request) (owed : List ℕ) → OwesInLogs role (old ∷ []) requests owed → OwesInLogs role (new ∷ []) requests owed
-one_log_grows old new on role requests owed owes =
+one_log_grows : PartsAddUp → (old new : Worker) → Continues old new → (role : Role) (requests : List Request) (owed : List ℕ) → OwesInLogs role (old ∷ []) requests owed → OwesInLogs role (new ∷ []) requests owed
+one_log_grows laws old new on role requests owed owes =
     let parts = of_one_log old role requests owed owes in
-    in_one_log new role requests owed parts.0 (parts_grow old new on role requests owed parts.0 parts.1)
+    in_one_log new role requests owed parts.0 (parts_grow laws old new on role requests owed parts.0 parts.1)
 
 -- what a worker has answered, on one log
 abbrev AnsweredBy : Worker → Connection → Type 0
@@ -122,31 +129,33 @@ behind_grows old new to on behind =
 
 lives_on : (old new : Worker) (connection : Connection) → Continues old new → Lives old connection → Lives new connection
 lives_on old new connection on lives = record {
+  laws = lives.laws;
   going = lives.going;
   unfailed = lives.unfailed;
   requests = lives.requests;
   owed = lives.owed;
   to = lives.to;
   reads = lives.reads;
-  owes = parts_grow old new on connection.conn.role lives.requests lives.owed lives.to lives.owes;
+  owes = parts_grow lives.laws old new on connection.conn.role lives.requests lives.owed lives.to lives.owes;
   behind = behind_grows old new lives.to on lives.behind;
   bytes = lives.bytes;
   over = lives.over;
   end = lives.end;
 }
 
-answered_on : (old new : Worker) (connection : Connection) → Continues old new → AnsweredBy old connection → AnsweredBy new connection
-answered_on old new connection on answered = record {
+answered_on : PartsAddUp → (old new : Worker) (connection : Connection) → Continues old new → AnsweredBy old connection → AnsweredBy new connection
+answered_on laws old new connection on answered = record {
   requests = answered.requests;
   owed = answered.owed;
   first = answered.first;
-  owes = one_log_grows old new on connection.conn.role answered.requests answered.owed answered.owes;
+  owes = one_log_grows laws old new on connection.conn.role answered.requests answered.owed answered.owes;
   ending = answered.ending;
 }
 
 -- an arrival's connection
-lives_fresh : (worker : Worker) (connection : Connection) (arrival : Arrival _) → IsNewConnection connection arrival → Lives worker connection
-lives_fresh worker connection arrival fresh = record {
+lives_fresh : PartsAddUp → (worker : Worker) (connection : Connection) (arrival : Arrival _) → IsNewConnection connection arrival → Lives worker connection
+lives_fresh laws worker connection arrival fresh = record {
+  laws = laws;
   going = fresh.going.2;
   unfailed = (ap failures fresh.tapes.0, ap failures fresh.tapes.1);
   requests = [];
@@ -155,7 +164,8 @@ lives_fresh worker connection arrival fresh = record {
   reads =
       let nothing = nothing_held connection.conn.role in
       subst (λ (events : List Event). IsRead nothing (moved events) [] (holding_of connection.conn)) (sym fresh.tapes.0)
-      (subst (λ (holding : Holding). IsRead nothing [] [] holding) (sym fresh.holding) (read_refl nothing));
+      (subst (λ (holding : Holding). IsRead nothing [] [] holding) (sym fresh.holding)
+      (λ more all. ((λ reads. (all, refl, reads)), (λ back. subst (HoldsOn nothing more) (sym back.1) back.2))));
   owes = none_yet;
   behind = (omega arith, omega arith);
   bytes = ap (λ (events : List Event). moved events ++ queue_of connection.conn) fresh.tapes.1 ∙ fresh.queue;
@@ -175,11 +185,12 @@ module _ (before after : Worker) (old new : Connection) (role : new.conn.role �
   parts_so_far : Continues before after → OwesInParts after new.conn.role lives.requests lives.owed lives.to
   parts_so_far on =
       subst (λ (role : Role). OwesInParts after role lives.requests lives.owed lives.to) (sym role)
-      (parts_grow before after on old.conn.role lives.requests lives.owed lives.to lives.owes)
+      (parts_grow lives.laws before after on old.conn.role lives.requests lives.owed lives.to lives.owes)
 
   -- turns without a fault
   lives_taking : Takes (scene_of old before) (scene_of new after) → Lives after new
   lives_taking takes = record {
+    laws = lives.laws;
     going = takes.shut ∙ lives.going;
     unfailed = (takes.unfailed.0 ∙ lives.unfailed.0, takes.unfailed.1 ∙ lives.unfailed.1);
     requests = lives.requests ++ takes.taken.requests;
@@ -188,7 +199,7 @@ module _ (before after : Worker) (old new : Connection) (role : new.conn.role �
     reads =
         subst (λ (came : List ℕ). IsRead (nothing_held new.conn.role) came (lives.requests ++ takes.taken.requests) (holding_of new.conn)) (sym takes.taken.pulled)
         (subst (λ (role : Role). IsRead (nothing_held role) (came_of old ++ takes.taken.came) (lives.requests ++ takes.taken.requests) (holding_of new.conn)) (sym role)
-        (read_trans (nothing_held old.conn.role) (holding_of old.conn) (holding_of new.conn) (came_of old) takes.taken.came lives.requests takes.taken.requests lives.reads takes.reads));
+        (lives.laws.read (nothing_held old.conn.role) (holding_of old.conn) (holding_of new.conn) (came_of old) takes.taken.came lives.requests takes.taken.requests lives.reads takes.reads));
     owes =
         and_then lives.requests takes.taken.requests lives.owed takes.taken.owed lives.to (mark_of before) (mark_of after) (parts_so_far takes.taken.onward) lives.behind
         (subst (λ (role : Role). Owes after role (mark_of before) takes.taken.requests takes.taken.owed (mark_of after)) (sym role) takes.taken.owes);
@@ -291,14 +302,17 @@ answered_done worker connection lives done = record {
   });
 }
 
+continues_self : (worker : Worker) → Continues worker worker
+continues_self worker = continues_self-value.it worker
+
 -- one step under a key: the worker goes on, what stays lives, and what has ended was answered
 record Steps (before after : Standing) (new : Option Connection) : Type 0 where
   onward : Continues before.worker after.worker
   stays : (connection : Connection) → new ≡ Some connection → Lives after.worker connection
   ended : All (AnsweredBy before.worker) before.connections.ended.connections → All (AnsweredBy after.worker) after.connections.ended.connections
 
-all_on : (old new : Worker) → Continues old new → (list : List Connection) → All (AnsweredBy old) list → All (AnsweredBy new) list
-all_on old new on list all = λ i d inside. answered_on old new (slice_index_or list i d) on (all i d inside)
+all_on : PartsAddUp → (old new : Worker) → Continues old new → (list : List Connection) → All (AnsweredBy old) list → All (AnsweredBy new) list
+all_on laws old new on list all = λ i d inside. answered_on laws old new (slice_index_or list i d) on (all i d inside)
 
 later_onward : (before after : Worker) (old new : Connection) (state : State) → IsServedLater before after old new state → Continues before after
 later_onward before after old new state later =
@@ -325,35 +339,49 @@ later_answered before after old new later lives =
     (λ stopped. answered_stopping before after old new later.role lives stopped.0 stopped.1)
     later.served
 
-steps_at : (before after : Standing) (state : State) (old new : Option Connection) →
-    ((connection : Connection) → old ≡ Some connection → Lives before.worker connection) →
-    Becomes (IsServedLater before.worker after.worker) (after.worker ≡ before.worker) state before.connections.ended.connections after.connections.ended.connections old new → Steps before after new
-steps_at before after state None new lives (gone, still, idle, past) = record {
+-- there was none, it stays, or it has ended
+none_there : (before after : Standing) (new : Option Connection) → new ≡ None → after.worker ≡ before.worker →
+    after.connections.ended.connections ≡ before.connections.ended.connections → Steps before after new
+none_there before after new gone still past = record {
   onward = subst (Continues before.worker) (sym still) (continues_self before.worker);
   stays = λ connection is. let no : None ≡ Some connection = sym gone ∙ is in cc;
   ended = λ all. subst (λ (worker : Worker). All (AnsweredBy worker) after.connections.ended.connections) (sym still) (subst (All (AnsweredBy before.worker)) (sym past) all);
 }
-steps_at before after state (Some old) (Some new) lives (later, isnt, past) =
+
+stays_there : (before after : Standing) (state : State) (old new : Connection) → Lives before.worker old → IsServedLater before.worker after.worker old new state →
+    state ≢ Closed → after.connections.ended.connections ≡ before.connections.ended.connections → Steps before after (Some new)
+stays_there before after state old new lives later isnt past =
     let on = later_onward before.worker after.worker old new state later in
     record {
       onward = on;
       stays = λ connection is.
-          subst (Lives after.worker) (same_Some new connection is) (later_lives before.worker after.worker old new state isnt later (lives old refl));
-      ended = λ all. subst (All (AnsweredBy after.worker)) (sym past) (all_on before.worker after.worker on before.connections.ended.connections all);
+          subst (Lives after.worker) (same_Some new connection is) (later_lives before.worker after.worker old new state isnt later lives);
+      ended = λ all. subst (All (AnsweredBy after.worker)) (sym past) (all_on lives.laws before.worker after.worker on before.connections.ended.connections all);
     }
-steps_at before after state (Some old) None lives (last, past, later, closed) =
+
+ends_there : (before after : Standing) (old last : Connection) → Lives before.worker old → after.connections.ended.connections ≡ last ∷ before.connections.ended.connections →
+    IsServedLater before.worker after.worker old last Closed → Steps before after None
+ends_there before after old last lives past later =
     let on = later_onward before.worker after.worker old last Closed later in
     record {
       onward = on;
       stays = λ connection is. let no : None ≡ Some connection = is in cc;
       ended = λ all.
           subst (All (AnsweredBy after.worker)) (sym past)
-          (All-cons (AnsweredBy after.worker) last before.connections.ended.connections (later_answered before.worker after.worker old last later (lives old refl))
-          (all_on before.worker after.worker on before.connections.ended.connections all));
+          (All-cons (AnsweredBy after.worker) last before.connections.ended.connections (later_answered before.worker after.worker old last later lives)
+          (all_on lives.laws before.worker after.worker on before.connections.ended.connections all));
     }
+
+steps_at : (before after : Standing) (state : State) (old new : Option Connection) →
+    ((connection : Connection) → old ≡ Some connection → Lives before.worker connection) →
+    Becomes (IsServedLater before.worker after.worker) (after.worker ≡ before.worker) state before.connections.ended.connections after.connections.ended.connections old new → Steps before after new
+steps_at before after state None new lives becomes = none_there before after new becomes.0 becomes.1 becomes.3
+steps_at before after state (Some old) (Some new) lives becomes = stays_there before after state old new (lives old refl) becomes.0 becomes.1 becomes.2
+steps_at before after state (Some old) None lives becomes = ends_there before after old becomes.0 (lives old refl) becomes.1 becomes.2
 
 -- each connection of a worker lives, and each that has ended was answered
 pub record IsSound (standing : Standing) : Type 0 where
+  laws : PartsAddUp
   pub lives : (key : ℕ) (connection : Connection) → connection_at standing.connections key ≡ Some connection → Lives standing.worker connection
   ended : All (AnsweredBy standing.worker) standing.connections.ended.connections
 
@@ -365,13 +393,14 @@ same_key (suc one) (suc two) = ⊎_elim (λ is. inl (ap (λ n. suc n) is)) (λ n
 
 sound_taking : (before after : Standing) → IsSound before → TakesIn before after → IsSound after
 sound_taking before after sound taken = record {
+  laws = sound.laws;
   lives = λ key connection at.
       subst (λ (worker : Worker). Lives worker connection) (sym taken.worker)
       (⊎_elim
       (λ (is : key ≡ taken.key).
       let fresh = taken.admits.connection in
       let there : Some fresh ≡ Some connection = sym taken.admits.updates.changed ∙ subst (λ (key : ℕ). connection_at after.connections key ≡ Some connection) is at in
-      subst (Lives before.worker) (same_Some fresh connection there) (lives_fresh before.worker fresh taken.arrival taken.admits.fresh))
+      subst (Lives before.worker) (same_Some fresh connection there) (lives_fresh sound.laws before.worker fresh taken.arrival taken.admits.fresh))
       (λ (not : key ≢ taken.key). sound.lives key connection (sym (taken.admits.updates.others key not) ∙ at))
       (same_key key taken.key));
   ended =
@@ -383,6 +412,7 @@ sound_serving : (before after : Standing) → IsSound before → ServesOne befor
 sound_serving before after sound one =
     let steps = steps_at before after one.state (connection_at before.connections one.key) (connection_at after.connections one.key) (sound.lives one.key) one.serves.becomes in
     record {
+      laws = sound.laws;
       lives = λ key connection at.
           ⊎_elim
           (λ (is : key ≡ one.key). steps.stays connection (subst (λ (key : ℕ). connection_at after.connections key ≡ Some connection) is at))
@@ -392,11 +422,24 @@ sound_serving before after sound one =
       ended = steps.ended sound.ended;
     }
 
+sound_catching : (before after : Standing) → IsSound before → KeepsUp before after → IsSound after
+sound_catching before after sound caught =
+    let on = caught.worker.continues in
+    record {
+      laws = sound.laws;
+      lives = λ key connection at.
+          lives_on before.worker after.worker connection on
+          (sound.lives key connection (ap (λ (connections : Connections). connection_at connections key) (sym caught.connections) ∙ at));
+      ended =
+          subst (λ (connections : Connections). All (AnsweredBy after.worker) connections.ended.connections) (sym caught.connections)
+          (all_on sound.laws before.worker after.worker on before.connections.ended.connections sound.ended);
+    }
+
 pub sound_working : (first last : Standing) → IsSound first → Works first last → IsSound last
 sound_working first _ sound begins = sound
 sound_working first _ sound (goes_on between last works step) =
     let so_far = sound_working first between sound works in
-    ⊎_elim (sound_taking between last so_far) (sound_serving between last so_far) step
+    ⊎_elim (sound_taking between last so_far) (⊎_elim (sound_serving between last so_far) (sound_catching between last so_far)) step
 
 -- without a connection there is none under any key
 pub nothing_at : {X : Type 0} (slots : List (Option X)) → count_by is_some slots ≡ 0 → (key : ℕ) → slice_index_or slots key None ≡ None
@@ -405,21 +448,22 @@ nothing_at (None ∷ slots) none zero = refl
 nothing_at (None ∷ slots) none (suc key) = nothing_at slots none key
 nothing_at (Some x ∷ slots) none key = let no : ⊥ = omega (arith, none, sum_by-cons (λ (slot : Option _). cond (is_some slot) 1 0) (Some x) slots) in absurd no
 
-pub sound_first : (standing : Standing) → IsUnused standing.connections → IsSound standing
-sound_first standing new = record {
+pub sound_first : PartsAddUp → (standing : Standing) → IsUnused standing.connections → IsSound standing
+sound_first laws standing new = record {
+  laws = laws;
   lives = λ key connection at. let no : None ≡ Some connection = sym (nothing_at standing.connections.by_key.slots (eqb-true _ 0 new.0) key) ∙ at in cc;
   ended = subst (All (AnsweredBy standing.worker)) (sym new.1) (All-nil (AnsweredBy standing.worker));
 }
 
 -- a worker that has served has answered
-has_answered : (worker : Worker) (back : Returned) → HasServed worker back → HasAnswered back
-has_answered worker back served =
+has_answered : PartsAddUp → (worker : Worker) (back : Returned) → HasServed worker back → HasAnswered back
+has_answered laws worker back served =
     let first = standing worker served.first in
     let last = standing back.worker served.last in
-    subst (λ (ended : Ended). All (AnsweredBy back.worker) ended.connections) served.ended (sound_working first last (sound_first first served.new) served.works).ended
+    subst (λ (ended : Ended). All (AnsweredBy back.worker) ended.connections) served.ended (sound_working first last (sound_first laws first served.new) served.works).ended
 
-pub all_have_answered : (workers : List Worker) (back : List Returned) → AllZip HasServed workers back → All HasAnswered back
-all_have_answered [] [] served = All-nil HasAnswered
-all_have_answered [] (z ∷ zs) served = absurd served
-all_have_answered (x ∷ xs) [] served = absurd served
-all_have_answered (x ∷ xs) (z ∷ zs) served = All-cons HasAnswered z zs (has_answered x z served.0) (all_have_answered xs zs served.1)
+pub all_have_answered : PartsAddUp → (workers : List Worker) (back : List Returned) → AllZip HasServed workers back → All HasAnswered back
+all_have_answered laws [] [] served = All-nil HasAnswered
+all_have_answered laws [] (z ∷ zs) served = absurd served
+all_have_answered laws (x ∷ xs) [] served = absurd served
+all_have_answered laws (x ∷ xs) (z ∷ zs) served = All-cons HasAnswered z zs (has_answered laws x z served.0) (all_have_answered laws xs zs served.1)

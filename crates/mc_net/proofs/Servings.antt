@@ -8,7 +8,6 @@ use Rattle.mc_conn.specs.declared.conn.State.{State}
 use Rattle.mc_conn.specs.declared.conn.State.TheVariants.{Closed, Idle, Busy}
 use Rattle.mc_conn.specs.Ending.{IsDone, PullsOnce, Stops, Turns}
 use Rattle.mc_conn.specs.Turn.{Scene, Takes, scene}
-use Rattle.mc_conn.proofs.Public.{stops_later, takes_self, takes_trans}
 use Rattle.mc_model.specs.declared.fault.Fault.{Fault}
 use Rattle.mc_stream.specs.Stream.{Inflow, Streams}
 use Rattle.uc_worker.specs.Going.{Continues}
@@ -21,9 +20,19 @@ true_or_false : (is : Bool) → (is ≡ true) ⊎ (is ≡ false)
 true_or_false true = inl refl
 true_or_false false = inr refl
 
+-- the law of turns of which none is taken, and those of turns one after another
+abbrev pub TakesNothing : Type 0
+TakesNothing = (a : Scene) → Takes a a
+
+abbrev pub TakeOn : Type 0
+TakeOn = (a b c : Scene) → Takes a b → Takes b c → Takes a c
+
+abbrev pub StopLater : Type 0
+StopLater = (fault : Fault) (a b c : Scene) → Takes a b → Stops b c fault → Stops a c fault
+
 -- a closed connection stays as it is
-takes_same : (a : Scene) (conn : Conn) (worker : Worker) (streams : Streams) → conn ≡ a.conn → worker ≡ a.worker → streams ≡ a.streams → Takes a (scene conn worker streams)
-takes_same a conn worker streams one two three =
+takes_same : TakesNothing → (a : Scene) (conn : Conn) (worker : Worker) (streams : Streams) → conn ≡ a.conn → worker ≡ a.worker → streams ≡ a.streams → Takes a (scene conn worker streams)
+takes_same takes_self a conn worker streams one two three =
     subst (λ (conn : Conn). Takes a (scene conn worker streams)) (sym one)
     (subst (λ (worker : Worker). Takes a (scene a.conn worker streams)) (sym two)
     (subst (λ (streams : Streams). Takes a (scene a.conn a.worker streams)) (sym three) (takes_self a)))
@@ -31,10 +40,10 @@ takes_same a conn worker streams one two three =
 not_ended : (b : Scene) → b.conn.is_closed ≡ false → ¬ (IsDone b.conn) → ¬ (HasEnded b.conn)
 not_ended b opened going = ⊎_elim (λ (closed : b.conn.is_closed ≡ true). let no : true ≡ false = sym closed ∙ opened in cc) going
 
-stands_going : (a b : Scene) (state : State) → b.conn.is_closed ≡ false → PullsOnce a.streams.input b.streams.input → Turns a b state → Stands a b state
-stands_going a b Closed opened once turns = inr turns.state_is
-stands_going a b Idle opened once turns = record { going = not_ended b opened turns.state_is.0; between = a; earlier = takes_self a; once = once; last = turns }
-stands_going a b Busy opened once turns = record { going = not_ended b opened turns.state_is.0; between = a; earlier = takes_self a; once = once; last = turns }
+stands_going : TakesNothing → (a b : Scene) (state : State) → b.conn.is_closed ≡ false → PullsOnce a.streams.input b.streams.input → Turns a b state → Stands a b state
+stands_going takes_self a b Closed opened once turns = inr turns.state_is
+stands_going takes_self a b Idle opened once turns = record { going = not_ended b opened turns.state_is.0; between = a; earlier = takes_self a; once = once; last = turns }
+stands_going takes_self a b Busy opened once turns = record { going = not_ended b opened turns.state_is.0; between = a; earlier = takes_self a; once = once; last = turns }
 
 -- the state that a turn returned
 abbrev pub state_answered : Result State Fault → State
@@ -47,14 +56,14 @@ met_fault false result fault bad closed = refl
 met_fault true result fault bad closed = let good = closed refl in cc
 
 -- a turn without a fault
-module _ (a : Scene) (conn : Conn) (worker : Worker) (streams : Streams) (state : State)
+module _ (takes_self : TakesNothing) (a : Scene) (conn : Conn) (worker : Worker) (streams : Streams) (state : State)
     (once : PullsOnce a.streams.input streams.input)
     (opened : a.conn.is_closed ≡ false → Turns a (scene conn worker streams) state)
     (closed : a.conn.is_closed ≡ true → (state ≡ Closed) × (conn ≡ a.conn) × (worker ≡ a.worker) × (streams ≡ a.streams)) where
   pub served_turn : TakesOrStops a (scene conn worker streams)
   served_turn =
       ⊎_elim
-      (λ (is : a.conn.is_closed ≡ true). let same = closed is in inl (takes_same a conn worker streams same.1 same.2 same.3))
+      (λ (is : a.conn.is_closed ≡ true). let same = closed is in inl (takes_same takes_self a conn worker streams same.1 same.2 same.3))
       (λ (is : a.conn.is_closed ≡ false). inl (opened is).takes)
       (true_or_false a.conn.is_closed)
 
@@ -63,7 +72,7 @@ module _ (a : Scene) (conn : Conn) (worker : Worker) (streams : Streams) (state 
       ⊎_elim
       (λ (is : a.conn.is_closed ≡ true).
       subst (Stands a (scene conn worker streams)) (sym (closed is).0) (inl (ap (λ (conn : Conn). conn.is_closed) (closed is).1 ∙ is)))
-      (λ (is : a.conn.is_closed ≡ false). stands_going a (scene conn worker streams) state ((opened is).takes.shut ∙ is) once (opened is))
+      (λ (is : a.conn.is_closed ≡ false). stands_going takes_self a (scene conn worker streams) state ((opened is).takes.shut ∙ is) once (opened is))
       (true_or_false a.conn.is_closed)
 
 -- a connection that may have more to do met no fault
@@ -82,15 +91,15 @@ served_onward a b =
     (λ (stopped : (fault : Fault) × Stops a b fault). stopped.1.breaks.taken.onward)
 
 -- turns after turns without a fault
-pub served_later : (a b c : Scene) → Takes a b → TakesOrStops b c → TakesOrStops a c
-served_later a b c one two =
+pub served_later : TakeOn → StopLater → (a b c : Scene) → Takes a b → TakesOrStops b c → TakesOrStops a c
+served_later takes_trans stops_later a b c one two =
     ⊎_elim
     (λ (takes : Takes b c). inl (takes_trans a b c one takes))
     (λ (stopped : (fault : Fault) × Stops b c fault). inr (stopped.0, stops_later stopped.0 a b c one stopped.1))
     two
 
-stays_later : (a b c : Scene) (state : State) → Takes a b → Stays b c state → Stays a c state
-stays_later a b c state takes stays = record {
+stays_later : TakeOn → (a b c : Scene) (state : State) → Takes a b → Stays b c state → Stays a c state
+stays_later takes_trans a b c state takes stays = record {
   going = stays.going;
   between = stays.between;
   earlier = takes_trans a b stays.between takes stays.earlier;
@@ -98,10 +107,10 @@ stays_later a b c state takes stays = record {
   last = stays.last;
 }
 
-pub stands_later : (a b c : Scene) (state : State) → Takes a b → TakesOrStops b c → Stands b c state → Stands a c state
-stands_later a b c Closed one two stands = stands
-stands_later a b c Idle one two stands = stays_later a b c Idle one stands
-stands_later a b c Busy one two stands = stays_later a b c Busy one stands
+pub stands_later : TakeOn → (a b c : Scene) (state : State) → Takes a b → TakesOrStops b c → Stands b c state → Stands a c state
+stands_later takes_trans a b c Closed one two stands = stands
+stands_later takes_trans a b c Idle one two stands = stays_later takes_trans a b c Idle one stands
+stands_later takes_trans a b c Busy one two stands = stays_later takes_trans a b c Busy one stands
 
 -- a turn pulls once at most
 pub once_few : (before after : Inflow) → PullsOnce before after → length after.events ≤ 1 + length before.events

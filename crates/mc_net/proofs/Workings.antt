@@ -1,10 +1,10 @@
 -- Work after work, one connection at a time.
 use Rattle.std.proofs.Common.{◌≡◌, ◌⊎◌, ℕ, length, Option, Some, None, IfSome, IfNone, ap, inl, inr, refl, sym, subst, ◌∙◌, ⊎_elim}
-use Rattle.uc_worker.specs.Going.{Continues}
-use Rattle.uc_worker.proofs.Public.{continues_self, continues_through}
+use Rattle.uc_worker.specs.Going.{CatchesUp, Continues}
+use Rattle.uc_worker.specs.contracts.laws.WorkerGoesOn.TheImpl.{continues_self-value, continues_through-value}
 use Rattle.mc_conn.specs.declared.conn.State.{State}
 use Rattle.mc_net.specs.Serving.{Admits, Becomes, IsServedLater, connection_at}
-use Rattle.mc_net.specs.Working.{ServesAt, ServesOne, Standing, TakesIn, Works, begins, goes_on, standing}
+use Rattle.mc_net.specs.Working.{KeepsUp, ServesAt, ServesOne, Standing, TakesIn, Works, begins, goes_on, standing}
 use Rattle.mc_net.specs.declared.listener.Arrival.{Arrival}
 use Rattle.mc_net.specs.declared.connections.Connection.{Connection}
 use Rattle.mc_net.specs.declared.connections.Connections.{Connections}
@@ -18,7 +18,13 @@ works_trans a b _ one (goes_on between last two step) = goes_on between last (wo
 
 -- the connection under a key was served, after other work
 pub works_serving : (first before after : Standing) (key : ℕ) (state : State) → Works first before → ServesAt key state before after → Works first after
-works_serving first before after key state works serves = goes_on before after works (inr (record { key = key; state = state; serves = serves }))
+works_serving first before after key state works serves = goes_on before after works (inr (inl (record { key = key; state = state; serves = serves })))
+
+-- the worker caught up, after other work
+pub works_catching : (first : Standing) (old new : Worker) (connections : Connections) → Works first (standing old connections) → CatchesUp old new →
+    Works first (standing new connections)
+works_catching first old new connections works catches =
+    goes_on (standing old connections) (standing new connections) works (inr (inr (record { worker = catches; connections = refl })))
 
 -- an arrival was admitted or not, after other work
 pub works_admitting : (first : Standing) (worker : Worker) (connections after : Connections) (arrival : Arrival _) (result : Option ℕ) → Works first (standing worker connections) →
@@ -32,26 +38,32 @@ works_admitting first worker connections after arrival (Some key) works admits s
 becomes_onward : (before after : Standing) (state : State) (old new : Option Connection) →
     Becomes (IsServedLater before.worker after.worker) (after.worker ≡ before.worker) state before.connections.ended.connections after.connections.ended.connections old new →
     Continues before.worker after.worker
-becomes_onward before after state None new (gone, still, idle, ended) = subst (Continues before.worker) (sym still) (continues_self before.worker)
+becomes_onward before after state None new (gone, still, idle, ended) = subst (Continues before.worker) (sym still) (continues_self-value.it before.worker)
 becomes_onward before after state (Some old) (Some new) (later, isnt, ended) = served_onward _ _ later.served
 becomes_onward before after state (Some old) None (last, ended, later, closed) = served_onward _ _ later.served
 
-step_onward : (before after : Standing) → TakesIn before after ⊎ ServesOne before after → Continues before.worker after.worker
+step_onward : (before after : Standing) → TakesIn before after ⊎ ServesOne before after ⊎ KeepsUp before after → Continues before.worker after.worker
 step_onward before after =
     ⊎_elim
-    (λ (taken : TakesIn before after). subst (Continues before.worker) (sym taken.worker) (continues_self before.worker))
+    (λ (taken : TakesIn before after). subst (Continues before.worker) (sym taken.worker) (continues_self-value.it before.worker))
+    (⊎_elim
     (λ (one : ServesOne before after).
     becomes_onward before after one.state (connection_at before.connections one.key) (connection_at after.connections one.key) one.serves.becomes)
+    (λ (caught : KeepsUp before after). caught.worker.continues))
 
 pub works_onward : (first last : Standing) → Works first last → Continues first.worker last.worker
-works_onward first _ begins = continues_self first.worker
+works_onward first _ begins = continues_self-value.it first.worker
 works_onward first _ (goes_on between last works step) =
-    continues_through first.worker between.worker last.worker (works_onward first between works) (step_onward between last step)
+    continues_through-value.it first.worker between.worker last.worker (works_onward first between works) (step_onward between last step)
 
 works_tenants : (first last : Standing) → Works first last → last.connections.tenants ≡ first.connections.tenants
 works_tenants first _ begins = refl
 works_tenants first _ (goes_on between last works step) =
-    ⊎_elim (λ (taken : TakesIn between last). taken.admits.tenants) (λ (one : ServesOne between last). one.serves.tenants) step ∙ works_tenants first between works
+    ⊎_elim
+    (λ (taken : TakesIn between last). taken.admits.tenants)
+    (⊎_elim (λ (one : ServesOne between last). one.serves.tenants) (λ (caught : KeepsUp between last). ap (λ (connections : Connections). connections.tenants) caught.connections))
+    step
+    ∙ works_tenants first between works
 
 -- the connections are still for the tenants of the worker's log
 pub works_known : (first last : Standing) → Works first last → first.connections.tenants ≡ length (tenants_of first.worker) →

@@ -1,5 +1,7 @@
 -- Which stream goes where; this project's profile.
-use Rattle.std.specs.Prelude.{◌≡◌, ℕ, ◌%◌, List, Some, slice_get, length}
+use Rattle.std.specs.Prelude.{◌≡◌, ℕ, ◌+◌, ◌%◌, ◌^◌, List, Some, slice_get, length}
+use Rattle.mc_net.specs.declared.handing.Accepted.{Accepted}
+use Rattle.mc_net.specs.declared.handing.Accepted.TheVariants.{One, None as NoneWaits, Failed}
 use Rattle.mc_net.specs.declared.listener.Arrival.{Arrival}
 use Rattle.mc_net.specs.declared.listener.TenantListener.{TenantListener}
 
@@ -28,3 +30,10 @@ pub record IsPassed {L P S : Type 0} (accepted_by : L → S → Type 0)
   pub arrival : Arrival S
   pub of : IsArrivalOf accepted_by listener arrival
   pub handed : IsHanded received places done arrival
+
+-- how many streams were handed over after an attempt to accept one: one more if one was accepted,
+-- as a number of 64 bits
+abbrev pub count_after : Accepted → ℕ → ℕ
+count_after One done = (done + 1) % 2 ^ 64
+count_after NoneWaits done = done
+count_after Failed done = done

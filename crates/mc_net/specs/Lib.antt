@@ -1,4 +1,5 @@
 pub mod Asking
+pub mod Beginning
 pub mod Handing
 pub mod Life
 pub mod Running

@@ -71,14 +71,14 @@ HasFault CellTaken connection = FailedSoOften connection 0 0
 HasFault InputFailed connection = FailedSoOften connection 1 0
 HasFault OutputFailed connection = FailedSoOften connection 0 1
 
--- what the client is told about a fault
+-- the words that report a fault to the client
 abbrev pub words_of : ConnFault → List ℕ
 words_of OutOfMemory = text (Refused OUT_OF_MEMORY)
 words_of CellTaken = []
 words_of InputFailed = []
 words_of OutputFailed = []
 
--- a fault: what was sent is a prefix of what is owed followed by what the client is told
+-- a fault: what was sent is a prefix of what is owed followed by the words that report the fault
 pub record IsCut (connection : Connection) (owed : List ℕ) : Type 0 where
   pub fault : ConnFault
   pub why : HasFault fault connection
@@ -88,7 +88,7 @@ pub record IsCut (connection : Connection) (owed : List ℕ) : Type 0 where
 -- requests, whatever more might have come, were taken in order, and each is answered over the
 -- history of the worker that took it, at its own place, after its own tenant's commands before that
 -- place. What was sent is what is owed for these, or after a fault a prefix of that followed by
--- what the client is told.
+-- the words that report the fault.
 pub record WasAnswered (workers : List Worker) (connection : Connection) : Type 0 where
   pub requests : List Request
   pub owed : List ℕ

@@ -1,7 +1,7 @@
 -- What a worker's loop does with its connections; this project's profile.
 use Rattle.std.specs.Prelude.{◌≡◌, ◌==◌, ◌⊎◌, ℕ, true, []}
 use Rattle.slab.specs.Slab.{slab_len}
-use Rattle.uc_worker.specs.Going.{Continues}
+use Rattle.uc_worker.specs.Going.{CatchesUp, Continues}
 use Rattle.mc_conn.specs.declared.conn.State.{State}
 use Rattle.mc_net.specs.Serving.{Admits, Becomes, IsServedLater, ChangesAt}
 use Rattle.mc_net.specs.declared.listener.Arrival.{Arrival}
@@ -43,13 +43,18 @@ pub record ServesOne (before after : Standing) : Type 0 where
   pub state : State
   pub serves : ServesAt key state before after
 
--- Arrivals were admitted and connections served, one after another. The connections that are left,
--- those that have ended, and their tapes are genuine: each is what one of the first connections, or
--- an arrival, became by being served.
+-- the worker caught up with commands of others, which leaves its connections unchanged
+pub record KeepsUp (before after : Standing) : Type 0 where
+  pub worker : CatchesUp before.worker after.worker
+  pub connections : after.connections ≡ before.connections
+
+-- Arrivals were admitted and connections served, and the worker caught up, one after another. The
+-- connections that are left, those that have ended, and their tapes are genuine: each is what one of
+-- the first connections, or an arrival, became by being served.
 pub data Works (first : Standing) : Standing → Type 0 where
   begins : Works first first
   goes_on : (between last : Standing) → Works first between →
-      TakesIn between last ⊎ ServesOne between last → Works first last
+      TakesIn between last ⊎ ServesOne between last ⊎ KeepsUp between last → Works first last
 
 -- there is no connection
 abbrev pub IsEmpty : Connections → Type 0

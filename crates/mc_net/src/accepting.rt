@@ -1,11 +1,18 @@
 //! The acceptor's loop.
+ghost use Rattle.std.specs.Prelude.{◌≡◌, IfOk, MatchResult};
+ghost use Rattle.mc_net.specs.Beginning.{HaltsServing};
+
+use crate::beginning::Begin;
 use crate::halt::Halt;
 use crate::handing::{Accepted, accept_one};
 use crate::listener::TenantListener;
 use crate::mailbox::{Mailboxes, Signal};
+use mc_model::Fault;
 use mio::net::TcpListener;
+use mio::unix::SourceFd;
 use mio::{Events, Interest, Poll, Token};
 use std::alloc::Global;
+use std::os::fd::AsRawFd;
 use std::sync::Wait;
 use std::time::Duration;
 
@@ -19,14 +26,13 @@ const ACCEPTS: u32 = 64;
 /// How long the acceptor waits at most before it retries a listener that failed, in milliseconds.
 const PAUSE_MILLIS: u64 = 50;
 
-/// How long the workers' loops have to begin: this many polls of a millisecond in which no event
-/// comes.
-const POLLS_TO_BEGIN: u64 = 10_000;
+/// How long the workers' loops have to begin: this many polls of a millisecond.
+const POLLS_TO_BEGIN: u32 = 10_000;
 
 /// The listeners, and the poll that reports their streams.
 #[derive(Drop)]
 pub(crate) struct Acceptor {
-    listeners: Vec<TenantListener<TcpListener>>,
+    pub(crate) listeners: Vec<TenantListener<TcpListener>>,
     poll: Poll,
     events: Events,
     // How many streams have been accepted, and how many are to be; 0 for no end.
@@ -43,23 +49,16 @@ pub(crate) struct Acceptor {
 impl Acceptor {
     /// Returns an acceptor of these listeners that has accepted nothing.
     ///
-    /// Returns `Memory` if memory runs out, and `Poll` if a listener can't be registered.
+    /// Returns `Memory` if memory runs out.
     pub(crate) fn new(
         alloc: Global,
         poll: Poll,
-        mut listeners: Vec<TenantListener<TcpListener>>,
+        listeners: Vec<TenantListener<TcpListener>>,
         most: u64,
-    ) -> Result<Acceptor, Halt> {
+    ) -> Result<Acceptor, Halt>
+        ensures { IfOk result (λ acceptor. acceptor.listeners ≡ listeners) }
+    {
         let events = Events::with_capacity(alloc, EVENTS)?;
-        for (number, listener) in listeners.iter_mut().enumerate() {
-            let token = Token(number);
-            let watched = poll
-                .registry()
-                .register(&mut listener.socket, token, Interest::READABLE);
-            if watched.is_err() {
-                return Err(Halt::Poll);
-            }
-        }
         Ok(Acceptor {
             listeners,
             poll,
@@ -85,7 +84,9 @@ impl Acceptor {
         rt: &R,
         number: usize,
         mailboxes: &Mailboxes,
-    ) -> Result<(), Halt> {
+    ) -> Result<(), Halt>
+        ensures { self.new.listeners ≡ self.old.listeners }
+    {
         for _ in 0..ACCEPTS {
             if self.is_done() {
                 return Ok(());
@@ -93,8 +94,8 @@ impl Acceptor {
             let Some(open) = self.listeners.get(number) else {
                 return Ok(());
             };
-            match accept_one(rt, open, &mailboxes.of_workers, self.done)? {
-                Accepted::One => self.done = self.done.wrapping_add(1),
+            match accept_one(rt, open, &mailboxes.of_workers, &mut self.done)? {
+                Accepted::One => {}
                 Accepted::None => return Ok(()),
                 Accepted::Failed => {
                     self.is_troubled = true;
@@ -120,7 +121,9 @@ impl Acceptor {
     /// one is to be asked again.
     ///
     /// Returns `Poll` if the poll fails, and the errors of `accept_one`.
-    fn poll_and_accept<R: Wait>(&mut self, rt: &R, mailboxes: &Mailboxes) -> Result<(), Halt> {
+    fn poll_and_accept<R: Wait>(&mut self, rt: &R, mailboxes: &Mailboxes) -> Result<(), Halt>
+        ensures { self.new.listeners ≡ self.old.listeners }
+    {
         let timeout = self.timeout();
         if self.poll.poll(&mut self.events, timeout).is_err() {
             return Err(Halt::Poll);
@@ -147,37 +150,56 @@ impl Acceptor {
     /// Waits until every worker's loop has begun, so that no stream is handed to a thread that
     /// never runs.
     ///
-    /// An event that comes meanwhile isn't lost, since all listeners are asked first. Returns
+    /// No listener is registered yet, so that clients who connect don't shorten the wait. Returns
     /// `Memory` if a loop doesn't begin in time, for example because the system refuses its thread,
     /// and `Poll` if a poll fails.
-    fn await_workers<R: Wait>(&mut self, rt: &R, mailboxes: &Mailboxes) -> Result<(), Halt> {
+    fn await_workers<R: Wait>(&mut self, rt: &R, mailboxes: &Mailboxes) -> Result<(), Halt>
+        ensures { self.new.listeners ≡ self.old.listeners }
+    {
         let pause = Duration::from_millis(1);
-        self.has_more = true;
-        let mut left = POLLS_TO_BEGIN;
-        for _ in rt.forever() {
+        for _ in 0..POLLS_TO_BEGIN {
             if mailboxes.has_begun(rt) {
                 return Ok(());
-            }
-            if left == 0 {
-                return Err(Halt::Memory);
             }
             if self.poll.poll(&mut self.events, Some(pause)).is_err() {
                 return Err(Halt::Poll);
             }
-            if self.events.is_empty() {
-                left = left.saturating_sub(1);
+        }
+        Err(Halt::Memory)
+    }
+
+    /// Registers the listeners. The next poll reports those at which streams are waiting already.
+    ///
+    /// Returns `Poll` if one of them can't be registered.
+    fn register_listeners(&mut self) -> Result<(), Halt>
+        ensures { self.new.listeners ≡ self.old.listeners }
+    {
+        for number in 0..self.listeners.len() {
+            let Some(listener) = self.listeners.get(number) else {
+                break;
+            };
+            let descriptor = listener.socket.as_raw_fd();
+            let registry = self.poll.registry();
+            let token = Token(number);
+            let registered = registry.register(
+                &mut SourceFd(&descriptor),
+                token,
+                Interest::READABLE,
+            );
+            if registered.is_err() {
+                return Err(Halt::Poll);
             }
         }
-        unreachable!()
+        Ok(())
     }
 
     /// Accepts until `most` streams were handed over or another loop has failed, and then signals
-    /// to the workers that no more come. Accepts nothing before all workers' loops have begun.
+    /// to the workers that no more come.
     ///
-    /// Returns the errors of `await_workers` and `poll_and_accept`, and `Poll` if a worker can't be
-    /// woken.
-    fn accept_all<R: Wait>(&mut self, rt: &R, mailboxes: &Mailboxes) -> Result<(), Halt> {
-        self.await_workers(rt, mailboxes)?;
+    /// Returns the errors of `poll_and_accept`, and `Poll` if a worker can't be woken.
+    fn accept_all<R: Wait>(&mut self, rt: &R, mailboxes: &Mailboxes) -> Result<(), Halt>
+        ensures { self.new.listeners ≡ self.old.listeners }
+    {
         for _ in rt.forever() {
             if self.is_done() || mailboxes.of_acceptor.signal(rt) == Signal::Halted {
                 return mailboxes.tell_workers(rt, Signal::Closed);
@@ -187,11 +209,43 @@ impl Acceptor {
         unreachable!()
     }
 
+    /// Begins once all workers' loops have begun, and only then accepts.
+    ///
+    /// Returns the errors of `await_workers`, `register_listeners` and `accept_all`, and the fault
+    /// of `begin`.
+    fn begin_and_accept<R: Wait, B: Begin<O>, O>(
+        &mut self,
+        rt: &R,
+        mailboxes: &Mailboxes,
+        begin: &B,
+        state: &mut O,
+    ) -> Result<(), Fault>
+        ensures listeners { self.new.listeners ≡ self.old.listeners }
+        ensures outcome { MatchResult result (λ _. B.done begin.now state.old state.new)
+            (HaltsServing (B.done begin.now) (B.stopped begin.now) state.old state.new) }
+    {
+        self.await_workers(rt, mailboxes)?;
+        self.register_listeners()?;
+        begin.begin(rt, state)?;
+        self.accept_all(rt, mailboxes)?;
+        Ok(())
+    }
+
     /// Runs the acceptor's loop. If it fails, all other loops are signalled to end.
     ///
-    /// Returns the errors of `accept_all`.
-    pub(crate) fn run<R: Wait>(&mut self, rt: &R, mailboxes: &Mailboxes) -> Result<(), Halt> {
-        let outcome = self.accept_all(rt, mailboxes);
+    /// Returns the errors of `begin_and_accept`.
+    pub(crate) fn run<R: Wait, B: Begin<O>, O>(
+        &mut self,
+        rt: &R,
+        mailboxes: &Mailboxes,
+        begin: &B,
+        state: &mut O,
+    ) -> Result<(), Fault>
+        ensures listeners { self.new.listeners ≡ self.old.listeners }
+        ensures outcome { MatchResult result (λ _. B.done begin.now state.old state.new)
+            (HaltsServing (B.done begin.now) (B.stopped begin.now) state.old state.new) }
+    {
+        let outcome = self.begin_and_accept(rt, mailboxes, begin, state);
         if outcome.is_err() {
             mailboxes.halt(rt);
         }

@@ -7,6 +7,7 @@ ghost use Rattle.mc_net.specs.Working.{ServesAt, standing};
 ghost use Rattle.mc_stream.specs.Stream.{both};
 ghost use Rattle.uc_worker.specs.Worker.{tenants_of};
 
+use crate::closing::Closing;
 use crate::connections::{Connection, Connections, MOST_CONNECTIONS};
 use crate::listener::Arrival;
 use crate::socket::{SocketReader, SocketWriter};
@@ -42,6 +43,8 @@ fn turns<I: Input, O: Output, G: Gate>(
     ensures few { HasAtMost TURNS (I.tells input.old).events (I.tells input.new).events }
     ensures role { conn.new.role ≡ conn.old.role }
 {
+    // The law from which the clauses on all turns follow.
+    mc_conn::laws::turns_add_up();
     for _ in 0..TURNS {
         match conn.turn(worker, input, output, gate, buffer) {
             Ok(State::Busy) => {}
@@ -116,7 +119,7 @@ impl Connections {
     }
 
     /// Serves the connection under a key, if there is one, and returns its state afterwards. If it
-    /// has ended it is removed and closed.
+    /// has ended it is removed, and its stream closes.
     pub(crate) fn serve<G: Gate>(
         &mut self,
         worker: &mut Worker<'_>,
@@ -124,6 +127,7 @@ impl Connections {
         buffer: &mut [u8; PULL_BYTES],
         key: usize,
         stops_short: bool,
+        closing: &mut Closing,
     ) -> State
         requires { self.old.tenants ≡ length (tenants_of worker.old) }
         ensures { ServesAt key result (standing worker.old self.old)
@@ -138,6 +142,7 @@ impl Connections {
                 unreachable!();
             };
             self.ended = self.ended.and(&connection);
+            closing.keep(connection.stream, buffer);
         }
         state
     }

@@ -1,16 +1,18 @@
 //! Where streams come in, and the event loops that serve them. No worker is part of it, so that
 //! connections outlive the workers that serve them.
-ghost use Rattle.std.specs.Prelude.{◌≡◌, ◌<◌, All, IfOk, vec_len};
+ghost use Rattle.std.specs.Prelude.{◌≡◌, ◌<◌, All, IfOk, MatchResult, vec_len};
+ghost use Rattle.mc_net.specs.Beginning.{HaltsServing};
 ghost use Rattle.mc_net.specs.Running.{FitTogether, HaveServedAt, IsNewLoop, listeners_of};
 
 use crate::accepting::Acceptor;
+use crate::beginning::Begin;
 use crate::event_loop::EventLoop;
 use crate::halt::Halt;
 use crate::listener::TenantListener;
 use crate::mailbox::{Mailbox, Mailboxes};
 use crate::running::{first_failure, parted, run_all, threads_of};
 use crate::worker_thread::Returned;
-use mc_model::TenantId;
+use mc_model::{Fault, TenantId};
 use mio::Poll;
 use mio::net::TcpListener;
 use std::alloc::Global;
@@ -86,8 +88,7 @@ impl Front {
     /// Returns the front of these listeners, for this many workers of a log of this many tenants.
     /// It is to accept `connections` streams; 0 for no end.
     ///
-    /// Returns `Memory` if memory runs out, and `Poll` if a poll or a mailbox can't be made or a
-    /// listener can't be registered.
+    /// Returns `Memory` if memory runs out, and `Poll` if a poll or a mailbox can't be made.
     pub(crate) fn new<R: Net>(
         rt: &R,
         alloc: Global,
@@ -99,6 +100,8 @@ impl Front {
         requires { 0 < workers }
         ensures many { IfOk result (λ front. vec_len front.event_loops ≡ workers) }
         ensures new { IfOk result (λ front. All (IsNewLoop tenants) front.event_loops.items) }
+        ensures listeners { IfOk result
+            (λ front. listeners_of front.acceptor.listeners.items ≡ listeners.items) }
     {
         let (of_workers, event_loops) = new_event_loops(rt, alloc, workers, tenants)?;
         let (poll, of_acceptor) = new_poll(rt, alloc)?;
@@ -119,19 +122,23 @@ impl Front {
     /// its own if one can be made, until no more streams are to come and every connection has
     /// ended. Returns the workers in their order.
     ///
-    /// Returns the error of the loop that failed, and `Memory` if memory runs out; the connections
-    /// are closed then.
-    pub(crate) fn run<'a, R: Threads + Wait + Sync, G: Gate + Send + Drop>(
+    /// Returns the error of the loop that failed, the fault of `begin`, and `Memory` if memory runs
+    /// out; the connections are closed then.
+    pub(crate) fn run<'a, R: Threads + Wait + Sync, G: Gate + Send + Drop, B: Begin<O>, O>(
         &mut self,
         rt: &R,
         alloc: Global,
         log: &'a Log,
         workers: Vec<Worker<'a>>,
         gates: Vec<G>,
-    ) -> Result<Vec<Returned<'a>>, Halt>
+        begin: &B,
+        state: &mut O,
+    ) -> Result<Vec<Returned<'a>>, Fault>
         requires { FitTogether log.now workers.items gates.items self.old.event_loops.items }
-        ensures { IfOk result (λ back. HaveServedAt workers.entry.items self.old.event_loops.items
-            back.items self.new.event_loops.items) }
+        ensures served { IfOk result (λ back. HaveServedAt workers.entry.items
+            self.old.event_loops.items back.items self.new.event_loops.items) }
+        ensures outcome { MatchResult result (λ _. B.done begin.now state.old state.new)
+            (HaltsServing (B.done begin.now) (B.stopped begin.now) state.old state.new) }
     {
         let Front {
             acceptor,
@@ -140,7 +147,7 @@ impl Front {
         } = self;
         let lent = mem::replace(event_loops, Vec::new(alloc));
         let mut worker_threads = threads_of(alloc, log, workers, gates, lent)?;
-        run_all(rt, mailboxes, acceptor, &mut worker_threads)?;
+        run_all(rt, mailboxes, acceptor, &mut worker_threads, begin, state)?;
         first_failure(&worker_threads)?;
         let (back, left) = parted(alloc, worker_threads)?;
         *event_loops = left;

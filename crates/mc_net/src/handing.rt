@@ -1,7 +1,7 @@
 //! Streams are handed to the workers round-robin.
-ghost use Rattle.std.specs.Prelude.{◌≡◌, ◌<◌, length, IfOk, OnOk};
+ghost use Rattle.std.specs.Prelude.{◌≡◌, ◌<◌, length, IfOk, OnErr, OnOk};
 ghost use Rattle.mc_net.specs.declared.listener.Arrival.{Arrival};
-ghost use Rattle.mc_net.specs.Handing.{IsHanded, IsPassed};
+ghost use Rattle.mc_net.specs.Handing.{IsHanded, IsPassed, count_after};
 
 use crate::halt::Halt;
 use crate::listener::{Arrival, Listen, TenantListener};
@@ -45,23 +45,28 @@ pub enum Accepted {
     Failed,
 }
 
-/// Accepts a stream, and hands it over.
+/// Accepts a stream, and hands it over. `done` is how many streams were handed over before; it
+/// counts one that is handed over now, and no attempt at which none is waiting or the listener
+/// fails.
 ///
 /// Returns the errors of `hand_over`.
 pub fn accept_one<R: Wait, L: Listen, P: Receive<L::Stream>>(
     rt: &R,
     listener: &TenantListener<L>,
     places: &[P],
-    done: u64,
+    done: &mut u64,
 ) -> Result<Accepted, Halt>
     requires { 0 < length places.now }
-    ensures { IfOk result
+    ensures passed { IfOk result
         (λ accepted. accepted ≡ Accepted.One →
-        IsPassed L.accepted_by P.received listener.now places.now done) }
+        IsPassed L.accepted_by P.received listener.now places.now done.old) }
+    ensures counted { IfOk result (λ accepted. done.new ≡ count_after accepted done.old) }
+    ensures uncounted { OnErr result (done.new ≡ done.old) }
 {
     match listener.accept() {
         Ok(arrival) => {
-            hand_over(rt, places, done, arrival)?;
+            hand_over(rt, places, *done, arrival)?;
+            *done = done.wrapping_add(1);
             Ok(Accepted::One)
         }
         Err(error) => {

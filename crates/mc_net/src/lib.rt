@@ -4,10 +4,12 @@
 //!
 //! `specs/Handing.antt` says which stream goes where, `specs/Serving.antt` what becomes of a
 //! connection that is served, `specs/Working.antt` what a round leaves of a worker's connections,
-//! `specs/Life.antt` what a connection was sent from its first byte to its last, and
-//! `specs/Asking.antt` for whom commands are announced.
+//! `specs/Life.antt` what a connection was sent from its first byte to its last,
+//! `specs/Asking.antt` for whom commands are announced, and `specs/Beginning.antt` what is left of
+//! the state with which serving begins.
 #![tactic(auto)]
 
+pub use beginning::Begin;
 pub use ended::Ended;
 pub use halt::Halt;
 pub use handing::{Accepted, Receive, accept_one, hand_over};
@@ -16,6 +18,8 @@ pub use serving::{into_workers, serve};
 pub use worker_thread::Returned;
 
 mod accepting;
+pub mod beginning;
+mod closing;
 mod connecting;
 mod connections;
 pub mod ended;

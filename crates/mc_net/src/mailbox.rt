@@ -113,7 +113,9 @@ impl Receive<TcpStream> for Mailbox {
     fn receive<R: Wait>(&self, rt: &R, arrival: Arrival<TcpStream>) -> Result<(), Halt>
         ensures { OnOk result ⊤ }
     {
-        match self.inbox.lock(rt).arrivals.push_back(arrival) {
+        // The lock is given back before the wake, which is a system call.
+        let pushed = self.inbox.lock(rt).arrivals.push_back(arrival);
+        match pushed {
             Ok(()) => wake(&self.waker),
             Err(_) => Ok(()),
         }
@@ -135,6 +137,16 @@ impl Mailboxes {
         self.of_workers
             .iter()
             .all(|mailbox| mailbox.signal(rt) != Signal::Starting)
+    }
+
+    /// Wakes all workers but the one of this number.
+    pub(crate) fn wake_others(&self, number: usize) {
+        for (other, mailbox) in self.of_workers.iter().enumerate() {
+            if other != number {
+                // A worker that can't be woken catches up at its next event.
+                let _ = wake(&mailbox.waker);
+            }
+        }
     }
 
     /// Signals all loops to end, after one has failed. The acceptor comes first, so that it accepts

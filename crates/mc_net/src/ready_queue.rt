@@ -3,6 +3,7 @@ ghost use Rattle.std.specs.Prelude.{◌≡◌, length, IfOk};
 ghost use Rattle.mc_net.specs.Working.{IsNewFor, Works, standing};
 ghost use Rattle.uc_worker.specs.Worker.{tenants_of};
 
+use crate::closing::{Closing, place_of};
 use crate::connections::{Connections, MOST_CONNECTIONS};
 use crate::halt::Halt;
 use crate::mailbox::WAKER;
@@ -18,6 +19,8 @@ use uc_worker::{Gate, Worker};
 #[derive(Drop)]
 pub(crate) struct ReadyQueue {
     pub(crate) connections: Connections,
+    /// The streams of connections that have ended.
+    pub(crate) closing: Closing,
     again: Vec<usize>,
     // The keys of the next round, collected while those of this round are served.
     next: Vec<usize>,
@@ -41,8 +44,10 @@ impl ReadyQueue {
         again.reserve(MOST_CONNECTIONS)?;
         next.reserve(MOST_CONNECTIONS)?;
         let connections = Connections::new(alloc, tenants)?;
+        let closing = Closing::new(alloc)?;
         Ok(ReadyQueue {
             connections,
+            closing,
             again,
             next,
         })
@@ -71,7 +76,7 @@ impl ReadyQueue {
     {
         let State::Busy = self
             .connections
-            .serve(worker, gate, buffer, key, stops_short)
+            .serve(worker, gate, buffer, key, stops_short, &mut self.closing)
         else {
             return Ok(());
         };
@@ -79,8 +84,8 @@ impl ReadyQueue {
     }
 
     /// Makes a round: serves the connections that are to be served again, and then those for which
-    /// there is an event, except those that are already queued for the next round. Returns whether
-    /// the acceptor has woken the worker.
+    /// there is an event, except those that are already queued for the next round. Drops what has
+    /// come on streams that close. Returns whether the worker was woken.
     ///
     /// Returns `Memory` if memory runs out.
     pub(crate) fn serve_round<G: Gate>(
@@ -106,6 +111,8 @@ impl ReadyQueue {
             let token = event.token();
             if token == WAKER {
                 is_woken = true;
+            } else if let Some(place) = place_of(token) {
+                self.closing.serve(place, buffer);
             } else if !self.next.contains(&token.0) {
                 self.serve(worker, gate, buffer, token.0, stops_short(event))?;
             }

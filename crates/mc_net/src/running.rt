@@ -1,13 +1,16 @@
 //! The loops of the acceptor and of the workers, each in a thread of its own.
 ghost use Rattle.std.specs.List.{AllZip};
-ghost use Rattle.std.specs.Prelude.{◌≡◌, IfOk};
+ghost use Rattle.std.specs.Prelude.{◌≡◌, IfOk, MatchResult};
+ghost use Rattle.mc_net.specs.Beginning.{HaltsServing};
 ghost use Rattle.mc_net.specs.Running.{FitTogether, HasRun, HaveRun, IsReturned, event_loops_of, workers_of};
 
 use crate::accepting::Acceptor;
+use crate::beginning::Begin;
 use crate::event_loop::EventLoop;
 use crate::halt::Halt;
 use crate::mailbox::Mailboxes;
 use crate::worker_thread::{Returned, WorkerThread};
+use mc_model::Fault;
 use std::alloc::Global;
 use std::sync::Wait;
 use std::thread;
@@ -56,17 +59,13 @@ impl<G: Gate> WorkerThread<'_, G> {
     fn run<R: Wait>(&mut self, rt: &R, mailboxes: &Mailboxes, number: usize)
         ensures { HasRun self.old self.new }
     {
-        let Some(mailbox) = mailboxes.of_workers.get(number) else {
-            self.outcome = Err(Halt::Elsewhere);
-            return;
-        };
         let WorkerThread {
             worker,
             gate,
             event_loop,
             outcome,
         } = self;
-        *outcome = event_loop.run(rt, worker, gate, mailbox);
+        *outcome = event_loop.run(rt, worker, gate, mailboxes, number);
         if outcome.is_err() {
             mailboxes.halt(rt);
         }
@@ -96,18 +95,22 @@ fn run_workers<'a, R: Threads + Wait + Sync, G: Gate + Send>(
 ///
 /// If no thread can be made the acceptor runs first, and fails since no worker's loop begins.
 /// Returns the acceptor's errors.
-pub(crate) fn run_all<'a, R: Threads + Wait + Sync, G: Gate + Send>(
+pub(crate) fn run_all<'a, R: Threads + Wait + Sync, G: Gate + Send, B: Begin<O>, O>(
     rt: &R,
     mailboxes: &Mailboxes,
     acceptor: &mut Acceptor,
     worker_threads: &mut [WorkerThread<'a, G>],
-) -> Result<(), Halt>
-    ensures { HaveRun worker_threads.old worker_threads.new }
+    begin: &B,
+    state: &mut O,
+) -> Result<(), Fault>
+    ensures workers { HaveRun worker_threads.old worker_threads.new }
+    ensures outcome { MatchResult result (λ _. B.done begin.now state.old state.new)
+        (HaltsServing (B.done begin.now) (B.stopped begin.now) state.old state.new) }
 {
     let (_, outcome) = join_mut(
         rt,
         &mut || run_workers(rt, mailboxes, worker_threads),
-        &mut || acceptor.run(rt, mailboxes),
+        &mut || acceptor.run(rt, mailboxes, begin, state),
     );
     outcome
 }

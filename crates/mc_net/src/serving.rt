@@ -3,11 +3,12 @@ ghost use Rattle.std.specs.List.{AllZip};
 ghost use Rattle.std.specs.Prelude.{◌≡◌, ◌<◌, All, IfErr, IfOk, length, map, vec_len};
 ghost use Rattle.uc_worker.specs.Going.{Continues};
 ghost use Rattle.mc_net.specs.Asking.{HasBeenAsked};
+ghost use Rattle.mc_net.specs.Beginning.{HaltsServing};
 ghost use Rattle.mc_net.specs.Life.{HasAnswered};
 ghost use Rattle.mc_net.specs.Running.{returned_worker};
-ghost use Rattle.mc_net.specs.Serving.{IsNetworkFault};
 ghost use Rattle.mc_net.specs.Working.{HasServed};
 
+use crate::beginning::Begin;
 use crate::front::Front;
 use crate::worker_thread::Returned;
 use mc_model::{Fault, TenantId};
@@ -43,11 +44,12 @@ pub fn into_workers<'a>(
 /// have ended: the workers are returned in their order, each with the connections that it has
 /// served. With 0 it doesn't end. A fault of a connection ends that one alone.
 ///
-/// Nothing is accepted before every worker's loop has begun. Returns `Memory` if one doesn't begin
-/// within about ten seconds, for example because the system refuses its thread, or if memory runs
-/// out outside a connection and the queues. Returns `Input` if a poll or its waker can't be made or
-/// fails, or a listener can't be registered. All loops have ended then.
-pub fn serve<'a, R: Threads + Wait + Net + Sync, G: Gate + Send + Drop>(
+/// When every worker's loop has begun and before anything is accepted, `begin` is called, once, with
+/// the state. Returns `Memory` if a loop doesn't begin within about ten seconds, for example because
+/// the system refuses its thread, or if memory runs out outside a connection and the queues.
+/// Returns `Input` if a poll or its waker can't be made or fails, or a listener can't be
+/// registered, and the fault of `begin` if that returns one. All loops have ended then.
+pub fn serve<'a, R: Threads + Wait + Net + Sync, G: Gate + Send + Drop, B: Begin<O>, O>(
     rt: &R,
     alloc: Global,
     log: &'a Log,
@@ -55,6 +57,8 @@ pub fn serve<'a, R: Threads + Wait + Net + Sync, G: Gate + Send + Drop>(
     listeners: Vec<(TenantId, TcpListener)>,
     connections: u64,
     gates: Vec<G>,
+    begin: &B,
+    state: &mut O,
 ) -> Result<Vec<Returned<'a>>, Fault>
     requires some { (0 < vec_len workers) × (0 < vec_len listeners) }
     requires logs { All (λ worker. worker.log.now ≡ log.now) workers.items }
@@ -68,16 +72,23 @@ pub fn serve<'a, R: Threads + Wait + Net + Sync, G: Gate + Send + Drop>(
     ensures served { IfOk result (λ back. AllZip HasServed workers.entry.items back.items) }
     // Each connection that it admitted has ended, and was sent what it is owed for all requests
     // that its bytes read as; after a fault, a prefix of what it is owed for the first of them
-    // followed by what it is told about the fault.
+    // followed by the words that report the fault.
     ensures answered { IfOk result (λ back. All HasAnswered back.items) }
     // Each command that it announced is one request of one of these, in order, and none twice.
     ensures asked { IfOk result (λ back. AllZip HasBeenAsked workers.entry.items back.items) }
     // All workers are still of the log, so that they can meet.
     ensures logs { IfOk result
         (λ back. All (λ worker. worker.log.now ≡ log.entry.now) (map returned_worker back.items)) }
-    ensures faults { IfErr result IsNetworkFault }
+    // It began with the state.
+    ensures begun { IfOk result (λ _. B.done begin.now state.old state.new) }
+    // The network failed before it began with the state, or afterwards; or a fault stopped that.
+    ensures faults { IfErr result
+        (HaltsServing (B.done begin.now) (B.stopped begin.now) state.old state.new) }
 {
+    // The laws from which the clauses on what was answered and asked follow.
+    mc_conn::laws::parts_add_up();
     let tenants = log.settings().tenants().len();
     let mut front = Front::new(rt, alloc, listeners, connections, workers.len(), tenants)?;
-    Ok(front.run(rt, alloc, log, workers, gates)?)
+    let back = front.run(rt, alloc, log, workers, gates, begin, state)?;
+    Ok(back)
 }

@@ -1,10 +1,10 @@
 //! Tenants who are served over sockets on loopback.
-ghost use Rattle.std.specs.Prelude.{◌≡◌, ◌<◌, ℕ, All, IfOk, Some, length, slice_get};
-ghost use Rattle.uc_log.specs.Passes.{IsNew};
+ghost use Rattle.std.specs.Prelude.{◌≡◌, ◌<◌, ℕ, ⊤, All, IfOk, Some, length, slice_get};
+ghost use Rattle.uc_log.specs.Passes.{IsUnusedPass};
 
 use crate::signals::Holding;
 use mc_model::{Fault, Limits, Settings, TenantId};
-use mc_net::{into_workers, serve};
+use mc_net::{Begin, into_workers, serve};
 use mio::net::TcpListener;
 use std::alloc::{AllocError, Global};
 use std::io;
@@ -58,7 +58,7 @@ fn open_workers<'a>(
     passes: Vec<Pass>,
 ) -> Result<Vec<Worker<'a>>, Fault>
     requires { (number : ℕ) (pass : _) → slice_get passes.items number ≡ Some pass →
-        IsNew log.now number pass }
+        IsUnusedPass log.now pass }
     ensures { IfOk result (λ workers. All (λ worker. worker.log.now ≡ log.now) workers.items) }
 {
     let mut workers = Vec::new(alloc);
@@ -111,8 +111,24 @@ fn tenants_of_all<'a>(
     Ok(tenants)
 }
 
+/// Counts how often serving began.
+struct Counting;
+
+impl Begin<u32> for Counting {
+    ghost done = { λ _ _ _. ⊤ };
+
+    ghost stopped = { λ _ _ _ _. ⊤ };
+
+    fn begin<R: Wait>(&self, _rt: &R, count: &mut u32) -> Result<(), Fault> {
+        *count = count.saturating_add(1);
+        Ok(())
+    }
+}
+
 /// Serves `connections` connections by as many workers as there are gates, and returns the number
 /// of each entry's tenant, in the log's order.
+///
+/// Returns `BadEvent` if serving didn't begin exactly once, or if the workers' histories differ.
 pub(crate) fn served<R: Threads + Wait + Net + Sync>(
     rt: &R,
     alloc: Global,
@@ -127,6 +143,20 @@ pub(crate) fn served<R: Threads + Wait + Net + Sync>(
     if listeners.is_empty() || workers.is_empty() || workers.len() != gates.len() {
         return Err(Fault::BadSettings);
     }
-    let back = serve(rt, alloc, &log, workers, listeners, connections, gates)?;
+    let mut begun = 0;
+    let back = serve(
+        rt,
+        alloc,
+        &log,
+        workers,
+        listeners,
+        connections,
+        gates,
+        &Counting,
+        &mut begun,
+    )?;
+    if begun != 1 {
+        return Err(Fault::BadEvent);
+    }
     tenants_of_all(alloc, &log, into_workers(alloc, back)?)
 }

@@ -5,6 +5,7 @@ use mc_model::TenantId;
 use mc_net::{Accepted, Arrival, Halt, Listen, Receive, TenantListener, accept_one};
 use std::alloc::Global;
 use std::io;
+use std::io::ErrorKind;
 use std::sync::{Mutex, Wait};
 use std::test::Fail;
 
@@ -68,12 +69,68 @@ fn streams_go_round_with_their_tenants(rt: HostRuntime) -> Result<(), Fail> {
         socket: Numbered { number: 50 },
     };
     let places = [hole(alloc), hole(alloc), hole(alloc)];
-    for done in 0..4u64 {
-        let listener = if done == 1 { &second } else { &first };
-        assert_eq!(rt; accept_one(&rt, listener, &places, done)?, Accepted::One);
+    let mut done = 0;
+    for number in 0..4u64 {
+        let listener = if number == 1 { &second } else { &first };
+        assert_eq!(rt;
+            accept_one(&rt, listener, &places, &mut done)?,
+            Accepted::One
+        );
+        assert_eq!(rt; done, number + 1);
     }
     assert!(rt; holds(&rt, &places[0], &[(3, 30), (3, 30)]));
     assert!(rt; holds(&rt, &places[1], &[(5, 50)]));
     assert!(rt; holds(&rt, &places[2], &[(3, 30)]));
+    Ok(())
+}
+
+/// A listener at which nothing is accepted, for this reason.
+#[derive(Drop)]
+struct Refusing {
+    kind: ErrorKind,
+}
+
+impl Listen for Refusing {
+    type Stream = u8;
+
+    ghost accepted_by = { λ _ _. ⊤ };
+
+    fn accept_stream(&self) -> io::Result<u8>
+        ensures { IfOk result (λ _. ⊤) }
+    {
+        Err(io::Error::from(self.kind))
+    }
+}
+
+/// Returns a tenant's listener that refuses for this reason.
+fn refusing_listener(tenant: TenantId, kind: ErrorKind) -> TenantListener<Refusing> {
+    TenantListener {
+        tenant,
+        socket: Refusing { kind },
+    }
+}
+
+#[test]
+fn only_streams_are_counted(rt: HostRuntime) -> Result<(), Fail> {
+    let alloc = rt.alloc();
+    let tenant = TenantId::new(3).ok_or("no tenant")?;
+    let places = [hole(alloc), hole(alloc)];
+    let mut done = 1;
+    let failing = refusing_listener(tenant, ErrorKind::ConnectionAborted);
+    assert_eq!(rt;
+        accept_one(&rt, &failing, &places, &mut done)?,
+        Accepted::Failed
+    );
+    let idle = refusing_listener(tenant, ErrorKind::WouldBlock);
+    assert_eq!(rt; accept_one(&rt, &idle, &places, &mut done)?, Accepted::None);
+    assert_eq!(rt; done, 1);
+    assert!(rt; holds(&rt, &places[0], &[]) && holds(&rt, &places[1], &[]));
+    let open = TenantListener {
+        tenant,
+        socket: Numbered { number: 30 },
+    };
+    assert_eq!(rt; accept_one(&rt, &open, &places, &mut done)?, Accepted::One);
+    assert_eq!(rt; done, 2);
+    assert!(rt; holds(&rt, &places[1], &[(3, 30)]));
     Ok(())
 }

@@ -4,7 +4,7 @@ use Rattle.clap.specs.Simple.{App}
 use Rattle.clap.specs.Walk.{Text}
 use Rattle.clap.specs.declared.error.kind.ErrorKind.{ErrorKind}
 use Rattle.clap.specs.declared.error.kind.ErrorKind.TheVariants.{OutOfMemory}
-use Rattle.mc_programs.specs.Words.{AnswersWords, AsksToShow, FailsToAnswer, FailsToShow, ClapReturns, IsShown, ShowsHelp, TellsMistake}
+use Rattle.mc_programs.specs.Words.{AnswersWords, AsksToShow, EndsUnserved, FailsToAnswer, FailsToShow, ClapReturns, IsShown, ShowsHelp, TellsMistake}
 use Rattle.mc_stream.specs.Stream.{Inflow, Outflow, both}
 
 shown_there : (kind : ErrorKind) → IsShown kind → kind ≢ OutOfMemory
@@ -30,9 +30,7 @@ module _ (app : App) (words : List Text) (kind : ErrorKind) (failed : (kind ≡ 
 
   -- help or the version was shown, or a fault or a mistake was reported
   pub answered : (program : List ℕ) (status : ℕ) (input : Inflow) (before after errors_before errors : Outflow) → AnswersWords program kind status before after errors_before errors →
-      (status ≡ 0) × ShowsHelp app words (both input before) (both input after) × (errors ≡ errors_before)
-      ⊎ (status ≡ 1) × FailsToShow program app words (both input before) (both input after) errors_before errors
-      ⊎ (status ≡ 2) × TellsMistake app words errors_before errors × (after ≡ before)
+      EndsUnserved program app words status (both input before) (both input after) errors_before errors
   answered program status input before after errors_before errors answers =
       ⊎_elim
       (λ shown. inl (shown.0, record { asks = asks_to_show shown.1; unread = refl; text = shown.2.0; went = shown.2.1 }, shown.3))

@@ -5,4 +5,3 @@ pub mod Reported
 pub mod Served
 mod Rows
 pub mod Waited
-pub mod Public

@@ -10,14 +10,12 @@ use Rattle.mc_model.specs.declared.reply.Reply.TheVariants.{Refused}
 use Rattle.mc_model.specs.declared.reply.TheConstants.WireNo.{OUT_OF_MEMORY}
 use Rattle.mc_model.specs.declared.request.Request.{Request}
 use Rattle.mc_model.specs.declared.settings.Limits.{Limits}
-use Rattle.mc_model.proofs.Public.{state_after-none}
+use Rattle.model_lemmas.proofs.Histories.{state_after-none}
 use Rattle.mc_model.specs.Replay.{empty_tables}
 use Rattle.mc_model.specs.Settings.{Configuration, IsLawful}
 use Rattle.mc_read.specs.Line.{asked}
-use Rattle.mc_read.specs.Reading.{ReadsAs, ends_stream}
-use Rattle.mc_read.proofs.Public.{has_reading}
+use Rattle.mc_read.specs.Reading.{HasReading, ReadsAs, ends_stream}
 use Rattle.mc_read.specs.Text.{IsRequestText}
-use Rattle.mc_conn.proofs.Public.{owes_in_order}
 use Rattle.mc_conn.specs.Alone.{IsAlone, first_mark, owed}
 use Rattle.mc_conn.specs.ConnFault.{CellTaken, ConnFault, CountsFailures, InputFailed, IsTold, OutOfMemory, OutputFailed}
 use Rattle.mc_conn.specs.Ending.{Breaks, PullsAfter, PullsLate, Serves as ServesAll, Stops as StopsSo}
@@ -30,7 +28,7 @@ use Rattle.mc_programs.proofs.Owings.{owed-more}
 use Rattle.mc_programs.specs.Serving.{AnswersRequests, Comes, EndsBy, IsCaughtUp, NeverWaits, ServesClient, ServesInPart, ServesOn, ServesUntilStarved, StopsService, settings_alone}
 use Rattle.mc_stream.specs.Event.{Event, Moves, Waits, Ends, Fails, ends, failures, has_ended, last_moved, moved, waits}
 use Rattle.mc_stream.specs.Pushing.{IsAllOrStopped, Pushes, PushesAtOnce}
-use Rattle.mc_stream.proofs.Public.{same_stop}
+use Rattle.stream_lemmas.proofs.Pushed.{same_stop}
 use Rattle.mc_stream.specs.Stream.{Inflow, Outflow, Streams, both}
 use Rattle.mc_write.specs.Text.{text}
 use Rattle.uc_worker.specs.declared.worker.Worker.{Worker}
@@ -73,7 +71,13 @@ no_text_empty text more request is empty =
 reads_nothing : ReadsAs asked [] []
 reads_nothing = ([], (refl, no_text_empty))
 
--- a connection on which nothing has come, and the one worker of a log into which nothing was put
+-- what is owed in a log of one worker is a function of the requests
+abbrev pub OwesInOrder : Type 0
+OwesInOrder = (limits : Limits) (places : ℕ) (worker : Worker) (requests : List Request) (bytes : List ℕ) (to : Mark) →
+    IsAlone limits places worker → Owes worker (Tenant 0) first_mark requests bytes to → bytes ≡ owed limits places requests
+
+-- a connection on which nothing has come, and the one worker of a log into which nothing was put;
+-- and the laws that what becomes of them follows from
 pub record Begins (limits : Limits) (places : ℕ) (start : Scene) : Type 0 where
   pub role : start.conn.role ≡ Tenant 0
   pub holding : holding_of start.conn ≡ nothing_held (Tenant 0)
@@ -82,20 +86,19 @@ pub record Begins (limits : Limits) (places : ℕ) (start : Scene) : Type 0 wher
   pub on : start.conn.is_over ≡ false
   pub alone : IsAlone limits places start.worker
   pub mark : mark_of start.worker ≡ first_mark
+  pub reading : (bytes : List ℕ) → HasReading asked bytes
+  pub in_order : OwesInOrder
 
 -- all that came was read
 reads_all : (start : Scene) (came : List ℕ) (requests : List Request) (after : Holding) → holding_of start.conn ≡ nothing_held (Tenant 0) →
     IsRead (holding_of start.conn) came requests after → HoldsNone after → ReadsAs asked came requests
 reads_all start came requests after begun read none =
-    let reading = has_reading asked (came ++ []) in
-    let holds : HoldsOn (holding_of start.conn) (came ++ []) reading.0 = subst (λ holding. HoldsOn holding (came ++ []) reading.0) (sym begun) (reading.1, reading.2) in
-    let follows = (read [] reading.0).0 holds in
-    let others = none_follow after follows.0 none follows.2 in
-    subst (λ bytes. ReadsAs asked bytes requests) (append-nil came)
-    (subst (ReadsAs asked (came ++ [])) (follows.1 ∙ (ap (λ list. requests ++ list) others ∙ append-nil requests)) (reading.1, reading.2))
+    let whole : HoldsOn (holding_of start.conn) (came ++ []) (requests ++ []) = (read [] (requests ++ [])).1 ([], refl, nothing) in
+    let reads : ReadsAs asked (came ++ []) (requests ++ []) = subst (λ holding. HoldsOn holding (came ++ []) (requests ++ [])) begun whole in
+    subst (λ bytes. ReadsAs asked bytes requests) (append-nil came) (subst (ReadsAs asked (came ++ [])) (append-nil requests) reads)
   where
-    none_follow : (held : Holding) (others : List Request) → HoldsNone held → HoldsOn held [] others → others ≡ []
-    none_follow held others nothing holds = (nothing.1 others).0 (subst (λ waiting. HoldsOn (record { lines = held.lines; waiting = waiting; held = held.held }) [] others) nothing.0 holds)
+    nothing : HoldsOn after [] []
+    nothing = subst (λ waiting. HoldsOn (record { lines = after.lines; waiting = waiting; held = after.held }) [] []) (sym none.0) ((none.1 []).1 refl)
 
 -- how often the output failed while the client was told
 told_counts : (unsent : List ℕ) (before now : Outflow) → IsAllOrStopped unsent before now → (failures before.events ≤ failures now.events) × (failures now.events ≤ failures before.events + 1)
@@ -119,7 +122,7 @@ module _ (limits : Limits) (places : ℕ) (start : Scene) (begins : Begins limit
   answers worker requests bytes mark on owes =
       let alone = alone_later worker on in
       let first = subst (λ from. Owes worker (Tenant 0) from requests bytes mark) begins.mark (subst (λ role. Owes worker role (mark_of start.worker) requests bytes mark) begins.role owes) in
-      let is = owes_in_order limits [] places worker alone requests bytes mark first in
+      let is = begins.in_order limits places worker requests bytes mark alone first in
       (is, record { worker = worker; alone = alone; mark = mark; owes = subst (λ it. Owes worker (Tenant 0) first_mark requests it mark) is first })
 
   -- what was sent, if nothing is queued at the end
@@ -231,7 +234,7 @@ module _ (limits : Limits) (places : ℕ) (start : Scene) (begins : Begins limit
   module _ (fault : Fault) (after : Scene) (breaks : Breaks start after fault) where
     -- what all that came reads as
     all_read : (requests : List Request) × ReadsAs asked breaks.taken.came requests
-    all_read = let reading = has_reading asked breaks.taken.came in (reading.0, (reading.1, reading.2))
+    all_read = let reading = begins.reading breaks.taken.came in (reading.0, (reading.1, reading.2))
 
     all_split : (others : List Request) × (all_read.0 ≡ breaks.taken.requests ++ others)
     all_split =
@@ -250,7 +253,7 @@ module _ (limits : Limits) (places : ℕ) (start : Scene) (begins : Begins limit
     owed_is : breaks.taken.sent ++ queue_of after.conn ≡ owed limits places breaks.taken.requests
     owed_is = breaks.taken.bytes ∙ (ap (λ queue. queue ++ breaks.taken.owed) begins.queue ∙ all_answers.0)
 
-    -- what is told afterwards was pushed in part
+    -- the report that follows was pushed in part
     in_part : (output : Outflow) (told sent unsent : List ℕ) → owed limits places breaks.taken.requests ++ told ≡ sent ++ unsent → Pushes start.streams.output output sent →
         PullsLate start (scene after.conn after.worker (both after.streams.input output)) → (part : ServesInPart limits places start.streams (both after.streams.input output) told) × (part.unsent ≡ unsent)
     unfolding all_comes
@@ -273,7 +276,7 @@ module _ (limits : Limits) (places : ℕ) (start : Scene) (begins : Begins limit
     pub untold : PullsLate start after → ServesInPart limits places start.streams after.streams []
     untold late = (in_part after.streams.output [] breaks.taken.sent (queue_of after.conn) (append-nil (owed limits places breaks.taken.requests) ∙ sym owed_is) breaks.taken.pushed late).0
 
-  -- memory ran out, and that is told afterwards
+  -- memory ran out, and that is reported afterwards
   starved : (fault : Fault) (after : Scene) (output : Outflow) → Breaks start after fault → NeitherFails start.streams after.streams →
       PushesAtOnce (queue_of after.conn ++ text (Refused OUT_OF_MEMORY)) after.streams.output output →
       PullsLate start (scene after.conn after.worker (both after.streams.input output)) → ServesUntilStarved limits places start.streams (both after.streams.input output)
@@ -379,8 +382,9 @@ module _ (limits : Limits) (places : ℕ) (start : Scene) (begins : Begins limit
 -- a connection and a worker as they are opened
 pub begins_new : (limits : Limits) (places : ℕ) (log : Log) (pass : Pass) (conn : Conn) (worker : Worker) (streams : Streams) → IsOpened limits places log pass →
     (conn.role ≡ Tenant 0) × (holding_of conn ≡ nothing_held conn.role) × (queue_of conn ≡ []) × (conn.has_ended ≡ false) × (conn.is_over ≡ false) →
-    worker.log.now ≡ log → seat_of worker ≡ seat pass → history_of worker ≡ [] → openings_of worker ≡ empty_tables log.settings.tenants → Begins limits places (scene conn worker streams)
-begins_new limits places log pass conn worker streams opened (role, holding, queue, going, on) of seated empty over =
+    worker.log.now ≡ log → seat_of worker ≡ seat pass → history_of worker ≡ [] → openings_of worker ≡ empty_tables log.settings.tenants →
+    ((bytes : List ℕ) → HasReading asked bytes) → OwesInOrder → Begins limits places (scene conn worker streams)
+begins_new limits places log pass conn worker streams opened (role, holding, queue, going, on) of seated empty over reading in_order =
     let new : seat_of worker ≡ new_seat (size_of log) 0 = seated ∙ opened.1.1 in
     let announced : (seat_of worker).state.announced ≡ 0 = ap (λ (view : View). view.state.announced) new in
     let none : length (announced_of worker) ≡ 0 = worker.pass.count ∙ announced in
@@ -395,6 +399,8 @@ begins_new limits places log pass conn worker streams opened (role, holding, que
         long = ap (λ (view : View). view.size.places) new ∙ ap (λ settings. settings.places) opened.0;
         openings = over ∙ ap (λ settings. empty_tables settings.tenants) opened.0 ∙ ap (λ state. state ∷ []) (sym (state_after-none limits));
       };
+      reading = reading;
+      in_order = in_order;
       mark = λ i. record { number = none i; place = (ap (λ (list : List Sighting). length list) empty) i };
     }
 

@@ -1,4 +1,4 @@
--- How a log of its own is opened for a client, and what the client is told if that can't be done;
+-- How a log of its own is opened for a client, and what the client is sent if that can't be done;
 -- this project's profile.
 use Rattle.std.specs.Prelude.{◌≡◌, ◌≢◌, ℕ}
 use Rattle.mc_model.specs.declared.fault.Fault.{Fault}

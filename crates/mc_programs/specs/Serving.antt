@@ -82,8 +82,8 @@ abbrev pub NeverWaits : Streams → Streams → Type 0
 NeverWaits before after = waits after.output.events ≡ waits before.output.events
 
 -- The first requests that came were answered, and a prefix was sent of what is owed for them
--- followed by what is told about a fault. The others are all the requests that came after these;
--- the first of them may have met the fault, and then its command may stand in the log.
+-- followed by the words that report a fault. The others are all the requests that came after
+-- these; the first of them may have met the fault, and then its command may stand in the log.
 pub record ServesInPart (limits : Limits) (places : ℕ) (before after : Streams)
     (told : List ℕ) : Type 0 where
   pub comes : Comes before after
@@ -98,9 +98,9 @@ pub record ServesInPart (limits : Limits) (places : ℕ) (before after : Streams
   pub caught_up : NeverWaits before after →
       IsCaughtUp limits places comes.bytes (last_moved after.input.events) sent
 
--- Memory ran out, and the client was told so after its replies, as far as the output took that at
--- once; or memory ran out before a log could be opened, nothing was pulled, and the client was told
--- only that.
+-- Memory ran out, and that was reported to the client after its replies, as far as the output took
+-- it at once; or memory ran out before a log could be opened, nothing was pulled, and that report
+-- alone was sent.
 abbrev pub ServesUntilStarved : Limits → ℕ → Streams → Streams → Type 0
 ServesUntilStarved limits places before after =
     ((part : ServesInPart limits places before after (text (Refused OUT_OF_MEMORY)))
@@ -113,7 +113,7 @@ abbrev pub IsUnfailedInput : Inflow → Inflow → Type 0
 IsUnfailedInput before after = failures after.events ≡ failures before.events
 
 -- What a client was sent if a fault of its connection ended the service, and how often the input
--- and the output failed: as the fault says, except for what may fail while the client is told.
+-- and the output failed: as the fault says, except for what may fail while it is reported.
 abbrev pub EndsBy : Limits → ℕ → ConnFault → Streams → Streams → Type 0
 EndsBy limits places OutOfMemory before after =
     ServesUntilStarved limits places before after

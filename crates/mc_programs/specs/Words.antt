@@ -133,6 +133,15 @@ pub record TellsMistake (app : App) (words : List Text)
   pub text : List ℕ
   pub told : PushesOrFails text errors_before errors
 
+-- what becomes of words that ask for no service, by the status: help or the version is shown, a
+-- fault is reported, or a mistake is; nothing is pulled
+abbrev pub EndsUnserved : List ℕ → App → List Text → ℕ → Streams → Streams → Outflow → Outflow →
+    Type 0
+EndsUnserved program app words status before after errors_before errors =
+    (status ≡ 0) × ShowsHelp app words before after × (errors ≡ errors_before)
+    ⊎ (status ≡ 1) × FailsToShow program app words before after errors_before errors
+    ⊎ (status ≡ 2) × TellsMistake app words errors_before errors × (after.output ≡ before.output)
+
 -- the line for words that aren't UTF-8
 abbrev pub unreadable_line : List ℕ → List ℕ
 unreadable_line program = program_line program (codes "the command line is not UTF-8")

@@ -43,8 +43,8 @@ fn first_tenant() -> TenantId
     TenantId::new(0).unwrap()
 }
 
-/// Returns the fault. If memory ran out, the client is told so first, as far as the output takes it
-/// at once: no request was read then.
+/// Returns the fault. If memory ran out, that is reported to the client first, as far as the output
+/// takes it at once: no request was read then.
 fn refuse_to_open<O: Output>(fault: Fault, output: &mut O) -> Fault
     ensures fault { result ≡ fault }
     ensures told { RefusesToOpen fault (O.tells output.old) (O.tells output.new) }
@@ -89,6 +89,10 @@ pub(crate) fn serve_and_leave<R: Wait, I: Input, O: Output>(
         Ok(worker) => worker,
         Err(fault) => return Err(refuse_to_open(fault, output)),
     };
+
+    // The laws from which the outcome follows.
+    mc_read::laws::every_stream_reads();
+    mc_conn::laws::a_worker_alone_answers_in_order();
     let mut conn = Conn::new(alloc, first_tenant());
     let served = pump(rt, &mut conn, &mut worker, input, output);
     if let Memory::Left = memory {

@@ -1,13 +1,17 @@
 //! The words of a command line: their numbers and flags, and those that ask for help or the
 //! version, are a mistake, or can't be read.
+ghost use Rattle.clap.specs.Simple.{App};
+ghost use Rattle.clap.specs.Walk.{Text};
 ghost use Rattle.clap.specs.Words.{found_of, kind_of, rule_of};
+ghost use Rattle.clap.specs.declared.error.kind.ErrorKind.TheVariants.{OutOfMemory};
 ghost use Rattle.std.specs.IoError.{error_kind};
 ghost use Rattle.std.specs.declared.io.ErrorKind.TheVariants.{OutOfMemory as StdOutOfMemory};
-ghost use Rattle.std.specs.Prelude.{◌≡◌, ◌≢◌, ◌⊎◌, Err, IfErr, false};
+ghost use Rattle.std.specs.Prelude.{◌≡◌, ◌≢◌, ◌⊎◌, List, Err, IfErr, false};
 ghost use Rattle.mc_model.specs.declared.fault.Fault.{Fault};
 ghost use Rattle.mc_programs.specs.Faults.{fault_line};
-ghost use Rattle.mc_programs.specs.Words.{AnswersWords, flag_given, flag_rule, number_given, number_rule, unreadable_line};
+ghost use Rattle.mc_programs.specs.Words.{AnswersWords, ClapReturns, EndsUnserved, flag_given, flag_rule, number_given, number_rule, unreadable_line};
 ghost use Rattle.mc_stream.specs.Pushing.{PushesOrFails};
+ghost use Rattle.mc_stream.specs.Stream.{Inflow, both};
 
 use crate::faults::{fail, tell_line};
 use crate::waiting::push_all;
@@ -65,6 +69,28 @@ pub(crate) fn flag(matches: &ArgMatches, name: &str) -> bool
 /// memory runs out or the output fails, that is reported on `errors`, with status 1. A failure of
 /// `errors` is ignored.
 pub fn answer_words<R: Wait, O: Output, E: Output>(
+    rt: &R,
+    alloc: Global,
+    program: &[u8],
+    error: &Error,
+    output: &mut O,
+    errors: &mut E,
+) -> u8
+    ensures kind { AnswersWords program.now (kind_of error.now) result
+        (O.tells output.old) (O.tells output.new) (E.tells errors.old) (E.tells errors.new) }
+
+    // In terms of the words, if the error is clap's for them, or memory ran out.
+    ensures words { (app : App) (words : List Text) (input : Inflow) →
+        (kind_of error.now ≡ OutOfMemory) ⊎ ClapReturns app words (kind_of error.now) →
+        EndsUnserved program.now app words result
+        (both input (O.tells output.old)) (both input (O.tells output.new))
+        (E.tells errors.old) (E.tells errors.new) }
+{
+    answer_kind(rt, alloc, program, error, output, errors)
+}
+
+/// Answers an error of clap's by its kind, as `answer_words` does.
+fn answer_kind<R: Wait, O: Output, E: Output>(
     rt: &R,
     alloc: Global,
     program: &[u8],

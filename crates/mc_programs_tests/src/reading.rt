@@ -129,6 +129,8 @@ fn after_command<'a>(text: &'a [u8], command: &Command) -> Option<&'a [u8]> {
         Command::Incr { .. } => after_incr(text, command),
         Command::Decr { .. } => after_decr(text, command),
         Command::Flush => after(text, b"flush_all"),
+        // No line of a tenant's client sets quotas.
+        Command::Limit { .. } => None,
     }
 }
 

@@ -303,8 +303,9 @@ and then any number of these, where W is a worker and T a tenant, each numbered 
   replay W              W applies the next command that it has learned, and answers its own
   stop W                W does nothing more
 COMMAND is set, add, replace, append or prepend KEY FLAGS DATA, cas KEY FLAGS UNIQUE DATA,
-get or gets KEY.., delete KEY, incr or decr KEY NUMBER, or flush_all. DATA is one word, and a
-point stands for no data. A line that begins with # is a comment.
+get or gets KEY.., delete KEY, incr or decr KEY NUMBER, flush_all, or limit ITEMS BYTES, which sets
+T's quotas. DATA is one word, and a point stands for no data. A line that begins with # is a
+comment.
 
 Example, in which worker 1 brings the command of worker 0, which has stopped, into the log:
   core 2 8

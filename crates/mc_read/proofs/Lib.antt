@@ -10,4 +10,3 @@ pub mod Lawful
 mod Rows
 pub mod Readings
 pub mod Texts
-pub mod Public

@@ -58,7 +58,7 @@ module _ (lines : Lines) where
       let tail = tail_of (ends_stream request) more (later request more is) in
       (request ∷ tail.0, tail.1, reads_from_first bytes request more tail.0 tail.1 is tail.2)
 
-  shorter : (bytes : List ℕ) (request : Request) (more : List ℕ) → first_request lines bytes ≡ found request more → length more < length bytes
+  pub shorter : (bytes : List ℕ) (request : Request) (more : List ℕ) → first_request lines bytes ≡ found request more → length more < length bytes
   shorter bytes request more is =
       let text = text_of_first lines bytes request more is in
       omega (arith, text_some text.0 request text.1, ap length text.2, length-append text.0 more)

@@ -19,7 +19,7 @@ use Rattle.mc_model.specs.declared.request.Request.{Request}
 use Rattle.mc_model.specs.declared.request.Request.TheVariants.{Logged, TooLong}
 use Rattle.mc_model.specs.Key.{is_key_byte, is_lawful_key}
 use Rattle.mc_model.specs.Number.{number_up_to}
-use Rattle.mc_model.proofs.Public.{number_up_to-none, number_up_to-some}
+use Rattle.model_lemmas.proofs.NumberTests.{number_up_to-none, number_up_to-some}
 use Rattle.mc_read.specs.declared.without_block.Change.{Change}
 use Rattle.mc_read.specs.declared.without_block.Change.TheVariants as change
 use Rattle.mc_read.specs.declared.line.Asked.{Asked}

@@ -16,9 +16,10 @@ use Rattle.mc_read.specs.declared.reader.State.TheVariants as state
 use Rattle.mc_read.specs.First.{first_of_line, first_request, found, is_line_feed, line_length}
 use Rattle.mc_read.specs.Line.{refused}
 use Rattle.mc_read.specs.Reading.{Ended, HasNone, Kept, ReadAlike, Swallowing, ends_stream}
-use Rattle.mc_read.specs.State.{IsNextAnswer, IsLineAt, IsStateOf, IsTaken, held_in, state_past}
+use Rattle.mc_read.specs.State.{IsNextAnswer, IsLineAt, IsStateOf, IsTaken, held_in, most_requests, state_past}
 use Rattle.mc_read.specs.Text.{IsTooLongText, IsUnbroken, IsUnended, Lines, body_length, ends_well, request_of, stored_request, stored_if}
 use Rattle.mc_read.proofs.Holdings.{has_none, held_after, next_is_first, reads_alike, refused_alike, refused_has_none}
+use Rattle.mc_read.proofs.Readings.{shorter}
 use Rattle.mc_read.proofs.Texts.{before_first-unbroken, line_length-too_long}
 
 module _ (bytes : List ℕ) (line : ℕ) (is_line : IsLineAt bytes line) where
@@ -54,14 +55,18 @@ pub stored_goes_on : (header : Header) (body left : List ℕ) → held_after (st
 stored_goes_on header body left =
     elim (ends_well (drop header.length body)) as (λ b. held_after (stored_if b header (take header.length body)) left ≡ Kept left) [ true ↦ refl | false ↦ refl ]
 
+few_after : (request : Request) (left : List ℕ) {most : ℕ} → length left < most → most_requests (held_after request left) < most
+few_after request left {most} fewer =
+    elim (ends_stream request) as (λ b. most_requests (cond b Ended (Kept left)) < most) [ true ↦ omega arith | false ↦ fewer ]
+
 module _ (lines : Lines) where
   -- a first request is answered
   pub answer_first : (bytes : List ℕ) (request : Request) (left : List ℕ) → first_request lines bytes ≡ found request left → IsNextAnswer lines (Kept bytes) (Some request) (held_after request left)
-  answer_first bytes request left is = next_is_first lines bytes request left is
+  answer_first bytes request left is = (next_is_first lines bytes request left is, few_after request left (shorter lines bytes request left is))
 
   -- without one the bytes stay
   pub answer_none : (bytes : List ℕ) → first_request lines bytes ≡ None → length bytes ≤ LINE_BYTES + 1 + DATA_BYTES + 1 → IsNextAnswer lines (Kept bytes) None (Kept bytes)
-  answer_none bytes none few = (has_none lines bytes none, reads_alike lines (Kept bytes), few)
+  answer_none bytes none few = (has_none lines bytes none, reads_alike lines (Kept bytes), few, omega arith)
 
   pub first_too_long : (bytes : List ℕ) → LINE_BYTES < line_length bytes → first_request lines bytes ≡ found TooLong (drop (LINE_BYTES + 1) bytes)
   first_too_long bytes long = cond-true _ _ _ (lt-ltb LINE_BYTES (line_length bytes) long)
@@ -119,6 +124,7 @@ module _ (lines : Lines) where
               (subst (λ n. ReadAlike lines (Kept (take line bytes ++ 10 ∷ body)) (Swallowing (refused refusal quiet) n [])) same_left
               (refused_alike lines (take line bytes) body size refusal quiet (unbroken_line bytes line is_line) short is partial)),
           omega arith,
+          omega (arith, ends),
         )
 
   pub is_state_after : (request : Request) (left : List ℕ) → IsStateOf lines (state_past request) (cond (ends_stream request) [] left)

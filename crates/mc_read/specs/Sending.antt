@@ -4,7 +4,7 @@
 use Rattle.std.specs.Prelude.{ℕ, ◌^◌, ◌<◌, ◌≤◌, Bool, if◌then◌else◌, List, [], ◌∷◌, ◌++◌, length, codes, decimal, All, IsTrue}
 use Rattle.std.specs.List.{join_with_byte}
 use Rattle.mc_model.specs.declared.command.Command.{Command}
-use Rattle.mc_model.specs.declared.command.Command.TheVariants.{Cas, Decr, Delete, Flush, Get, Incr, Store}
+use Rattle.mc_model.specs.declared.command.Command.TheVariants.{Cas, Decr, Delete, Flush, Get, Incr, Limit, Store}
 use Rattle.mc_model.specs.declared.command.Verb.{Verb}
 use Rattle.mc_model.specs.declared.command.Verb.TheVariants.{Add, Append, Prepend, Replace, Set}
 use Rattle.mc_model.specs.declared.item.Data.{Data}
@@ -31,7 +31,7 @@ abbrev pub block_sent : Data → List ℕ
 block_sent block = block ++ codes "\r\n"
 
 -- what is sent for a command, which asks for no reply if it is to be quiet; a retrieval always asks
--- for one
+-- for one, and nothing that a tenant's client sends sets quotas
 abbrev pub sent : Command → Bool → List ℕ
 sent (Store verb key flags block) quiet =
     line_sent
@@ -47,8 +47,10 @@ sent (Delete key) quiet = line_sent (codes "delete" ∷ key ∷ noreply_if quiet
 sent (Incr key by) quiet = line_sent (codes "incr" ∷ key ∷ decimal by ∷ noreply_if quiet)
 sent (Decr key by) quiet = line_sent (codes "decr" ∷ key ∷ decimal by ∷ noreply_if quiet)
 sent Flush quiet = line_sent (codes "flush_all" ∷ noreply_if quiet)
+sent (Limit limits) quiet = []
 
--- a command whose keys are valid, with numbers and data that a line can name
+-- a command whose keys are valid, with numbers and data that a line can name; no line of a tenant's
+-- client sets quotas
 abbrev pub IsLawfulCommand : Command → Type 0
 IsLawfulCommand (Store verb key flags block) =
     IsTrue (is_lawful_key key) × (flags < 2 ^ 32) × (length block ≤ 1048576)
@@ -60,3 +62,4 @@ IsLawfulCommand (Delete key) = IsTrue (is_lawful_key key)
 IsLawfulCommand (Incr key by) = IsTrue (is_lawful_key key) × (by < 2 ^ 64)
 IsLawfulCommand (Decr key by) = IsTrue (is_lawful_key key) × (by < 2 ^ 64)
 IsLawfulCommand Flush = Unit {0}
+IsLawfulCommand (Limit limits) = ⊥

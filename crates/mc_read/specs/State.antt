@@ -54,11 +54,19 @@ kept_length Ended = 0
 abbrev pub IsBounded : Held → Type 0
 IsBounded held = kept_length held ≤ LINE_BYTES + 1 + DATA_BYTES + 1
 
+-- no more requests than this are held whole
+abbrev pub most_requests : Held → ℕ
+most_requests (Kept bytes) = length bytes
+most_requests (Swallowing request left bytes) = length bytes + 1
+most_requests Ended = 0
+
 -- what is true before and after `next` returns
 abbrev pub IsNextAnswer : Lines → Held → Option Request → Held → Type 0
-IsNextAnswer lines before (Some request) after = IsNext lines before request after
+IsNextAnswer lines before (Some request) after =
+    IsNext lines before request after × (most_requests after < most_requests before)
 IsNextAnswer lines before None after =
     HasNone lines before × ReadAlike lines before after × IsBounded after
+    × (most_requests after ≤ most_requests before)
 
 -- the bytes end within a refused block or the two bytes after it, and `left` of these are still to
 -- come

@@ -5,6 +5,9 @@ use mc_model::Fault;
 use std::alloc::Global;
 use std::marker::Model;
 
+/// How many bytes of memory an empty buffer keeps at most.
+const SPARE_BYTES: usize = 65_536;
+
 /// A queue of bytes in one vector. Bytes that were taken stay in front until they are half of the
 /// vector or more, so that moving the rest costs no more than the bytes that were taken. The
 /// vector's length is at most twice the bytes in the queue.
@@ -61,6 +64,7 @@ impl Buffer {
             self.bytes.copy_within(self.taken.., 0);
             self.bytes.truncate(left);
             self.taken = 0;
+            self.give_back();
         }
     }
 
@@ -70,5 +74,16 @@ impl Buffer {
     {
         self.bytes.clear();
         self.taken = 0;
+        self.give_back();
+    }
+
+    /// Gives the memory back if the buffer is empty and has more of it than an empty one keeps.
+    fn give_back(&mut self)
+        ensures { self.new ≡ self.old }
+    {
+        // Where bytes are left more will follow, which would take that memory again.
+        if self.bytes.is_empty() && self.bytes.capacity() > SPARE_BYTES {
+            self.bytes.shrink_to_fit();
+        }
     }
 }

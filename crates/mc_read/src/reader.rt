@@ -328,8 +328,8 @@ impl Reader {
     /// Returns the next request, or `None` if no whole request is held. Returns `Memory` if an
     /// allocation fails; nothing changes then.
     pub fn next(&mut self) -> Result<Option<Request>, Fault>
-        // Whatever follows, what was held reads as the request and then as what is held now.
-        // Without a request it reads as before, and there was no request in it.
+        // Whatever follows, what was held reads as the request and then as what is held now, which
+        // is less. Without a request it reads as before, and there was no request in it.
         ensures answer { IfOk result (λ next. IsNextAnswer asked self.old.held next self.new.held) }
         ensures end { IfOk result
             (λ next. IfSome next

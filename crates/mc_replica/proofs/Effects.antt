@@ -13,7 +13,7 @@ use Rattle.mc_model.specs.declared.request.Entry.{Entry}
 use Rattle.uc_cells.specs.Sighting.{Sighting, entries}
 use Rattle.mc_replica.proofs.Places.{same_by_places}
 use Rattle.mc_model.specs.Replay.{EachStands, IsNobodys, TakeEffect, with_command}
-use Rattle.mc_model.proofs.Public.{EachStands-length, EachStands-push}
+use Rattle.model_lemmas.proofs.Replays.{EachStands-length, EachStands-push}
 
 -- without an entry, and with an entry of a tenant without a table, all stay
 TakeEffect-none : (tables : List TableState) → TakeEffect None tables tables

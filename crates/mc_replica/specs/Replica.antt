@@ -5,7 +5,7 @@ use Rattle.mc_model.specs.declared.request.Entry.{Entry}
 use Rattle.mc_items.specs.Asker.{is_own}
 use Rattle.mc_model.specs.declared.fault.Fault.{Fault}
 use Rattle.mc_model.specs.declared.fault.Fault.TheVariants.{Memory}
-use Rattle.mc_model.specs.Kinds.{IsRetrieval, IsTakingOut}
+use Rattle.mc_model.specs.Kinds.{IsRetrieval, NeedsNoMemory}
 use Rattle.mc_model.specs.Replay.{EachStands, HaveRoom, IsNobodys, IsRefused, TakeEffect}
 use Rattle.mc_model.specs.State.{TableState, coded_state}
 use Rattle.uc_cells.specs.Sighting.{Sighting, coded_sighting, entries}
@@ -54,8 +54,8 @@ pub record IsSoundReplica (places room : ℕ) (openings : List TableState) (hist
 
 -- what the replay of one more place does, if this was seen there and the asker is answered. Each
 -- table takes its own tenant's command alone. An entry that is nobody's changes no table, and
--- counts as refused; a refused command needs no memory, nor does one that only removes keys, nor a
--- retrieval that isn't the asker's own. At `Memory` nothing changes.
+-- counts as refused; a refused command needs no memory, nor does one that removes keys or sets
+-- quotas, nor a retrieval that isn't the asker's own. At `Memory` nothing changes.
 pub record Replays {A : Type 0} (asker : Option ℕ) (seen : Sighting) (old new : ReplicaState)
     (result : Result A Fault) : Type 0 where
   pub history : OnOk result (new.history ≡ old.history ++ seen ∷ [])
@@ -66,7 +66,7 @@ pub record Replays {A : Type 0} (asker : Option ℕ) (seen : Sighting) (old new 
   pub openings : new.openings ≡ old.openings
   pub worker : new.worker ≡ old.worker
   pub places : new.places ≡ old.places
-  pub takes_out : IfSome seen.entry (λ entry. IsTakingOut entry.command) → IsOk result
+  pub no_memory : IfSome seen.entry (λ entry. NeedsNoMemory entry.command) → IsOk result
   pub reads :
       IfSome seen.entry (λ entry. IsRetrieval entry.command × (is_own asker entry ≡ false)) →
       IsOk result

@@ -411,6 +411,67 @@ fn quota_of_bytes(rt: HostRuntime) -> Result<(), Fail> {
     Ok(())
 }
 
+/// Asserts that setting these quotas is answered, and that a table that is advanced stays like one
+/// that answers.
+fn assert_limits(
+    rt: &impl Abort,
+    alloc: Global,
+    twins: &mut Twins,
+    items: u64,
+    bytes: u64,
+) -> Result<(), Fail> {
+    let command = Command::Limit {
+        limits: Limits { items, bytes },
+    };
+    let reply = apply(rt, &mut twins.items, &command)?;
+    assert_text(rt, alloc, &reply, b"OK\r\n")?;
+    advance(rt, &mut twins.advanced, &command)?;
+    assert_alike(rt, alloc, &twins.items, &twins.advanced)
+}
+
+const BOTH_SHOWN: &str = "VALUE a 0 1 1\r\nx\r\nVALUE b 0 1 2\r\ny\r\nEND\r\n";
+
+/// Raised quotas let more in from then on. Lowered ones leave what is there, and refuse what would
+/// leave more than they allow.
+#[test]
+fn quotas_that_change(rt: HostRuntime) -> Result<(), Fail> {
+    const FIRST: [(&str, &str); 2] = [
+        ("set a 0 0 1\r\nx\r\n", "STORED\r\n"),
+        ("set b 0 0 1\r\ny\r\n", FULL),
+    ];
+    const RAISED: [(&str, &str); 3] = [
+        ("set b 0 0 1\r\ny\r\n", "STORED\r\n"),
+        ("append b 0 0 1\r\nz\r\n", FULL),
+        ("gets a b\r\n", BOTH_SHOWN),
+    ];
+    const LOWERED: [(&str, &str); 4] = [
+        ("gets a b\r\n", BOTH_SHOWN),
+        ("set a 0 0 1\r\nz\r\n", FULL),
+        ("delete b\r\n", "DELETED\r\n"),
+        ("set a 0 0 1\r\nz\r\n", "STORED\r\n"),
+    ];
+    const TIGHT: [(&str, &str); 3] = [
+        ("set a 0 0 0\r\n\r\n", "STORED\r\n"),
+        ("set a 0 0 1\r\nx\r\n", FULL),
+        ("flush_all\r\n", "OK\r\n"),
+    ];
+    let alloc = rt.alloc();
+    let mut twins = twins_of(
+        alloc,
+        Limits {
+            items: 1,
+            bytes: 100,
+        },
+    );
+    assert_next(&rt, alloc, &mut twins, &FIRST)?;
+    assert_limits(&rt, alloc, &mut twins, 2, 4)?;
+    assert_next(&rt, alloc, &mut twins, &RAISED)?;
+    assert_limits(&rt, alloc, &mut twins, 1, 4)?;
+    assert_next(&rt, alloc, &mut twins, &LOWERED)?;
+    assert_limits(&rt, alloc, &mut twins, 1, 1)?;
+    assert_next(&rt, alloc, &mut twins, &TIGHT)
+}
+
 /// Advances by a copy of the command.
 fn advance_by_copy(
     rt: &impl Abort,

@@ -1,7 +1,8 @@
 //! Each constructor at its bounds, and each call that needs memory, with ample memory.
 use crate::values::{Shown, block_of, copied, key_of, value_of};
 use mc_model::{
-    Data, Fault, Key, KeyList, Limits, Settings, TenantId, ValueList, WorkerId, read_number,
+    Command, Data, Fault, Key, KeyList, Limits, Settings, TenantId, ValueList, WorkerId,
+    read_number,
 };
 use std::alloc::Global;
 use std::process::Abort;
@@ -184,6 +185,10 @@ fn each_command_copied(rt: HostRuntime) -> Result<(), Fail> {
     for text in TEXTS {
         let _ = copied(&rt, rt.alloc(), text)?;
     }
+    let limit = Command::Limit {
+        limits: Limits { items: 1, bytes: 2 },
+    };
+    assert!(rt; limit.try_clone()? == limit);
     Ok(())
 }
 
@@ -212,6 +217,27 @@ fn numbers_in_a_line(rt: HostRuntime) {
     ];
     for (text, limit, number) in CASES {
         assert!(rt; read_number(text.as_bytes(), limit) == number, "{text}");
+    }
+}
+
+#[test]
+fn quotas_in_words(rt: HostRuntime) {
+    const CASES: [(&str, &str, Option<(u64, u64)>); 10] = [
+        ("1", "1", Some((1, 1))),
+        ("007", "08", Some((7, 8))),
+        ("1048576", "1073741824", Some((1_048_576, 1_073_741_824))),
+        ("1048577", "1", None),
+        ("1", "1073741825", None),
+        ("0", "1", None),
+        ("1", "0", None),
+        ("", "1", None),
+        ("1", "x", None),
+        ("+1", "1", None),
+    ];
+    for (items, bytes, want) in CASES {
+        let read = Limits::read(items.as_bytes(), bytes.as_bytes());
+        let pair = read.map(|limits| (limits.items, limits.bytes));
+        assert!(rt; pair == want, "{items} {bytes}");
     }
 }
 

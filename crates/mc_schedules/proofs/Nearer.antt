@@ -10,9 +10,10 @@ use Rattle.mc_model.specs.declared.shown.Phase.{Phase}
 use Rattle.mc_model.specs.declared.shown.Phase.TheVariants.{Idle, Pending, Looked, Stopped}
 use Rattle.mc_model.specs.declared.shown.WorkerState.{WorkerState}
 use Rattle.mc_model.specs.Helping.{LogLaw}
-use Rattle.mc_model.specs.Lawful.{IsWorker, announced_by, next, turn}
+use Rattle.mc_model.specs.Lawful.{IsReached, IsWorker, announced_by, next, turn}
 use Rattle.mc_model.specs.Shown.{is_latest, learn, look, marked, proposal, propose, read}
 use Rattle.uc_core.specs.Core.{CoreState, ReplayState, core_size}
+use Rattle.uc_core.specs.Headline.{OfEveryRun}
 use Rattle.uc_core.specs.Run.{IsReachedCore}
 use Rattle.uc_core.specs.Showing.{progress_of}
 use Rattle.uc_core.specs.Step.{CoreStep}
@@ -20,12 +21,12 @@ use Rattle.uc_core.specs.declared.event.Event.{Event}
 use Rattle.uc_core.specs.declared.event.Event.TheVariants.{Look, Propose, Read, Replay}
 use Rattle.uc_core.specs.declared.machine.Progress.{Progress}
 use Rattle.lists.proofs.Public.{begins_longer, set_here}
-use Rattle.uc_core.proofs.Public.{law_of, is_lawful}
+use Rattle.model_lemmas.proofs.Waiting.{is_lawful}
 use Rattle.mc_schedules.specs.Needed.{most_needed, most_needed_at, needed, needed_at, reads_on}
 
 -- what the log shows in a core that some run has led to keeps to its law
-law : (core : CoreState) → IsReachedCore core → LogLaw (core_size core) core.shown
-law core reached = is_lawful (core_size core) core.shown (law_of reached.0 reached.1 core reached.2 reached.3).reached
+law : OfEveryRun (λ core given. IsReached (core_size core) core.shown) → (core : CoreState) → IsReachedCore core → LogLaw (core_size core) core.shown
+law shown core reached = is_lawful (core_size core) core.shown (shown reached.0 reached.1 core reached.2 reached.3)
 
 -- what is known of a worker that needs an event
 record Needing (core : CoreState) (number : ℕ) (event : Event) : Type 0 where
@@ -174,16 +175,17 @@ is_read (Some place) room is = absurd (false≢true is)
 
 -- Each event that a worker needs, taken from a core that some run has led to, decreases how many
 -- events it can need.
-pub nearer : (core new : CoreState) (number : ℕ) (event : Event) (reply : Option Reply) →
+pub nearer : OfEveryRun (λ core given. IsReached (core_size core) core.shown) →
+    (core new : CoreState) (number : ℕ) (event : Event) (reply : Option Reply) →
     IsReachedCore core → needed core number ≡ Some event → CoreStep core event new reply → most_needed new number < most_needed core number
-nearer core new number event reply reached needs step = by_phase its.worker.phase refl its.event_is
+nearer shown core new number event reply reached needs step = by_phase its.worker.phase refl its.event_is
   where
     its : Needing core number event
     its = needing core number event needs
 
     -- the law of what is shown
     kept : LogLaw (core_size core) core.shown
-    kept = law core reached
+    kept = law shown core reached
 
     -- it has learned no more than all places
     few : length its.worker.learned ≤ core.places

@@ -1,9 +1,10 @@
 -- The commands of an event list: one function of the words of each. They are memcached's, one line
--- each, with the data as a word; this form is this project's profile.
+-- each, with the data as a word, and the one that sets the tenant's quotas; this form is this project's
+-- profile.
 use Rattle.std.specs.Prelude.{ℕ, Bool, true, false, ◌&&◌, nat_lt, nat_le, if◌then◌else◌, List, [], ◌∷◌, length, Option, Some, None, option_map, codes}
 use Rattle.std.specs.List.{list_all}
 use Rattle.mc_model.specs.declared.command.Command.{Command}
-use Rattle.mc_model.specs.declared.command.Command.TheVariants.{Cas, Decr, Delete, Flush, Get, Incr, Store}
+use Rattle.mc_model.specs.declared.command.Command.TheVariants.{Cas, Decr, Delete, Flush, Get, Incr, Limit, Store}
 use Rattle.mc_model.specs.declared.command.Verb.{Verb}
 use Rattle.mc_model.specs.declared.command.Verb.TheVariants.{Add, Append, Prepend, Replace, Set}
 use Rattle.mc_model.specs.declared.item.Data.{Data}
@@ -11,6 +12,7 @@ use Rattle.mc_model.specs.declared.item.TheConstants.{DATA_BYTES}
 use Rattle.mc_model.specs.declared.key.Key.{Key}
 use Rattle.mc_model.specs.Key.{is_lawful_key, key_of}
 use Rattle.mc_model.specs.Number.{number_up_to}
+use Rattle.mc_model.specs.Settings.{limits_named}
 use Rattle.mc_read.specs.Word.{is_word}
 use Rattle.mc_schedules.specs.declared.command.TheConstants.{FLAGS, NUMBER}
 
@@ -72,6 +74,11 @@ abbrev pub flush_of : List (List ℕ) → Option Command
 flush_of [] = Some Flush
 flush_of arguments = None
 
+-- a quota of items and one of bytes
+abbrev pub limit_of : List (List ℕ) → Option Command
+limit_of (items ∷ bytes ∷ []) = option_map Limit (limits_named items bytes)
+limit_of arguments = None
+
 -- a command, by its name, byte for byte
 abbrev pub command_of : List (List ℕ) → Option Command
 command_of [] = None
@@ -89,4 +96,5 @@ command_of (name ∷ arguments) =
     then option_map (λ (change : Key × ℕ). Incr change.0 change.1) (change_of arguments)
     else if is_word name (codes "decr")
     then option_map (λ (change : Key × ℕ). Decr change.0 change.1) (change_of arguments)
-    else if is_word name (codes "flush_all") then flush_of arguments else None
+    else if is_word name (codes "flush_all") then flush_of arguments
+    else if is_word name (codes "limit") then limit_of arguments else None

@@ -3,11 +3,11 @@ ghost use Rattle.std.specs.List.{list_all};
 ghost use Rattle.std.specs.Prelude.{◌≡◌, IfOk, IfSome, IsOkUnless, is_some, map};
 ghost use Rattle.mc_model.specs.Key.{is_lawful_key};
 ghost use Rattle.mc_model.specs.Number.{number_up_to};
-ghost use Rattle.mc_schedules.specs.Command.{cas_of, change_of, command_of, data_of, deletion_of, flush_of, is_data_byte, retrieval_of, storage_of};
+ghost use Rattle.mc_schedules.specs.Command.{cas_of, change_of, command_of, data_of, deletion_of, flush_of, is_data_byte, limit_of, retrieval_of, storage_of};
 
 use crate::words::is_word;
 use mc_model::item::DATA_BYTES;
-use mc_model::{Command, Data, Fault, Key, KeyList, Verb, read_number};
+use mc_model::{Command, Data, Fault, Key, KeyList, Limits, Verb, read_number};
 use std::alloc::Global;
 
 /// The largest flags.
@@ -173,6 +173,17 @@ fn read_flush(arguments: &[&[u8]]) -> Option<Command>
     }
 }
 
+/// Returns the command that sets these quotas, or `None` if the words aren't quotas of a tenant.
+fn read_limit(arguments: &[&[u8]]) -> Option<Command>
+    ensures { result ≡ limit_of (map (λ word. word.now) arguments.now) }
+{
+    let [items, bytes] = arguments else {
+        return None;
+    };
+    let limits = Limits::read(items, bytes)?;
+    Some(Command::Limit { limits })
+}
+
 /// Returns the command that the words say, or `None` if they say none. Returns `Memory` if an
 /// allocation fails.
 pub fn read_command(alloc: Global, found: &[&[u8]]) -> Result<Option<Command>, Fault>
@@ -207,6 +218,8 @@ pub fn read_command(alloc: Global, found: &[&[u8]]) -> Result<Option<Command>, F
         Ok(read_change(alloc, arguments)?.map(|(key, by)| Command::Decr { key, by }))
     } else if is_word(name, b"flush_all") {
         Ok(read_flush(arguments))
+    } else if is_word(name, b"limit") {
+        Ok(read_limit(arguments))
     } else {
         Ok(None)
     }

@@ -1,5 +1,5 @@
 //! The numbers in the definitions of `specs/`, and what is true of all that event lists do. A law
-//! is the contract of a function that does nothing.
+//! is the contract of a function that does nothing but call such functions.
 ghost use Rattle.std.specs.Prelude.{◌≡◌, ◌<◌, ◌≤◌, ◌+◌, ◌-◌, ◌*◌, ◌^◌, ℕ, List, Option, Some};
 ghost use Rattle.mc_model.specs.declared.id.TheConstants.{TENANTS};
 ghost use Rattle.mc_model.specs.declared.reply.Reply.{Reply};
@@ -14,6 +14,8 @@ ghost use Rattle.uc_core.specs.Run.{Given, IsReachedCore, Runs};
 ghost use Rattle.uc_core.specs.Step.{CoreStep};
 ghost use Rattle.uc_core.specs.declared.event.Event.{Event};
 
+use uc_core::theorem;
+
 /// The numbers of event lists: the largest number of bytes and of tenants of a list, the largest
 /// number by which a worker or a tenant can be named, the largest flags, and the largest number in
 /// all other places.
@@ -25,7 +27,7 @@ pub fn numbers_of_event_lists()
     ensures number { NUMBER ≡ 2 ^ 64 - 1 }
 {}
 
-/// What is true of all that event lists do.
+/// What is true of all that event lists do, by the theorem on all runs of the core.
 pub fn runs_of_event_lists()
     // What a list does is a run of the core, so that all that is true of every run is true of it.
     ensures are_runs { (items : List Item) (old new : CoreState) (given : List Given)
@@ -45,4 +47,7 @@ pub fn runs_of_event_lists()
         DoesAll items old new given end → DoesAll items old other other_given other_end →
         ¬ RanOut end → ¬ RanOut other_end →
         (new ≡ other) × (given ≡ other_given) × (end ≡ other_end) }
-{}
+{
+    theorem::laws();
+    theorem::events_lead_one_way();
+}

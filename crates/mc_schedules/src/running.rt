@@ -4,6 +4,7 @@ ghost use Rattle.mc_schedules.specs.Doing.{Acts, Did, DoesAll, Finishes, TakesEv
 ghost use Rattle.uc_core.specs.Core.{new_core};
 ghost use Rattle.uc_core.specs.Run.{Given};
 
+use crate::laws::runs_of_event_lists;
 use crate::needed::needed;
 use crate::schedule::{Action, Item};
 use crate::watching::Watch;
@@ -54,6 +55,8 @@ fn finish<W: Watch>(
         × Did (Finishes events line worker) line core.old core.new replies.old.items
         replies.new.items result }
 {
+    // The law by which the loop ends.
+    runs_of_event_lists();
     while let Some(event) = needed(core, worker) {
         take(core, line, event, replies, watch)?;
     }

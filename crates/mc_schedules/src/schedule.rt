@@ -30,8 +30,7 @@ pub struct Item {
     pub action: Action,
 }
 
-/// An event list. The numbers of its settings may be out of range; `Settings::check` says whether
-/// they are.
+/// An event list. The numbers of its settings may be out of range, which `Settings::check` rejects.
 #[derive(Debug, PartialEq, Eq, Drop)]
 pub struct Schedule {
     pub workers: u64,

@@ -29,7 +29,8 @@ fn commands_of_no_form(rt: HostRuntime) -> Result<(), Fail> {
     let commands =
         "set a 0/set a 0 x y/set a 4294967296 x/set a x x/set a 0 \x7f/set a 0 ä/set a\x7f 0 x/set a 0 x\r/\
         cas a 0 x/cas a 0 18446744073709551616 x/cas a 0 1 x y/get/gets/get a \x7f/delete/delete a 0/\
-        delete a noreply/incr a/incr a x/incr a 18446744073709551616/decr a 1 noreply/flush_all 0/version/quit/SET a 0 x";
+        delete a noreply/incr a/incr a x/incr a 18446744073709551616/decr a 1 noreply/flush_all 0/\
+        limit/limit 1/limit 1 1 1/limit 0 1/limit 1 0/limit 1048577 1/limit 1 1073741825/limit 1 x/limit -1 1/version/quit/SET a 0 x";
     for command in commands.split('/') {
         let line = format!(in alloc; "submit 0 0 {command}")?;
         assert_bad_line(&rt, alloc, line.as_str())?;

@@ -1,7 +1,7 @@
 //! Golden event lists, and what each line means.
 use crate::event_lists::{assert_asks, assert_list};
 use crate::events::{AMPLE, command_of};
-use mc_model::Limits;
+use mc_model::{Command, Limits};
 use mc_schedules::Action;
 use std::alloc::Global;
 use std::process::Abort;
@@ -158,4 +158,32 @@ fn other_commands_are_read(rt: HostRuntime) -> Result<(), Fail> {
     )?;
     assert_command(&rt, alloc, "decr a 0", "decr a 0\r\n")?;
     assert_command(&rt, alloc, "flush_all", "flush_all\r\n")
+}
+
+/// Asserts that `words` are a command that sets these quotas.
+fn assert_limits(
+    rt: &impl Abort,
+    alloc: Global,
+    words: &str,
+    items: u64,
+    bytes: u64,
+) -> Result<(), Fail> {
+    let line = format!(in alloc; "submit 3 64 {words}")?;
+    let command = Command::Limit {
+        limits: Limits { items, bytes },
+    };
+    assert_asks(rt, alloc, line.as_str(), &Action::Submit(3, 64, command))
+}
+
+#[test]
+fn quotas_are_read(rt: HostRuntime) -> Result<(), Fail> {
+    let alloc = rt.alloc();
+    assert_limits(&rt, alloc, "limit 1 1", 1, 1)?;
+    assert_limits(
+        &rt,
+        alloc,
+        "limit  01048576 1073741824",
+        1_048_576,
+        1_073_741_824,
+    )
 }

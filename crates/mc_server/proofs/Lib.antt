@@ -7,3 +7,4 @@ pub mod TenantForms
 pub mod TenantLists
 pub mod TenantNames
 pub mod TenantParts
+pub mod Waited

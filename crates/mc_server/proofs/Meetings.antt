@@ -1,12 +1,13 @@
 -- Workers that have met, later on.
-use Rattle.std.proofs.Common.{◌≡◌, ◌∙◌, ◌≤◌, ◌<◌, ℕ, ◌+◌, List, [], ◌∷◌, ◌++◌, Some, All, Contains, get_or, length, map, slice_get, ap, refl, suc, sym, subst, arith, ⊎_elim}
+use Rattle.std.proofs.Common.{◌≡◌, ◌⊎◌, ◌∙◌, ◌≤◌, ◌<◌, ℕ, ◌+◌, List, [], ◌∷◌, ◌++◌, Some, All, Contains, get_or, length, map, slice_get, ap, refl, suc, sym, subst, inl, inr, arith, ⊎_elim}
 use Rattle.std.proofs.lemmas.List.Elements.{All-cons, All-contains, All-head, All-nil, All-tail, Contains-append_right}
 use Rattle.std.proofs.lemmas.Option.{same_Some, slice_get-get_or}
 use Rattle.std.proofs.Math.Decide.{dec_le}
 use Rattle.std.specs.List.{AllZip}
 use Rattle.mc_model.specs.declared.id.Ticket.{Ticket}
 use Rattle.mc_model.specs.declared.shown.LogSize.{LogSize}
-use Rattle.mc_model.specs.declared.shown.Phase.TheVariants.{Idle, Pending}
+use Rattle.mc_model.specs.declared.shown.Phase.{Phase}
+use Rattle.mc_model.specs.declared.shown.Phase.TheVariants.{Idle, Pending, Looked, Stopped}
 use Rattle.lists.specs.Lists.{BeginsWith}
 use Rattle.mc_model.specs.Legal.{IsLegal, count}
 use Rattle.mc_model.specs.Settings.{Configuration}
@@ -16,9 +17,27 @@ use Rattle.uc_worker.specs.Going.{CatchesUp}
 use Rattle.uc_worker.specs.Worker.{IsUpToDate, announced_of, history_of, seat_of}
 use Rattle.uc_worker.specs.Cited.{Sighting}
 use Rattle.uc_log.specs.declared.log.Log.{Log}
-use Rattle.uc_worker.proofs.Public.{catches_self, catches_through, same_count, rests_either}
+use Rattle.uc_worker.specs.contracts.laws.WorkerGoesOn.TheImpl.{continues_self-value, continues_through-value}
+use Rattle.uc_worker.specs.Steps.{Rests}
 use Rattle.lists.proofs.Public.{begins_longer, begins_self, begins_through, begins_whole}
 use Rattle.uc_worker.specs.declared.worker.Worker.{Worker}
+
+-- a worker that goes on without announcing, and its phase between two calls
+pub catches_self : (worker : Worker) → CatchesUp worker worker
+catches_self worker = record { continues = continues_self-value.it worker; announced = refl }
+
+pub catches_through : (first second third : Worker) → CatchesUp first second → CatchesUp second third → CatchesUp first third
+catches_through first second third one two =
+    record { continues = continues_through-value.it first second third one.continues two.continues; announced = two.announced ∙ one.announced }
+
+same_count : (old new : Worker) → CatchesUp old new → (seat_of new).state.announced ≡ (seat_of old).state.announced
+same_count old new on = sym new.pass.count ∙ ap length on.announced ∙ old.pass.count
+
+rests_either : (phase : Phase) → Rests phase → (phase ≡ Idle) ⊎ (phase ≡ Pending)
+rests_either Idle rests = inl refl
+rests_either Pending rests = inr refl
+rests_either Looked rests = absurd (rests.0 refl)
+rests_either Stopped rests = absurd (rests.1 refl)
 
 -- a history that is as long as the learned list has its tickets
 tickets_are : (history : List Sighting) (learned : List Ticket) →

@@ -9,12 +9,14 @@ use Rattle.clap.specs.Walk.{Text}
 use Rattle.uc_worker.specs.Going.{Continues}
 use Rattle.mc_model.specs.declared.fault.Fault.{Fault}
 use Rattle.mc_model.specs.Settings.{Configuration}
+use Rattle.mc_net.specs.Beginning.{HaltsServing}
 use Rattle.mc_net.specs.Running.{returned_worker}
 use Rattle.mc_net.specs.declared.worker_thread.Returned.{Returned}
-use Rattle.mc_programs.proofs.Public.{all_more, fails_more}
+use Rattle.mc_programs.specs.Waiting.{FailsToPush, PushesAll}
+use Rattle.mc_server.proofs.Waited.{all_more, fails_more}
 use Rattle.mc_server.proofs.Numbered.{all_below}
 use Rattle.mc_server.specs.Listeners.{CountsFrom, StopsListening}
-use Rattle.mc_server.specs.Network.{AreOf, AreWorkersOf, HaveMet, HaveServed, HasPrintedLength, IsReady, IsServed, WereServed, number_of, StopsAnnouncing, StopsFinishing, StopsRun, StopsServing, names_of}
+use Rattle.mc_server.specs.Network.{AreOf, AreWorkersOf, HaveMet, HaveServed, HasPrintedLength, IsReady, IsServed, WereServed, number_of, StopsFinishing, StopsRun, StopsServing, names_of}
 use Rattle.mc_server.specs.NetworkTexts.{done_line, ready_text}
 use Rattle.mc_server.specs.NetworkWords.{Asks, WordsGive, AsksForNone, AsksForService, AsksInVain, IsChecked, NetworkAsked, NetworkGiven, given_in, served_by}
 use Rattle.mc_server.specs.declared.network_words.NetworkWords.{NetworkWords}
@@ -26,10 +28,18 @@ use Rattle.mc_stream.specs.Stream.{Outflow}
 use Rattle.uc_log.specs.declared.log.Log.{Log}
 use Rattle.uc_worker.specs.declared.worker.Worker.{Worker}
 
--- a fault before all of the listeners' lines were printed
-pub announcing_stops : (settings : Configuration) (fault : Fault) (listening : List Listening) (before after : Outflow) → StopsAnnouncing listening before after fault
-    → StopsServing settings listening before after fault
-announcing_stops settings fault listening before after stops = ⊎_elim (λ starved. inl starved) (λ fails. inr (inr (inl fails))) stops
+-- a fault ended the service before the tenants had been served
+pub serving_halts : {O : Type 0} (tells : O → Outflow) (settings : Configuration) (fault : Fault) (text : List ℕ) (listening : List Listening) (before after : O) → text ≡ ready_text listening
+    → HaltsServing (λ (one other : O). PushesAll text (tells one) (tells other)) (λ (one other : O) (stop : Fault). FailsToPush text (tells one) (tells other) stop) before after fault
+    → StopsServing settings listening (tells before) (tells after) fault
+serving_halts tells settings fault text listening before after is halts =
+    ⊎_elim
+    (λ failed. ⊎_elim
+    (λ nothing. inl (failed.0, ap tells nothing))
+    (λ ready. inr (inl (failed.0, subst (λ known. PushesAll known (tells before) (tells after)) is ready)))
+    failed.1)
+    (λ stopped. inr (inr (inl (subst (λ known. FailsToPush known (tells before) (tells after) fault) is stopped))))
+    halts
 
 -- the length of the log of workers that have served and come back was printed after them, or a
 -- fault came

@@ -13,7 +13,7 @@ use Rattle.std.specs.Result.{result_ok}
 use Rattle.std.specs.Str.Parse.{AllDigits}
 use Rattle.std.specs.declared.net.socket_addr.SocketAddrV4.{SocketAddrV4}
 use Rattle.mc_model.specs.Number.{number_up_to}
-use Rattle.mc_model.proofs.Public.{number_test}
+use Rattle.model_lemmas.proofs.NumberTests.{number_test}
 use Rattle.mc_server.specs.TenantWord.{IsName, Lacks, Says, TenantAsked, is_name_byte, tenant_text}
 use Rattle.mc_programs.specs.Words.{u64_of}
 use Rattle.mc_server.specs.declared.tenant_word.Parts.{Parts}

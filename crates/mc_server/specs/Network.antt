@@ -4,7 +4,7 @@ use Rattle.std.specs.List.{AllZip}
 use Rattle.std.specs.Prelude.{◌≡◌, ◌<◌, ◌≤◌, ◌⊎◌, ℕ, ◌+◌, List, [], ◌++◌, All, Contains, None, codes, length, map}
 use Rattle.clap.specs.Walk.{Text}
 use Rattle.mc_model.specs.declared.fault.Fault.{Fault}
-use Rattle.mc_model.specs.declared.fault.Fault.TheVariants.{Memory, Input, BadSettings}
+use Rattle.mc_model.specs.declared.fault.Fault.TheVariants.{Memory, BadSettings}
 use Rattle.mc_model.specs.declared.id.Ticket.{Ticket}
 use Rattle.lists.specs.Lists.{BeginsWith}
 use Rattle.mc_model.specs.Legal.{IsLegal, count}
@@ -12,6 +12,7 @@ use Rattle.mc_model.specs.Settings.{Configuration}
 use Rattle.mc_net.specs.Asking.{HasBeenAsked}
 use Rattle.mc_net.specs.Life.{HasAnswered}
 use Rattle.mc_net.specs.Running.{returned_worker}
+use Rattle.mc_net.specs.Serving.{IsNetworkFault}
 use Rattle.mc_net.specs.declared.worker_thread.Returned.{Returned}
 use Rattle.mc_programs.specs.Faults.{fault_line}
 use Rattle.mc_server.specs.Listeners.{CountsFrom, IsListeningFor}
@@ -26,7 +27,6 @@ use Rattle.mc_stream.specs.Pushing.{PushesOrFails}
 use Rattle.mc_stream.specs.Stream.{Outflow, Streams, both}
 use Rattle.uc_worker.specs.Cited.{Sighting}
 use Rattle.uc_log.specs.declared.log.Log.{Log}
-use Rattle.uc_log.specs.Passes.{learned, state}
 use Rattle.uc_worker.specs.declared.worker.Worker.{Worker}
 use Rattle.uc_worker.specs.Going.{CatchesUp}
 use Rattle.uc_worker.specs.Worker.{IsUpToDate, announced_of, history_of, seat_of}
@@ -139,23 +139,18 @@ IsServed settings listening before after =
     (number : ℕ) × WereServed settings number
     × PushesAll (ready_text listening ++ done_line number) before after
 
--- what was printed if a fault kept the listeners' lines from being printed
-abbrev pub StopsAnnouncing : List Listening → Outflow → Outflow → Fault → Type 0
-StopsAnnouncing listening before after fault =
-    (fault ≡ Memory) × (after ≡ before) ⊎ FailsToPush (ready_text listening) before after fault
-
 -- what was printed if a fault kept the length of these workers' log from being printed
 abbrev pub StopsFinishing : List Worker → Outflow → Outflow → Fault → Type 0
 StopsFinishing workers before after fault =
     (fault ≡ Memory) × (after ≡ before)
     ⊎ ((number : ℕ) × HaveMet workers number × FailsToPush (done_line number) before after fault)
 
--- what was printed if a fault ended the service: nothing, the listeners' lines, or a prefix of all
--- that is to be printed
+-- what was printed if a fault ended the service: nothing or the listeners' lines, if memory ran out
+-- or waiting for connections failed; or a prefix of all that is to be printed, if the output failed
 abbrev pub StopsServing : Configuration → List Listening → Outflow → Outflow → Fault → Type 0
 StopsServing settings listening before after fault =
-    (fault ≡ Memory) × (after ≡ before)
-    ⊎ ((fault ≡ Memory) ⊎ (fault ≡ Input)) × IsReady listening before after
+    IsNetworkFault fault × (after ≡ before)
+    ⊎ IsNetworkFault fault × IsReady listening before after
     ⊎ FailsToPush (ready_text listening) before after fault
     ⊎ ((number : ℕ) × WereServed settings number
     × FailsToPush (ready_text listening ++ done_line number) before after fault)

@@ -5,7 +5,7 @@ ghost use Rattle.mc_model.specs.declared.fault.Fault.TheVariants as faults;
 ghost use Rattle.mc_server.specs.Network.{AreOf, AreWorkersOf, HasDoneNothing, HaveMet, IsCrew, MeetsAnother};
 ghost use Rattle.uc_worker.specs.Going.{CatchesUp};
 ghost use Rattle.uc_worker.specs.Worker.{IsUpToDate};
-ghost use Rattle.uc_log.specs.Passes.{IsNew};
+ghost use Rattle.uc_log.specs.Passes.{IsNew, IsUnusedPass};
 
 use mc_model::Fault;
 use std::alloc::Global;
@@ -22,6 +22,8 @@ pub(crate) fn open_workers<'a>(
 ) -> Result<Vec<Worker<'a>>, Fault>
     requires passes { (number : ℕ) (pass : _) → slice_get passes.items number ≡ Some pass
         → IsNew log.now number pass }
+    requires unused { (number : ℕ) (pass : _) → slice_get passes.items number ≡ Some pass
+        → IsUnusedPass log.now pass }
     requires count { length passes.items ≡ log.now.settings.workers }
     ensures outcome { MatchResult result
         (λ workers. AreWorkersOf log.now.settings log.now workers.items

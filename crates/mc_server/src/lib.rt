@@ -8,6 +8,7 @@ pub use mc_programs::{
 };
 pub use network::run_wfmc;
 
+mod announcement;
 mod crew;
 mod listeners;
 mod network;

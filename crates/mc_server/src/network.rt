@@ -1,17 +1,18 @@
 //! The program that serves several tenants.
 ghost use Rattle.std.specs.Prelude.{MatchResult, map, string_bytes};
 ghost use Rattle.mc_server.specs.Listeners.{AreListenersOf};
-ghost use Rattle.mc_server.specs.Network.{WfmcEnds, IsCrew, HasPrintedLength, IsReady, IsServed, ServesTenants, StopsAnnouncing, StopsFinishing, StopsRun, StopsServing, stop_line};
+ghost use Rattle.mc_server.specs.Network.{WfmcEnds, IsCrew, HasPrintedLength, IsServed, ServesTenants, StopsFinishing, StopsRun, StopsServing, stop_line};
 ghost use Rattle.mc_server.specs.NetworkWords.{IsChecked, served_by, settings_asked};
 ghost use Rattle.mc_stream.specs.Pushing.{PushesOrFails};
 
+use crate::announcement::Announcement;
 use crate::crew::{meet_all, open_workers};
 use crate::listeners::{Listeners, Stop, bind_all};
-use crate::network_texts::{Listening, ready_text, tell_cannot_listen, tell_done};
+use crate::network_texts::{ready_text, tell_cannot_listen, tell_done};
 use crate::network_words::{Service, read_words, service_of};
 use mc_model::Fault;
 use mc_net::{into_workers, serve};
-use mc_programs::{answer_words, fail, push_all, tell_fault};
+use mc_programs::{answer_words, fail, tell_fault};
 use mc_stream::Output;
 use std::alloc::{AllocError, Global};
 use std::net::Net;
@@ -22,23 +23,6 @@ use uc_worker::{Open, Worker};
 
 /// The program's name, the prefix of its messages.
 const NAME: &[u8] = b"wfmc";
-
-/// Prints which tenant's listener is at which address.
-///
-/// Returns `Memory` if memory runs out, and `Output` if the output fails.
-fn announce<R: Wait, O: Output>(
-    rt: &R,
-    alloc: Global,
-    told: &[Listening],
-    output: &mut O,
-) -> Result<(), Fault>
-    ensures outcome { MatchResult result
-        (λ _. IsReady told.now (O.tells output.old) (O.tells output.new))
-        (StopsAnnouncing told.now (O.tells output.old) (O.tells output.new)) }
-{
-    let text = ready_text(alloc, told)?;
-    push_all(rt, text.as_bytes(), output)
-}
 
 /// Lets the workers meet, and prints the length of the log.
 ///
@@ -58,11 +42,12 @@ fn finish<R: Wait, O: Output>(
     tell_done(rt, count as u64, output)
 }
 
-/// Serves the tenants at their listeners until all connections are served. Prints first which
-/// tenant's listener is at which address, and at the end the length of the log.
+/// Serves the tenants at their listeners until all connections are served. Once every worker's loop
+/// has begun it prints which tenant's listener is at which address, and at the end the length of the
+/// log.
 ///
-/// Returns `Memory` if memory runs out, `Input` if waiting for connections fails, and `Output` if
-/// the output fails.
+/// Returns `Memory` if memory runs out or a worker's loop doesn't begin, `Input` if waiting for
+/// connections fails, and `Output` if the output fails.
 fn serve_tenants<R: Threads + Wait + Net + Sync, O: Output>(
     rt: &R,
     alloc: Global,
@@ -81,7 +66,8 @@ fn serve_tenants<R: Threads + Wait + Net + Sync, O: Output>(
     let (log, passes) = Log::open(alloc, &service.settings)?;
     let workers = open_workers(alloc, &log, passes)?;
     let gates = vec![in alloc; Open; workers.len()]?;
-    announce(rt, alloc, &told, output)?;
+    let text = ready_text(alloc, &told)?;
+    let announcement = Announcement { text };
     let back = serve(
         rt,
         alloc,
@@ -90,6 +76,8 @@ fn serve_tenants<R: Threads + Wait + Net + Sync, O: Output>(
         listeners,
         service.connections,
         gates,
+        &announcement,
+        output,
     )?;
     let workers = into_workers(alloc, back)?;
     finish(rt, alloc, workers, output)
@@ -127,15 +115,15 @@ fn tell_stop<R: Wait, E: Output>(rt: &R, stop: Stop, errors: &mut E)
 ///
 /// Serves the tenants that the words name, each at a listener of its own. Prints
 /// `listening NAME ADDR` for each, in their order and with the port that its listener has, and then
-/// `ready`. With `--connections N` above 0 it ends once N connections were accepted and all of them
-/// have ended: then the workers meet, `done L` is printed, where L is the length of the log, and
-/// the status is 0. Otherwise it doesn't end.
+/// `ready`, all of it once every worker's loop has begun. With `--connections N` above 0 it ends
+/// once N connections were accepted and all of them have ended: then the workers meet, `done L` is
+/// printed, where L is the length of the log, and the status is 0. Otherwise it doesn't end.
 ///
 /// A tenant's word of another form, a number out of its range, or a name that is used twice is
 /// reported on `errors` as `wfmc: bad settings`, with status 2, and an address that can't be
 /// listened on as `wfmc: cannot listen NAME`, with status 1; nothing is printed then. If memory
-/// runs out, waiting for connections fails, or the output fails, that is reported as `wfmc: TEXT`,
-/// with status 1.
+/// runs out, a worker's loop doesn't begin within about ten seconds, waiting for connections fails,
+/// or the output fails, that is reported as `wfmc: TEXT`, with status 1.
 ///
 /// Help and the version go to the output, with status 0, and a mistake in the words to `errors`,
 /// with status 2, as clap's text. A failure of `errors` is ignored.

@@ -44,7 +44,7 @@ fn check_steps<R: Threads + Wait + Net + Sync + AllocGlobal + Abort>(
     );
     assert!(rt;
         errors.as_bytes() == wanted.errors,
-        "what is told at {given}"
+        "what is reported at {given}"
     );
     Ok(())
 }

@@ -7,7 +7,7 @@ use Rattle.std.specs.Cmp.{booleans_Decides}
 use Rattle.std.specs.Cmp.Lexicographic.{bytes_decides}
 use Rattle.std.specs.Option.{option_eq}
 use Rattle.mc_model.specs.declared.command.Command.{Command}
-use Rattle.mc_model.specs.declared.command.Command.TheVariants.{Store, Cas, Get, Delete, Incr, Decr, Flush}
+use Rattle.mc_model.specs.declared.command.Command.TheVariants.{Store, Cas, Get, Delete, Incr, Decr, Flush, Limit}
 use Rattle.mc_model.specs.declared.command.Verb.{Verb}
 use Rattle.mc_model.specs.declared.command.Verb.TheVariants.{Set, Add, Replace, Append, Prepend}
 use Rattle.mc_model.specs.declared.request.Entry.{Entry}
@@ -61,6 +61,11 @@ same_command (Decr key by) (Decr key2 by2) is =
     let same_by = (Decides-eqb by by2).0 parts.1 in
     λ i. Decr (same_key i) (same_by i)
 same_command Flush Flush is = refl
+same_command (Limit limits) (Limit limits2) is =
+    let parts = and_parts _ _ is in
+    let same_items = (Decides-eqb limits.items limits2.items).0 parts.0 in
+    let same_bytes = (Decides-eqb limits.bytes limits2.bytes).0 parts.1 in
+    λ i. Limit (record { items = same_items i; bytes = same_bytes i })
 same_command one other is = absurd (cc)
 
 -- as are entries of one ticket, tenant and command

@@ -18,7 +18,7 @@ use Rattle.uc_core.proofs.CoreLaws.{CoreLaw, stands_with_entry}
 use Rattle.lists.proofs.Public.{take_more}
 use Rattle.uc_core.proofs.Lookups.{map-agree, same_by_places}
 use Rattle.uc_core.proofs.Replays.{take-begins}
-use Rattle.mc_model.proofs.Public.{count_front, count_own}
+use Rattle.model_lemmas.proofs.Tickets.{count_front, count_own}
 
 -- a ticket that stands earlier in a legal list would be counted before the later place
 not_before : (tickets : List Ticket) (ticket : Ticket) (one other : ℕ) → IsLegal tickets →

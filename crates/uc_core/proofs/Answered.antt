@@ -24,7 +24,7 @@ use Rattle.uc_core.proofs.CoreLaws.{CoreLaw, keeps, opens, stands_with_entry}
 use Rattle.lists.proofs.Public.{at_replicated, set_elsewhere, set_here}
 use Rattle.uc_core.proofs.Lookups.{at_further, at_longer, there}
 use Rattle.uc_core.proofs.Runs.{of_run, stands_on}
-use Rattle.uc_core.proofs.StateLaws.{learned_few}
+use Rattle.model_lemmas.proofs.StateLaws.{learned_few}
 
 -- the worker's own ticket stands at a place of the list that it has replayed later and not before:
 -- it was answered
@@ -32,7 +32,7 @@ abbrev AreAnswered : CoreState → CoreState → List Ticket → List Given → 
 AreAnswered old new tickets given = (number place : ℕ) (ticket : Ticket) → replayed_by old number ≤ place → place < replayed_by new number →
     slice_get tickets place ≡ Some ticket → ticket.worker ≡ number → HasReply given number place
 
-replays_of : (core : CoreState) (number : ℕ) (replay : ReplayState) → slice_get core.replays number ≡ Some replay →
+pub replays_of : (core : CoreState) (number : ℕ) (replay : ReplayState) → slice_get core.replays number ≡ Some replay →
     replayed_by core number ≡ replay.replayed
 replays_of core number replay at = ap (λ found. option_map_or (λ (it : ReplayState). it.replayed) found 0) at
 
@@ -66,12 +66,12 @@ module _ (old new : CoreState) (number : ℕ) (reply : Option Reply) (law : Core
   abbrev further : ReplayState
   further = record { replayed = step.3.replayed + 1; tables = step.6 }
 
-  replayed_here : replayed_by new number ≡ step.3.replayed + 1
+  pub replayed_here : replayed_by new number ≡ step.3.replayed + 1
   replayed_here = ap (λ core. replayed_by core number) step.8
       ∙ replays_of (record old { replays = slice_set old.replays number further }) number further
       (set_here old.replays number further (slice_get_within old.replays number step.3 step.4))
 
-  replayed_elsewhere : (other : ℕ) → other ≢ number → replayed_by new other ≡ replayed_by old other
+  pub replayed_elsewhere : (other : ℕ) → other ≢ number → replayed_by new other ≡ replayed_by old other
   replayed_elsewhere other apart = ap (λ core. replayed_by core other) step.8
       ∙ ap (λ found. option_map_or (λ (it : ReplayState). it.replayed) found 0) (set_elsewhere old.replays number other further apart)
 

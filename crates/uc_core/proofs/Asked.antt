@@ -30,7 +30,7 @@ use Rattle.lists.proofs.Public.{at_replicated, set_elsewhere, set_here}
 use Rattle.uc_core.proofs.Lookups.{there}
 use Rattle.uc_core.proofs.Runs.{law_of}
 use Rattle.uc_core.proofs.Soon.{shows_step}
-use Rattle.uc_core.proofs.Waiting.{is_lawful}
+use Rattle.model_lemmas.proofs.Waiting.{is_lawful}
 
 -- what each event makes of a part of the core, the events of a run make of it one after another
 abbrev EachMakes : {X : Type 0} → (CoreState → X) → (X → Event → X) → Type 0

@@ -13,7 +13,7 @@ use Rattle.mc_model.specs.declared.shown.ShownState.{ShownState}
 use Rattle.mc_model.specs.declared.shown.WorkerState.{WorkerState}
 use Rattle.lists.specs.Lists.{BeginsWith}
 use Rattle.mc_model.specs.Lawful.{IsReached, IsWorker, ShownEvent, Step, announced_by, announces, looks, proposes, reads, stops, with_worker}
-use Rattle.mc_model.proofs.Public.{EachStands-none}
+use Rattle.model_lemmas.proofs.Replays.{EachStands-none}
 use Rattle.mc_model.specs.Replay.{TakeEffect, empty_tables}
 use Rattle.mc_model.specs.State.{TableState}
 use Rattle.mc_model.specs.Settings.{Configuration}
@@ -30,8 +30,8 @@ use Rattle.uc_core.proofs.Lookups.{there}
 use Rattle.uc_core.proofs.Moves.{IsQuiet, Moves, announced_elsewhere, looks_quietly, one_moves, proposes_quietly, reads_quietly, stops_quietly}
 pub use Rattle.uc_core.proofs.Replays.{AreReplays, ReplayLaw}
 use Rattle.uc_core.proofs.Replays.{replay_more, replay_stays}
-use Rattle.uc_core.proofs.StateLaws.{IsSound, announced_after, announced_is, learned_few}
-use Rattle.uc_core.proofs.StateLaws as state_laws
+use Rattle.model_lemmas.proofs.StateLaws.{IsSound, announced_after, announced_is, learned_few}
+use Rattle.model_lemmas.proofs.StateLaws as state_laws
 
 -- events lead to what the log shows, which is sound, and every worker has its entries and its
 -- replay, which keep to their laws

@@ -1,9 +1,5 @@
 mod Rows
 mod CoreRows
-pub mod StateLaws
-pub mod Helped
-pub mod Turns
-pub mod Waiting
 mod Lookups
 mod Moves
 mod Entries
@@ -11,10 +7,12 @@ mod Replays
 pub mod CoreLaws
 pub mod Runs
 mod Answered
+mod Once
 mod Agreement
 mod Worlds
 pub mod OneWay
 mod Soon
+mod Later
 mod Each
 pub mod Workers
 pub mod Opened
@@ -25,4 +23,3 @@ mod Asked
 pub mod Shows
 mod Ties
 mod Followed
-pub mod Public

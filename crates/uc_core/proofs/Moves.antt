@@ -11,7 +11,7 @@ use Rattle.lists.specs.Lists.{BeginsWith}
 use Rattle.mc_model.specs.Lawful.{IsWorker, Step, announced_by, decided_with, looks, next, proposes, reads, stops}
 use Rattle.mc_model.specs.Shown.{proposal, read}
 use Rattle.lists.proofs.Public.{at_set, begins_self, set_elsewhere}
-use Rattle.uc_core.proofs.StateLaws.{after, announced_after, announced_is}
+use Rattle.model_lemmas.proofs.StateLaws.{after, announced_after, announced_is}
 
 -- a worker has learned no less than before
 abbrev pub HasLearned : ShownState → ℕ → WorkerState → Type 0

@@ -7,7 +7,7 @@ use Rattle.mc_model.specs.declared.settings.Limits.{Limits}
 use Rattle.mc_model.specs.declared.shown.WorkerState.{WorkerState}
 use Rattle.lists.specs.Lists.{BeginsWith}
 use Rattle.mc_model.specs.Replay.{EachStands, TakeEffect, empty_tables}
-use Rattle.mc_model.proofs.Public.{EachStands-push}
+use Rattle.model_lemmas.proofs.Replays.{EachStands-push}
 use Rattle.mc_model.specs.State.{TableState}
 use Rattle.uc_core.specs.Core.{CoreState, ReplayState, log_of}
 use Rattle.uc_core.specs.Headline.{HasReplica}

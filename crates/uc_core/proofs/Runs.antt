@@ -11,7 +11,7 @@ use Rattle.lists.specs.Lists.{BeginsWith}
 use Rattle.mc_model.specs.History.{answer, answer_from}
 use Rattle.mc_model.specs.Log.{own}
 use Rattle.mc_model.specs.Replay.{empty_tables, reply_from, reply_to}
-use Rattle.mc_model.proofs.Public.{reply_to-table}
+use Rattle.model_lemmas.proofs.Replays.{reply_to-table}
 use Rattle.mc_model.specs.Settings.{Configuration}
 use Rattle.mc_model.specs.State.{TableState, empty_table, next_reply}
 use Rattle.uc_core.specs.Core.{CoreState, ReplayState, entry_under, log_of, new_core, core_size}
@@ -25,7 +25,7 @@ use Rattle.uc_core.proofs.Entries.{log-at}
 use Rattle.lists.proofs.Public.{begins_through}
 use Rattle.uc_core.proofs.Lookups.{at_longer, there}
 use Rattle.uc_core.proofs.Replays.{take-begins}
-use Rattle.uc_core.proofs.StateLaws.{learned_few}
+use Rattle.model_lemmas.proofs.StateLaws.{learned_few}
 
 pub Grows-through : (old between new : CoreState) → Grows old between → Grows between new → Grows old new
 Grows-through old between new first second = record {

@@ -12,7 +12,7 @@ use Rattle.uc_core.specs.Step.{CoreStep}
 use Rattle.uc_core.specs.declared.event.Event.{Event}
 use Rattle.uc_core.specs.declared.event.Event.TheVariants.{Announce, Look, Propose, Read, Replay, Stop}
 use Rattle.uc_core.proofs.CoreLaws.{CoreLaw}
-use Rattle.uc_core.proofs.Turns.{is_soon_decided}
+use Rattle.model_lemmas.proofs.Turns.{is_soon_decided}
 
 -- some events of the shown log lead from one state to another
 abbrev LeadsOn : LogSize → ShownState → ShownState → Type 0

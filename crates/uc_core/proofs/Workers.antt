@@ -15,7 +15,7 @@ use Rattle.mc_model.specs.Replay.{TakeEffect, empty_tables, with_command}
 use Rattle.mc_model.specs.State.{TableState, empty_table, next_reply}
 use Rattle.uc_core.specs.Kept.{AreCounts}
 use Rattle.lists.proofs.Public.{at_replicated, at_set}
-use Rattle.mc_model.proofs.Public.{count_other, count_own}
+use Rattle.model_lemmas.proofs.Tickets.{count_other, count_own}
 
 -- what stands at a place comes next
 pub take-next : {X : Type 0} (xs : List X) (n : ℕ) (x : X) → slice_get xs n ≡ Some x → take (n + 1) xs ≡ take n xs ++ x ∷ []

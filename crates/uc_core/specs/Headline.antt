@@ -106,6 +106,13 @@ OwnAreAnswered core given =
     place < replay.replayed → slice_get core.shown.decided place ≡ Some ticket →
     ticket.worker ≡ number → HasReply given number place
 
+-- no place is answered twice, whichever workers answer
+abbrev pub AnsweredOnce : List Given → Type 0
+AnsweredOnce given =
+    (one other worker other_worker place : ℕ) (reply other_reply : Reply) →
+    slice_get given one ≡ Some (worker, place, reply) →
+    slice_get given other ≡ Some (other_worker, place, other_reply) → one ≡ other
+
 -- a command that is announced while d places of a log of n workers are decided stands among the
 -- first d + n + 1 places once that many are decided, whatever happens in between and whichever
 -- workers stop
@@ -117,6 +124,29 @@ IsDecidedSoon old =
     length old.shown.decided + length old.shown.workers + 1 ≤ length new.shown.decided →
     StandsBefore (length old.shown.decided + length old.shown.workers + 1)
     (ticket_of number (announced_by old.shown number)) new.shown.decided
+
+-- a command is announced in this state, and stands at this place in a later one
+pub record StandsLater (old : CoreState) (place : ℕ) : Type 0 where
+  pub number : ℕ
+  pub tenant : ℕ
+  pub command : Command
+  pub announced : CoreState
+  pub new : CoreState
+  pub events : List Event
+  pub given : List Given
+  pub announces : CoreStep old (Announce number tenant command) announced None
+  pub runs : Runs announced events new given
+  pub stands : slice_get new.shown.decided place
+      ≡ Some (ticket_of number (announced_by old.shown number))
+
+-- a command that is announced while d places are decided stands at place d or later, if it stands
+abbrev pub StandsAfterDecided : CoreState → Type 0
+StandsAfterDecided old = (place : ℕ) → StandsLater old place → length old.shown.decided ≤ place
+
+-- order in real time: a command that was answered before another was announced stands before it
+abbrev pub KeepsRealTime : CoreState → List Given → Type 0
+KeepsRealTime old given = (at worker place later : ℕ) (reply : Reply) →
+    slice_get given at ≡ Some (worker, place, reply) → StandsLater old later → place < later
 
 -- a reply was given to the tenant's command number j, from 0, of the log
 pub record Answered (core : CoreState) (given : List Given) (tenant j : ℕ)

@@ -4,14 +4,21 @@
 //! workers stop for good, each announced command stands at most once in the log, all replicas agree
 //! on every replayed prefix, and each replayed command's reply is what memcached's commands give on
 //! a table holding only its tenant's commands in log order, so runs whose logs agree for a tenant
-//! give equal replies.
+//! give equal replies. Each command is answered at most once, and one that was answered before
+//! another was announced stands before it.
+ghost use Rattle.std.specs.Prelude.{◌≡◌, ◌⊎◌, ◌↔◌, ℕ, [], ◌∷◌, true, Some, None};
+ghost use Rattle.mc_model.specs.declared.reply.Reply.{Reply};
 ghost use Rattle.mc_model.specs.Helping.{HelpingLaw, IsSoonDecided, LogLaw};
 ghost use Rattle.mc_model.specs.Lawful.{IsReached};
 ghost use Rattle.mc_model.specs.declared.shown.LogSize as size;
 ghost use Rattle.mc_model.specs.declared.shown.ShownState as state;
 ghost use Rattle.uc_core.specs.Asked.{AnnouncementsStand, ByEvents, FewProposals, IsOfSettings, ReplaysCount};
 ghost use Rattle.uc_core.specs.Core.{CoreState, core_size};
-ghost use Rattle.uc_core.specs.Headline.{AnswerAlike, IsDecidedSoon, LogIsSound, OfEveryRun, OwnAreAnswered, RepliesAreAnswers, ReplicasAgree, StepsAreAlone, StepsAreEnabled, StepsAreOne, StepsLeadOn, StepsLearn, StopsForGood, TablesStand, WorkersAreFree};
+ghost use Rattle.uc_core.specs.Headline.{AnswerAlike, AnsweredOnce, IsDecidedSoon, KeepsRealTime, LogIsSound, OfEveryRun, OwnAreAnswered, RepliesAreAnswers, ReplicasAgree, StandsAfterDecided, StepsAreAlone, StepsAreEnabled, StepsAreOne, StepsLeadOn, StepsLearn, StopsForGood, TablesStand, WorkersAreFree};
+ghost use Rattle.uc_core.specs.Run.{given_by, replayed_by};
+ghost use Rattle.uc_core.specs.Step.{actor, is_quiet};
+ghost use Rattle.uc_core.specs.declared.event.Event.{Event};
+ghost use Rattle.uc_core.specs.declared.event.Event.TheVariants.{Look, Propose, Read, Stop};
 
 /// What is true of every run: of any settings, and any events of any workers in any order.
 pub fn laws()
@@ -27,11 +34,20 @@ pub fn laws()
     // Each command of its own that a worker has replayed was answered.
     ensures answered { OfEveryRun (λ core given. OwnAreAnswered core given) }
 
+    // No place is answered twice.
+    ensures answered_once { OfEveryRun (λ core given. AnsweredOnce given) }
+
     // Each table stands for its tenant's commands that its worker has replayed.
     ensures tables { OfEveryRun (λ core given. TablesStand core) }
 
     // An announced command stands in the log soon, whether or not its worker has stopped.
     ensures helped { OfEveryRun (λ core given. IsDecidedSoon core) }
+
+    // A command stands after all places that were decided when it was announced.
+    ensures after { OfEveryRun (λ core given. StandsAfterDecided core) }
+
+    // So a command that was answered before another was announced stands before it.
+    ensures real_time { OfEveryRun (λ core given. KeepsRealTime core given) }
 
     // A worker that stops has stopped for good.
     ensures stopped { OfEveryRun (λ core given. StopsForGood core) }
@@ -85,6 +101,23 @@ pub fn runs_do_what_is_asked()
 
     // For one command a worker makes at most one proposal more than there are workers.
     ensures proposed { ByEvents (λ settings events core. FewProposals settings events) }
+{}
+
+/// The events that never need memory are the reads, the looks, the proposals and the stops, and no
+/// others.
+pub fn quiet_events_are_by_name()
+    ensures { (event : Event) → (is_quiet event ≡ true) ↔ ((number : ℕ) ×
+        ((event ≡ Read number) ⊎ (event ≡ Look number) ⊎ (event ≡ Propose number)
+        ⊎ (event ≡ Stop number))) }
+{}
+
+/// An event's reply is given exactly once, with its worker and the place that this worker replays,
+/// and nothing else is given.
+pub fn replies_are_given_once()
+    ensures reply { (core : CoreState) (event : Event) (reply : Reply) →
+        given_by core event (Some reply)
+        ≡ (actor event, replayed_by core (actor event), reply) ∷ [] }
+    ensures none { (core : CoreState) (event : Event) → given_by core event None ≡ [] }
 {}
 
 /// What is true of the shown log in every reachable state, and how soon a command is decided there.

@@ -4,7 +4,7 @@ use Rattle.std.proofs.lemmas.Option.{none-some}
 use Rattle.uc_cells.specs.Sighting.{Sighting}
 use Rattle.uc_log.specs.declared.log.Log.{Log}
 use Rattle.uc_log.specs.declared.pass.Pass.{Pass}
-use Rattle.uc_log.specs.Passes.{AreMadeOf, IsNew, own_sightings, size_of}
+use Rattle.uc_log.specs.Passes.{AreMadeOf, IsNew, IsUnusedPass, own_sightings, size_of}
 use Rattle.uc_places.specs.declared.desk.Desk.{Desk}
 use Rattle.uc_places.specs.declared.seats.Idle.{Idle}
 use Rattle.uc_places.specs.declared.view.View.{View}
@@ -22,6 +22,14 @@ new_of log number pass d is_seat new same none = (
   ),
   ap known same ∙ new,
 )
+
+pub unused : (log : Log) (number : ℕ) (pass : Pass) → IsNew log number pass → IsUnusedPass log pass
+unused log number pass new = record {
+  of = new.0;
+  idle = ap (λ (v : View). v.state.phase) new.1;
+  new = ap (λ (v : View). v.state.learned) new.1;
+  unused = ap (λ (v : View). v.state.announced) new.1;
+}
 
 -- one more pass has one more seat
 pub made_more : (passes new_passes : List Pass) (seats : List Idle) (pass : Pass) (seat : Idle) → new_passes ≡ passes ++ pass ∷ [] →

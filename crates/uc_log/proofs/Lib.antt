@@ -1,3 +1,1 @@
 pub mod Fresh
-pub mod Unused
-pub mod Public

@@ -1,7 +1,7 @@
 //! Opening a log and its passes.
 ghost use Rattle.std.specs.Prelude.{◌≡◌, ℕ, [], Some, length, slice_get, IfOk, IsOkUnless};
 ghost use Rattle.mc_model.specs.declared.fault.Fault.TheVariants as faults;
-ghost use Rattle.uc_log.specs.Passes.{AreMadeOf, IsNew, own_sightings};
+ghost use Rattle.uc_log.specs.Passes.{AreMadeOf, IsNew, IsUnusedPass, own_sightings};
 ghost use Rattle.uc_places.specs.Calls.{known, desk_size, worker_of};
 ghost use Rattle.uc_places.specs.Told.{new_seat};
 
@@ -69,6 +69,9 @@ impl Log {
         ensures passes { IfOk result
             (λ opened. (number : ℕ) (pass : _) → slice_get opened.1.items number ≡ Some pass →
             IsNew opened.0 number pass) }
+        ensures unused { IfOk result
+            (λ opened. (number : ℕ) (pass : _) → slice_get opened.1.items number ≡ Some pass →
+            IsUnusedPass opened.0 pass) }
         ensures memory { IsOkUnless result faults.Memory }
     {
         let workers = settings.workers() as u8;

@@ -126,15 +126,16 @@ impl Log {
         self.cells.see(alloc, Ticket { worker, number })
     }
 
-    /// Shares what one pass has learned with another.
+    /// Shares what the one of two passes that has learned more has learned with the other. The
+    /// first one's list is shared if both have learned as many places.
     ///
     /// From then on the other finds at each place of that list the ticket that the list has there.
-    /// One of the two learned lists begins with the other.
-    pub fn tell(&self, from: &mut Pass, to: &mut Pass)
-        requires { IsOf self.now from.old × IsOf self.now to.old }
-        ensures told { Tells (desk from.old) (desk to.old) (desk from.new) (desk to.new) }
-        ensures kept { Keeps self.now from.old from.new × Keeps self.now to.old to.new }
+    /// The list begins with what the other has learned.
+    pub fn tell(&self, one: &mut Pass, other: &mut Pass)
+        requires { IsOf self.now one.old × IsOf self.now other.old }
+        ensures told { Tells (desk one.old) (desk other.old) (desk one.new) (desk other.new) }
+        ensures kept { Keeps self.now one.old one.new × Keeps self.now other.old other.new }
     {
-        from.desk.tell(&self.places, &mut to.desk);
+        one.desk.tell(&self.places, &mut other.desk);
     }
 }

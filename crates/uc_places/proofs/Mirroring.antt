@@ -15,7 +15,7 @@ use Rattle.mc_model.specs.Lawful.{reads, turn}
 use Rattle.mc_model.specs.Legal.{count, ticket_of}
 use Rattle.mc_model.specs.Shown.{is_latest, learn, look, proposal, propose, read}
 use Rattle.lists.proofs.Public.{at_seam}
-use Rattle.mc_model.proofs.Public.{count_other, count_own}
+use Rattle.model_lemmas.proofs.Tickets.{count_other, count_own}
 use Rattle.uc_places.specs.declared.desk.Desk.{Desk}
 use Rattle.uc_places.specs.declared.desk.Numbers.{Numbers}
 use Rattle.uc_places.specs.declared.view.View.{View}

@@ -18,7 +18,7 @@ use Rattle.mc_model.specs.Helping.{LogLaw}
 use Rattle.mc_model.specs.Lawful.{HasRoom, IsWorker, ShownEvent, Step, announced_by, announces, decided_with, looks, next, proposes, reads, turn, with_worker}
 use Rattle.mc_model.specs.Shown.{announce, look, new_log, new_worker, proposal, propose, read}
 use Rattle.lists.proofs.Public.{at_seam, begins_self, begins_through, nothing_next, set_elsewhere, set_here}
-use Rattle.uc_core.proofs.Public.{is_lawful}
+use Rattle.model_lemmas.proofs.Waiting.{is_lawful}
 use Rattle.uc_places.specs.declared.view.Kind.{Kind}
 use Rattle.uc_places.specs.declared.view.Kind.TheVariants.{Spare, Seated, Note, Spent}
 use Rattle.uc_places.specs.declared.view.View.{View}

@@ -12,7 +12,7 @@ use Rattle.mc_model.specs.Lawful.{IsReached, IsWorker, ShownEvent, announced_by}
 use Rattle.mc_model.specs.Legal.{IsLegal, count}
 use Rattle.mc_model.specs.Shown.{is_latest, new_worker, proposal, propose, read}
 use Rattle.lists.proofs.Public.{begins_longer, take_longer}
-use Rattle.uc_core.proofs.Public.{is_lawful}
+use Rattle.model_lemmas.proofs.Waiting.{is_lawful}
 use Rattle.uc_places.specs.declared.view.View.{View}
 use Rattle.uc_places.specs.Reached.{LastIsReached}
 use Rattle.uc_places.specs.SeatLaw.{SeatLaw}

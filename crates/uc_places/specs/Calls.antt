@@ -1,7 +1,7 @@
 -- What the calls of a seat do. The four events are those of Herlihy's universal construction
 -- (Wait-Free Synchronization, TOPLAS 1991): a command is announced, a place of the list is read,
 -- the worker to be helped is looked for, and a command is proposed.
-use Rattle.std.specs.Prelude.{◌≡◌, ◌≢◌, ◌⊎◌, ℕ, ◌+◌, ◌≤◌, Bool, true, false, length, Option, Some, None, slice_get}
+use Rattle.std.specs.Prelude.{◌≡◌, ◌≢◌, ◌⊎◌, ℕ, ◌+◌, ◌<◌, ◌≤◌, Bool, true, false, length, Option, Some, None, slice_get}
 use Rattle.mc_model.specs.declared.id.Ticket.{Ticket}
 use Rattle.mc_model.specs.declared.shown.Phase.{Phase}
 use Rattle.mc_model.specs.declared.shown.LogSize.{LogSize}
@@ -74,12 +74,20 @@ pub record Proposes (old new : Desk) (ticket : Ticket) : Type 0 where
 
 -- one seat shares what its worker has learned with another: the one knows what it knew, the other
 -- knows what it knew and the one's list, and one of the two learned lists begins with the other
-pub record Tells (one other new_one new_other : Desk) : Type 0 where
+pub record Shares (one other new_one new_other : Desk) : Type 0 where
   pub first : (new_one.seat.table_id ≡ one.seat.table_id) × (known new_one ≡ known one)
   pub second : (new_other.seat.table_id ≡ other.seat.table_id)
       × (known new_other ≡ told_list (known other) (state_of one).learned)
   pub compared : BeginsWith (state_of one).learned (state_of other).learned
       ⊎ BeginsWith (state_of other).learned (state_of one).learned
+
+-- of two seats, the one whose worker has learned more shares that with the other; if both have
+-- learned as many places, the first shares
+pub record Tells (one other new_one new_other : Desk) : Type 0 where
+  pub fewer : length (state_of one).learned < length (state_of other).learned →
+      Shares other one new_other new_one
+  pub more : length (state_of other).learned ≤ length (state_of one).learned →
+      Shares one other new_one new_other
 
 -- this many places are learned, which are the first decided places of a reachable state
 pub record HasLearned (view : View) (learned : ℕ) : Type 0 where

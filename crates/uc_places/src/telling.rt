@@ -1,6 +1,6 @@
-//! Shares what one seat has learned with another.
+//! Shares what the one of two workers that has learned more has learned with the other.
 ghost use Rattle.std.specs.Prelude.{◌≡◌};
-ghost use Rattle.uc_places.specs.Calls.{IsSeatOf, Tells};
+ghost use Rattle.uc_places.specs.Calls.{IsSeatOf, Shares, Tells};
 ghost use Rattle.uc_places.specs.Seats.{desk_of, is_idle_seat};
 
 use crate::desk::{Desk, Places};
@@ -11,33 +11,48 @@ use crate::steps::settled;
 impl Desk {
     /// Shares what this worker has learned with another's desk, by three loads of word 0: a note is
     /// made, taken in, and compared.
-    ///
-    /// From then on the other finds at each place of that list the ticket that the list has there.
-    /// One of the two learned lists begins with the other.
-    pub fn tell(&mut self, places: &Places, other: &mut Desk)
+    fn share(&mut self, places: &Places, other: &mut Desk)
         requires { IsSeatOf places.now self.old × IsSeatOf places.now other.old }
-        ensures { Tells self.old other.old self.new other.new }
+        ensures { Shares self.old other.old self.new other.new }
     {
         let shared = &places.table.shared;
         let note = shared.split_seat::<Noting>(&mut self.seat);
         shared.join_seat::<Noting>(&mut other.seat, note);
         shared.load::<Comparing>(&mut other.seat, 0);
     }
+
+    /// Shares what the one of two workers that has learned more has learned with the other's desk.
+    /// This one's list is shared if both have learned as many places.
+    ///
+    /// From then on the other finds at each place of that list the ticket that the list has there.
+    /// The list begins with what the other has learned.
+    pub fn tell(&mut self, places: &Places, other: &mut Desk)
+        requires { IsSeatOf places.now self.old × IsSeatOf places.now other.old }
+        ensures { Tells self.old other.old self.new other.new }
+    {
+        if self.numbers.learned < other.numbers.learned {
+            other.share(places, self);
+        } else {
+            self.share(places, other);
+        }
+    }
 }
 
-/// Shares what the first seat's worker has learned with the second seat, and returns both.
+/// Shares what the one of the two seats' workers that has learned more has learned with the other
+/// seat, and returns both, in their order. The first seat's list is shared if both have learned as
+/// many places.
 ///
-/// From then on the second finds at each place of that list the ticket that the list has there. One
-/// of the two learned lists begins with the other.
-pub fn tell(places: &Places, from: Seat, to: Seat) -> (Seat, Seat)
-    requires { IsSeatOf places.now (desk_of from) × IsSeatOf places.now (desk_of to) }
-    ensures told { Tells (desk_of from) (desk_of to) (desk_of result.0) (desk_of result.1) }
+/// From then on the other finds at each place of that list the ticket that the list has there. The
+/// list begins with what the other has learned.
+pub fn tell(places: &Places, one: Seat, other: Seat) -> (Seat, Seat)
+    requires { IsSeatOf places.now (desk_of one) × IsSeatOf places.now (desk_of other) }
+    ensures told { Tells (desk_of one) (desk_of other) (desk_of result.0) (desk_of result.1) }
     // Neither changes between idle and pending.
-    ensures idle { (is_idle_seat result.0 ≡ is_idle_seat from)
-        × (is_idle_seat result.1 ≡ is_idle_seat to) }
+    ensures idle { (is_idle_seat result.0 ≡ is_idle_seat one)
+        × (is_idle_seat result.1 ≡ is_idle_seat other) }
 {
-    let mut first = from.into_desk();
-    let mut second = to.into_desk();
+    let mut first = one.into_desk();
+    let mut second = other.into_desk();
     first.tell(places, &mut second);
     (settled(first), settled(second))
 }

@@ -13,7 +13,7 @@ use Rattle.uc_log.specs.Passes.{learned, seat, state}
 use Rattle.uc_places.specs.declared.view.View.{View}
 use Rattle.uc_worker.specs.Histories.{LacksAtMostOne}
 use Rattle.uc_worker.specs.Waiting.{Decides, LearnsMore, LearnsOn, LeavesUndecided}
-use Rattle.mc_model.proofs.Public.{count_front}
+use Rattle.model_lemmas.proofs.Tickets.{count_front}
 
 -- nothing is announced, and more may be learned and replayed
 pub lacks_later : (old new : View) (history more : List Sighting) → LacksAtMostOne old history → length history ≤ length old.state.learned →

@@ -2,8 +2,7 @@ pub mod Learning
 pub mod Onward
 pub mod Following
 pub mod Told
+pub mod Telling
 pub mod Replies
-pub mod Going
 pub mod Counting
 pub mod Lacking
-pub mod Public

@@ -16,12 +16,6 @@ idle_rests phase is = ((λ looked. (let e = sym is ∙ looked in cc)), (λ stopp
 pub pending_rests : (phase : Phase) → phase ≡ Pending → Rests phase
 pending_rests phase is = ((λ looked. (let e = sym is ∙ looked in cc)), (λ stopped. (let e = sym is ∙ stopped in cc)))
 
-pub rests_either : (phase : Phase) → Rests phase → (phase ≡ Idle) ⊎ (phase ≡ Pending)
-rests_either Idle rests = inl refl
-rests_either Pending rests = inr refl
-rests_either Looked rests = absurd (rests.0 refl)
-rests_either Stopped rests = absurd (rests.1 refl)
-
 pub idle_of : (phase : Phase) → Rests phase → phase ≢ Pending → phase ≡ Idle
 idle_of Idle rests other = refl
 idle_of Pending rests other = absurd (other refl)

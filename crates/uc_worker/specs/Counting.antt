@@ -5,9 +5,10 @@ use Rattle.uc_places.specs.declared.desk.Desk.{Desk}
 use Rattle.uc_places.specs.Calls.{state_of}
 use Rattle.uc_places.specs.OneRun.{CallsLead}
 
--- what a seat does from one moment to another is a list of calls, each an event of its own worker;
--- there are at most two for each place that the worker learns in between, and so many more
+-- What a seat does from one moment to another is a list of calls, each an event of its own worker.
+-- At most two of them are for each place that the worker learns in between, and `more` are left.
 pub record TakesFew (more : ℕ) (old new : Desk) : Type 0 where
   pub calls : List ShownEvent
   pub lead : CallsLead old calls new
-  pub few : length calls + 2 * length (state_of old).learned ≤ 2 * length (state_of new).learned + more
+  pub few : length calls + 2 * length (state_of old).learned
+      ≤ 2 * length (state_of new).learned + more

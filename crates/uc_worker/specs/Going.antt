@@ -34,7 +34,7 @@ pub record StandsStill (old new : Worker) : Type 0 where
   pub seat : IsStill (own_desk old) (own_desk new)
   pub history : history_of new ≡ history_of old
 
--- both workers have learned the same tickets afterwards: those that the one or the other had learned
+-- both workers have learned the same tickets afterwards: those that one of the two had learned
 pub record LearnsTheSame (one other new_one new_other : Worker) : Type 0 where
   pub same : (seat_of new_one).state.learned ≡ (seat_of new_other).state.learned
   pub either : ((seat_of new_one).state.learned ≡ (seat_of one).state.learned)

@@ -16,7 +16,7 @@ pub record Follows (log : Log) (history : List Sighting) (learned : List Ticket)
   pub rows : (place : ℕ) (seen : Sighting) → slice_get history place ≡ Some seen →
       seen.row ≡ row_of log seen.ticket
 
--- each place of the history is decided in this state of the log, with the ticket that was seen there
+-- each place of the history is decided in this state of the log, with the ticket seen there
 abbrev pub AreDecided : ShownState → List Sighting → Type 0
 AreDecided log history = (place : ℕ) (seen : Sighting) → slice_get history place ≡ Some seen →
     slice_get log.decided place ≡ Some seen.ticket

@@ -1,11 +1,12 @@
 -- How a worker's steps change what its seat knows.
-use Rattle.std.specs.Prelude.{◌≡◌, ◌≢◌, ◌⊎◌, ◌+◌, ◌-◌, ◌<◌, [], ◌∷◌, ◌++◌, length, Some, None, slice_get}
+use Rattle.std.specs.Prelude.{◌≡◌, ◌≢◌, ◌⊎◌, ℕ, ◌+◌, ◌-◌, ◌<◌, [], ◌∷◌, ◌++◌, length, Some, None, slice_get}
 use Rattle.mc_model.specs.declared.fault.Fault.{Fault}
 use Rattle.mc_model.specs.declared.fault.Fault.TheVariants.{Memory, LogFull, Taken}
 use Rattle.mc_model.specs.declared.id.Ticket.{Ticket}
 use Rattle.mc_model.specs.declared.shown.Phase.{Phase}
 use Rattle.mc_model.specs.declared.shown.Phase.TheVariants.{Idle, Pending, Looked, Stopped}
 use Rattle.lists.specs.Lists.{BeginsWith}
+use Rattle.mc_model.specs.Lawful.{HasRoom}
 use Rattle.mc_model.specs.Legal.{ticket_of}
 use Rattle.uc_places.specs.declared.view.View.{View}
 
@@ -37,6 +38,11 @@ abbrev pub HasReadOn : View → Type 0
 HasReadOn view =
     (length view.state.learned ≡ view.size.places)
     ⊎ (slice_get view.last.decided (length view.state.learned) ≡ None)
+
+-- exactly this many more places are learned, and others are left
+pub record LearnsExactly (more : ℕ) (old new : View) : Type 0 where
+  pub count : length new.state.learned ≡ length old.state.learned + more
+  pub room : HasRoom new.size new.state
 
 -- one command is announced, and is pending
 pub record Announced (old new : View) : Type 0 where

@@ -45,7 +45,9 @@ impl<'a> Worker<'a> {
     pub fn table(&self, tenant: TenantId) -> &Items
         requires { tenant < length (tenants_of self.now) }
         ensures { Some result.now
-            ≡ option_map (λ opening. state_from opening (own tenant (entries (history_of self.now)))) (slice_get (openings_of self.now) tenant) }
+            ≡ option_map
+            (λ opening. state_from opening (own tenant (entries (history_of self.now))))
+            (slice_get (openings_of self.now) tenant) }
     {
         // The contract of `history` says that there is a table for each tenant.
         let _ = self.replica.history();

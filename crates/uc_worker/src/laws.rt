@@ -1,9 +1,45 @@
 //! What follows from the definitions. A law is the contract of a function with an empty body.
-ghost use Rattle.std.specs.Prelude.{ℕ, ◌+◌};
+ghost use Rattle.std.specs.Prelude.{ℕ, ◌+◌, refl};
+ghost use Rattle.std.proofs.Common.{◌∙◌};
+ghost use Rattle.lists.proofs.Public.{begins_self, begins_through};
 ghost use Rattle.uc_places.specs.declared.desk.Desk.{Desk};
 ghost use Rattle.uc_worker.specs.Counting.{TakesFew};
 ghost use Rattle.uc_worker.specs.Going.{CatchesUp, Continues};
+ghost use Rattle.uc_worker.specs.Worker.{announced_of, history_of, seat_of};
 ghost use Rattle.uc_worker.specs.declared.worker.Worker.{Worker};
+
+use crate::worker::Worker;
+
+/// `Continues` is reflexive and transitive: what the proofs of other crates cite.
+pub trait GoesOn {
+    ghost continues_self: { (worker : Worker) → Continues worker worker };
+
+    ghost continues_through: { (first second third : Worker) → Continues first second →
+        Continues second third → Continues first third };
+}
+
+impl<'a> GoesOn for Worker<'a> {
+    ghost continues_self = { λ worker. record {
+      log = refl;
+      openings = refl;
+      same = (refl, refl);
+      history = begins_self (history_of worker);
+      announced = begins_self (announced_of worker);
+      learned = begins_self (seat_of worker).state.learned;
+    } };
+
+    ghost continues_through = { λ first second third one two. record {
+      log = two.log ∙ one.log;
+      openings = two.openings ∙ one.openings;
+      same = (two.same.0 ∙ one.same.0, two.same.1 ∙ one.same.1);
+      history = begins_through (history_of third) (history_of second) (history_of first)
+          two.history one.history;
+      announced = begins_through (announced_of third) (announced_of second) (announced_of first)
+          two.announced one.announced;
+      learned = begins_through (seat_of third).state.learned (seat_of second).state.learned
+          (seat_of first).state.learned two.learned one.learned;
+    } };
+}
 
 /// `Continues` and `CatchesUp` are reflexive and transitive.
 pub fn workers_go_on()

@@ -41,11 +41,10 @@ fn even(log: &Log, one: &mut Pass, other: &mut Pass)
     ensures takes { TakesFew 0 (desk one.old) (desk one.new)
         × TakesFew 0 (desk other.old) (desk other.new) }
 {
+    log.tell(one, other);
     if one.learned() < other.learned() {
-        log.tell(other, one);
         read_told(log, one, other.learned());
     } else {
-        log.tell(one, other);
         read_told(log, other, one.learned());
     }
 }

@@ -88,8 +88,8 @@ impl<'a> Worker<'a> {
         requires { tenant < length (tenants_of self.old) }
         // Whatever comes of it, it is the same worker later on.
         ensures continues { Continues self.old self.new }
-        // The command is the last of the history, and its reply is the answer after its tenant's own
-        // commands before it.
+        // The command is the last of the history, and its reply is the answer after its tenant's
+        // own commands before it.
         ensures submits { IfOk result (λ answer. Submits self.old self.new tenant command answer) }
         // With a fault, at most this command was announced.
         ensures kept { OnErr result (AnnouncesAtMost self.old self.new tenant command) }

@@ -74,6 +74,12 @@ impl<'a> Client<'a> {
         self.worker.catch_up(&mut Open)
     }
 
+    pub(crate) fn catch_up_some(&mut self, most: usize) -> Result<bool, Fault>
+        ensures { self.new.log ≡ self.old.log }
+    {
+        self.worker.catch_up_some(most, &mut Open)
+    }
+
     pub(crate) fn meet(&mut self, other: &mut Client<'a>) -> Result<(), Fault>
         requires { self.old.log.now ≡ other.old.log.now }
         ensures one { self.new.log ≡ self.old.log }

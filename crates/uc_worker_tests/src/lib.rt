@@ -22,6 +22,8 @@ mod hundred;
 #[cfg(test)]
 mod meeting;
 #[cfg(test)]
+mod parts;
+#[cfg(test)]
 mod recomputing;
 #[cfg(test)]
 mod standing;

@@ -17,7 +17,7 @@ const BESIDE: u32 = 100;
 const STEPS: u32 = 100;
 
 /// Submits this many sets. Returns whether each is stored.
-fn are_stored(alloc: Global, client: &mut Client<'_>, count: u32) -> Result<bool, Fault>
+pub(crate) fn are_stored(alloc: Global, client: &mut Client<'_>, count: u32) -> Result<bool, Fault>
     ensures { client.new.log ≡ client.old.log }
 {
     for _ in 0..count {

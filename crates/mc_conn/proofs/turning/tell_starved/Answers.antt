@@ -1,5 +1,5 @@
 use Rattle.std.proofs.Common.{arith}
-use Rattle.mc_stream.proofs.Public.{at_once_more, at_once_stopped}
+use Rattle.stream_lemmas.proofs.Pushed.{at_once_more, at_once_stopped}
 use Rattle.mc_conn.proofs.turning.tell_starved.Goals as goal
 
 pub returns-then-push_while_taken : goal.returns-then-push_while_taken

@@ -1,6 +1,6 @@
 use Rattle.std.proofs.Common.{Some, ap, ◌∙◌}
 use Rattle.std.specs.Option.{option_map}
-use Rattle.mc_model.proofs.Public.{StandsFor-more, answer-more}
+use Rattle.model_lemmas.proofs.Histories.{StandsFor-more, answer-more}
 use Rattle.mc_model.specs.History.{answer_from, state_from}
 use Rattle.mc_model.specs.Log.{own}
 use Rattle.mc_laws.proofs.logs.a_log_goes_on_where_its_tables_stood.Goals as goal

@@ -1,4 +1,4 @@
-use Rattle.mc_model.proofs.Public.{EachStands-none, EachStands-push}
+use Rattle.model_lemmas.proofs.Replays.{EachStands-none, EachStands-push}
 use Rattle.mc_laws.proofs.logs.a_log_is_replayed_in_order.Goals as goal
 
 pub returns-clause-opened : goal.returns-clause-opened

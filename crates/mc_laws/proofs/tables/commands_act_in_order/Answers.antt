@@ -1,7 +1,7 @@
 use Rattle.std.proofs.Common.{ap, refl, ◌∙◌, ◌+◌, Bool, if◌then◌else◌, add-zero}
-use Rattle.mc_model.proofs.Public.{StandsFor-push, changes-le}
+use Rattle.model_lemmas.proofs.Histories.{StandsFor-push, changes-le}
 use Rattle.mc_model.specs.History.{changes}
-use Rattle.mc_laws.proofs.Histories.{after-none, after-push, changes-none, changes-push, quotas_stay}
+use Rattle.mc_laws.proofs.Histories.{after-none, after-push, changes-none, changes-push}
 use Rattle.mc_laws.proofs.tables.commands_act_in_order.Goals as goal
 
 pub returns-clause-nothing : goal.returns-clause-nothing
@@ -26,9 +26,6 @@ returns-clause-refusal c = λ limits list command refused.
 
 pub returns-clause-at_most : goal.returns-clause-at_most
 returns-clause-at_most c = changes-le
-
-pub returns-clause-quotas : goal.returns-clause-quotas
-returns-clause-quotas c = quotas_stay
 
 pub returns-clause-stands : goal.returns-clause-stands
 returns-clause-stands c = StandsFor-push

@@ -4,7 +4,7 @@ use Rattle.mc_model.specs.declared.command.Command.TheVariants.{Flush}
 use Rattle.mc_model.specs.declared.item.Item.{Item}
 use Rattle.mc_model.specs.declared.reply.Reply.TheVariants.{Values}
 use Rattle.mc_model.specs.Table.{count_of, key_cmp, use_of}
-use Rattle.mc_model.proofs.Public.{use-empty}
+use Rattle.model_lemmas.proofs.Uses.{use-empty}
 use Rattle.mc_laws.proofs.Histories.{after-push, no_change}
 use Rattle.mc_laws.proofs.OneKey.{nothing_shown}
 use Rattle.mc_laws.proofs.tables.flush_takes_all_out.Goals as goal

@@ -3,8 +3,9 @@ use Rattle.mc_model.specs.declared.item.Item.{Item}
 use Rattle.mc_model.specs.declared.reply.Reply.TheVariants.{Number}
 use Rattle.mc_model.specs.Effect.{Effect}
 use Rattle.mc_model.specs.History.{after, changes}
-use Rattle.mc_laws.proofs.Counting.{decr_there, incr_there, numbered}
-use Rattle.mc_laws.proofs.Histories.{quotas, within_quotas}
+use Rattle.model_lemmas.proofs.Uses.{within_from}
+use Rattle.mc_laws.proofs.Counting.{decr_spelt, decr_there, incr_there, numbered}
+use Rattle.mc_laws.proofs.Histories.{quotas}
 use Rattle.mc_laws.proofs.OneKey.{stored_or_refused}
 use Rattle.mc_laws.proofs.Quotas.{stored_refused}
 use Rattle.mc_laws.proofs.tables.incr_wraps_and_decr_stops.Goals as goal
@@ -21,11 +22,17 @@ returns-clause-refused c = λ limits list key old number by is value.
     (stored_refused (quotas limits list) (after limits list) key sum (Number ((number + by) % (2 ^ 64))) (λ same. cc))
 
 pub returns-clause-difference : goal.returns-clause-difference
-returns-clause-difference c = λ limits list key old left by is value.
+returns-clause-difference c = λ limits list key old left by within is value.
     let back : left + by - by ≡ left = omega arith in
-    ap (λ (e : Effect). e.reply) (decr_there (quotas limits list) (after limits list) (changes limits list + 1) key old (left + by) by (within_quotas limits list) is value) ∙ ap Number back
+    ap (λ (e : Effect). e.reply) (decr_there (quotas limits list) (after limits list) (changes limits list + 1) key old (left + by) by (within_from (quotas limits list) (after limits list) within.0 within.1) is value) ∙ ap Number back
 
 pub returns-clause-zero : goal.returns-clause-zero
-returns-clause-zero c = λ limits list key old number by is value below.
+returns-clause-zero c = λ limits list key old number by within is value below.
     let none : number - by ≡ 0 = omega (arith, below) in
-    ap (λ (e : Effect). e.reply) (decr_there (quotas limits list) (after limits list) (changes limits list + 1) key old number by (within_quotas limits list) is value) ∙ ap Number none
+    ap (λ (e : Effect). e.reply) (decr_there (quotas limits list) (after limits list) (changes limits list + 1) key old number by (within_from (quotas limits list) (after limits list) within.0 within.1) is value) ∙ ap Number none
+
+pub returns-clause-above : goal.returns-clause-above
+returns-clause-above c = λ limits list key old number by is value.
+    let difference : Item = numbered (quotas limits list) (after limits list) (changes limits list + 1) key old (number - by) in
+    rw (ap (λ (e : Effect). e.reply) (decr_spelt (quotas limits list) (after limits list) (changes limits list + 1) key old number by is value))
+    (stored_refused (quotas limits list) (after limits list) key difference (Number (number - by)) (λ same. cc))

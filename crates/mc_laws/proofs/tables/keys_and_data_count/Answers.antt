@@ -1,7 +1,7 @@
 use Rattle.std.specs.FinMap.{len-empty}
 use Rattle.mc_model.specs.declared.item.Item.{Item}
 use Rattle.mc_model.specs.Table.{key_cmp}
-use Rattle.mc_model.proofs.Public.{use-empty}
+use Rattle.model_lemmas.proofs.Uses.{use-empty}
 use Rattle.mc_laws.proofs.Quotas.{added, replaced, taken_out}
 use Rattle.mc_laws.proofs.tables.keys_and_data_count.Goals as goal
 

@@ -2,13 +2,13 @@
 use Rattle.std.proofs.Common.{◌≡◌, All, subst, rules}
 use Rattle.std.proofs.lemmas.List.Elements.{All-head, All-push, All-rest}
 use Rattle.uc_worker.specs.declared.worker.Worker.{Worker}
-use Rattle.uc_log.proofs.Public.{all_unused}
+use Rattle.lists.proofs.Parts.{all_by_place}
 use Rattle.uc_log.specs.Passes.{IsUnusedPass}
 use Rattle.mc_net_tests.proofs.house.open_workers.Goals as goal
 
 pub loop-pass-init : goal.loop-pass-init
 loop-pass-init c =
-    let passes : All (IsUnusedPass c.args.log.now) c.args.passes.items = all_unused c.args.log.now _ c.requires in
+    let passes : All (IsUnusedPass c.args.log.now) c.args.passes.items = all_by_place (IsUnusedPass c.args.log.now) _ c.requires in
     search rules
 
 pub open-requires : goal.open-requires

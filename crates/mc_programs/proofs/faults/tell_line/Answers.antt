@@ -1,6 +1,6 @@
 use Rattle.std.proofs.Common.{List, ℕ, ◌++◌, codes}
 use Rattle.mc_programs.proofs.Waited.{told}
-use Rattle.mc_stream.proofs.Public.{tells_front, tells_more}
+use Rattle.stream_lemmas.proofs.Pushed.{tells_front, tells_more}
 use Rattle.mc_programs.proofs.faults.tell_line.Goals as goal
 
 -- what is pushed after the name, and after the colon

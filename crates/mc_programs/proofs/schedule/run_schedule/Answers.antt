@@ -5,7 +5,6 @@ use Rattle.mc_programs.specs.Lists.{schedule_app}
 use Rattle.mc_programs.specs.Reporting.{ScheduleAsksFor}
 use Rattle.mc_programs.specs.Words.{ClapReturns}
 use Rattle.mc_stream.specs.Stream.{both}
-use Rattle.mc_programs.proofs.Answered.{answered}
 use Rattle.mc_programs.proofs.Reported.{ends}
 use Rattle.mc_programs.proofs.schedule.run_schedule.Goals as goal
 
@@ -17,7 +16,7 @@ returns-in-Err g c =
     ⊎_elim
     (λ shown. inl (shown.0, inr shown.1, shown.2))
     (λ others. inr (⊎_elim (λ fails. inl (fails.0, inr (inr fails.1))) (λ mistake. inr (mistake.0, inr (refl, mistake.1), mistake.2)) others))
-    (answered schedule_app _ _ failed _ _ _ _ _ _ _ c.answer_words.ensures)
+    (c.answer_words.ensures.words schedule_app _ _ failed)
 
 -- a fault kept the list from being read or answered
 pub returns : goal.returns

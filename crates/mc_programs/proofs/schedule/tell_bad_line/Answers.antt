@@ -1,7 +1,7 @@
 use Rattle.std.proofs.Common.{◌≡◌, ◌∙◌, List, ℕ, ◌++◌, codes, decimal, refl, sym, ap, subst, append_assoc}
 use Rattle.mc_programs.specs.Lists.{bad_line_text}
 use Rattle.mc_programs.proofs.Waited.{told}
-use Rattle.mc_stream.proofs.Public.{tells_front, tells_more}
+use Rattle.stream_lemmas.proofs.Pushed.{tells_front, tells_more}
 use Rattle.mc_stream.specs.Pushing.{PushesOrFails}
 use Rattle.mc_stream.specs.Stream.{Outflow}
 use Rattle.mc_programs.proofs.schedule.tell_bad_line.Goals as goal

@@ -15,7 +15,7 @@ app_is_free : is_simple_and_free schedule_app ≡ true
 unfolding clap_on_literals
 app_is_free = refl
 
--- the text of a flag says whether it was given
+-- whether a flag was given, by its text
 abbrev says_given : Option (List ℕ) → Bool
 says_given text = option_map_or (λ (text : List ℕ). bytes_eq text (codes "true")) text false
 

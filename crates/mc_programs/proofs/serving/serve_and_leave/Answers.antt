@@ -12,6 +12,7 @@ returns-in-Left g c =
     c.in-Ok.ensures.opened
     (c.new-conn.ensures.role ∙ ap Tenant c.first_tenant.ensures, c.new-conn.ensures.holding, c.new-conn.ensures.queue, c.new-conn.ensures.open.0, c.new-conn.ensures.open.1)
     c.in-Ok-open.ensures.log c.in-Ok-open.ensures.seat c.in-Ok-open.ensures.history c.in-Ok-open.ensures.openings
+    c.every_stream_reads.ensures c.a_worker_alone_answers_in_order.ensures.owes
     in
     let after = scene c.pump-served.new.conn c.pump-served.new.worker (both (g.I.Input.tells c.pump-served.new.input) (g.O.Output.tells c.pump-served.new.output)) in
     record { outcome = result_is _ _ _ begins c.pump-served.result after (c.pump-served.ensures.outcome c.new-conn.ensures.open.2) c.pump-served.ensures.late }
@@ -23,6 +24,7 @@ returns-in_default g c =
     c.in-Ok.ensures.opened
     (c.new-conn.ensures.role ∙ ap Tenant c.first_tenant.ensures, c.new-conn.ensures.holding, c.new-conn.ensures.queue, c.new-conn.ensures.open.0, c.new-conn.ensures.open.1)
     c.in-Ok-open.ensures.log c.in-Ok-open.ensures.seat c.in-Ok-open.ensures.history c.in-Ok-open.ensures.openings
+    c.every_stream_reads.ensures c.a_worker_alone_answers_in_order.ensures.owes
     in
     let after = scene c.pump-served.new.conn c.pump-served.new.worker (both (g.I.Input.tells c.pump-served.new.input) (g.O.Output.tells c.pump-served.new.output)) in
     record { outcome = result_is _ _ _ begins c.pump-served.result after (c.pump-served.ensures.outcome c.new-conn.ensures.open.2) c.pump-served.ensures.late }

@@ -4,7 +4,6 @@ use Rattle.clap.specs.declared.error.kind.ErrorKind.TheVariants.{OutOfMemory}
 use Rattle.mc_programs.specs.Options.{StdinAsksFor, stdin_app}
 use Rattle.mc_programs.specs.Words.{ClapReturns}
 use Rattle.mc_stream.specs.Stream.{both}
-use Rattle.mc_programs.proofs.Answered.{answered}
 use Rattle.mc_programs.proofs.stdin.run_stdin.Goals as goal
 
 -- the words ask for no service
@@ -18,7 +17,7 @@ returns-in-Err g c =
     (λ fails. inl (fails.0, inr fails.1))
     (λ mistake. inr (mistake.0, inr mistake.1, ap (both (g.I.Input.tells c.args.input.now)) mistake.2))
     others))
-    (answered stdin_app _ _ failed _ _ (g.I.Input.tells c.args.input.now) _ _ _ _ c.answer_words.ensures)
+    (c.answer_words.ensures.words stdin_app _ (g.I.Input.tells c.args.input.now) failed)
 
 -- a fault ended the service
 pub returns : goal.returns

@@ -2,7 +2,7 @@ use Rattle.std.proofs.Common.{arith, ap, refl, sym, ℕ, ◌-◌, ◌^◌, Optio
 use Rattle.std.specs.Prelude.{option_and_then}
 use Rattle.std.specs.Str.Parse.{ExplainsUnsignedError, HasUnsignedDigitsIfOk, ParsesUnsigned, without_leading_plus}
 use Rattle.clap.specs.Words.{ReadsOne, Text}
-use Rattle.mc_model.proofs.Public.{number_up_to-some, number_up_to-none}
+use Rattle.model_lemmas.proofs.NumberTests.{number_up_to-some, number_up_to-none}
 use Rattle.mc_programs.specs.Words.{u64_of}
 use Rattle.mc_programs.proofs.words.number.Goals as goal
 

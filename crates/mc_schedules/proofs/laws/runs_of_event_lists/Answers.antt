@@ -9,7 +9,7 @@ pub returns-clause-are_runs : goal.returns-clause-are_runs
 returns-clause-are_runs c = all_run
 
 pub returns-clause-nearer : goal.returns-clause-nearer
-returns-clause-nearer c = nearer
+returns-clause-nearer c = nearer c.laws.ensures.shown
 
 pub returns-clause-one : goal.returns-clause-one
-returns-clause-one c = all_alike
+returns-clause-one c = all_alike c.events_lead_one_way.ensures.enabled c.events_lead_one_way.ensures.one

@@ -1,13 +1,12 @@
 use Rattle.std.proofs.Common.{sym}
 use Rattle.std.proofs.lemmas.Result.{err_from_is_err_and}
-use Rattle.mc_schedules.proofs.Nearer.{nearer}
 use Rattle.mc_schedules.proofs.Onward.{finished-all, finished-fault, finishing-next}
 use Rattle.mc_schedules.proofs.running.finish.Goals as goal
 
 pub loop-event-smaller : goal.loop-event-smaller
 loop-event-smaller g c =
     let took = c.in_ok-take.ensures in
-    nearer c.loop-event.core c.take.new.core c.args.worker c.in-Some.event took.1.0 c.needed.ensures.reached (sym c.in-Some.ensures.event) took.1.1
+    c.runs_of_event_lists.ensures.nearer c.loop-event.core c.take.new.core c.args.worker c.in-Some.event took.1.0 c.needed.ensures.reached (sym c.in-Some.ensures.event) took.1.1
 
 pub loop-event-preserved : goal.loop-event-preserved
 loop-event-preserved g c =

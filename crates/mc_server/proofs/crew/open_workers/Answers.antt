@@ -11,13 +11,13 @@ use Rattle.uc_worker.specs.Cited.{View}
 use Rattle.uc_worker.specs.declared.worker.Worker.{Worker}
 use Rattle.uc_worker.specs.Worker.{announced_of}
 use Rattle.mc_server.proofs.Crews.{all_numbered}
-use Rattle.uc_log.proofs.Public.{all_unused}
+use Rattle.lists.proofs.Parts.{all_by_place}
 use Rattle.mc_server.proofs.crew.open_workers.Goals as goal
 
 pub loop-pass-init : goal.loop-pass-init
 loop-pass-init c =
     let gives = c.into_iter-pass-iterator.ensures.into_iter_gives.0 in
-    let passes : All (IsUnusedPass c.args.log.now) c.args.passes.items = all_unused c.args.log.now _ c.requires.passes in
+    let passes : All (IsUnusedPass c.args.log.now) c.args.passes.items = all_by_place (IsUnusedPass c.args.log.now) _ c.requires.unused in
     let P = λ (worker : Worker). worker.log.now ≡ c.args.log.now in
     record {
       of = subst (All P) (sym c.in_ok-workers.ensures.items) (All-nil P);

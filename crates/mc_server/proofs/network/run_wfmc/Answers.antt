@@ -4,7 +4,6 @@ use Rattle.clap.specs.declared.error.kind.ErrorKind.TheVariants.{OutOfMemory}
 use Rattle.mc_model.specs.declared.fault.Fault.TheVariants.{Memory, BadSettings}
 use Rattle.mc_server.specs.NetworkWords.{AsksForNone, AsksForService, AsksInVain, given_in, network_app, served_by}
 use Rattle.mc_programs.specs.Words.{ClapReturns}
-use Rattle.mc_programs.proofs.Public.{answered}
 use Rattle.mc_server.proofs.NetworkRuns.{for_none, for_service}
 use Rattle.mc_server.proofs.network.run_wfmc.Goals as goal
 
@@ -16,7 +15,7 @@ returns-in-Err g c =
     ⊎_elim
     (λ shown. inl (shown.0, inr shown.1, shown.2))
     (λ others. inr (⊎_elim (λ fails. inl (fails.0, inr fails.1)) (λ mistake. inr (mistake.0, inr mistake.1, mistake.2)) others))
-    (answered network_app _ _ failed _ _ _ _ _ _ _ c.answer_words.ensures)
+    (c.answer_words.ensures.words network_app _ _ failed)
 
 -- the words ask for nothing that can be served
 pub returns-in-Err-BadSettings : goal.returns-in-Err-BadSettings

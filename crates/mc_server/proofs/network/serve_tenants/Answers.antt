@@ -1,19 +1,20 @@
-use Rattle.std.proofs.Common.{◌≡◌, ◌∙◌, List, length, map, ap, subst, sym, arith}
+use Rattle.std.proofs.Common.{◌≡◌, ◌∙◌, ℕ, List, length, map, ap, subst, sym, arith}
 use Rattle.std.proofs.lemmas.List.{length-map}
 use Rattle.std.proofs.lemmas.Result.{err_from_is_err_and}
 use Rattle.mc_model.specs.Settings.{Configuration}
-use Rattle.mc_server.proofs.NetworkRuns.{announcing_stops, are_tenants, are_workers, finished}
-use Rattle.mc_server.specs.Network.{AreWorkersOf, HaveServed, IsReady, StopsAnnouncing}
+use Rattle.mc_server.proofs.NetworkRuns.{serving_halts, are_tenants, are_workers, finished}
+use Rattle.mc_programs.specs.Waiting.{PushesAll}
+use Rattle.mc_server.specs.Network.{AreWorkersOf, HaveServed}
+use Rattle.mc_server.specs.NetworkTexts.{ready_text}
 use Rattle.mc_server.specs.NetworkWords.{served_by, settings_asked}
 use Rattle.mc_server.specs.TenantWord.{asked_of}
-use Rattle.mc_server.specs.declared.network_texts.Listening.{Listening}
 use Rattle.mc_server.proofs.network.serve_tenants.Goals as goal
 
-pub returns-in_err-announce : goal.returns-in_err-announce
-returns-in_err-announce g c =
-    let P : List Listening → Type 0 = λ told. StopsAnnouncing told (g.O.Output.tells c.args.output.now) (g.O.Output.tells c.announce.new.output) c.in_err-announce.field-0.0 in
-    let stops = announcing_stops _ c.in_err-announce.field-0.0 c.args.bound.told.items (g.O.Output.tells c.args.output.now) (g.O.Output.tells c.announce.new.output) (subst P c.deref.ensures.value c.in_err-announce.ensures.outcome) in
-    let left = err_from_is_err_and c.from_residual-in_err-announce.result c.from_residual-in_err-announce.ensures.1 in
+pub returns-in_err-back : goal.returns-in_err-back
+returns-in_err-back g c =
+    let is = c.in_ok-text.ensures ∙ ap ready_text c.deref.ensures.value in
+    let stops = serving_halts g.O.Output.tells _ c.in_err-back.field-0.0 _ c.args.bound.told.items c.args.output.now c.serve.new.state is c.in_err-back.ensures.faults in
+    let left = err_from_is_err_and c.from_residual-in_err-back.result c.from_residual-in_err-back.ensures.1 in
     record { outcome = rw (left.1, left.2) stops }
 
 -- the workers that were opened are of a log with the settings that are asked for
@@ -40,7 +41,7 @@ finish-requires g c =
 pub returns : goal.returns
 returns g c =
     let settings = settings_asked (served_by c.args.service.now) in
-    let ready = subst (λ (told : List Listening). IsReady told (g.O.Output.tells c.args.output.now) (g.O.Output.tells c.announce.new.output)) c.deref.ensures.value c.in_ok-announce.ensures.outcome in
+    let ready = subst (λ (text : List ℕ). PushesAll text (g.O.Output.tells c.args.output.now) (g.O.Output.tells c.serve.new.state)) (c.in_ok-text.ensures ∙ ap ready_text c.deref.ensures.value) c.in_ok-back.ensures.begun in
     let opened = c.in_ok-log.ensures.settings ∙ c.requires.checked.settings in
     let own : AreWorkersOf settings c.in_ok-log.log c.in_ok-workers.workers.items =
     subst (λ known. AreWorkersOf known c.in_ok-log.log c.in_ok-workers.workers.items) opened c.in_ok-workers.ensures.outcome.0 in
@@ -52,5 +53,5 @@ returns g c =
       asked = c.in_ok-back.ensures.asked;
     } in
     record {
-      outcome = finished settings c.in_ok-log.log c.in_ok-workers-2.workers.items c.in_ok-back.back.items c.in_ok-workers-2.ensures have c.finish.result c.args.bound.told.items (g.O.Output.tells c.args.output.now) (g.O.Output.tells c.announce.new.output) (g.O.Output.tells c.finish.new.output) ready c.finish.ensures.outcome;
+      outcome = finished settings c.in_ok-log.log c.in_ok-workers-2.workers.items c.in_ok-back.back.items c.in_ok-workers-2.ensures have c.finish.result c.args.bound.told.items (g.O.Output.tells c.args.output.now) (g.O.Output.tells c.serve.new.state) (g.O.Output.tells c.finish.new.output) ready c.finish.ensures.outcome;
     }

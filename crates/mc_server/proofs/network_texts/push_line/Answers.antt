@@ -1,6 +1,6 @@
 use Rattle.std.proofs.Common.{List, ℕ, ◌++◌, codes}
 use Rattle.std.proofs.lemmas.Result.{err_from_is_err_and}
-use Rattle.mc_programs.proofs.Public.{fails_first, fails_more, pushes_more}
+use Rattle.mc_server.proofs.Waited.{fails_first, fails_more, pushes_more}
 use Rattle.mc_server.proofs.network_texts.push_line.Goals as goal
 
 -- what is pushed after the front

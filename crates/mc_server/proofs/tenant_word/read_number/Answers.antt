@@ -1,7 +1,7 @@
 use Rattle.std.proofs.Common.{arith, ap, sym, ℕ, List, ◌-◌, ◌^◌, Some, ◌≡◌, ◌∙◌, Result, Ok, Err}
 use Rattle.std.specs.Str.Parse.{ParsesUnsigned, without_leading_plus}
 use Rattle.std.specs.Result.{result_ok}
-use Rattle.mc_model.proofs.Public.{number_up_to-some, number_up_to-none}
+use Rattle.model_lemmas.proofs.NumberTests.{number_up_to-some, number_up_to-none}
 use Rattle.mc_programs.specs.Words.{u64_of}
 use Rattle.mc_server.proofs.tenant_word.read_number.Goals as goal
 

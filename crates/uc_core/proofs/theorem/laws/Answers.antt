@@ -2,6 +2,8 @@
 use Rattle.uc_core.proofs.Agreement.{log_is_sound, replicas_agree, tables_stand}
 use Rattle.uc_core.proofs.Alone.{stops_for_good}
 use Rattle.uc_core.proofs.Answered.{own_answered}
+use Rattle.uc_core.proofs.Later.{keeps_real_time, stands_after}
+use Rattle.uc_core.proofs.Once.{answered_once}
 use Rattle.uc_core.proofs.Runs.{answers_of, law_of}
 use Rattle.uc_core.proofs.Soon.{decided_soon}
 use Rattle.uc_core.proofs.theorem.laws.Goals as goal
@@ -17,6 +19,15 @@ returns-clause-replies c = answers_of
 
 pub returns-clause-answered : goal.returns-clause-answered
 returns-clause-answered c = own_answered
+
+pub returns-clause-answered_once : goal.returns-clause-answered_once
+returns-clause-answered_once c = answered_once
+
+pub returns-clause-after : goal.returns-clause-after
+returns-clause-after c = λ settings events core given run. stands_after core (law_of settings events core given run)
+
+pub returns-clause-real_time : goal.returns-clause-real_time
+returns-clause-real_time c = keeps_real_time
 
 pub returns-clause-tables : goal.returns-clause-tables
 returns-clause-tables c = λ settings events core given run. tables_stand core (law_of settings events core given run)

@@ -1,6 +1,6 @@
 -- The laws of the shown states: `Waiting` shows the first two clauses, `Turns` the third.
-use Rattle.uc_core.proofs.Turns.{is_soon_decided}
-use Rattle.uc_core.proofs.Waiting.{is_helping, is_lawful}
+use Rattle.model_lemmas.proofs.Turns.{is_soon_decided}
+use Rattle.model_lemmas.proofs.Waiting.{is_helping, is_lawful}
 use Rattle.uc_core.proofs.theorem.shown_states.Goals as goal
 
 pub returns-clause-lawful : goal.returns-clause-lawful

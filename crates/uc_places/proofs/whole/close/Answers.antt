@@ -11,7 +11,7 @@ use Rattle.uc_places.specs.declared.desk.Desk.{Desk}
 use Rattle.uc_places.specs.Calls.{state_of}
 use Rattle.uc_places.specs.End.{IsPartOf}
 use Rattle.uc_places.specs.Seats.{desk_of}
-use Rattle.uc_core.proofs.Public.{is_lawful}
+use Rattle.model_lemmas.proofs.Waiting.{is_lawful}
 use Rattle.uc_places.proofs.Closing.{if_ok}
 use Rattle.uc_places.proofs.whole.close.Goals as goal
 

@@ -19,7 +19,6 @@ loop-place-preserved g c =
       rests = rests_read old new _ made i.rests;
       later = later_through _ _ _ i.later (learns_later _ _ _ learns);
       here = learns_more _ _ _ learns ∙ ap (λ (n : ℕ). n + 1) i.here;
-      end = i.end;
       own = c.read-found.ensures.kept.own ∙ i.own;
       takes = takes_learned (desk c.args.pass.now) old new _ i.takes made (learns_more _ _ _ learns);
     }

@@ -1,6 +1,6 @@
 -- The places before this one are learned, each by one event.
 use Rattle.std.proofs.Common.{◌≡◌, length}
-use Rattle.uc_log.specs.Passes.{IsOf, desk, learned, own_sightings, seat, size, state}
+use Rattle.uc_log.specs.Passes.{IsOf, desk, learned, own_sightings, seat, state}
 use Rattle.uc_worker.specs.Counting.{TakesFew}
 use Rattle.uc_worker.specs.Steps.{Later, Rests}
 use Rattle.uc_worker.proofs.catching_up.read_up.Given as goal
@@ -11,7 +11,6 @@ invariant-loop-place g l = record {
   rests : Rests (state l.pass).phase;
   later : Later (seat l.fn.pass) (seat l.pass);
   here : length (learned l.pass) ≡ l._place;
-  end : l._place-end ≡ (size l.fn.pass).places;
   own : own_sightings l.pass ≡ own_sightings l.fn.pass;
   takes : TakesFew 0 (desk l.fn.pass) (desk l.pass);
 }

@@ -1,13 +1,10 @@
 -- The next pass is unused, and its client is of the log.
-use Rattle.std.proofs.Common.{◌≡◌, ℕ, List, Some, All, slice_get, subst, rules}
+use Rattle.std.proofs.Common.{◌≡◌, All, subst, rules}
 use Rattle.std.proofs.lemmas.List.Elements.{All-head, All-push, All-rest}
-use Rattle.std.proofs.lemmas.Option.{slice_get-get_or}
+use Rattle.lists.proofs.Parts.{all_by_place}
 use Rattle.uc_worker_tests.specs.declared.clients.Client.{Client}
 use Rattle.uc_log.specs.Passes.{IsUnusedPass}
 use Rattle.uc_worker_tests.proofs.clients.clients_of.Goals as goal
-
-all_by_place : {X : Type 0} (P : X → Type 0) (list : List X) → ((place : ℕ) (x : X) → slice_get list place ≡ Some x → P x) → All P list
-all_by_place P list each = λ place other inside. each place _ (slice_get-get_or list place other inside)
 
 pub loop-pass-init : goal.loop-pass-init
 loop-pass-init c =

@@ -2,7 +2,7 @@ use Rattle.std.proofs.Common.{◌≡◌, ◌||◌, Some, refl, ap}
 use Rattle.std.proofs.lemmas.Result.{err_from_is_err_and}
 use Rattle.mc_conn.proofs.Breakings.{breaks_taking}
 use Rattle.mc_conn.specs.Held.{lines_of}
-use Rattle.mc_conn.proofs.Readings.{read_answered, read_same}
+use Rattle.mc_conn.proofs.Readings.{fewer_taken, read_answered, read_same}
 use Rattle.mc_conn.proofs.Takings.{does_looked, does_responded}
 use Rattle.mc_conn.proofs.conn.Conn.answer_waiting.Goals as goal
 
@@ -14,12 +14,12 @@ returns-in_ok-respond-in-Some-clause-outcome g c streams =
     does_responded c.args.self.now _ _ _ streams c.in-Some.request (read_answered (lines_of c.args.self.now.role) c.args.self.now.waiting c.take.new.self c.args.self.now.reader.held c.in-Some.request old c.take.ensures.after) refl refl refl
     (ap (λ ends. c.args.self.now.is_over || ends) c.ends_stream-ends.ensures) c.respond.ensures.onward c.in_ok-respond-in-Some.ensures.outcome
 
-pub returns-in_ok-respond-in-Some-clause-read : goal.returns-in_ok-respond-in-Some-clause-read
-returns-in_ok-respond-in-Some-clause-read g c =
+pub returns-in_ok-respond-in-Some-clause-fewer : goal.returns-in_ok-respond-in-Some-clause-fewer
+returns-in_ok-respond-in-Some-clause-fewer g c =
     let value = c.take.ensures.value in
     let is = c.in-Some.is in
     let old : c.args.self.now.waiting ≡ Some c.in-Some.request = cc in
-    (c.in-Some.request, read_answered (lines_of c.args.self.now.role) c.args.self.now.waiting c.take.new.self c.args.self.now.reader.held c.in-Some.request old c.take.ensures.after)
+    fewer_taken (lines_of c.args.self.now.role) c.args.self.now.waiting c.take.new.self c.args.self.now.reader.held c.in-Some.request old c.take.ensures.after
 
 pub returns-in_err-respond-in-Some-clause-outcome : goal.returns-in_err-respond-in-Some-clause-outcome
 returns-in_err-respond-in-Some-clause-outcome g c =

@@ -3,7 +3,7 @@ use Rattle.std.proofs.lemmas.Result.{err_from_is_err_and}
 use Rattle.mc_stream.specs.Stream.{both}
 use Rattle.mc_conn.specs.Turn.{queue_of, scene}
 use Rattle.mc_conn.proofs.Breakings.{breaks_later}
-use Rattle.mc_conn.proofs.Endings.{none_held, pulls_once, still_on}
+use Rattle.mc_conn.proofs.Endings.{none_held, pulls_once, still_on, within_bound}
 use Rattle.mc_conn.proofs.Takings.{does_nothing, does_trans}
 use Rattle.mc_conn.proofs.conn.Conn.pull_and_take.Goals as goal
 
@@ -38,24 +38,27 @@ returns-in_err-pulled-clause-pulls g c =
     let none =
     none_held c.args.self.now c.push.new.self c.is_some.result _ c.args.self.now.has_ended c.in_ok-pushed.ensures.same.holding c.requires.held c.is_some.ensures c.if-is_some-len.false
     in
+    let within = within_bound (queue_of c.args.self.now) (queue_of c.push.new.self) c.len.result _ _ c.len.ensures c.if-is_some-len.false c.push.ensures.within in
     let left = still_on (queue_of c.push.new.self) c.push.new.self.is_over c.is_empty.result _ c.is_empty.ensures c.if-self-is_empty.false c.in_ok-pushed.ensures.left in
     pulls_once _ (scene c.push.new.self c.args.worker.now (both (g.I.Input.tells c.args.input.now) (g.O.Output.tells c.push.new.output))) _ (c.in_ok-pushed.ensures.outcome _ _).takes
-    refl none left c.pull.ensures.once.0 c.pull.ensures.once.1 c.pull.ensures.short refl
+    refl none within left c.pull.ensures.once.0 c.pull.ensures.once.1 c.pull.ensures.short refl
 
 pub returns-in_err-taken-clause-pulls : goal.returns-in_err-taken-clause-pulls
 returns-in_err-taken-clause-pulls g c =
     let none =
     none_held c.args.self.now c.push.new.self c.is_some.result _ c.args.self.now.has_ended c.in_ok-pushed.ensures.same.holding c.requires.held c.is_some.ensures c.if-is_some-len.false
     in
+    let within = within_bound (queue_of c.args.self.now) (queue_of c.push.new.self) c.len.result _ _ c.len.ensures c.if-is_some-len.false c.push.ensures.within in
     let left = still_on (queue_of c.push.new.self) c.push.new.self.is_over c.is_empty.result _ c.is_empty.ensures c.if-self-is_empty.false c.in_ok-pushed.ensures.left in
     pulls_once _ (scene c.push.new.self c.args.worker.now (both (g.I.Input.tells c.args.input.now) (g.O.Output.tells c.push.new.output))) _ (c.in_ok-pushed.ensures.outcome _ _).takes
-    refl none left c.pull.ensures.once.0 c.pull.ensures.once.1 c.pull.ensures.short refl
+    refl none within left c.pull.ensures.once.0 c.pull.ensures.once.1 c.pull.ensures.short refl
 
 pub returns-clause-pulls : goal.returns-clause-pulls
 returns-clause-pulls g c =
     let none =
     none_held c.args.self.now c.push.new.self c.is_some.result _ c.args.self.now.has_ended c.in_ok-pushed.ensures.same.holding c.requires.held c.is_some.ensures c.if-is_some-len.false
     in
+    let within = within_bound (queue_of c.args.self.now) (queue_of c.push.new.self) c.len.result _ _ c.len.ensures c.if-is_some-len.false c.push.ensures.within in
     let left = still_on (queue_of c.push.new.self) c.push.new.self.is_over c.is_empty.result _ c.is_empty.ensures c.if-self-is_empty.false c.in_ok-pushed.ensures.left in
     pulls_once _ (scene c.push.new.self c.args.worker.now (both (g.I.Input.tells c.args.input.now) (g.O.Output.tells c.push.new.output))) _ (c.in_ok-pushed.ensures.outcome _ _).takes
-    refl none left c.pull.ensures.once.0 c.pull.ensures.once.1 c.pull.ensures.short refl
+    refl none within left c.pull.ensures.once.0 c.pull.ensures.once.1 c.pull.ensures.short refl

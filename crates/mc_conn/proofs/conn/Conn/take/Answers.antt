@@ -5,8 +5,7 @@ use Rattle.mc_conn.specs.Parts.{KeepsStreams}
 use Rattle.mc_conn.specs.Turn.{holding_of}
 use Rattle.uc_worker.specs.declared.worker.Worker.{Worker}
 use Rattle.mc_conn.proofs.Breakings.{breaks_later}
-use Rattle.uc_worker.proofs.Public.{continues_self, continues_through}
-use Rattle.mc_conn.proofs.Readings.{one_fewer}
+use Rattle.uc_worker.specs.contracts.laws.WorkerGoesOn.TheImpl.{continues_self-value, continues_through-value}
 use Rattle.mc_conn.proofs.Takings.{did_not, did_then, does_nothing}
 use Rattle.mc_conn.proofs.conn.Conn.take.Goals as goal
 
@@ -15,13 +14,13 @@ keeps_through : (old between new : Conn) (before during after : Worker) → Keep
 keeps_through old between new before during after first second = record {
   role = second.role ∙ first.role;
   has_ended = second.has_ended ∙ first.has_ended;
-  onward = continues_through before during after first.onward second.onward;
+  onward = continues_through-value.it before during after first.onward second.onward;
 }
 
 pub loop-did-init : goal.loop-did-init
 loop-did-init g c = record {
   does = λ streams. does_nothing _;
-  keeps = record { role = refl; has_ended = refl; onward = continues_self _ };
+  keeps = record { role = refl; has_ended = refl; onward = continues_self-value.it _ };
 }
 
 pub returns-in_err-take_one-clause-outcome : goal.returns-in_err-take_one-clause-outcome
@@ -30,7 +29,7 @@ returns-in_err-take_one-clause-outcome g c =
     rw (out.1, out.2) (λ streams. breaks_later c.in_err-take_one.field-0.0 _ _ _ (c.loop-did.invariant.does streams).takes (c.in_err-take_one.ensures.outcome streams))
 
 pub loop-did-smaller : goal.loop-did-smaller
-loop-did-smaller g c = one_fewer (holding_of c.loop-did.self) (holding_of c.take_one.new.self) (c.in_ok-take_one.ensures.fewer c.if-branch.true)
+loop-did-smaller g c = c.in_ok-take_one.ensures.fewer c.if-branch.true
 
 pub loop-did-preserved : goal.loop-did-preserved
 loop-did-preserved g c = record {

@@ -1,7 +1,7 @@
 use Rattle.mc_stream.specs.Stream.{Streams}
 use Rattle.mc_conn.specs.Parts.{Does, KeepsStreams}
+use Rattle.mc_conn.specs.Held.{most_held}
 use Rattle.mc_conn.specs.Turn.{holding_of, scene}
-use Rattle.mc_conn.proofs.Readings.{requests_held}
 use Rattle.mc_conn.proofs.conn.Conn.take.Given as goal
 
 -- what was taken so far is a part of the turn
@@ -12,4 +12,4 @@ invariant-loop-did g l = record {
 }
 
 abbrev pub decreases-loop-did : goal.decreases-loop-did
-decreases-loop-did g l = requests_held (holding_of l.self)
+decreases-loop-did g l = most_held (holding_of l.self)

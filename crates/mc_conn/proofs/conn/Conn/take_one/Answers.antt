@@ -1,5 +1,6 @@
 use Rattle.std.proofs.lemmas.Result.{err_from_is_err_and}
 use Rattle.mc_stream.specs.Stream.{Streams}
+use Rattle.mc_conn.specs.Held.{most_held}
 use Rattle.mc_conn.specs.Turn.{holding_of, scene}
 use Rattle.mc_conn.proofs.Breakings.{breaks_later, breaks_looking}
 use Rattle.mc_conn.proofs.Outcomes.{if_ok_map, match_map}
@@ -24,5 +25,5 @@ returns-clause-outcome g c =
 
 pub returns-clause-fewer : goal.returns-clause-fewer
 returns-clause-fewer g c =
-    if_ok_map c.answer_waiting.result _ _ (λ did read. fewer_after did (holding_of c.args.self.now) (holding_of c.look.new.self) (holding_of c.answer_waiting.new.self) _ c.in_ok-look.ensures.read read)
-    c.answer_waiting.ensures.read
+    if_ok_map c.answer_waiting.result _ _ (λ did fewer. fewer_after did (most_held (holding_of c.args.self.now)) (most_held (holding_of c.look.new.self)) (most_held (holding_of c.answer_waiting.new.self)) _ c.in_ok-look.ensures.most fewer)
+    c.answer_waiting.ensures.fewer

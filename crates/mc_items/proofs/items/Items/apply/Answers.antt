@@ -21,3 +21,6 @@ returns-in-Decr-clause-stands c = rw c.in-Decr.is (OnOk-StandsForMore c.decr.res
 
 pub returns-in-Flush-clause-stands : goal.returns-in-Flush-clause-stands
 returns-in-Flush-clause-stands c = rw c.in-Flush.is (StandsForMore-next _ c.args.self.now c.flush.new.self c.flush.ensures.state)
+
+pub returns-in-Limit-clause-stands : goal.returns-in-Limit-clause-stands
+returns-in-Limit-clause-stands c = rw c.in-Limit.is (StandsForMore-next _ c.args.self.now c.set_limits.new.self c.set_limits.ensures.state)

@@ -1,9 +1,9 @@
-use Rattle.std.proofs.Common.{◌≡◌, ◌++◌, Ok, Some, None, sym, ◌∙◌, ap, refl, subst, arith}
+use Rattle.std.proofs.Common.{◌≡◌, ◌<◌, ◌++◌, length, Ok, Some, None, sym, ◌∙◌, ap, refl, subst, arith}
 use Rattle.mc_read.specs.declared.reader.State.TheVariants as state
 use Rattle.mc_read.specs.Line.{asked, refused}
 use Rattle.mc_read.specs.Reading.{IsNext, Kept, Swallowing}
 use Rattle.mc_read.proofs.Holdings.{swallowed_is_next}
-use Rattle.mc_read.specs.State.{EndsInRefusal, IsNextAnswer, IsStateOf, held_in}
+use Rattle.mc_read.specs.State.{EndsInRefusal, IsNextAnswer, IsStateOf, held_in, most_requests}
 use Rattle.mc_read.specs.Text.{stored_if}
 use Rattle.mc_read.proofs.States.{kept_bytes, left_of_block, line_of_block, step_parts, swallowed_held, swallowing_parts}
 use Rattle.mc_read.proofs.Steps.{answer_awaited, answer_taken, not_too_long, not_unended}
@@ -77,10 +77,12 @@ pub returns-in-SwallowsBlock-2-clause-answer : goal.returns-in-SwallowsBlock-2-c
 returns-in-SwallowsBlock-2-clause-answer c =
     let block = c.in-SwallowsBlock-2 in
     let same = left_of_block _ _ _ _ _ _ (sym block.is ∙ c.in-SwallowsBlock.is) in
-    let held = swallowed_held c.self.inside.state c.self.inside.buffer block.refusal block.quiet block.left c.args.self.now.held block.is (omega (arith, same, c.if-left-gt0.false)) (ap (λ view. view.held) c.self.view_is) in
-    subst (λ h. IsNext asked h c.refused-request.result (Kept c.self.inside.buffer)) held
-    (subst (λ r. IsNext asked (Swallowing (refused block.refusal block.quiet) 0 c.self.inside.buffer) r (Kept c.self.inside.buffer)) (sym c.refused-request.ensures)
-    (swallowed_is_next asked (refused block.refusal block.quiet) c.self.inside.buffer))
+    let held = swallowed_held c.self.inside.state c.self.inside.buffer block.refusal block.quiet block.left c.args.self.now.held block.is (omega (arith, same, c.if-left-gt0.false)) (ap (λ view. view.held) c.self.view_is) in (
+      subst (λ h. IsNext asked h c.refused-request.result (Kept c.self.inside.buffer)) held
+          (subst (λ r. IsNext asked (Swallowing (refused block.refusal block.quiet) 0 c.self.inside.buffer) r (Kept c.self.inside.buffer)) (sym c.refused-request.ensures)
+          (swallowed_is_next asked (refused block.refusal block.quiet) c.self.inside.buffer)),
+      subst (λ h. length c.self.inside.buffer < most_requests h) held (omega arith),
+    )
 
 pub returns-in-SwallowsBlock-2-clause-swallowed : goal.returns-in-SwallowsBlock-2-clause-swallowed
 returns-in-SwallowsBlock-2-clause-swallowed c = λ request bytes is_held.

@@ -1,5 +1,5 @@
 use Rattle.std.proofs.Common.{rules}
-use Rattle.mc_model.proofs.Public.{EachStands-none, HaveRoom-empty}
+use Rattle.model_lemmas.proofs.Replays.{EachStands-none, HaveRoom-empty}
 use Rattle.mc_model.specs.Replay.{empty_tables}
 use Rattle.mc_replica.proofs.replica.Replica.open.Goals as goal
 

@@ -2,7 +2,7 @@ use Rattle.std.proofs.Common.{arith, rules, ◌<◌, [], ◌∷◌, ◌++◌, le
 use Rattle.std.proofs.lemmas.List.{length-map}
 use Rattle.uc_cells.specs.Sighting.{Sighting, entries}
 use Rattle.mc_model.specs.Replay.{empty_tables}
-use Rattle.mc_model.proofs.Public.{uniques-few}
+use Rattle.model_lemmas.proofs.Replays.{uniques-few}
 use Rattle.mc_replica.proofs.Effects.{EachStands-seen, TakeEffect-nobody, tables-stay}
 use Rattle.mc_replica.proofs.replica.Replica.replay_for.Goals as goal
 
@@ -38,7 +38,7 @@ returns-in_err-reply-clause-replays c = record {
   openings = search rules;
   worker = search rules;
   places = search rules;
-  takes_out = search rules;
+  no_memory = search rules;
   reads = search rules;
   refused = rw (← c.self.view_is, ← c.entry.ensures.entry) (λ refused.
       absurd (true≢false (sym (c.in_err-reply.ensures.refused (empty_tables c.self.inside.limits.items) (entries c.self.inside.history.items)
@@ -62,7 +62,7 @@ returns-clause-replays c =
       openings = refl;
       worker = refl;
       places = refl;
-      takes_out = search rules;
+      no_memory = search rules;
       reads = search rules;
       refused = search rules;
       memory = search rules;

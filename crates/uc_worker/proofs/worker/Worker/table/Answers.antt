@@ -1,6 +1,6 @@
 -- There is a table for each tenant's quotas.
 use Rattle.std.proofs.Common.{sym, ◌∙◌, subst, ◌<◌, ℕ}
-use Rattle.mc_model.proofs.Public.{EachStands-length}
+use Rattle.model_lemmas.proofs.Replays.{EachStands-length}
 use Rattle.uc_cells.specs.Sighting.{entries}
 use Rattle.uc_worker.proofs.worker.Worker.table.Goals as goal
 

@@ -1,0 +1,6 @@
+use Rattle.mc_conn.proofs.Endings.{stops_later}
+use Rattle.mc_conn.proofs.Takings.{takes_self, takes_trans}
+use Rattle.mc_conn.proofs.laws.turns_add_up.Goals as goal
+
+pub returns : goal.returns
+returns c = record { none = takes_self; through = takes_trans; stops = stops_later }

@@ -1,0 +1,10 @@
+pub mod Histories
+pub mod Logs
+pub mod NumberTests
+pub mod Replays
+pub mod Uses
+pub mod Tickets
+pub mod StateLaws
+pub mod Helped
+pub mod Turns
+pub mod Waiting
