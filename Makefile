@@ -64,7 +64,7 @@ linearizability: kit ## tests for MINUTES (2) that the histories of wfmc's clien
 	@python3 tests/linearizability.py --self-test
 	@python3 tests/linearizability.py $$(($(MINUTES) * 60))
 
-allocation-failures: kit ## runs the programs, and the tests of the cells, with each allocation refused in turn, and mc_stdin with less and less memory
+allocation-failures: kit ## runs the programs, and the tests of the cells and of a turn over, with each allocation refused in turn, and mc_stdin with less and less memory
 	@tools/prove.sh wfmc mc_stdin mc_schedule >&2
 	@python3 tests/memory_limits.py
 	@python3 tests/allocation_failures.py

@@ -356,6 +356,7 @@ def show_errors():
         many = [tenant(f"t{number}") for number in range(65)]
         mistakes = [
             ("a port in use", [tenant(address=f"127.0.0.1:{port}")], {}),
+            ("a port in use, of `--admin`", ["--admin", f"127.0.0.1:{port}", tenant()], {}),
             ("the same port for two tenants", [tenant(address=f"127.0.0.2:{port}"), tenant("b", f"127.0.0.2:{port}")], {}),
             ("an address that isn't this machine's", [tenant(address="192.0.2.1:11211")], {}),
             ("a name or an IPv6 address in its place", [tenant(address="localhost:11211")], {}),
@@ -367,6 +368,7 @@ def show_errors():
             ("a quota above 1 GiB", [tenant(size="2000000000")], {}),
             ("a size with a unit", [tenant(size="64M")], {}),
             ("a name used twice", [tenant(), tenant()], {}),
+            ("a tenant named `admin`, with `--admin`", ["--admin", "127.0.0.1:0", tenant("admin")], {}),
             ("a name in capitals", [tenant("Shop")], {}),
             ("65 tenants", many, {}),
             ("17 workers", ["--workers", "17", tenant()], {}),

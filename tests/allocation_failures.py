@@ -1,5 +1,5 @@
 #!/usr/bin/env python3
-"""Injects allocation failures: allocation_failures.py [CASE...] [--every N], with the cases mc_stdin, mc_schedule, wfmc and cells.
+"""Injects allocation failures: allocation_failures.py [CASE...] [--every N], with the cases mc_stdin, mc_schedule, wfmc, cells and workers.
 
 A program is run over and over, each allocation refused in turn, alone and with all later ones (tests/refuse.c, which needs gcc); --every N
 refuses one allocation in N. How a run may end is said at the `judge` of its case. A hang, a signal or a wrong byte is a failure. Prints how the runs
@@ -9,6 +9,7 @@ ended, and a line for each failure; the last line is 'N passed, M failed'.
 import argparse
 import collections
 import concurrent.futures
+import dataclasses
 import functools
 import re
 import subprocess
@@ -311,46 +312,78 @@ def try_wfmc(environment, every):
         pass
 
 
-CELLS = "crates/uc_cells_tests"
-REPORTED = "the call reported that memory ran out, and wrote nothing"
+@dataclasses.dataclass
+class Tests:
+    """Tests of a crate on a call that runs out of memory. Each of them ends well, or runs out of memory before its call, or says that the call
+    reported it and left all as it was (`reported`, a text in the crate's sources). Any other end is wrong.
 
-# How often each test's call allocates: a row of cells (its list, its box), and the box of the value.
-ASKS = {"memory::a_put_reports_out_of_memory": 3, "memory::a_sighting_reports_out_of_memory": 3}
-MOST = 60
+    `asks` says how often each test's call allocates, and `first` the number of the first allocation to refuse: those before it are made by all
+    tests before their calls.
+    """
+
+    crate: str
+    module: str
+    reported: str
+    asks: dict[str, int]
+    first: int = 1
+    most: int = 120
 
 
-def ends_of(refused):
+# A row of cells is a list and its box, and the value has a box.
+CELLS = Tests(
+    crate="crates/uc_cells_tests",
+    module="memory",
+    reported="the call reported that memory ran out, and wrote nothing",
+    asks={"memory::a_put_reports_out_of_memory": 3, "memory::a_sighting_reports_out_of_memory": 3},
+)
+WORKERS = Tests(
+    crate="crates/uc_worker_tests",
+    module="refused",
+    reported="the turn over reported that memory ran out, and changed no worker",
+    asks={"refused::a_turn_over_reports_out_of_memory": 17},
+    first=52,
+)
+
+
+def ends_of(tests, refused):
     """How each test ended where the allocation of this number was refused."""
-    words = ["rt", "try", "--test", "--fail-alloc", str(refused)]
-    ran = subprocess.run(words, cwd=CELLS, capture_output=True, text=True, timeout=600)
+    words = ["rt", "try", "--test", "--fail-alloc", str(refused), "--", tests.module]
+    ran = subprocess.run(words, cwd=tests.crate, capture_output=True, text=True, timeout=600)
     ends = {}
     for part in re.split(r"^test (?=\S+ \.\.\. )", ran.stdout + ran.stderr, flags=re.MULTILINE)[1:]:
         name = part.split()[0]
         error = re.search(r"^\s*error: (.*)$", part, re.MULTILINE)
-        if name in ASKS:
+        if name in tests.asks:
             ends[name] = "ok" if part.split()[2] == "ok" else error.group(1).strip('"') if error else part
     return ends
 
 
-def try_cells(_environment, _every):
-    """The tests of uc_cells_tests on running out of memory, whose allocations `rt` refuses. Each of them ends well, or runs out of memory before
-    its call, or says that the call reported it and wrote nothing (`REPORTED`, the text in crates/uc_cells_tests/src/memory.rt). Any other end is
-    wrong: above all `Taken` in place of `Memory`, or a cell that was written to."""
+def try_tests(tests):
+    """The tests, whose allocations `rt` refuses, each in turn: a wrong end is above all `Taken` in place of `Memory`, or a cell or a worker that has
+    changed."""
     repository.require("rt")
     refusals = collections.Counter()
-    for refused in range(1, MOST + 1):
-        ends = ends_of(refused)
-        for name in ASKS:
+    for refused in range(tests.first, tests.first + tests.most):
+        ends = ends_of(tests, refused)
+        for name in tests.asks:
             end = ends.get(name, "it didn't run")
-            refusals[name] += end == REPORTED
-            results.check(f"{name}, allocation {refused} refused", end in ("ok", "Memory", REPORTED), end)
-        if ends == dict.fromkeys(ASKS, "ok"):
+            refusals[name] += end == tests.reported
+            results.check(f"{name}, allocation {refused} refused", end in ("ok", "Memory", tests.reported), end)
+        if ends == dict.fromkeys(tests.asks, "ok"):
             break
-    for name, asks in ASKS.items():
+    for name, asks in tests.asks.items():
         results.check(f"{name}: refused {refusals[name]} times, not {asks}", refusals[name] == asks)
 
 
-CASES = {"mc_stdin": try_stdin, "mc_schedule": try_schedule, "wfmc": try_wfmc, "cells": try_cells}
+def try_cells(_environment, _every):
+    try_tests(CELLS)
+
+
+def try_workers(_environment, _every):
+    try_tests(WORKERS)
+
+
+CASES = {"mc_stdin": try_stdin, "mc_schedule": try_schedule, "wfmc": try_wfmc, "cells": try_cells, "workers": try_workers}
 
 
 def main():
@@ -361,7 +394,7 @@ def main():
     cases = asked.cases or list(CASES)
     if unknown := set(cases) - set(CASES):
         parser.error(f"no case {unknown.pop()}")
-    repository.enter(*(repository.program(case) for case in cases if case != "cells"))
+    repository.enter(*(repository.program(case) for case in cases if case not in ("cells", "workers")))
     with preload.library(preload.REFUSE) as environment:
         for case in cases:
             CASES[case](environment, asked.every)

@@ -3,6 +3,7 @@
 
 For this many seconds (60) it runs rounds, each with a server and tenants of its own, and all of these at once:
 - tenants with one connection after another, random and mutated streams in random pieces: the replies byte for byte as the oracle has them;
+- tenants with one connection after another, and between them an administrator's, which lowers and raises the tenant's quotas: the same;
 - tenants with several connections, each over keys of its own: the same, but a unique may be any number;
 - connections that are killed at any byte: what they received is right, and what they leave is what some first part of their stream gives;
 - a reader and a writer that are slow, clients that send without reading, hundreds of connects and closes;
@@ -16,6 +17,7 @@ Replay a round with --seed N --round M. Prints a line for each failure; the last
 
 import argparse
 import concurrent.futures
+import dataclasses
 import errno
 import os
 import random
@@ -25,11 +27,11 @@ import socket
 import subprocess
 import time
 
-from generators import StreamGenerator, mutated, pieces
+from generators import StreamGenerator, limit_lines, mutated, pieces
 from harness import repository
 from harness.client import Exchange, connect, exchange, reset
 from harness.results import Results
-from harness.servers import Server
+from harness.servers import ADMIN, Server
 from oracle import protocol
 from oracle.replies import Replies
 from oracle.table import Table
@@ -39,6 +41,7 @@ ROUND_SECONDS = 3.0
 LARGE = (1_000_000, 1_000_000_000)
 QUOTAS = ((1, 60), (3, 300), (4, 70_000), (1_000, 2_000_000), LARGE)
 VERSION = b"VERSION 1.0.0\r\n"
+LIMITED = ("first-of-four", "another", "third_in_order", "last")
 
 
 def fault_of(received, ending, asked, replies):
@@ -64,6 +67,29 @@ def solo(port, seed, quotas):
         replies = Replies(table, received, is_full, is_cut=ending == "reset")
         wrong = fault_of(received, ending, protocol.requests(stream), replies)
         found.append(("one connection at a time", wrong and f"session {session}: {wrong}"))
+        is_full = replies.is_full
+        if wrong:
+            break
+    return found
+
+
+def limited(port, admin_port, seed, quotas, name):
+    """As `solo`, with an administrator's connection between two of the tenant's; both kinds of lines are random, and some are mutated."""
+    chance, table, is_full, found = random.Random(seed), Table(*quotas), False, []
+    generator = StreamGenerator(chance)
+    for session in range(10):
+        is_admin = session % 2 == 1
+        count = chance.randrange(1, 40)
+        stream = limit_lines(chance, name, count) if is_admin else generator.stream(count, most=80_000)
+        if chance.random() < 0.5:
+            stream = mutated(chance, stream)
+        asked = protocol.requests(stream, protocol.admin_request) if is_admin else protocol.requests(stream)
+        asked = [dataclasses.replace(one, command=(), reply=protocol.BAD_FORMAT, is_quiet=False) if one.tenant not in (b"", name) else one for one in asked]
+        received, ending = exchange(admin_port if is_admin else port, pieces(chance, stream))
+        replies = Replies(table, received, is_full, is_cut=ending == "reset")
+        wrong = fault_of(received, ending, asked, replies)
+        what = "an administrator between a tenant's connections" if is_admin else "a tenant whose quotas change"
+        found.append((what, wrong and f"session {session}: {wrong}"))
         is_full = replies.is_full
         if wrong:
             break
@@ -233,9 +259,11 @@ class Round:
         self.program = program
         chance = random.Random(seed)
         self.workers = chance.choice((1, 1, 2, 2, 3, 4, 8, 16))
-        self.options = ["--workers", str(self.workers), "--places"]
+        self.options = [*ADMIN, "--workers", str(self.workers), "--places"]
         self.options += [str(chance.choice((65_536, 65_536, 1_048_576, chance.randrange(1, 4_000))))]
         self.tenants = {f"solo{number}": chance.choice(QUOTAS) for number in range(5)}
+        # Names of which no mutation makes another's.
+        self.tenants |= {name: chance.choice(QUOTAS) for name in LIMITED}
         self.tenants |= dict.fromkeys(("shared", "killed", "noise", "steady"), LARGE)
         self.seeds = chance
 
@@ -248,6 +276,8 @@ class Round:
         for name, quotas in self.tenants.items():
             if name.startswith("solo"):
                 yield solo, (ports[name], seed(), quotas)
+            if name in LIMITED:
+                yield limited, (ports[name], ports["admin"], seed(), quotas, name.encode())
         yield from ((shared, (ports["shared"], seed(), number)) for number in range(4))
         yield from ((killed, (ports["killed"], seed(), number)) for number in range(24))
         for disturber in (slow_reader, slow_writer, flood, flood, storm, storm):

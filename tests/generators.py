@@ -98,6 +98,20 @@ class StreamGenerator:
         return b"get %s\r\n" % b" ".join(self.keys)
 
 
+def limit_lines(chance, name, count):
+    """An administrator's lines, most of which set quotas of the tenant of this name."""
+
+    def line():
+        if chance.random() < 0.1:
+            return chance.choice((b"", b"version", b"get a", b"limit", b"limit %s 1" % name, b"limit %s 1 1 1 1" % name, b"set a 0 0 1", b"limits a 1 1"))
+        items = chance.choice((b"1", b"2", b"4", b"0005", b"1000", b"1048576") * 5 + (b"0", b"1048577", b"-1", b"x"))
+        size = chance.choice((b"20", b"60", b"300", b"70000", b"1073741824") * 5 + (b"1073741825", b"0", b"1e3"))
+        whose = name if chance.random() < 0.9 else chance.choice((b"nobody", b"A", b"", b"x" * 33, name + b"-"))
+        return b"limit %s %s %s%s" % (whose, items, size, chance.choice((b"",) * 9 + (b" noreply",) * 3 + (b" quiet",)))
+
+    return b"".join(line() + chance.choice((b"\r\n", b"\r\n", b"\n")) for _ in range(count))
+
+
 def mutated(chance, stream):
     """The stream with some of its bytes changed, left out, repeated, moved or cut."""
     changed = bytearray(stream)

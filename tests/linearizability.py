@@ -2,8 +2,8 @@
 """Tests that each tenant's history is linearizable: linearizability.py [SECONDS] [BINARY] [--seed N] | --self-test.
 
 For this many seconds (60) it starts wfmc with 1 to 4 workers, or 16, and for each of several tenants clients at once, each a process with a
-connection of its own. They send commands over the same few keys, some ahead of replies, and note when each was sent and answered. Then
-linearizability_checker.py looks for one order of a tenant's commands that explains all replies and puts no command before another that was
+connection of its own. They send commands over the same few keys, some ahead of replies, and note when each was sent and answered. Next to the
+clients of some tenants an administrator lowers and raises that tenant's quotas. Then linearizability_checker.py looks for one order of a tenant's commands that explains all replies and puts no command before another that was
 answered when it was sent, so a client reads its own writes too. `--self-test` tests the checker instead: histories made wrong on purpose
 must be refused, and right ones accepted. The last line is 'N passed, M failed'.
 """
@@ -20,7 +20,7 @@ from harness import repository
 from harness.client import connect
 from harness.processes import SECONDS
 from harness.results import Results
-from harness.servers import Server
+from harness.servers import ADMIN, Server
 from linearizability_checker import Call
 from oracle import protocol
 from oracle.table import Table
@@ -28,6 +28,8 @@ from oracle.table import Table
 EPOCHS = 40
 KEYS = (b"a", b"b", b"c", b"n")
 QUOTAS = ((1_000, 1_000_000), (1_000, 1_000_000), (3, 1_000_000), (1_000, 60))
+# Quotas that an administrator sets; the first refuse most that grows.
+NEW_QUOTAS = ((1, 1_000), (2, 1_000), (3, 1_000_000), (1_000, 20), (1_000, 60), (1_000, 1_000_000), (1_000, 1_000_000))
 STOPPED = "another client stopped"
 results = Results()
 check = results.check
@@ -35,6 +37,8 @@ check = results.check
 
 class Client:
     """A connection over the tenant's keys, and its calls."""
+
+    of_line = staticmethod(protocol.line_request)
 
     def __init__(self, port, number, seed):
         self.number = number
@@ -74,7 +78,7 @@ class Client:
 
     def ask(self, stream):
         """Sends requests together, and notes when each was answered."""
-        asked = protocol.requests(stream)
+        asked = protocol.requests(stream, self.of_line)
         sent = time.monotonic()
         self.socket.sendall(stream)
         for request in asked:
@@ -95,10 +99,24 @@ class Client:
         return reply
 
 
-def run_client(port, number, seed, barrier, pipe):
+class Administrator(Client):
+    """An administrator's connection, which sets the quotas of one tenant."""
+
+    of_line = staticmethod(protocol.admin_request)
+
+    def __init__(self, port, number, seed, tenant):
+        super().__init__(port, number, seed)
+        self.tenant = tenant.encode()
+
+    def request(self):
+        items, size = self.chance.choice(NEW_QUOTAS)
+        return b"limit %s %d %d%s\r\n" % (self.tenant, items, size, b" noreply" if self.chance.random() < 0.2 else b"")
+
+
+def run_client(kind, words, number, seed, barrier, pipe):
     """Sends some requests, then stops together with the others while the first client reads all keys; and again."""
     try:
-        client = Client(port, number, seed)
+        client = kind(words[0], number, seed, *words[1:])
         for _ in range(EPOCHS):
             barrier.wait(SECONDS)
             for _ in range(client.chance.randrange(1, 5)):
@@ -114,12 +132,12 @@ def run_client(port, number, seed, barrier, pipe):
         pipe.send(f"{type(error).__name__}: {error}")
 
 
-def start_clients(port, seed, count):
-    """Starts processes with a client each; a tenant's clients stop together. The barrier is returned to keep its memory alive."""
-    barrier, clients = multiprocessing.Barrier(count), []
-    for number in range(count):
+def start_clients(kinds, seed):
+    """Starts processes with a client each, of these kinds; a tenant's clients stop together. The barrier is returned to keep its memory alive."""
+    barrier, clients = multiprocessing.Barrier(len(kinds)), []
+    for number, (kind, words) in enumerate(kinds):
         ours, theirs = multiprocessing.Pipe(duplex=False)
-        process = multiprocessing.Process(target=run_client, args=(port, number, f"{seed}/{number}", barrier, theirs), daemon=True)
+        process = multiprocessing.Process(target=run_client, args=(kind, words, number, f"{seed}/{number}", barrier, theirs), daemon=True)
         process.start()
         theirs.close()
         clients.append((process, ours))
@@ -147,11 +165,15 @@ def run(program, seed):
     """Runs a server, and clients of several tenants at once; each tenant's history, and what ran."""
     chance = random.Random(seed)
     workers = chance.choice((1, 2, 2, 3, 4, 4, 16))
-    tenants = {f"t{number}": chance.choice(QUOTAS) for number in range(chance.choice((1, 2, 3)))}
+    tenants = {f"t{number}": chance.choice(QUOTAS) for number in range(chance.choice((1, 2, 3, 4)))}
     # When the log becomes full is known to a tenant that is alone.
     places = chance.randrange(1, 500) if len(tenants) == 1 else 65_536
-    with Server(program, ["--workers", str(workers), "--places", str(places)], tenants) as server:
-        begun = [start_clients(port, f"{seed}/{name}", chance.choice((3, 4, 5))) for name, port in server.ports.items()]
+    with Server(program, [*ADMIN, "--workers", str(workers), "--places", str(places)], tenants) as server:
+        begun = []
+        for name in tenants:
+            kinds = [(Client, (server.ports[name],))] * chance.choice((3, 4, 5))
+            kinds += [(Administrator, (server.ports["admin"], name))] * chance.choice((0, 1, 1))
+            begun.append(start_clients(kinds, f"{seed}/{name}"))
         for (name, quotas), (_, clients) in zip(tenants.items(), begun):
             yield f"{workers} workers, {places} places, tenant {name}, {len(clients)} clients", Table(*quotas), places, collect(clients)
 
@@ -178,6 +200,11 @@ def call(client, sent, answered, text, reply):
     return Call(client, sent, answered, request.command, reply, request.is_quiet)
 
 
+def limit(client, sent, answered, items, size, reply=protocol.OK):
+    """A call of an administrator, who sets the quotas."""
+    return Call(client, sent, answered, (b"limit", items, size), reply)
+
+
 def put(name, key, data):
     return b"%s %s 0 0 %d\r\n%s\r\n" % (name, key, len(data), data)
 
@@ -188,7 +215,8 @@ def shown(key, data, unique=None):
 
 
 SET_1, SET_2, GET_A = put(b"set", b"a", b"1"), put(b"set", b"a", b"2"), b"get a\r\n"
-STORED, END = protocol.STORED, b"END\r\n"
+SET_B, SET_C = put(b"set", b"b", b"3"), put(b"set", b"c", b"4")
+STORED, NO_ROOM, END = protocol.STORED, protocol.NO_ROOM, b"END\r\n"
 IS_1, IS_2 = shown(b"a", b"1") + END, shown(b"a", b"2") + END
 FIRST = call(0, 0, 1, SET_1, STORED)
 
@@ -219,6 +247,15 @@ HISTORIES = {
     "two deletes of one item": (False, [FIRST, call(0, 2, 5, b"delete a\r\n", protocol.DELETED), call(1, 3, 4, b"delete a\r\n", protocol.DELETED)]),
     "an item after a flush": (False, [FIRST, call(0, 2, 3, b"flush_all\r\n", protocol.OK), call(1, 4, 5, GET_A, IS_1)]),
     "the second of two writes and not the first": (False, [call(0, 0, 1, SET_1, STORED), call(0, 2, 3, put(b"set", b"b", b"3"), STORED), call(1, 2, 9, b"get a b\r\n", shown(b"b", b"3") + END)]),
+    "a write that lowered quotas refuse": (True, [FIRST, limit(1, 2, 3, 1, 100), call(0, 4, 5, SET_B, NO_ROOM)]),
+    "a write beside the lowering that refuses it": (True, [FIRST, limit(1, 2, 9, 1, 100), call(0, 3, 4, SET_B, STORED), call(0, 5, 6, SET_C, NO_ROOM)]),
+    "a write before the lowering that refuses it": (False, [FIRST, call(0, 2, 3, SET_B, NO_ROOM), limit(1, 4, 5, 1, 100)]),
+    "a write above lowered quotas": (False, [FIRST, limit(1, 2, 3, 1, 100), call(0, 4, 5, SET_B, STORED)]),
+    "what stands above lowered quotas is read": (True, [FIRST, limit(1, 2, 3, 1, 1), call(0, 4, 5, GET_A, IS_1)]),
+    "what stands above lowered quotas is gone": (False, [FIRST, limit(1, 2, 3, 1, 1), call(0, 4, 5, GET_A, END)]),
+    "a write that raised quotas admit": (True, [FIRST, limit(1, 2, 3, 1, 100), limit(1, 4, 5, 2, 100), call(0, 6, 7, SET_B, STORED)]),
+    "a write that raised quotas refuse": (False, [FIRST, limit(1, 2, 3, 1, 100), limit(1, 4, 5, 2, 100), call(0, 6, 7, SET_B, NO_ROOM)]),
+    "two workers with other quotas": (False, [FIRST, limit(1, 2, 3, 1, 100), call(0, 4, 5, SET_B, NO_ROOM), call(2, 6, 7, SET_B, STORED)]),
     "a quiet write that came late": (True, [FIRST, call(0, 2, 2, b"set a 0 0 1 noreply\r\n2\r\n", b""), call(1, 3, 4, GET_A, IS_1), call(0, 3, 9, GET_A, IS_2)]),
     "a quiet write that never came": (False, [FIRST, call(0, 2, 2, b"set a 0 0 1 noreply\r\n2\r\n", b""), call(0, 3, 4, GET_A, IS_1)]),
 }  # fmt: skip

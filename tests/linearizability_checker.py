@@ -75,7 +75,7 @@ class Search:
     def _mark(self, taken, table):
         """What distinguishes two paths: the calls that are left, and the table without uniques that no reply shows."""
         items = sorted((key, flags, data, unique if unique in self.watched else 0) for key, (flags, data, unique) in table.items.items())
-        return taken, table.changes, tuple(items)
+        return taken, table.changes, table.most_items, table.most_bytes, tuple(items)
 
     def _open(self, taken):
         """The clients whose next call may come next, the one answered first at the front."""

@@ -4,7 +4,8 @@
 Every golden test of mc_stdin that a server can answer (tests/rows/mc_stdin): its input over one connection, whole and, where it is short, a
 byte at a time, by 1 and by 4 workers; the bytes that come back must be the same. Then clients that others must not notice: one that closes
 in the middle of a block, one that resets, one that never reads, more connections than a worker takes, two tenants with the same key, 500
-commands of 8 clients at once, all places of the longest log. And clients that nobody may forget: the process is stopped until many have
+commands of 8 clients at once, all places of the longest log. An administrator, whose quotas are in force at every worker, and whom no tenant
+locks out. And clients that nobody may forget: the process is stopped until many have
 connected, asked or left, and then goes on, while a worker is busy, or descriptors are scarce. Where no client is left, everything is given
 back, and no thread wakes. Clients that send more behind their last request, and read late, get all their replies; and where a wait for
 events fails (tests/fail_wait.c, which needs gcc), everything ends.
@@ -29,12 +30,13 @@ import time
 from harness import preload, repository
 from harness.client import exchange, late_reply, reset
 from harness.results import Results
-from harness.servers import Server, free_port
+from harness.servers import ADMIN, Server, free_port
 
 PROGRAM = sys.argv[1] if len(sys.argv) > 1 else repository.program("wfmc")
 SHORT = 4096
 PATIENCE = 20
 VERSION = b"VERSION 1.0.0\r\n"
+BAD_FORMAT = b"CLIENT_ERROR bad command line format\r\n"
 results = Results()
 check = results.check
 
@@ -227,6 +229,89 @@ def check_too_many():
         check("a place is free again", answer(server, "a", b"get l\r\n") == b"END\r\n")
         for client in clients:
             client.close()
+
+
+NO_ROOM = b"SERVER_ERROR out of memory storing object\r\n"
+
+
+def check_admin():
+    """An administrator next to one tenant: what it is answered, and its quotas at every worker."""
+    with Server(PROGRAM, [*ADMIN, "--workers", "4"], {"a": LARGE, "b": LARGE}) as server:
+        check("its line comes last", list(server.ports) == ["a", "b", "admin"] and server.is_ready)
+        check("two items before", answer(server, "a", b"set k 0 0 3\r\nold\r\nset l 0 0 1\r\nx\r\n") == b"STORED\r\n" * 2)
+        said = answer(server, "admin", b"limit a 2 100\r\nlimit x 1 1\r\nget a\r\nquit\r\n")
+        check("an administrator is answered", said == b"OK\r\nCLIENT_ERROR bad command line format\r\nERROR\r\n")
+        # Connections are handed to the workers in turn.
+        refused = [answer(server, "a", b"set n 0 0 1\r\nx\r\n") for _ in range(8)]
+        check("the new quota is in force at every worker", refused == [NO_ROOM] * 8)
+        check("what was there stays", answer(server, "a", b"get k l\r\n") == b"VALUE k 0 3\r\nold\r\nVALUE l 0 1\r\nx\r\nEND\r\n")
+        check("below what is held", answer(server, "admin", b"limit a 1 1 noreply\r\nversion\r\n") == VERSION)
+        check("still it stays", answer(server, "a", b"get k\r\nset k 0 0 4\r\nmore\r\n") == b"VALUE k 0 3\r\nold\r\nEND\r\n" + NO_ROOM)
+        check("a delete works", answer(server, "a", b"delete k\r\nset k 0 0 0\r\n\r\n") == b"DELETED\r\n" + NO_ROOM)
+        check("a flush works", answer(server, "a", b"flush_all\r\nset k 0 0 0\r\n\r\n") == b"OK\r\nSTORED\r\n")
+        check("another tenant's are as they were", answer(server, "b", b"set k 0 0 3\r\nnew\r\nset l 0 0 1\r\nx\r\n") == b"STORED\r\n" * 2)
+        check("a tenant sets none", answer(server, "a", b"limit a 5 5\r\n") == b"ERROR\r\n")
+        check("raised again", answer(server, "admin", b"limit a 1000 1000\r\n") == b"OK\r\n")
+        stored = [answer(server, "a", b"set n%d 0 0 1\r\nx\r\n" % number) for number in range(8)]
+        check("at every worker", stored == [b"STORED\r\n"] * 8)
+        bad = b"limit\r\nlimit a 1\r\nlimit a 1 1 1\r\nlimit a 1 1 1 1\r\nlimit a 0 1\r\nlimit a 1 1073741825\r\nlimit A 1 1\r\n"
+        wanted = b"ERROR\r\n" * 2 + BAD_FORMAT + b"ERROR\r\n" + BAD_FORMAT * 3
+        check("lines of another form", answer(server, "admin", bad) == wanted)
+        check("they set nothing", answer(server, "a", b"set m 0 0 1\r\nx\r\n") == b"STORED\r\n")
+
+
+def check_admins_places():
+    """A tenant who holds all 1,024 places of the one worker locks no administrator out, of whom 16 have places, nor do these take a tenant's."""
+    if min(resource.getrlimit(resource.RLIMIT_NOFILE)[0], waiting_room()) < 1_100:
+        print("all places aren't tried: too few connections are allowed here")
+        return
+    with Server(PROGRAM, [*ADMIN, "--workers", "1"], {"a": LARGE}) as server:
+        first = [ask(server, "admin") for _ in range(4)]
+        check("four administrators before", are_answered(first))
+        clients = [ask(server, "a") for _ in range(1_024)]
+        check("a tenant takes all places", are_answered(clients))
+        check("and no more", is_closed(server.connect("a", PATIENCE)))
+        later = [ask(server, "admin", b"limit a 1 100\r\n") for _ in range(12)]
+        check("an administrator has a place", are_answered(later, b"OK\r\n"))
+        check("16 have", is_closed(server.connect("admin", PATIENCE)))
+        clients[0].sendall(b"set k 0 0 1\r\nx\r\nset l 0 0 1\r\nx\r\n")
+        check("the quota is in force", is_answered(clients[0], b"STORED\r\n" + NO_ROOM))
+        for client in first:
+            client.close()
+        check("places of administrators alone are free", is_answered(ask(server, "admin")) and is_closed(server.connect("a", PATIENCE)))
+        clients[1].close()
+        check("a tenant's place is free again", is_answered(ask(server, "a")))
+        for client in clients + later:
+            client.close()
+
+
+def check_admin_does_not_count():
+    """`--connections` counts the connections of tenants, and the server ends when all have ended."""
+    with Server(PROGRAM, [*ADMIN, "--connections", "2"], {"a": LARGE}) as server:
+        for _ in range(3):
+            check("an administrator comes and goes", answer(server, "admin", b"limit a 1 100\r\nquit\r\n") == b"OK\r\n")
+        for _ in range(2):
+            check("a tenant's client", answer(server, "a", b"version\r\nquit\r\n") == VERSION)
+        check("the end after two", server.wait() == (0, b"done 3\n", b""))
+
+
+def ending_of(*words):
+    """How a run ends that doesn't serve."""
+    ended = subprocess.run([PROGRAM, *words], capture_output=True, timeout=PATIENCE)
+    return ended.returncode, ended.stdout, ended.stderr
+
+
+def check_admins_address():
+    with socket.create_server(("127.0.0.1", 0)) as other:
+        taken = "127.0.0.1:%d" % other.getsockname()[1]
+        check("a port in use", ending_of("--admin", taken, "a=127.0.0.1:0,1,1") == (1, b"", b"wfmc: cannot listen admin\n"))
+        check("a tenant's is tried first", ending_of("--admin", taken, f"a={taken},1,1") == (1, b"", b"wfmc: cannot listen a\n"))
+    refused = 2, b"", b"wfmc: bad settings\n"
+    check("a tenant named admin", ending_of("--admin", "127.0.0.1:0", "a=127.0.0.1:0,1,1", "admin=127.0.0.1:0,1,1") == refused)
+    for address in ("127.0.0.1", "localhost:1", "[::1]:1", "127.0.0.1:65536", "127.0.0.1:0,1,1"):
+        check(f"no address: {address}", ending_of(f"--admin={address}", "a=127.0.0.1:0,1,1") == refused)
+    with Server(PROGRAM, [], {"admin": LARGE}) as server:
+        check("a tenant of that name, where there are no administrators", answer(server, "admin", b"limit admin 1 1\r\nget a\r\n") == b"ERROR\r\nEND\r\n")
 
 
 def check_crowd():
@@ -518,6 +603,10 @@ def main():
     check_tenants()
     check_others_unnoticed()
     check_too_many()
+    check_admin()
+    check_admins_places()
+    check_admin_does_not_count()
+    check_admins_address()
     check_crowd()
     check_at_once()
     check_much_at_once()

@@ -16,6 +16,9 @@ from .processes import SECONDS, Process
 
 LARGE = (1_048_576, 1_073_741_824)
 
+# The options for an administrators' listener, whose port goes by the name "admin" then, as if it were a tenant's.
+ADMIN = ("--admin", "127.0.0.1:0")
+
 
 class Server(Process):
     """wfmc with these options, for tenants of these quotas; under limits on its address space or descriptors where given."""

@@ -22,18 +22,23 @@ STORED, NOT_STORED, EXISTS, NOT_FOUND, DELETED, OK = (
     word + b"\r\n" for word in (b"STORED", b"NOT_STORED", b"EXISTS", b"NOT_FOUND", b"DELETED", b"OK")
 )
 
+MOST_ITEMS = 1_048_576
+MOST_BYTES = 1_073_741_824
+
 STORAGE = (b"set", b"add", b"replace", b"append", b"prepend", b"cas")
 
 
 @dataclasses.dataclass(frozen=True)
 class Request:
-    """A request of a stream: a command for the table, or a reply that depends on the line alone; `end` is where it ends."""
+    """A request of a stream: a command for the table, or a reply that depends on the line alone; `end` is where it ends. An administrator's
+    command is for the tenant of this name, and where there is none the request is answered as a bad line."""
 
     end: int
     command: tuple = ()
     reply: bytes = b""
     is_quiet: bool = False
     ends_stream: bool = False
+    tenant: bytes = b""
 
 
 def number(word, most):
@@ -142,7 +147,24 @@ def line_request(stream, end, words):
     return Request(end, reply=ERROR)
 
 
-def next_request(stream, start):
+def is_name(word):
+    return re.fullmatch(rb"[a-z0-9_-]{1,32}", word) is not None
+
+
+def admin_request(_stream, end, words):
+    """The request of an administrator's line."""
+    if words[:1] != [b"limit"]:
+        known = words in ([b"version"], [b"quit"])
+        return line_request(b"", end, words) if known else Request(end, reply=ERROR)
+    if len(words) not in (4, 5):
+        return Request(end, reply=ERROR)
+    items, size = number(words[2], MOST_ITEMS), number(words[3], MOST_BYTES)
+    if words[4:] not in ([], [b"noreply"]) or not is_name(words[1]) or not items or not size:
+        return Request(end, reply=BAD_FORMAT)
+    return Request(end, command=(b"limit", items, size), is_quiet=len(words) == 5, tenant=words[1])
+
+
+def next_request(stream, start, of_line=line_request):
     """The request that begins here, or `None` where it isn't complete."""
     line_end = stream.find(b"\n", start, start + MOST_OF_A_LINE + 1)
     if line_end < 0:
@@ -151,13 +173,13 @@ def next_request(stream, start):
         return Request(start + MOST_OF_A_LINE + 1, reply=TOO_LONG, ends_stream=True)
     line = bytes(stream[start:line_end])
     line = line[:-1] if line.endswith(b"\r") else line
-    return line_request(stream, line_end + 1, [word for word in line.split(b" ") if word])
+    return of_line(stream, line_end + 1, [word for word in line.split(b" ") if word])
 
 
-def requests(stream):
-    """The complete requests of a stream, up to one that ends it."""
+def requests(stream, of_line=line_request):
+    """The complete requests of a stream, up to one that ends it; an administrator's with `admin_request`."""
     found, start = [], 0
-    while request := next_request(stream, start):
+    while request := next_request(stream, start, of_line):
         found.append(request)
         start = request.end
         if request.ends_stream:

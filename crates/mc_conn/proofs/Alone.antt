@@ -8,7 +8,7 @@ use Rattle.mc_model.specs.Legal.{count, ticket_of}
 use Rattle.lists.proofs.Public.{beyond, take_more}
 use Rattle.model_lemmas.proofs.Tickets.{count_own}
 use Rattle.uc_worker.specs.declared.worker.Worker.{Worker}
-use Rattle.uc_worker.specs.Worker.{seat_of}
+use Rattle.uc_worker.specs.Worker.{announced_of, seat_of}
 use Rattle.mc_conn.specs.Onward.{own_sighting}
 use Rattle.mc_conn.specs.Owed.{IsPlaced, IsTurnedAway, Mark}
 
@@ -74,3 +74,14 @@ module _ (worker : Worker) (alone : (seat_of worker).size.workers ≡ 1) where
   pub turned_away_last : (tenant : ℕ) (from to : Mark) (command : Command) (reply : Reply) → IsTurnedAway worker tenant from command reply to → (seat_of worker).size.places ≤ from.number
   turned_away_last tenant from to command reply is =
       last_before (seat_of worker).state.learned (seat_of worker).size.places from.number is.full all_own numbered (λ place ticket at. is.before place ticket at (own_worker place ticket at))
+
+  -- if it has learned all places, it has announced as many commands
+  pub announced_all : length (seat_of worker).state.learned ≡ (seat_of worker).size.places → (seat_of worker).size.places ≤ length (announced_of worker)
+  announced_all full =
+      let law = worker.pass.desk.law in
+      let last =
+      last_before (seat_of worker).state.learned (seat_of worker).size.places (seat_of worker).state.announced full all_own numbered
+      (λ place ticket at. law.own place ticket at (own_worker place ticket at))
+      in
+      let count = worker.pass.count in
+      omega (arith, last, count)

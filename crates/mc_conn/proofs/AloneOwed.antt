@@ -8,9 +8,9 @@ use Rattle.std.proofs.lemmas.Option.{slice_get_within}
 use Rattle.mc_model.specs.declared.command.Command.{Command}
 use Rattle.mc_model.specs.declared.reply.Reply.{Reply}
 use Rattle.mc_model.specs.declared.reply.Reply.TheVariants.{Refused}
-use Rattle.mc_model.specs.declared.reply.TheConstants.WireNo.{LINE_TOO_LONG, LOG_FULL}
+use Rattle.mc_model.specs.declared.reply.TheConstants.WireNo.{LINE_TOO_LONG, LOG_FULL, UNKNOWN_COMMAND}
 use Rattle.mc_model.specs.declared.request.Request.{Request}
-use Rattle.mc_model.specs.declared.request.Request.TheVariants.{Local, Logged, Quit, TooLong}
+use Rattle.mc_model.specs.declared.request.Request.TheVariants.{Limit, Local, Logged, Quit, TooLong}
 use Rattle.mc_model.specs.declared.settings.Limits.{Limits}
 use Rattle.mc_model.specs.History.{answer, answer_from, state_after}
 use Rattle.model_lemmas.proofs.Histories.{answer-more}
@@ -31,12 +31,12 @@ not_less : (n m : ℕ) → m ≤ n → nat_lt n m ≡ false
 not_less n m few = grind (arith, nat_tests, few)
 
 -- the reply to a command and the commands applied with it, if a place is left for it
-with_room : (limits : Limits) (base : List Command) (places : ℕ) (applied : List Command) (command : Command) → length applied < places →
+pub with_room : (limits : Limits) (base : List Command) (places : ℕ) (applied : List Command) (command : Command) → length applied < places →
     (logged_reply limits base places applied command ≡ answer limits (base ++ applied) command) × (applied_with places applied command ≡ applied ++ command ∷ [])
 with_room limits base places applied command room = let is = lt-ltb _ _ room in (rw is refl, rw is refl)
 
 -- and if none is
-without_room : (limits : Limits) (base : List Command) (places : ℕ) (applied : List Command) (command : Command) → places ≤ length applied →
+pub without_room : (limits : Limits) (base : List Command) (places : ℕ) (applied : List Command) (command : Command) → places ≤ length applied →
     (logged_reply limits base places applied command ≡ Refused LOG_FULL) × (applied_with places applied command ≡ applied)
 without_room limits base places applied command full = let is = not_less (length applied) places full in (rw is refl, rw is refl)
 
@@ -47,11 +47,11 @@ module _ (limits : Limits) (base : List Command) (places : ℕ) (worker : Worker
       (own 0 (entries (take number (history_of worker))) ≡ applied) × (length applied ≡ number) × (number ≤ places)
       ⊎ (places ≤ number) × (length applied ≡ places)
 
-  few : length (history_of worker) ≤ places
+  pub few : length (history_of worker) ≤ places
   few = let short = worker.short in let law = worker.pass.desk.law.few in omega (arith, short, law, alone.long)
 
   -- one more command's place
-  own_later : (number : ℕ) (command : Command) → slice_get (history_of worker) number ≡ Some (own_sighting worker number 0 command) →
+  pub own_later : (number : ℕ) (command : Command) → slice_get (history_of worker) number ≡ Some (own_sighting worker number 0 command) →
       own 0 (entries (take (suc number) (history_of worker))) ≡ own 0 (entries (take number (history_of worker))) ++ command ∷ []
   own_later number command stands =
       ap (λ (list : List Sighting). own 0 (entries list)) (take_more (history_of worker) number (own_sighting worker number 0 command) stands)
@@ -112,6 +112,8 @@ module _ (limits : Limits) (base : List Command) (places : ℕ) (worker : Worker
       let one = ⊎_elim (placed from next applied command reply up) (away from next applied command reply up) is in
       let others = in_order requests next to (applied_with places applied command) rest one.1 owes in
       all ∙ (ap (λ it. answered quiet it ++ rest) one.0 ∙ ap (λ it. answered quiet (logged_reply limits base places applied command) ++ it) others)
+  in_order (Limit name quotas quiet ∷ requests) from to applied bytes up (rest, all, owes) =
+      all ∙ ap (λ it. answered quiet (Refused UNKNOWN_COMMAND) ++ it) (in_order requests from to applied rest up owes)
   in_order (Local reply quiet ∷ requests) from to applied bytes up (rest, all, owes) = all ∙ ap (λ it. answered quiet reply ++ it) (in_order requests from to applied rest up owes)
   in_order (Quit ∷ requests) from to applied bytes up (rest, all, owes) = all ∙ in_order requests from to applied rest up owes
   in_order (TooLong ∷ requests) from to applied bytes up (rest, all, owes) = all ∙ ap (λ it. text (Refused LINE_TOO_LONG) ++ it) (in_order requests from to applied rest up owes)

@@ -1,5 +1,8 @@
 -- What a submit says is an answer.
-use Rattle.std.proofs.Common.{◌≡◌, ℕ, ◌+◌, Bool, List, [], ◌∷◌, ◌++◌, length, take, slice_get, Some, sym, refl, ap, ◌∙◌, subst, inl, inr, ⊎_elim, arith, append-nil, length-append}
+use Rattle.std.proofs.Common.{◌≡◌, ℕ, ◌+◌, ◌<◌, Bool, List, [], ◌∷◌, ◌++◌, length, take, slice_get, Some, sym, refl, ap, ◌∙◌, subst, inl, inr, ⊎_elim, arith, append-nil, length-append, length-take}
+use Rattle.std.proofs.lemmas.List.Quantifiers.{position-Some}
+use Rattle.std.specs.Cmp.Lexicographic.{pointwise}
+use Rattle.std.specs.Prelude.{nat_eq}
 use Rattle.mc_model.specs.declared.command.Command.{Command}
 use Rattle.mc_model.specs.declared.fault.Fault.{Fault}
 use Rattle.mc_model.specs.declared.fault.Fault.TheVariants.{LogFull}
@@ -8,6 +11,8 @@ use Rattle.mc_model.specs.declared.reply.Reply.TheVariants.{Refused}
 use Rattle.mc_model.specs.declared.reply.TheConstants.WireNo.{LOG_FULL}
 use Rattle.mc_model.specs.declared.request.Request.{Request}
 use Rattle.mc_model.specs.declared.request.Request.TheVariants.{Logged}
+use Rattle.mc_model.specs.declared.id.TheConstants.{TENANTS}
+use Rattle.mc_model.specs.Name.{tenant_named}
 use Rattle.mc_model.specs.Replay.{reply_to}
 use Rattle.uc_worker.specs.Cited.{SeatLaw, Sighting, entries, next_entry}
 use Rattle.uc_worker.specs.declared.worker.Worker.{Worker}
@@ -105,16 +110,8 @@ module _ (old new : Worker) (tenant : ℕ) (command : Command) (on : Continues o
       })
       kept
 
--- the command of a request that met a fault may be announced
-pub for_logged : (old new : Worker) (tenant : ℕ) (request : Request) (command : Command) (quiet : Bool) → request ≡ Logged command quiet → MayAnnounce old new tenant command →
-    MayAnnounceFor old new (demand_of (Tenant tenant) request)
-for_logged old new tenant request command quiet is may = subst (λ request. MayAnnounceFor old new (demand_of (Tenant tenant) request)) (sym is) may
-
--- what a reply owes
-pub responds_reply : (old new : Worker) (tenant : ℕ) (command : Command) (quiet : Bool) (reply : Reply) (before after : List ℕ) → AnswersCommand old new tenant command reply →
-    after ≡ before ++ answered quiet reply → Responds old new (Tenant tenant) (Logged command quiet) before after
-responds_reply old new tenant command quiet reply before after answers queued = record {
-  bytes = answered quiet reply;
-  queued = queued;
-  owes = (reply, answers.next, [], answers.is, sym (append-nil (answered quiet reply)), (refl, answers.number, answers.place));
-}
+-- a name that a tenant has is one of the names
+pub named_among : (names : List (List ℕ)) (name : List ℕ) (tenant : ℕ) → tenant_named names name ≡ Some tenant → tenant < length names
+named_among names name tenant is =
+    let place = position-Some (λ other. pointwise nat_eq other name) (take TENANTS names) tenant [] is in
+    omega (arith, place.0, length-take TENANTS names)

@@ -1,8 +1,8 @@
 -- How the parts of a turn make up its state, and a fault what it leaves.
-use Rattle.std.proofs.Common.{◌≡◌, ◌≢◌, ◌⊎◌, ℕ, ◌+◌, ◌≤◌, ◌<◌, ◌||◌, ◌&&◌, Bool, true, false, List, [], ◌∷◌, ◌++◌, length, Option, Some, None, is_some, sym, refl, ap, ◌∙◌, subst, inl, inr, ⊎_elim, arith, append-nil, length-append}
+use Rattle.std.proofs.Common.{◌≡◌, ◌≢◌, ◌⊎◌, ℕ, ◌+◌, ◌≤◌, ◌<◌, ◌||◌, ◌&&◌, Bool, true, false, List, [], ◌∷◌, ◌++◌, length, Option, Some, None, is_some, Result, Ok, Err, IfOk, sym, refl, ap, ◌∙◌, subst, inl, inr, ⊎_elim, arith, append-nil, length-append}
 use Rattle.std.proofs.lemmas.Bool.{ltb-false}
 use Rattle.std.specs.Bool.{MatchBool, ◌==◌}
-use Rattle.std.specs.Prelude.{nat_lt}
+use Rattle.std.specs.Prelude.{MatchResult, nat_lt}
 use Rattle.mc_model.specs.declared.fault.Fault.{Fault}
 use Rattle.mc_model.specs.declared.fault.Fault.TheVariants.{Memory, Taken, Input, Output}
 use Rattle.mc_model.specs.declared.request.Request.{Request}
@@ -14,16 +14,17 @@ use Rattle.mc_conn.specs.declared.conn.Conn.{Conn}
 use Rattle.mc_conn.specs.declared.conn.TheConstants.{PULL_BYTES, QUEUE_BYTES}
 use Rattle.mc_conn.specs.declared.conn.Role.{Role}
 use Rattle.mc_conn.specs.declared.conn.State.{State}
-use Rattle.mc_conn.specs.declared.conn.State.TheVariants.{Closed, Idle, Busy}
+use Rattle.mc_conn.specs.declared.conn.State.TheVariants.{Closed, Idle, Busy, Full}
 use Rattle.mc_conn.specs.ConnFault.{CellTaken, ConnFault, InputFailed, IsTold, OutOfMemory, OutputFailed, fault_of}
-use Rattle.mc_conn.specs.Ending.{Breaks, HoldsOnlyBehind, IsDone, IsState, IsStuck, Pulls, PullsAfter, PullsLate, PullsOnce, Serves, Stops, Turns}
+use Rattle.mc_conn.specs.Ending.{Breaks, HoldsOnlyBehind, IsDone, IsState, IsStuck, LogsInTime, Pulls, PullsAfter, PullsLate, PullsOnce, Serves, ServesUntil, Stops, Turns, TurnsUntil}
 use Rattle.mc_conn.specs.Held.{HoldsNone, Holding}
 use Rattle.mc_conn.specs.Owed.{Mark, Owes, mark_of}
-use Rattle.mc_conn.specs.Parts.{Does, IsAtRest, IsHeldBehind, StateIs, TellsOf}
+use Rattle.mc_conn.specs.Parts.{Does, GoesRound, IsAtRest, IsHeldBehind, IsLeft, StateIs, TellsOf}
 use Rattle.mc_conn.specs.Turn.{Scene, Takes, amount, holding_of, queue_of, scene}
 use Rattle.mc_conn.proofs.Breakings.{breaks_later}
 use Rattle.lists.proofs.Public.{appended_twice}
-use Rattle.mc_conn.proofs.Takings.{does_trans, sent_last, takes_trans}
+use Rattle.mc_conn.proofs.Awaiting.{left_later, none_left}
+use Rattle.mc_conn.proofs.Takings.{does_trans, in_time_trans, sent_last, takes_trans}
 
 or_left : (x y : Bool) → (x || y) ≡ false → x ≡ false
 or_left true y is = is
@@ -49,14 +50,15 @@ no_some None none = refl
 no_some (Some request) none = let no : true ≡ false = none in cc
 
 -- no request waits before a pull, so that none is held whole
-pub none_held : (old new : Conn) (some long ended : Bool) → holding_of new ≡ holding_of old → IsHeldBehind old → some ≡ is_some old.waiting → ((some || long) || ended) ≡ false →
+pub none_held : (until : Bool) (worker : Worker) (old new : Conn) (some long ended : Bool) → holding_of new ≡ holding_of old → IsHeldBehind until old worker → some ≡ is_some old.waiting → ((some || long) || ended) ≡ false →
     HoldsNone (holding_of new)
-none_held old new some long ended same held is none =
+none_held until worker old new some long ended same held is none =
+    let free : old.waiting ≡ None = no_some old.waiting (sym is ∙ or_left some long (or_left (some || long) ended none)) in
     subst HoldsNone (sym same)
     (⊎_elim
     (λ (nothing : HoldsNone (holding_of old)). nothing)
-    (λ (behind : (old.waiting ≢ None) × (QUEUE_BYTES < length (queue_of old))).
-    absurd (behind.0 (no_some old.waiting (sym is ∙ or_left some long (or_left (some || long) ended none)))))
+    (λ (others : (old.waiting ≢ None) × (QUEUE_BYTES < length (queue_of old)) ⊎ IsLeft until old worker).
+    absurd (⊎_elim (λ (behind : (old.waiting ≢ None) × (QUEUE_BYTES < length (queue_of old))). behind.0 free) (λ left. none_left until old worker free left) others))
     held)
 
 -- the queue isn't too long before a push, so it isn't after it
@@ -70,8 +72,8 @@ and_left true empty is none = let no : true ≡ false = sym is ∙ none in cc
 and_left false empty is none = refl
 
 -- if all is sent before a pull, no request has ended the stream
-pub still_on : (queue : List ℕ) (over empty : Bool) (Full : Type 0) → empty ≡ (length queue == 0) → (over && empty) ≡ false → (queue ≡ []) ⊎ Full → (queue ≡ []) × (over ≡ false) ⊎ Full
-still_on queue over empty Full is going left =
+pub still_on : (queue : List ℕ) (over empty : Bool) (Stuck : Type 0) → empty ≡ (length queue == 0) → (over && empty) ≡ false → (queue ≡ []) ⊎ Stuck → (queue ≡ []) × (over ≡ false) ⊎ Stuck
+still_on queue over empty Stuck is going left =
     ⊎_elim (λ (none : queue ≡ []). inl (none, and_left over empty (is ∙ ap (λ bytes. length bytes == 0) none) going)) inr left
 
 -- a pull after a push
@@ -207,13 +209,13 @@ nothing_in : (bytes : List ℕ) → length bytes ≡ 0 → bytes ≡ []
 nothing_in [] none = refl
 nothing_in (byte ∷ bytes) none = absurd (omega (arith, none))
 
-module _ (a m n z : Scene) (before pulled last : Bool) (one : Does a m before) (two : Does m n pulled) (three : Does n z last)
-    (held : IsHeldBehind n.conn) (same : holding_of z.conn ≡ holding_of n.conn) (ended : z.conn.has_ended ≡ n.conn.has_ended) (over : z.conn.is_over ≡ n.conn.is_over)
-    (stuck : pulled ≡ false → (waits n.streams.input.events ≡ waits m.streams.input.events + 1) ⊎ ((n.conn.has_ended ≡ true) ⊎ ((QUEUE_BYTES < length (queue_of n.conn)) ⊎ (n.conn.is_over ≡ true) × (queue_of n.conn ≡ []))))
+module _ (until : Bool) (a m n z : Scene) (before pulled last : Bool) (one : Does until a m before) (two : Does until m n pulled) (three : Does until n z last)
+    (held : IsHeldBehind until n.conn n.worker) (worker : z.worker ≡ n.worker) (role : z.conn.role ≡ n.conn.role) (same : holding_of z.conn ≡ holding_of n.conn) (ended : z.conn.has_ended ≡ n.conn.has_ended) (over : z.conn.is_over ≡ n.conn.is_over)
+    (stuck : pulled ≡ false → (waits n.streams.input.events ≡ waits m.streams.input.events + 1) ⊎ ((n.conn.has_ended ≡ true) ⊎ ((QUEUE_BYTES < length (queue_of n.conn)) ⊎ ((n.conn.is_over ≡ true) × (queue_of n.conn ≡ []) ⊎ IsLeft until n.conn n.worker))))
     (first_input : m.streams.input ≡ a.streams.input) (last_input : z.streams.input ≡ n.streams.input)
     (left : (queue_of z.conn ≡ []) ⊎ (waits z.streams.output.events ≡ waits n.streams.output.events + 1)) where
-  all : Does a z ((before || pulled) || last)
-  all = does_trans a n z (before || pulled) last (does_trans a m n before pulled one two) three
+  all : Does until a z ((before || pulled) || last)
+  all = does_trans until a n z (before || pulled) last (does_trans until a m n before pulled one two) three
 
   -- the queue before the last push was sent by it or is still there
   queue_left : length (queue_of n.conn) ≤ length three.takes.taken.sent + length (queue_of z.conn)
@@ -221,7 +223,7 @@ module _ (a m n z : Scene) (before pulled last : Bool) (one : Does a m before) (
 
   sent_all : length three.takes.taken.sent ≤ length all.takes.taken.sent
   unfolding all
-  sent_all = sent_last a n z (before || pulled) last (does_trans a m n before pulled one two) three
+  sent_all = sent_last until a n z (before || pulled) last (does_trans until a m n before pulled one two) three
 
   waits_so_far : waits a.streams.output.events ≤ waits n.streams.output.events
   waits_so_far = omega (arith, one.takes.taken.waited, two.takes.taken.waited)
@@ -232,12 +234,19 @@ module _ (a m n z : Scene) (before pulled last : Bool) (one : Does a m before) (
   last_waits : waits z.streams.input.events ≡ waits n.streams.input.events
   last_waits = ap (λ (input : Inflow). waits input.events) last_input
 
-  held_behind : HoldsOnlyBehind all.takes
+  -- what is left after the pull is left at the end
+  still_left : IsLeft until n.conn n.worker → IsLeft until z.conn z.worker
+  still_left left = left_later until n.conn z.conn n.worker z.worker worker role (ap (λ (h : Holding). h.waiting) same) left
+
+  held_behind : HoldsOnlyBehind all.takes ⊎ IsLeft until z.conn z.worker
   held_behind =
       ⊎_elim
-      (λ (none : HoldsNone (holding_of n.conn)). inl (subst HoldsNone (sym same) none))
+      (λ (none : HoldsNone (holding_of n.conn)). inl (inl (subst HoldsNone (sym same) none)))
+      (λ (others : (n.conn.waiting ≢ None) × (QUEUE_BYTES < length (queue_of n.conn)) ⊎ IsLeft until n.conn n.worker). ⊎_elim
       (λ (behind : (n.conn.waiting ≢ None) × (QUEUE_BYTES < length (queue_of n.conn))).
-      inr ((λ none. behind.0 (sym (ap (λ (h : Holding). h.waiting) same) ∙ none)), omega (arith, behind.1, queue_left, sent_all)))
+      inl (inr ((λ none. behind.0 (sym (ap (λ (h : Holding). h.waiting) same) ∙ none)), omega (arith, behind.1, queue_left, sent_all))))
+      (λ left. inr (still_left left))
+      others)
       held
 
   full_of : (queue_of z.conn ≢ []) → waits a.streams.output.events < waits z.streams.output.events
@@ -248,8 +257,8 @@ module _ (a m n z : Scene) (before pulled last : Bool) (one : Does a m before) (
       left
 
   -- a request has ended the stream, and all is sent
-  over_rests : amount three.takes ≡ 0 → n.conn.is_over ≡ true → queue_of n.conn ≡ [] → IsAtRest z.conn
-  over_rests still is empty =
+  over_rests : ¬ (IsLeft until z.conn z.worker) → amount three.takes ≡ 0 → n.conn.is_over ≡ true → queue_of n.conn ≡ [] → IsAtRest z.conn
+  over_rests unleft still is empty =
       let owed = owed_none z.worker n.conn.role (mark_of n.worker) (mark_of z.worker) three.takes.taken.requests three.takes.taken.owed (omega (arith, still)) three.takes.taken.owes in
       let queue =
       nothing_in (queue_of z.conn)
@@ -257,11 +266,14 @@ module _ (a m n z : Scene) (before pulled last : Bool) (one : Does a m before) (
       in
       ⊎_elim
       (λ (none : HoldsNone (holding_of n.conn)). (inr (over ∙ is), ap (λ (h : Holding). h.waiting) same ∙ none.0, queue))
-      (λ (behind : (n.conn.waiting ≢ None) × (QUEUE_BYTES < length (queue_of n.conn))). absurd (omega (arith, behind.1, ap length empty)))
+      (λ (others : (n.conn.waiting ≢ None) × (QUEUE_BYTES < length (queue_of n.conn)) ⊎ IsLeft until n.conn n.worker). absurd (⊎_elim
+      (λ (behind : (n.conn.waiting ≢ None) × (QUEUE_BYTES < length (queue_of n.conn))). omega (arith, behind.1, ap length empty))
+      (λ left. unleft (still_left left))
+      others))
       held
 
-  is_stuck : ¬ (IsAtRest z.conn) → ((before || pulled) || last) ≡ false → IsStuck a z
-  is_stuck undone none =
+  is_stuck : ¬ (IsAtRest z.conn) → ¬ (IsLeft until z.conn z.worker) → ((before || pulled) || last) ≡ false → IsStuck a z
+  is_stuck undone unleft none =
       let still : amount three.takes ≡ 0 = did_none last _ (or_right (before || pulled) last none) three.did_is in
       let long : (QUEUE_BYTES < length (queue_of n.conn)) → IsStuck a z =
       λ (behind : QUEUE_BYTES < length (queue_of n.conn)).
@@ -270,15 +282,22 @@ module _ (a m n z : Scene) (before pulled last : Bool) (one : Does a m before) (
       in
       ⊎_elim
       (λ (waited : waits n.streams.input.events ≡ waits m.streams.input.events + 1). inl (omega (arith, waited, first_waits, last_waits)))
-      (λ (rest : (n.conn.has_ended ≡ true) ⊎ ((QUEUE_BYTES < length (queue_of n.conn)) ⊎ (n.conn.is_over ≡ true) × (queue_of n.conn ≡ []))).
+      (λ (rest : (n.conn.has_ended ≡ true) ⊎ ((QUEUE_BYTES < length (queue_of n.conn)) ⊎ ((n.conn.is_over ≡ true) × (queue_of n.conn ≡ []) ⊎ IsLeft until n.conn n.worker))).
       ⊎_elim
       (λ (end : n.conn.has_ended ≡ true).
       ⊎_elim
       (λ (nothing : HoldsNone (holding_of n.conn)).
       inr (full_of (λ empty. undone (inl (ended ∙ end), ap (λ (h : Holding). h.waiting) same ∙ nothing.0, empty)), inl (ended ∙ end)))
+      (λ (others : (n.conn.waiting ≢ None) × (QUEUE_BYTES < length (queue_of n.conn)) ⊎ IsLeft until n.conn n.worker). ⊎_elim
       (λ (behind : (n.conn.waiting ≢ None) × (QUEUE_BYTES < length (queue_of n.conn))). long behind.1)
+      (λ left. absurd (unleft (still_left left)))
+      others)
       held)
-      (⊎_elim long (λ (over : (n.conn.is_over ≡ true) × (queue_of n.conn ≡ [])). absurd (undone (over_rests still over.0 over.1))))
+      (⊎_elim long
+      (λ (last : (n.conn.is_over ≡ true) × (queue_of n.conn ≡ []) ⊎ IsLeft until n.conn n.worker). absurd (⊎_elim
+      (λ (over : (n.conn.is_over ≡ true) × (queue_of n.conn ≡ [])). undone (over_rests unleft still over.0 over.1))
+      (λ left. unleft (still_left left))
+      last)))
       rest)
       (stuck (or_right before pulled (or_left (before || pulled) last none)))
 
@@ -286,21 +305,69 @@ module _ (a m n z : Scene) (before pulled last : Bool) (one : Does a m before) (
   done_held done =
       ⊎_elim
       (λ (none : HoldsNone (holding_of n.conn)). (done.0, subst HoldsNone (sym same) none, done.2))
-      (λ (behind : (n.conn.waiting ≢ None) × (QUEUE_BYTES < length (queue_of n.conn))). absurd (behind.0 (sym (ap (λ (h : Holding). h.waiting) same) ∙ done.1)))
+      (λ (others : (n.conn.waiting ≢ None) × (QUEUE_BYTES < length (queue_of n.conn)) ⊎ IsLeft until n.conn n.worker). absurd (⊎_elim
+      (λ (behind : (n.conn.waiting ≢ None) × (QUEUE_BYTES < length (queue_of n.conn))). behind.0 (sym (ap (λ (h : Holding). h.waiting) same) ∙ done.1))
+      (λ left. none_left until z.conn z.worker done.1 (still_left left))
+      others))
       held
 
-  state_of : (state : State) → StateIs z.conn ((before || pulled) || last) state → IsState all.takes state
+  state_of : (state : State) → StateIs until z.conn z.worker ((before || pulled) || last) state → IsState all.takes state
   state_of Closed done = done_held done
-  state_of Idle is = ((λ done. is.0 (done_rests z.conn done)), did_none _ _ is.1 all.did_is, is_stuck is.0 is.1)
-  state_of Busy is = ((λ done. is.0 (done_rests z.conn done)), did_much _ _ is.1 all.did_is)
+  state_of Idle is = ((λ done. is.0 (done_rests z.conn done)), did_none _ _ is.2 all.did_is, is_stuck is.0 is.1 is.2)
+  state_of Busy is = ((λ done. is.0 (done_rests z.conn done)), did_much _ _ is.2 all.did_is)
+  state_of Full left = left.1
 
-  pub turns : (state : State) → StateIs z.conn ((before || pulled) || last) state → Turns a z state
-  turns state is = record {
+  full_of_left : (state : State) → StateIs until z.conn z.worker ((before || pulled) || last) state → IsLeft until z.conn z.worker → state ≡ Full
+  full_of_left Closed done left = absurd (none_left until z.conn z.worker done.1 left)
+  full_of_left Idle is left = absurd (is.1 left)
+  full_of_left Busy is left = absurd (is.1 left)
+  full_of_left Full is left = refl
+
+  left_of_full : (state : State) → StateIs until z.conn z.worker ((before || pulled) || last) state → state ≡ Full → until ≡ true
+  left_of_full Closed done is = let no : Closed ≡ Full = is in cc
+  left_of_full Idle idle is = let no : Idle ≡ Full = is in cc
+  left_of_full Busy busy is = let no : Busy ≡ Full = is in cc
+  left_of_full Full left is = left.0
+
+  pub goes_round : (state : State) → StateIs until z.conn z.worker ((before || pulled) || last) state → GoesRound until a z state
+  goes_round state is = record {
     takes = all.takes;
     state_is = state_of state is;
-    held = held_behind;
+    full = full_of_left state is;
+    only = left_of_full state is;
+    held = ⊎_elim inr (λ left. inl (full_of_left state is left)) held_behind;
+    in_time = all.in_time;
     left = ⊎_elim inl (λ full. inr (omega (arith, full, waits_so_far))) left;
   }
+
+-- a turn that takes all commands, and one that leaves some to the next log
+pub turns : (a z : Scene) (state : State) → GoesRound false a z state → Turns a z state × (state ≢ Full)
+turns a z state round =
+    let unfull : state ≢ Full = λ full. let no : false ≡ true = round.only full in cc in (
+      record {
+        takes = round.takes;
+        state_is = round.state_is;
+        held = ⊎_elim (λ (full : state ≡ Full). absurd (unfull full)) (λ held. held) round.held;
+        left = round.left;
+      },
+      unfull,
+    )
+
+pub never_full : (closed : Bool) (result : Result State Fault) (a z : Scene) → (closed ≡ false → MatchResult result (GoesRound false a z) (Stops a z)) → (closed ≡ true → result ≡ Ok Closed) →
+    IfOk result (λ state. state ≢ Full)
+never_full false (Ok state) a z goes stays = (turns a z state (goes refl)).1
+never_full true (Ok state) a z goes stays = λ full. let is : Ok state ≡ Ok Closed = stays refl in cc
+never_full closed (Err fault) a z goes stays = tt
+
+pub turns_until : (a z : Scene) (state : State) → GoesRound true a z state → TurnsUntil a z state
+turns_until a z state round = record {
+  takes = round.takes;
+  state_is = round.state_is;
+  full = λ awaits. round.full (refl, awaits);
+  held = round.held;
+  in_time = round.in_time refl;
+  left = round.left;
+}
 
 -- what closing reports of a fault is what is reported of its cause
 told_of : (cause : ConnFault) (fault : Fault) (queue : List ℕ) (before after : Outflow) → fault ≡ fault_of cause → TellsOf fault queue before after → IsTold cause queue before after
@@ -367,3 +434,15 @@ pub serves : (a b c : Scene) (state : State) → Takes a b → Turns b c state �
 serves a b c Closed one two is = record { takes = takes_trans a b c one two.takes; done = two.state_is }
 serves a b c Idle one two is = let no : Idle ≡ Closed = is in cc
 serves a b c Busy one two is = let no : Busy ≡ Closed = is in cc
+serves a b c Full one two is = let no : Full ≡ Closed = is in cc
+
+-- turns that left no command to the next log in time, and one that closes or leaves one
+pub serves_closed : (a b c : Scene) (state : State) (one : Takes a b) → LogsInTime one → TurnsUntil b c state → state ≡ Closed → ServesUntil a c Closed
+serves_closed a b c state one before two is =
+    let done : IsState two.takes Closed = subst (λ state. IsState two.takes state) is two.state_is in
+    record { takes = takes_trans a b c one two.takes; ended = inl (refl, done); in_time = in_time_trans a b c one two.takes before two.in_time }
+
+pub serves_full : (a b c : Scene) (state : State) (one : Takes a b) → LogsInTime one → TurnsUntil b c state → state ≡ Full → ServesUntil a c Full
+serves_full a b c state one before two is =
+    let awaits : IsState two.takes Full = subst (λ state. IsState two.takes state) is two.state_is in
+    record { takes = takes_trans a b c one two.takes; ended = inr (refl, awaits); in_time = in_time_trans a b c one two.takes before two.in_time }

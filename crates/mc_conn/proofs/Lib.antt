@@ -2,9 +2,11 @@ pub mod Counts
 pub mod Owings
 pub mod Answering
 pub mod Readings
+pub mod Awaiting
 pub mod Takings
 pub mod Breakings
 pub mod Outcomes
 pub mod Endings
 pub mod Alone
 pub mod AloneOwed
+pub mod AloneLogs

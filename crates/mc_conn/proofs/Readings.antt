@@ -6,10 +6,9 @@ use Rattle.mc_model.specs.declared.request.Request.{Request}
 use Rattle.mc_read.specs.Reading.{GoesOn, HasNone, Held, IsFed, IsNext, ReadAlike, ReadsOn}
 use Rattle.mc_read.specs.State.{IsNextAnswer}
 use Rattle.mc_read.specs.Text.{Lines}
-use Rattle.mc_read.specs.Line.{asked}
-use Rattle.mc_conn.specs.declared.conn.Role.{Role}
-use Rattle.mc_conn.specs.declared.conn.Role.TheVariants.{Tenant}
-use Rattle.mc_conn.specs.Held.{Follow, Holding, HoldsNone, HoldsOn, IsRead, lines_of, most_held}
+use Rattle.mc_read.specs.Administering.{lines_spoken}
+use Rattle.mc_read.specs.declared.speaker.Speaker.{Speaker}
+use Rattle.mc_conn.specs.Held.{Follow, Holding, HoldsNone, HoldsOn, IsRead, most_held}
 
 pub read_refl : (a : Holding) → IsRead a [] [] a
 read_refl a more all = (λ reads. (all, refl, reads), λ (others, same, reads). subst (HoldsOn a more) (sym same) reads)
@@ -104,12 +103,14 @@ most_looked lines None None before after none answer = omega (arith, answer.3)
 most_looked lines None (Some request) before after none answer = omega (arith, answer.1)
 most_looked lines (Some request) found before after none answer = let e : true ≡ false = none in cc
 
--- a tenant's connection reads a tenant's lines
-are_lines : (role : Role) → lines_of role ≡ asked
-are_lines (Tenant tenant) = refl
+-- what a reader that never changes its speaker holds after a request that waits, or none
+abbrev holding_by : Speaker → Option Request → Held → Holding
+holding_by speaker waiting held = record { lines = lines_spoken speaker; waiting = waiting; held = held }
 
-pub answer_by_role : (role : Role) (before after : Held) (found : Option Request) → IsNextAnswer asked before found after → IsNextAnswer (lines_of role) before found after
-answer_by_role role before after found answer = subst (λ lines. IsNextAnswer lines before found after) (sym (are_lines role)) answer
+module _ (old new : Speaker) (same : new ≡ old) where
+  pub read_by : (waiting found : Option Request) (before after : Held) (came : List ℕ) (requests : List Request) →
+      IsRead (holding_by old waiting before) came requests (holding_by old found after) → IsRead (holding_by old waiting before) came requests (holding_by new found after)
+  read_by waiting found before after came requests read = subst (λ speaker. IsRead (holding_by old waiting before) came requests (holding_by speaker found after)) (sym same) read
 
-pub fed_by_role : (role : Role) (before after : Held) (piece : List ℕ) → IsFed asked before piece after → IsFed (lines_of role) before piece after
-fed_by_role role before after piece fed = subst (λ lines. IsFed lines before piece after) (sym (are_lines role)) fed
+  pub none_by : (found : Option Request) (after : Held) (Q : Type 0) → HoldsNone (holding_by old found after) ⊎ Q → HoldsNone (holding_by new found after) ⊎ Q
+  none_by found after Q none = subst (λ speaker. HoldsNone (holding_by speaker found after) ⊎ Q) (sym same) none

@@ -1,5 +1,5 @@
 -- The parts of a turn, one after another.
-use Rattle.std.proofs.Common.{◌≡◌, ◌⊎◌, ℕ, ◌+◌, ◌≤◌, ◌<◌, ◌||◌, Bool, true, false, zero, suc, List, [], ◌∷◌, ◌++◌, length, take, drop, sym, refl, ap, ◌∙◌, subst, inl, inr, ⊎_elim, arith, append-nil, length-append}
+use Rattle.std.proofs.Common.{◌≡◌, ◌⊎◌, ℕ, ◌+◌, ◌≤◌, ◌<◌, ◌||◌, Bool, true, false, cond, zero, suc, List, [], ◌∷◌, ◌++◌, length, take, drop, sym, refl, ap, ◌∙◌, subst, inl, inr, ⊎_elim, arith, append-nil, length-append}
 use Rattle.std.specs.Bool.{MatchBool, nat_lt}
 use Rattle.std.proofs.lemmas.Bool.{lt-ltb}
 use Rattle.std.proofs.lemmas.List.{length-take-le, take-append-drop}
@@ -13,10 +13,13 @@ use Rattle.mc_stream.specs.Event.{ends, failures, has_ended, moved, waits}
 use Rattle.mc_stream.specs.Pushing.{IsUnfailed, Pushes}
 use Rattle.mc_stream.specs.Stream.{Inflow, Outflow, Streams, both}
 use Rattle.uc_worker.specs.declared.worker.Worker.{Worker}
+use Rattle.uc_worker.specs.Worker.{HasReplayedAll}
 use Rattle.mc_conn.specs.declared.conn.Conn.{Conn}
 use Rattle.mc_conn.specs.Held.{IsRead}
 use Rattle.uc_worker.specs.Going.{Continues}
-use Rattle.mc_conn.specs.Owed.{Mark, Owes, mark_of}
+use Rattle.mc_conn.specs.declared.conn.Role.{Role}
+use Rattle.mc_conn.specs.Ending.{LogsInTime, LogsLast}
+use Rattle.mc_conn.specs.Owed.{Mark, Owes, count_logged, demand_of, is_logged, mark_of}
 use Rattle.mc_conn.specs.Parts.{Does, LooksForNext, Responds}
 use Rattle.mc_conn.specs.Turn.{NeitherFails, RemembersTheEnd, Scene, Taken, Takes, amount, holding_of, queue_of, scene}
 use Rattle.lists.proofs.Public.{appended_twice, joined}
@@ -122,6 +125,11 @@ taken_trans a b c to one two = record {
   waited = omega (arith, one.waited, two.waited);
 }
 
+-- how many requests are logged, one part after another
+pub count_logged-append : (role : Role) (first second : List Request) → count_logged role (first ++ second) ≡ count_logged role first + count_logged role second
+count_logged-append role [] second = omega arith
+count_logged-append role (request ∷ first) second = let rest = count_logged-append role first second in omega (arith, rest)
+
 -- a part that does nothing
 pub takes_self : (a : Scene) → Takes a a
 unfolding taken_still taken_none
@@ -133,6 +141,10 @@ takes_self a = record {
   over = over_same a.conn.is_over a.conn.is_over refl;
   shut = refl;
 }
+
+pub in_time_self : (a : Scene) → LogsInTime (takes_self a)
+unfolding takes_self taken_still taken_none
+in_time_self a = inl refl
 
 pub takes_trans : (a b c : Scene) → Takes a b → Takes b c → Takes a c
 unfolding taken_trans
@@ -151,36 +163,63 @@ unfolding takes_trans taken_trans
 amount_trans a b c one two =
     omega (arith, length-append one.taken.came two.taken.came, length-append one.taken.requests two.taken.requests, length-append one.taken.sent two.taken.sent)
 
+-- no request was logged at a worker that was done, through two parts
+pub in_time_trans : (a b c : Scene) (one : Takes a b) (two : Takes b c) → LogsInTime one → LogsInTime two → LogsInTime (takes_trans a b c one two)
+unfolding takes_trans taken_trans
+in_time_trans a b c one two first second =
+    let sum = count_logged-append a.conn.role one.taken.requests two.taken.requests in
+    let same : count_logged b.conn.role two.taken.requests ≡ count_logged a.conn.role two.taken.requests = ap (λ role. count_logged role two.taken.requests) one.taken.role in
+    ⊎_elim
+    (λ (none : count_logged b.conn.role two.taken.requests ≡ 0). ⊎_elim
+    (λ (nothing : count_logged a.conn.role one.taken.requests ≡ 0). inl (omega (arith, sum, same, none, nothing)))
+    (λ (last : (between : Scene) × LogsLast a between b one). inr (
+      last.0,
+      record { first = last.1.first; room = last.1.room; last = omega (arith, sum, same, none, last.1.last) },
+    ))
+    first)
+    (λ (last : (between : Scene) × LogsLast b between c two).
+    let before = count_logged-append a.conn.role one.taken.requests last.1.first.taken.requests in
+    let role : count_logged b.conn.role last.1.first.taken.requests ≡ count_logged a.conn.role last.1.first.taken.requests =
+    ap (λ role. count_logged role last.1.first.taken.requests) one.taken.role
+    in
+    inr (
+      last.0,
+      record { first = takes_trans a b last.0 one last.1.first; room = last.1.room; last = omega (arith, sum, same, before, role, last.1.last) },
+    ))
+    second
+
 did_or : (x y : Bool) (m n k : ℕ) → k ≡ m + n → MatchBool x (0 < m) (m ≡ 0) → MatchBool y (0 < n) (n ≡ 0) → MatchBool (x || y) (0 < k) (k ≡ 0)
 did_or true y m n k sum p q = omega (arith, sum, p)
 did_or false true m n k sum p q = omega (arith, sum, q)
 did_or false false m n k sum p q = omega (arith, sum, p, q)
 
-pub does_trans : (a b c : Scene) (x y : Bool) → Does a b x → Does b c y → Does a c (x || y)
-does_trans a b c x y one two = record {
+pub does_trans : (until : Bool) (a b c : Scene) (x y : Bool) → Does until a b x → Does until b c y → Does until a c (x || y)
+does_trans until a b c x y one two = record {
+  in_time = λ is. in_time_trans a b c one.takes two.takes (one.in_time is) (two.in_time is);
   takes = takes_trans a b c one.takes two.takes;
   did_is = did_or x y (amount one.takes) (amount two.takes) (amount (takes_trans a b c one.takes two.takes)) (amount_trans a b c one.takes two.takes) one.did_is two.did_is;
 }
 
-pub does_nothing : (a : Scene) → Does a a false
+pub does_nothing : (until : Bool) (a : Scene) → Does until a a false
 unfolding takes_self taken_still taken_none
-does_nothing a = record { takes = takes_self a; did_is = refl }
+does_nothing until a = record { takes = takes_self a; did_is = refl; in_time = λ is. inl refl }
 
 -- a part of which it is known whether it did something
 or_true : (x : Bool) → (x || true) ≡ true
 or_true true = refl
 or_true false = refl
 
-pub did_then : (a b c : Scene) (x y : Bool) → y ≡ true → Does a b x → Does b c y → Does a c true
-did_then a b c x y is one two = subst (Does a c) (ap (λ did. x || did) is ∙ or_true x) (does_trans a b c x y one two)
+pub did_then : (until : Bool) (a b c : Scene) (x y : Bool) → y ≡ true → Does until a b x → Does until b c y → Does until a c true
+did_then until a b c x y is one two = subst (Does until a c) (ap (λ did. x || did) is ∙ or_true x) (does_trans until a b c x y one two)
 
-pub did_not : (a b c : Scene) (x y : Bool) → y ≡ false → Does a b x → Does b c y → Does a c x
-did_not a b c x y is one two = subst (Does a c) (ap (λ did. x || did) is ∙ or_none x) (does_trans a b c x y one two)
+pub did_not : (until : Bool) (a b c : Scene) (x y : Bool) → y ≡ false → Does until a b x → Does until b c y → Does until a c x
+did_not until a b c x y is one two = subst (Does until a c) (ap (λ did. x || did) is ∙ or_none x) (does_trans until a b c x y one two)
 
 -- what the second part sent is sent in all
-pub sent_last : (a b c : Scene) (x y : Bool) (one : Does a b x) (two : Does b c y) → length two.takes.taken.sent ≤ length (does_trans a b c x y one two).takes.taken.sent
+pub sent_last : (until : Bool) (a b c : Scene) (x y : Bool) (one : Does until a b x) (two : Does until b c y) →
+    length two.takes.taken.sent ≤ length (does_trans until a b c x y one two).takes.taken.sent
 unfolding does_trans takes_trans taken_trans
-sent_last a b c x y one two = omega (arith, length-append one.takes.taken.sent two.takes.taken.sent)
+sent_last until a b c x y one two = omega (arith, length-append one.takes.taken.sent two.takes.taken.sent)
 
 did_some : (count n : ℕ) → n ≡ count → MatchBool (nat_lt 0 count) (0 < n) (n ≡ 0)
 did_some zero n same = same
@@ -204,15 +243,18 @@ module _ (old new : Conn) (worker : Worker) (input : Inflow) (before after : Out
     shut = shut;
   }
 
-  pub does_pushed : Does (scene old worker (both input before)) (scene new worker (both input after)) (nat_lt 0 count)
+  pub does_pushed : (until : Bool) → Does until (scene old worker (both input before)) (scene new worker (both input after)) (nat_lt 0 count)
   unfolding takes_pushed taken_none
-  does_pushed = let taken = length-take-le count (queue_of old) few in record { takes = takes_pushed; did_is = did_some count (amount takes_pushed) (omega (arith, taken)) }
+  does_pushed until =
+      let taken = length-take-le count (queue_of old) few in
+      record { takes = takes_pushed; did_is = did_some count (amount takes_pushed) (omega (arith, taken)); in_time = λ is. inl refl }
 
 -- the reader looks for a request
-pub does_looked : (old new : Conn) (worker : Worker) (streams : Streams) → IsRead (holding_of old) [] [] (holding_of new) → LooksForNext old new →
-    Does (scene old worker streams) (scene new worker streams) false
+pub does_looked : (until : Bool) (old new : Conn) (worker : Worker) (streams : Streams) → IsRead (holding_of old) [] [] (holding_of new) → LooksForNext old new →
+    Does until (scene old worker streams) (scene new worker streams) false
 unfolding taken_still taken_none
-does_looked old new worker streams read looks = record {
+does_looked until old new worker streams read looks = record {
+  in_time = λ is. inl refl;
   takes = record {
     taken = taken_still old new worker streams looks.role looks.queue;
     reads = read;
@@ -225,11 +267,11 @@ does_looked old new worker streams read looks = record {
 }
 
 -- a request is taken
-pub does_responded : (old new : Conn) (worker later : Worker) (streams : Streams) (request : Request) → IsRead (holding_of old) [] (request ∷ []) (holding_of new) → new.role ≡ old.role →
-    new.has_ended ≡ old.has_ended → new.is_closed ≡ old.is_closed → new.is_over ≡ (old.is_over || ends_stream request) → Continues worker later →
-    Responds worker later old.role request (queue_of old) (queue_of new) → Does (scene old worker streams) (scene new later streams) true
-does_responded old new worker later streams request read role ended shut over on responds = record {
-  takes = record {
+module _ (old new : Conn) (worker later : Worker) (streams : Streams) (request : Request) (read : IsRead (holding_of old) [] (request ∷ []) (holding_of new)) (role : new.role ≡ old.role)
+    (ended : new.has_ended ≡ old.has_ended) (shut : new.is_closed ≡ old.is_closed) (over : new.is_over ≡ (old.is_over || ends_stream request)) (on : Continues worker later)
+    (responds : Responds worker later old.role request (queue_of old) (queue_of new)) where
+  takes_responded : Takes (scene old worker streams) (scene new later streams)
+  takes_responded = record {
     taken = record {
       came = [];
       requests = request ∷ [];
@@ -249,9 +291,25 @@ does_responded old new worker later streams request read role ended shut over on
     end = end_same old new worker later streams.input streams.output streams.output ended;
     over = over ∙ ap (λ ends. old.is_over || ends) (sym (or_none (ends_stream request)));
     shut = shut;
-  };
-  did_is = omega arith;
-}
+  }
+
+  -- if it is logged, the worker wasn't done
+  responded_in_time : (logged : Bool) → is_logged (demand_of old.role request) ≡ logged → (logged ≡ true → ¬ (HasReplayedAll worker)) → LogsInTime takes_responded
+  unfolding takes_responded takes_self taken_still taken_none
+  responded_in_time true is room = inr (
+    scene old worker streams,
+    record { first = takes_self (scene old worker streams); room = room refl; last = ap (λ logged. cond logged 1 0 + 0) is },
+  )
+  responded_in_time false is room = inl (ap (λ logged. cond logged 1 0 + 0) is)
+
+  pub does_responded : (until : Bool) → (until ≡ true → is_logged (demand_of old.role request) ≡ true → ¬ (HasReplayedAll worker)) →
+      Does until (scene old worker streams) (scene new later streams) true
+  unfolding takes_responded
+  does_responded until room = record {
+    takes = takes_responded;
+    did_is = omega arith;
+    in_time = λ is. responded_in_time (is_logged (demand_of old.role request)) refl (room is);
+  }
 
 -- a piece came, or none
 module _ (old new : Conn) (worker : Worker) (before after : Inflow) (output : Outflow) (piece : List ℕ) (read : IsRead (holding_of old) piece [] (holding_of new)) (role : new.role ≡ old.role)
@@ -269,10 +327,10 @@ module _ (old new : Conn) (worker : Worker) (before after : Inflow) (output : Ou
     shut = shut;
   }
 
-  pub does_fed : 0 < length piece → Does (scene old worker (both before output)) (scene new worker (both after output)) true
+  pub does_fed : (until : Bool) → 0 < length piece → Does until (scene old worker (both before output)) (scene new worker (both after output)) true
   unfolding takes_fed taken_none
-  does_fed some = record { takes = takes_fed; did_is = omega (arith, some) }
+  does_fed until some = record { takes = takes_fed; did_is = omega (arith, some); in_time = λ is. inl refl }
 
-  pub does_waited : piece ≡ [] → Does (scene old worker (both before output)) (scene new worker (both after output)) false
+  pub does_waited : (until : Bool) → piece ≡ [] → Does until (scene old worker (both before output)) (scene new worker (both after output)) false
   unfolding takes_fed taken_none
-  does_waited none = record { takes = takes_fed; did_is = omega (arith, ap length none) }
+  does_waited until none = record { takes = takes_fed; did_is = omega (arith, ap length none); in_time = λ is. inl refl }

@@ -6,9 +6,9 @@ use Rattle.std.specs.Prelude.{◌≡◌, ℕ, nat_lt, if◌then◌else◌, List,
 use Rattle.mc_model.specs.declared.command.Command.{Command}
 use Rattle.mc_model.specs.declared.reply.Reply.{Reply}
 use Rattle.mc_model.specs.declared.reply.Reply.TheVariants.{Refused}
-use Rattle.mc_model.specs.declared.reply.TheConstants.WireNo.{LINE_TOO_LONG, LOG_FULL}
+use Rattle.mc_model.specs.declared.reply.TheConstants.WireNo.{LINE_TOO_LONG, LOG_FULL, UNKNOWN_COMMAND}
 use Rattle.mc_model.specs.declared.request.Request.{Request}
-use Rattle.mc_model.specs.declared.request.Request.TheVariants.{Local, Logged, Quit, TooLong}
+use Rattle.mc_model.specs.declared.request.Request.TheVariants.{Limit, Local, Logged, Quit, TooLong}
 use Rattle.mc_model.specs.declared.settings.Limits.{Limits}
 use Rattle.mc_model.specs.History.{answer, state_after}
 use Rattle.mc_write.specs.Text.{text}
@@ -29,18 +29,29 @@ abbrev pub applied_with : ℕ → List Command → Command → List Command
 applied_with places applied command =
     if nat_lt (length applied) places then applied ++ command ∷ [] else applied
 
--- what is owed for requests from then on
+-- what is owed for requests from then on; a tenant's lines ask for no quotas
 abbrev pub owed_after : Limits → List Command → ℕ → List Command → List Request → List ℕ
 owed_after limits base places applied [] = []
 owed_after limits base places applied (Logged command quiet ∷ requests) =
     answered quiet (logged_reply limits base places applied command)
     ++ owed_after limits base places (applied_with places applied command) requests
+owed_after limits base places applied (Limit name quotas quiet ∷ requests) =
+    answered quiet (Refused UNKNOWN_COMMAND) ++ owed_after limits base places applied requests
 owed_after limits base places applied (Local reply quiet ∷ requests) =
     answered quiet reply ++ owed_after limits base places applied requests
 owed_after limits base places applied (Quit ∷ requests) =
     owed_after limits base places applied requests
 owed_after limits base places applied (TooLong ∷ requests) =
     text (Refused LINE_TOO_LONG) ++ owed_after limits base places applied requests
+
+-- the commands among the requests of a tenant's connection
+abbrev pub commands_of : List Request → List Command
+commands_of [] = []
+commands_of (Logged command quiet ∷ requests) = command ∷ commands_of requests
+commands_of (Limit name quotas quiet ∷ requests) = commands_of requests
+commands_of (Local reply quiet ∷ requests) = commands_of requests
+commands_of (Quit ∷ requests) = commands_of requests
+commands_of (TooLong ∷ requests) = commands_of requests
 
 -- what is owed for the first requests of a log that was opened over an empty table
 abbrev pub owed : Limits → ℕ → List Request → List ℕ

@@ -1,21 +1,22 @@
 -- How a turn ends: the state that it returns, and what a fault leaves; this project's profile.
-use Rattle.std.specs.Prelude.{◌≡◌, ◌≢◌, ◌⊎◌, ℕ, ◌+◌, ◌<◌, ◌≤◌, true, false, List, [], ◌∷◌, ◌++◌, length, None, Some, slice_get}
+use Rattle.std.specs.Option.{option_map_or}
+use Rattle.std.specs.Prelude.{◌≡◌, ◌≢◌, ◌⊎◌, ℕ, ◌+◌, ◌<◌, ◌≤◌, Bool, true, false, List, [], ◌∷◌, ◌++◌, length, None, Some, slice_get}
 use Rattle.mc_model.specs.declared.fault.Fault.{Fault}
 use Rattle.mc_model.specs.declared.request.Request.{Request}
 use Rattle.mc_stream.specs.Event.{Event, last_moved, waits}
 use Rattle.mc_stream.specs.Pushing.{Pushes}
 use Rattle.mc_stream.specs.Stream.{Inflow, Outflow, both}
 use Rattle.uc_worker.specs.declared.worker.Worker.{Worker}
-use Rattle.uc_worker.specs.Worker.{announced_of}
+use Rattle.uc_worker.specs.Worker.{HasReplayedAll, announced_of}
 use Rattle.mc_conn.specs.declared.conn.Conn.{Conn}
 use Rattle.mc_conn.specs.declared.conn.Role.{Role}
 use Rattle.mc_conn.specs.declared.conn.State.{State}
-use Rattle.mc_conn.specs.declared.conn.State.TheVariants.{Closed, Idle, Busy}
+use Rattle.mc_conn.specs.declared.conn.State.TheVariants.{Closed, Idle, Busy, Full}
 use Rattle.mc_conn.specs.declared.conn.TheConstants.{PULL_BYTES, QUEUE_BYTES}
 use Rattle.mc_conn.specs.Held.{HoldsNone, HoldsOn}
 use Rattle.mc_conn.specs.ConnFault.{ConnFault, CountsFailures, IsTold, fault_of}
 use Rattle.mc_conn.specs.Onward.{own_sighting}
-use Rattle.mc_conn.specs.Owed.{Demand, Logs, Mark, Says, demand_of}
+use Rattle.mc_conn.specs.Owed.{Demand, Logs, Mark, Says, count_logged, demand_of, is_logged}
 use Rattle.mc_conn.specs.Turn.{Scene, Taken, Takes, amount, holding_of, queue_of, scene}
 
 -- the input has ended or a request has ended the stream, no whole request is held, and nothing is
@@ -33,12 +34,23 @@ IsStuck before after =
     ⊎ (waits before.streams.output.events < waits after.streams.output.events)
     × ((after.conn.has_ended ≡ true) ⊎ (QUEUE_BYTES < length (queue_of after.conn)))
 
+-- a request is waiting, and it is to be logged
+abbrev pub logs_next : Conn → Bool
+logs_next conn =
+    option_map_or (λ (request : Request). is_logged (demand_of conn.role request)) conn.waiting
+    false
+
+-- the next request is to be logged, and the worker has replayed all places of its log
+abbrev pub AwaitsLog : Conn → Worker → Type 0
+AwaitsLog conn worker = (logs_next conn ≡ true) × HasReplayedAll worker
+
 -- what the state that a turn returns means
 abbrev pub IsState : {before after : Scene} → Takes before after → State → Type 0
 IsState {before} {after} takes Closed = IsDone after.conn
 IsState {before} {after} takes Idle =
     ¬ (IsDone after.conn) × (amount takes ≡ 0) × IsStuck before after
 IsState {before} {after} takes Busy = ¬ (IsDone after.conn) × (0 < amount takes)
+IsState {before} {after} takes Full = AwaitsLog after.conn after.worker
 
 -- a whole request is still held only if more was sent and queued than may be queued when a request
 -- is taken
@@ -91,6 +103,31 @@ pub record Turns (before after : Scene) (state : State) : Type 0 where
   pub left : (queue_of after.conn ≡ [])
       ⊎ (waits before.streams.output.events < waits after.streams.output.events)
 
+-- All requests that were logged but the last were taken before a moment at which the worker had a
+-- place left to replay.
+pub record LogsLast (before between after : Scene) (takes : Takes before after) : Type 0 where
+  pub first : Takes before between
+  pub room : ¬ (HasReplayedAll between.worker)
+  pub last : count_logged before.conn.role takes.taken.requests
+      ≡ count_logged before.conn.role first.taken.requests + 1
+
+-- no request was logged at a worker that had replayed all places of its log
+abbrev pub LogsInTime : {before after : Scene} → Takes before after → Type 0
+LogsInTime {before} {after} takes =
+    (count_logged before.conn.role takes.taken.requests ≡ 0)
+    ⊎ (between : Scene) × LogsLast before between after takes
+
+-- A turn without a fault that leaves commands to the next log: one that is to be logged isn't taken
+-- if the worker has replayed all places, and the state is then `Full`.
+pub record TurnsUntil (before after : Scene) (state : State) : Type 0 where
+  pub takes : Takes before after
+  pub state_is : IsState takes state
+  pub full : AwaitsLog after.conn after.worker → state ≡ Full
+  pub held : (state ≡ Full) ⊎ HoldsOnlyBehind takes
+  pub in_time : LogsInTime takes
+  pub left : (queue_of after.conn ≡ [])
+      ⊎ (waits before.streams.output.events < waits after.streams.output.events)
+
 -- the command to be logged, if there is one, was announced after the mark or wasn't; no other was
 abbrev pub MayStandBehind : Worker → Mark → Demand → Type 0
 MayStandBehind worker mark (Logs tenant command quiet) =
@@ -134,3 +171,11 @@ pub record Stops (before after : Scene) (fault : Fault) : Type 0 where
 pub record Serves (before after : Scene) : Type 0 where
   pub takes : Takes before after
   pub done : IsDone after.conn
+
+-- turns that leave commands to the next log, up to the end or up to such a command: it then waits,
+-- and what was queued is pushed as far as the output took it
+pub record ServesUntil (before after : Scene) (state : State) : Type 0 where
+  pub takes : Takes before after
+  pub ended : (state ≡ Closed) × IsDone after.conn
+      ⊎ (state ≡ Full) × AwaitsLog after.conn after.worker
+  pub in_time : LogsInTime takes

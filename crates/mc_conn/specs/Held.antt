@@ -3,16 +3,23 @@
 -- texts, one after another.
 use Rattle.std.specs.Prelude.{◌≡◌, ◌↔◌, ℕ, ◌+◌, cond, is_some, List, [], ◌++◌, Option, Some, None}
 use Rattle.mc_model.specs.declared.request.Request.{Request}
-use Rattle.mc_read.specs.Line.{asked}
+use Rattle.mc_read.specs.Administering.{lines_spoken}
+use Rattle.mc_read.specs.declared.speaker.Speaker.{Speaker}
+use Rattle.mc_read.specs.declared.speaker.Speaker.TheVariants as speaker
 use Rattle.mc_read.specs.Reading.{GoesOn, HasNone, Held, Kept, ReadsOn}
 use Rattle.mc_read.specs.State.{most_requests}
 use Rattle.mc_read.specs.Text.{Lines}
 use Rattle.mc_conn.specs.declared.conn.Role.{Role}
-use Rattle.mc_conn.specs.declared.conn.Role.TheVariants.{Tenant}
+use Rattle.mc_conn.specs.declared.conn.Role.TheVariants.{Admin, Tenant}
+
+-- whose lines a connection of this role carries
+abbrev pub speaker_of : Role → Speaker
+speaker_of (Tenant tenant) = speaker.Tenant
+speaker_of (Admin names) = speaker.Admin
 
 -- what each line asks for on a connection of this role
 abbrev pub lines_of : Role → Lines
-lines_of (Tenant tenant) = asked
+lines_of role = lines_spoken (speaker_of role)
 
 -- what each line asks for, a request that was read and not taken yet, and what the reader holds
 -- after it

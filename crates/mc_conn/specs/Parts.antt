@@ -6,25 +6,29 @@ use Rattle.mc_model.specs.declared.fault.Fault.{Fault}
 use Rattle.mc_model.specs.declared.fault.Fault.TheVariants.{Memory, Taken}
 use Rattle.mc_model.specs.declared.reply.Reply.{Reply}
 use Rattle.mc_model.specs.declared.request.Request.{Request}
+use Rattle.mc_stream.specs.Event.{waits}
 use Rattle.mc_stream.specs.Stream.{Outflow}
 use Rattle.uc_worker.specs.declared.worker.Worker.{Worker}
 use Rattle.uc_worker.specs.Worker.{announced_of, history_of}
 use Rattle.mc_conn.specs.declared.conn.Conn.{Conn}
 use Rattle.mc_conn.specs.declared.conn.Role.{Role}
 use Rattle.mc_conn.specs.declared.conn.State.{State}
-use Rattle.mc_conn.specs.declared.conn.State.TheVariants.{Closed, Idle, Busy}
+use Rattle.mc_conn.specs.declared.conn.State.TheVariants.{Closed, Idle, Busy, Full}
 use Rattle.mc_conn.specs.declared.conn.TheConstants.{QUEUE_BYTES}
 use Rattle.mc_conn.specs.ConnFault.{TellsStarved}
+use Rattle.mc_conn.specs.Ending.{AwaitsLog, HoldsOnlyBehind, IsState, LogsInTime}
 use Rattle.mc_conn.specs.Held.{HoldsNone}
 use Rattle.mc_conn.specs.Onward.{own_sighting}
 use Rattle.uc_worker.specs.Going.{Continues}
 use Rattle.mc_conn.specs.Owed.{Demand, IsAnswered, Logs, Mark, Owes, Says, demand_of, mark_of}
 use Rattle.mc_conn.specs.Turn.{Scene, Takes, amount, holding_of, queue_of}
 
--- a part of a turn, and whether it did anything
-pub record Does (before after : Scene) (did : Bool) : Type 0 where
+-- a part of a turn, and whether it did anything; whether commands are left to the next log is the
+-- first argument
+pub record Does (until : Bool) (before after : Scene) (did : Bool) : Type 0 where
   pub takes : Takes before after
   pub did_is : MatchBool did (0 < amount takes) (amount takes ≡ 0)
+  pub in_time : until ≡ true → LogsInTime takes
 
 -- a command was answered
 pub record AnswersCommand (old new : Worker) (tenant : ℕ) (command : Command)
@@ -53,10 +57,16 @@ abbrev pub MayAnnounceFor : Worker → Worker → Demand → Type 0
 MayAnnounceFor old new (Logs tenant command quiet) = MayAnnounce old new tenant command
 MayAnnounceFor old new (Says said) = announced_of new ≡ announced_of old
 
--- no whole request is held, or one is, and the queue is too long to take it
-abbrev pub IsHeldBehind : Conn → Type 0
-IsHeldBehind conn =
+-- commands are left to the next log, and one is waiting for it
+abbrev pub IsLeft : Bool → Conn → Worker → Type 0
+IsLeft until conn worker = (until ≡ true) × AwaitsLog conn worker
+
+-- no whole request is held, or one is, and the queue is too long to take it or it is left to the
+-- next log
+abbrev pub IsHeldBehind : Bool → Conn → Worker → Type 0
+IsHeldBehind until conn worker =
     HoldsNone (holding_of conn) ⊎ (conn.waiting ≢ None) × (QUEUE_BYTES < length (queue_of conn))
+    ⊎ IsLeft until conn worker
 
 -- the faults of taking a request
 abbrev pub IsTakeFault : Fault → Type 0
@@ -97,10 +107,24 @@ IsAtRest conn =
     ((conn.has_ended ≡ true) ⊎ (conn.is_over ≡ true)) × (conn.waiting ≡ None) × (queue_of conn ≡ [])
 
 -- the state of a connection after a turn that did something or nothing
-abbrev pub StateIs : Conn → Bool → State → Type 0
-StateIs conn did Closed = IsAtRest conn
-StateIs conn did Idle = ¬ (IsAtRest conn) × (did ≡ false)
-StateIs conn did Busy = ¬ (IsAtRest conn) × (did ≡ true)
+abbrev pub StateIs : Bool → Conn → Worker → Bool → State → Type 0
+StateIs until conn worker did Closed = IsAtRest conn
+StateIs until conn worker did Idle =
+    ¬ (IsAtRest conn) × ¬ (IsLeft until conn worker) × (did ≡ false)
+StateIs until conn worker did Busy =
+    ¬ (IsAtRest conn) × ¬ (IsLeft until conn worker) × (did ≡ true)
+StateIs until conn worker did Full = IsLeft until conn worker
+
+-- a turn without a fault, which may leave commands to the next log
+pub record GoesRound (until : Bool) (before after : Scene) (state : State) : Type 0 where
+  pub takes : Takes before after
+  pub state_is : IsState takes state
+  pub full : IsLeft until after.conn after.worker → state ≡ Full
+  pub only : state ≡ Full → until ≡ true
+  pub held : (state ≡ Full) ⊎ HoldsOnlyBehind takes
+  pub in_time : until ≡ true → LogsInTime takes
+  pub left : (queue_of after.conn ≡ [])
+      ⊎ (waits before.streams.output.events < waits after.streams.output.events)
 
 -- what the client gets when a fault closes the connection
 abbrev pub TellsOf : Fault → List ℕ → Outflow → Outflow → Type 0

@@ -5,13 +5,14 @@ use Rattle.std.specs.List.{list_any}
 use Rattle.std.specs.Io.KnownBytes.{Consumes, IsAtEnd}
 use Rattle.std.specs.Prelude.{◌≡◌, ◌⊎◌, ℕ, ◌+◌, ◌≤◌, ◌||◌, true, false, List, ◌++◌, length}
 use Rattle.mc_model.specs.declared.request.Request.{Request}
+use Rattle.mc_read.specs.Administering.{lines_spoken}
 use Rattle.mc_read.specs.Reading.{ends_stream}
 use Rattle.mc_stream.specs.Event.{ends, failures, has_ended, moved, waits}
 use Rattle.mc_stream.specs.Pushing.{IsUnfailed, Pushes}
 use Rattle.mc_stream.specs.Stream.{Streams}
 use Rattle.uc_worker.specs.declared.worker.Worker.{Worker}
 use Rattle.mc_conn.specs.declared.conn.Conn.{Conn}
-use Rattle.mc_conn.specs.Held.{Holding, IsRead, lines_of}
+use Rattle.mc_conn.specs.Held.{Holding, IsRead}
 use Rattle.uc_worker.specs.Going.{Continues}
 use Rattle.mc_conn.specs.Owed.{Mark, Owes, mark_of}
 
@@ -26,8 +27,11 @@ scene conn worker streams = record { conn = conn; worker = worker; streams = str
 
 -- what the connection holds of the input
 abbrev pub holding_of : Conn → Holding
-holding_of conn =
-    record { lines = lines_of conn.role; waiting = conn.waiting; held = conn.reader.held }
+holding_of conn = record {
+  lines = lines_spoken conn.reader.speaker;
+  waiting = conn.waiting;
+  held = conn.reader.held;
+}
 
 -- the bytes that are to be pushed
 abbrev pub queue_of : Conn → List ℕ

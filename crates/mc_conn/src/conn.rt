@@ -1,11 +1,13 @@
 //! A connection.
-ghost use Rattle.std.specs.Prelude.{◌≡◌, [], false};
+ghost use Rattle.std.specs.Prelude.{◌≡◌, [], false, IfOk, IsOkUnless};
+ghost use Rattle.mc_model.specs.declared.fault.Fault.TheVariants as Fault;
+ghost use Rattle.mc_read.specs.Reading.{Kept};
 ghost use Rattle.mc_conn.specs.declared.conn.Role.TheVariants as Role;
-ghost use Rattle.mc_conn.specs.Held.{nothing_held};
+ghost use Rattle.mc_conn.specs.Held.{nothing_held, speaker_of};
 ghost use Rattle.mc_conn.specs.Turn.{holding_of, queue_of};
 
 use crate::queue::Queue;
-use mc_model::{Request, TenantId};
+use mc_model::{Fault, Names, Request, TenantId};
 use mc_read::Reader;
 use std::alloc::Global;
 
@@ -16,10 +18,37 @@ pub const QUEUE_BYTES: usize = 1_048_576;
 pub const PULL_BYTES: usize = 16_384;
 
 /// Who sends the requests of a connection.
-#[derive(Clone, Copy, Debug, PartialEq, Eq)]
+#[derive(Debug, Drop)]
 pub enum Role {
     /// A tenant: each request is for that tenant.
     Tenant(TenantId),
+    /// An administrator, to whom the tenants have these names.
+    Admin(Names),
+}
+
+impl Role {
+    /// Returns the same role once more. Takes no memory: `Memory` means only that the names of an
+    /// administrator's tenants are shared too often to be counted.
+    pub fn share(&self) -> Result<Role, Fault>
+        ensures role { IfOk result (λ role. role ≡ self.now) }
+        ensures memory { IsOkUnless result Fault.Memory }
+    {
+        match self {
+            Role::Tenant(tenant) => Ok(Role::Tenant(*tenant)),
+            Role::Admin(names) => Ok(Role::Admin(names.share()?)),
+        }
+    }
+
+    /// Returns a reader of the lines of this role, at the beginning of a stream. Needs no memory.
+    fn reader(&self, alloc: Global) -> Reader
+        ensures held { result.held ≡ Kept [] }
+        ensures speaker { result.speaker ≡ speaker_of self.now }
+    {
+        match self {
+            Role::Tenant(_) => Reader::new(alloc),
+            Role::Admin(_) => Reader::admin(alloc),
+        }
+    }
 }
 
 /// One connection: the input that isn't taken yet, and the replies that aren't sent yet.
@@ -49,6 +78,9 @@ pub enum State {
     Idle,
     /// Bytes came or went, or requests were taken.
     Busy,
+    /// The next request is to be logged, and the worker has replayed all places of its log: the
+    /// request is left to the next log. Only a turn that leaves commands ends so.
+    Full,
 }
 
 impl Conn {
@@ -60,14 +92,45 @@ impl Conn {
         ensures open { (result.has_ended ≡ false) × (result.is_over ≡ false)
             × (result.is_closed ≡ false) }
     {
+        Conn::of(alloc, Role::Tenant(tenant))
+    }
+
+    /// Returns a connection of an administrator on which nothing has come yet, to whom the tenants
+    /// have these names. Needs no memory.
+    pub fn admin(alloc: Global, names: Names) -> Conn
+        ensures role { result.role ≡ Role.Admin names }
+        ensures holding { holding_of result ≡ nothing_held result.role }
+        ensures queue { queue_of result ≡ [] }
+        ensures open { (result.has_ended ≡ false) × (result.is_over ≡ false)
+            × (result.is_closed ≡ false) }
+    {
+        Conn::of(alloc, Role::Admin(names))
+    }
+
+    /// Returns a connection of this role on which nothing has come yet. Needs no memory.
+    pub fn of(alloc: Global, role: Role) -> Conn
+        ensures role { result.role ≡ role }
+        ensures holding { holding_of result ≡ nothing_held result.role }
+        ensures queue { queue_of result ≡ [] }
+        ensures open { (result.has_ended ≡ false) × (result.is_over ≡ false)
+            × (result.is_closed ≡ false) }
+    {
+        let reader = role.reader(alloc);
         Conn {
-            role: Role::Tenant(tenant),
-            reader: Reader::new(alloc),
+            role,
+            reader,
             waiting: None,
             queue: Queue::new(alloc),
             has_ended: false,
             is_over: false,
             is_closed: false,
         }
+    }
+
+    /// Returns the connection's role.
+    pub fn role(&self) -> &Role
+        ensures { result.now ≡ self.now.role }
+    {
+        &self.role
     }
 }

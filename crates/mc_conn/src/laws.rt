@@ -1,20 +1,24 @@
 //! What follows from the definitions. A law is the contract of a function with an empty body.
-ghost use Rattle.std.specs.Prelude.{◌≡◌, ℕ, ◌≤◌, List, [], ◌++◌};
+ghost use Rattle.std.specs.Prelude.{◌≡◌, ℕ, ◌+◌, ◌≤◌, List, [], ◌++◌, length};
 ghost use Rattle.mc_model.specs.declared.command.Command.{Command};
 ghost use Rattle.mc_model.specs.declared.fault.Fault.{Fault};
 ghost use Rattle.mc_model.specs.declared.reply.Reply.{Reply};
 ghost use Rattle.mc_model.specs.declared.request.Request.{Request};
 ghost use Rattle.mc_model.specs.declared.settings.Limits.{Limits};
+ghost use Rattle.mc_stream.specs.Event.{waits};
+ghost use Rattle.mc_stream.specs.Pushing.{Pushes};
 ghost use Rattle.uc_worker.specs.declared.worker.Worker.{Worker};
 ghost use Rattle.uc_worker.specs.Going.{Continues};
-ghost use Rattle.uc_worker.specs.Worker.{seat_of};
+ghost use Rattle.uc_worker.specs.Cited.{entries};
+ghost use Rattle.uc_worker.specs.Worker.{HasReplayedAll, history_of, seat_of};
+ghost use Rattle.mc_model.specs.Log.{own};
 ghost use Rattle.mc_conn.specs.declared.conn.Role.{Role};
 ghost use Rattle.mc_conn.specs.declared.conn.Role.TheVariants.{Tenant};
 ghost use Rattle.mc_conn.specs.declared.conn.TheConstants.{PULL_BYTES, QUEUE_BYTES};
-ghost use Rattle.mc_conn.specs.Alone.{IsAlone, IsAloneOver, first_mark, owed, owed_after};
-ghost use Rattle.mc_conn.specs.Ending.{Stops};
+ghost use Rattle.mc_conn.specs.Alone.{IsAlone, IsAloneOver, commands_of, first_mark, owed, owed_after};
+ghost use Rattle.mc_conn.specs.Ending.{LogsInTime, PullsLate, Stops};
 ghost use Rattle.mc_conn.specs.Held.{Holding, IsRead};
-ghost use Rattle.mc_conn.specs.Owed.{IsPlaced, IsTurnedAway, Mark, Owes};
+ghost use Rattle.mc_conn.specs.Owed.{IsPlaced, IsTurnedAway, Mark, Owes, mark_of};
 ghost use Rattle.mc_conn.specs.Turn.{Scene, Takes};
 
 /// The bounds of a connection: how many bytes may be queued while requests are taken and bytes are
@@ -48,12 +52,52 @@ pub fn a_worker_alone_answers_in_order()
         bytes ≡ owed_after limits base places [] requests }
 {}
 
+/// Logs of one worker, each opened over the table after the commands that the earlier ones took,
+/// owe what one log owes that has as many places as all of them.
+pub fn logs_of_a_worker_alone_add_up()
+    // A log whose commands are left to the next one takes none that it has no place for.
+    ensures in_time { (limits : Limits) (base : List Command) (places : ℕ) (before after : Scene)
+        (takes : Takes before after) → IsAloneOver limits base places after.worker →
+        before.conn.role ≡ Tenant 0 → mark_of before.worker ≡ first_mark → LogsInTime takes →
+        (length (commands_of takes.taken.requests) ≤ places)
+        × ((total : ℕ) → length base + places ≤ total →
+        takes.taken.owed ≡ owed_after limits [] total base takes.taken.requests) }
+    // Once all places are replayed, the log is the commands of the requests, one a place.
+    ensures full { (limits : Limits) (base : List Command) (places : ℕ) (before after : Scene)
+        (takes : Takes before after) → IsAloneOver limits base places after.worker →
+        before.conn.role ≡ Tenant 0 → mark_of before.worker ≡ first_mark → LogsInTime takes →
+        HasReplayedAll after.worker →
+        (own 0 (entries (history_of after.worker)) ≡ commands_of takes.taken.requests)
+        × (length (commands_of takes.taken.requests) ≡ places) }
+    // The last log is full where all places are taken.
+    ensures last { (limits : Limits) (base : List Command) (places : ℕ) (worker : Worker)
+        (requests : List Request) (bytes : List ℕ) (to : Mark) →
+        IsAloneOver limits base places worker →
+        Owes worker (Tenant 0) first_mark requests bytes to →
+        bytes ≡ owed_after limits [] (length base + places) base requests }
+    // What is owed for requests and then for others is owed for the others after the first ones'
+    // commands.
+    ensures through { (limits : Limits) (total : ℕ) (applied : List Command)
+        (first second : List Request) → length applied + length (commands_of first) ≤ total →
+        owed_after limits [] total applied (first ++ second)
+        ≡ owed_after limits [] total applied first
+        ++ owed_after limits [] total (applied ++ commands_of first) second }
+{}
+
 /// Turns add up: no turn, turns after turns, and a turn that stops after turns that went well.
 pub fn turns_add_up()
     ensures none { (a : Scene) → Takes a a }
     ensures through { (a b c : Scene) → Takes a b → Takes b c → Takes a c }
     ensures stops { (fault : Fault) (a b c : Scene) → Takes a b → Stops b c fault →
         Stops a c fault }
+    // So do turns that pull late, if what is done after them only sends.
+    ensures late { (a b c : Scene) → Takes a b → PullsLate a b → PullsLate b c → (more : List ℕ) →
+        Pushes b.streams.output c.streams.output more →
+        waits b.streams.output.events ≤ waits c.streams.output.events → PullsLate a c }
+    // What is sent up to a fault, and about it.
+    ensures sends { (fault : Fault) (a b : Scene) → Stops a b fault →
+        (more : List ℕ) × Pushes a.streams.output b.streams.output more
+        × (waits a.streams.output.events ≤ waits b.streams.output.events) }
 {}
 
 /// What was read in one part and in the next was read in both, and what is owed stays owed while

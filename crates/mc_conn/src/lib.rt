@@ -6,7 +6,7 @@
 
 pub use conn::{Conn, PULL_BYTES, QUEUE_BYTES, Role, State};
 pub use mc_stream::{Input, Output, Pull, Push};
-pub use pumping::pump;
+pub use pumping::{pump, pump_until};
 
 pub mod conn;
 pub mod laws;

@@ -1,11 +1,11 @@
 //! Pulling bytes.
-ghost use Rattle.std.specs.Prelude.{◌≡◌, ◌⊎◌, ◌+◌, ◌<◌, ◌≤◌, ◌∷◌, [], true, false, length, None, IfOk, MatchResult, OnOk};
+ghost use Rattle.std.specs.Prelude.{◌≡◌, ◌⊎◌, ◌+◌, ◌<◌, ◌≤◌, ◌∷◌, [], Bool, true, false, length, None, IfOk, MatchResult, OnOk};
 ghost use Rattle.mc_stream.specs.Event.{Event, last_moved, waits};
 ghost use Rattle.mc_stream.specs.Stream.{Outflow, both};
 ghost use Rattle.uc_worker.specs.declared.worker.Worker.{Worker};
 ghost use Rattle.mc_conn.specs.declared.conn.TheConstants.{PULL_BYTES, QUEUE_BYTES};
 ghost use Rattle.mc_conn.specs.Ending.{Breaks, Pulls};
-ghost use Rattle.mc_conn.specs.Parts.{Does, IsHeldBehind};
+ghost use Rattle.mc_conn.specs.Parts.{Does, IsHeldBehind, IsLeft};
 ghost use Rattle.mc_conn.specs.Owed.{FitsLog};
 ghost use Rattle.mc_conn.specs.Turn.{queue_of, scene};
 
@@ -26,8 +26,8 @@ impl Conn {
         requires waiting { self.old.waiting ≡ None }
         requires going { self.old.has_ended ≡ false }
         ensures outcome { MatchResult result
-            (λ did. (worker : Worker) (output : Outflow) →
-            Does (scene self.old worker (both (I.tells input.old) output))
+            (λ did. (until : Bool) (worker : Worker) (output : Outflow) →
+            Does until (scene self.old worker (both (I.tells input.old) output))
             (scene self.new worker (both (I.tells input.new) output)) did)
             (λ fault. (worker : Worker) (output : Outflow) →
             Breaks (scene self.old worker (both (I.tells input.old) output))
@@ -53,6 +53,7 @@ impl Conn {
             Pull::Failed => Err(Fault::Input),
         }
     }
+
     /// Pulls once and takes requests again, if no whole request is held, the queue isn't too long
     /// and the input hasn't ended. Returns whether anything was done.
     ///
@@ -60,6 +61,7 @@ impl Conn {
     /// has ended the stream and all is sent, nothing is pulled.
     pub(crate) fn pull_and_take<I: Input, O: Output, G: Gate>(
         &mut self,
+        until_done: bool,
         worker: &mut Worker<'_>,
         input: &mut I,
         output: &mut O,
@@ -67,18 +69,20 @@ impl Conn {
         buffer: &mut [u8; PULL_BYTES],
     ) -> Result<bool, Fault>
         requires role { FitsLog self.old.role worker.old }
-        requires held { IsHeldBehind self.old }
+        requires held { IsHeldBehind until_done self.old worker.old }
         ensures outcome { MatchResult result
-            (Does (scene self.old worker.old (both (I.tells input.old) (O.tells output.old)))
+            (Does until_done
+            (scene self.old worker.old (both (I.tells input.old) (O.tells output.old)))
             (scene self.new worker.new (both (I.tells input.new) (O.tells output.new))))
             (Breaks (scene self.old worker.old (both (I.tells input.old) (O.tells output.old)))
             (scene self.new worker.new (both (I.tells input.new) (O.tells output.new)))) }
-        ensures held { OnOk result (IsHeldBehind self.new) }
+        ensures held { OnOk result (IsHeldBehind until_done self.new worker.new) }
         ensures stuck { IfOk result
             (λ did. did ≡ false →
             (waits (I.tells input.new).events ≡ waits (I.tells input.old).events + 1)
             ⊎ (self.new.has_ended ≡ true) ⊎ (QUEUE_BYTES < length (queue_of self.new))
-            ⊎ (self.new.is_over ≡ true) × (queue_of self.new ≡ [])) }
+            ⊎ (self.new.is_over ≡ true) × (queue_of self.new ≡ [])
+            ⊎ IsLeft until_done self.new worker.new) }
         ensures pulls { Pulls
             (scene self.old worker.old (both (I.tells input.old) (O.tells output.old)))
             (scene self.new worker.new (both (I.tells input.new) (O.tells output.new))) }
@@ -92,7 +96,7 @@ impl Conn {
             return Ok(pushed);
         }
         let pulled = self.pull(input, buffer)?;
-        let taken = self.take(worker, gate)?;
+        let taken = self.take(until_done, worker, gate)?;
         Ok(pushed | pulled | taken)
     }
 }

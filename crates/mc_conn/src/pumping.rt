@@ -1,7 +1,7 @@
 //! Serving a connection from its beginning to its end.
 ghost use Rattle.std.specs.Prelude.{◌≡◌, true, false, Ok, MatchResult};
 ghost use Rattle.mc_stream.specs.Stream.{both};
-ghost use Rattle.mc_conn.specs.Ending.{PullsLate, Serves, Stops};
+ghost use Rattle.mc_conn.specs.Ending.{PullsLate, Serves, ServesUntil, Stops};
 ghost use Rattle.mc_conn.specs.Owed.{FitsLog};
 ghost use Rattle.mc_conn.specs.Turn.{scene};
 
@@ -42,6 +42,46 @@ pub fn pump<R: Wait, I: Input, O: Output>(
     for _ in rt.forever() {
         match conn.turn(worker, input, output, &mut Open, &mut buffer)? {
             State::Closed => return Ok(()),
+            State::Idle => {}
+            State::Busy => {}
+            State::Full => unreachable!(),
+        }
+    }
+    unreachable!()
+}
+
+/// Makes turns of a connection as `pump` does, until it is closed or its next command is left to
+/// the next log (`Conn::turn_until`). Returns which: `Closed` or `Full`.
+///
+/// Returns the errors of `Conn::turn`.
+pub fn pump_until<R: Wait, I: Input, O: Output>(
+    rt: &R,
+    conn: &mut Conn,
+    worker: &mut Worker<'_>,
+    input: &mut I,
+    output: &mut O,
+) -> Result<State, Fault>
+    requires role { FitsLog conn.old.role worker.old }
+    ensures outcome { conn.old.is_closed ≡ false → MatchResult result
+        (ServesUntil (scene conn.old worker.old (both (I.tells input.old) (O.tells output.old)))
+        (scene conn.new worker.new (both (I.tells input.new) (O.tells output.new))))
+        (Stops (scene conn.old worker.old (both (I.tells input.old) (O.tells output.old)))
+        (scene conn.new worker.new (both (I.tells input.new) (O.tells output.new)))) }
+    ensures late { PullsLate
+        (scene conn.old worker.old (both (I.tells input.old) (O.tells output.old)))
+        (scene conn.new worker.new (both (I.tells input.new) (O.tells output.new))) }
+    ensures closed { conn.old.is_closed ≡ true → (result ≡ Ok State.Closed)
+        × (conn.new ≡ conn.old) × (worker.new ≡ worker.old)
+        × (input.new ≡ input.old) × (output.new ≡ output.old) }
+{
+    if conn.is_closed {
+        return Ok(State::Closed);
+    }
+    let mut buffer = [0u8; PULL_BYTES];
+    for _ in rt.forever() {
+        match conn.turn_until(worker, input, output, &mut Open, &mut buffer)? {
+            State::Closed => return Ok(State::Closed),
+            State::Full => return Ok(State::Full),
             State::Idle => {}
             State::Busy => {}
         }

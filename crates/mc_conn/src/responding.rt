@@ -1,6 +1,8 @@
 //! Doing what a request asks for, and queueing its reply.
 ghost use Rattle.std.specs.Prelude.{◌≡◌, ◌<◌, ◌++◌, length, MatchResult};
 ghost use Rattle.mc_model.specs.declared.fault.Fault.TheVariants as faults;
+ghost use Rattle.mc_model.specs.declared.request.Request.TheVariants as Request;
+ghost use Rattle.mc_conn.specs.declared.conn.Role.TheVariants as Role;
 ghost use Rattle.uc_worker.specs.Worker.{tenants_of};
 ghost use Rattle.uc_worker.specs.Going.{Continues};
 ghost use Rattle.mc_conn.specs.Owed.{FitsLog, answered};
@@ -49,29 +51,65 @@ fn queue_reply(reply: &Reply, quiet: bool, queue: &mut Queue) -> Result<(), Faul
     queue.append(reply)
 }
 
+/// Submits a tenant's command, and queues its reply unless the request is quiet.
+///
+/// Returns `Memory` if memory runs out, and `Taken` if the command's cell holds another value. No
+/// reply is queued then, and the command may be announced.
+fn respond_by_log<G: Gate>(
+    tenant: TenantId,
+    command: Command,
+    quiet: bool,
+    queue: &mut Queue,
+    worker: &mut Worker<'_>,
+    gate: &mut G,
+) -> Result<(), Fault>
+    requires tenant { tenant < length (tenants_of worker.old) }
+    ensures onward { Continues worker.old worker.new }
+    ensures outcome { let role = Role.Tenant tenant in let request = Request.Logged command quiet in
+        MatchResult result
+        (λ _. Responds worker.old worker.new role request queue.old queue.new)
+        (Refuses worker.old worker.new role request queue.old queue.new) }
+{
+    let reply = answer(tenant, command, worker, gate)?;
+    queue_reply(&reply, quiet, queue)
+}
+
 /// Does what a request asks for, and queues the reply.
 ///
 /// Returns `Memory` if memory runs out, and `Taken` if the cell of the request's command holds
 /// another value. No reply is queued then, and the command may be announced.
 pub(crate) fn respond<G: Gate>(
-    role: Role,
+    role: &Role,
     request: Request,
     queue: &mut Queue,
     worker: &mut Worker<'_>,
     gate: &mut G,
 ) -> Result<(), Fault>
-    requires role { FitsLog role worker.old }
+    requires role { FitsLog role.now worker.old }
     ensures onward { Continues worker.old worker.new }
     ensures outcome { MatchResult result
-        (λ _. Responds worker.old worker.new role request queue.old queue.new)
-        (Refuses worker.old worker.new role request queue.old queue.new) }
+        (λ _. Responds worker.old worker.new role.now request queue.old queue.new)
+        (Refuses worker.old worker.new role.now request queue.old queue.new) }
 {
     match request {
-        Request::Logged { command, quiet } => {
-            let Role::Tenant(tenant) = role;
-            let reply = answer(tenant, command, worker, gate)?;
-            queue_reply(&reply, quiet, queue)
-        }
+        Request::Logged { command, quiet } => match role {
+            Role::Tenant(tenant) => respond_by_log(*tenant, command, quiet, queue, worker, gate),
+            Role::Admin(_) => queue_reply(&Reply::Refused(WireNo::UNKNOWN_COMMAND), quiet, queue),
+        },
+        Request::Limit {
+            name,
+            limits,
+            quiet,
+        } => match role {
+            Role::Tenant(_) => queue_reply(&Reply::Refused(WireNo::UNKNOWN_COMMAND), quiet, queue),
+            Role::Admin(names) => match names.tenant(&name) {
+                Some(tenant) => {
+                    let command = Command::Limit { limits };
+                    respond_by_log(tenant, command, quiet, queue, worker, gate)
+                }
+                None => queue_reply(&Reply::Refused(WireNo::BAD_FORMAT), false, queue),
+            },
+        },
         Request::Local { reply, quiet } => queue_reply(&reply, quiet, queue),
         Request::Quit => Ok(()),
         Request::TooLong => queue_reply(&Reply::Refused(WireNo::LINE_TOO_LONG), false, queue),

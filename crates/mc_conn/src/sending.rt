@@ -1,5 +1,5 @@
 //! Pushing what is queued.
-ghost use Rattle.std.specs.Prelude.{◌≡◌, ◌⊎◌, ◌+◌, ◌≤◌, [], length, take, drop, MatchResult, OnOk};
+ghost use Rattle.std.specs.Prelude.{◌≡◌, ◌⊎◌, ◌+◌, ◌≤◌, [], Bool, length, take, drop, MatchResult, OnOk};
 ghost use Rattle.mc_stream.specs.Event.{waits};
 ghost use Rattle.mc_stream.specs.Pushing.{Pushes, StopsAs};
 ghost use Rattle.mc_stream.specs.Stream.{Inflow, both};
@@ -34,8 +34,8 @@ impl Conn {
     /// Returns `Output` if the output fails.
     pub(crate) fn push<O: Output>(&mut self, output: &mut O) -> Result<bool, Fault>
         ensures outcome { MatchResult result
-            (λ did. (worker : Worker) (input : Inflow) →
-            Does (scene self.old worker (both input (O.tells output.old)))
+            (λ did. (until : Bool) (worker : Worker) (input : Inflow) →
+            Does until (scene self.old worker (both input (O.tells output.old)))
             (scene self.new worker (both input (O.tells output.new))) did)
             (λ fault. (worker : Worker) (input : Inflow) →
             Breaks (scene self.old worker (both input (O.tells output.old)))

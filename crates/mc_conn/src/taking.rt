@@ -1,21 +1,52 @@
 //! Reading requests and taking them.
 ghost use Rattle.std.specs.Bool.{MatchBool};
-ghost use Rattle.std.specs.Prelude.{◌≡◌, ◌≢◌, ◌⊎◌, ◌<◌, ◌≤◌, [], true, false, None, IfOk, IsOkUnless, MatchResult, OnOk};
+ghost use Rattle.std.specs.Prelude.{◌≡◌, ◌≢◌, ◌⊎◌, ◌↔◌, ◌<◌, ◌≤◌, [], Bool, true, false, None, IfOk, IsOkUnless, IsTrue, MatchResult, OnOk};
 ghost use Rattle.mc_model.specs.declared.fault.Fault.TheVariants as faults;
 ghost use Rattle.mc_stream.specs.Stream.{Streams};
-ghost use Rattle.mc_conn.specs.Ending.{Breaks};
+ghost use Rattle.mc_conn.specs.Ending.{AwaitsLog, Breaks};
 ghost use Rattle.mc_conn.specs.Held.{HoldsNone, IsRead, most_held};
-ghost use Rattle.mc_conn.specs.Parts.{Does, IsHeldBehind, KeepsStreams, LooksForNext};
-ghost use Rattle.mc_conn.specs.Owed.{FitsLog};
+ghost use Rattle.mc_conn.specs.Parts.{Does, IsHeldBehind, IsLeft, KeepsStreams, LooksForNext};
+ghost use Rattle.mc_conn.specs.Owed.{FitsLog, demand_of, is_logged};
 ghost use Rattle.mc_conn.specs.Turn.{holding_of, scene};
 
-use crate::conn::{Conn, QUEUE_BYTES};
+use crate::conn::{Conn, QUEUE_BYTES, Role};
 use crate::responding::respond;
-use mc_model::Fault;
+use mc_model::{Fault, Request};
 use mc_read::ends_stream;
 use uc_worker::{Gate, Worker};
 
+/// Returns whether a request on a connection of this role is to be logged.
+fn is_to_be_logged(role: &Role, request: &Request) -> bool
+    ensures { result ≡ is_logged (demand_of role.now request.now) }
+{
+    match role {
+        Role::Tenant(_) => matches!(request, Request::Logged { .. }),
+        Role::Admin(names) => match request {
+            Request::Limit { name, .. } => names.tenant(name).is_some(),
+            _ => false,
+        },
+    }
+}
+
 impl Conn {
+    /// Returns whether the next request is to be logged and the worker has replayed all places of
+    /// its log.
+    fn awaits_log(&self, worker: &Worker<'_>) -> bool
+        ensures { IsTrue result ↔ AwaitsLog self.now worker.now }
+    {
+        match &self.waiting {
+            Some(request) => is_to_be_logged(&self.role, request) && worker.is_done(),
+            None => false,
+        }
+    }
+
+    /// Returns whether commands are left to the next log and the next request awaits it.
+    pub(crate) fn is_left(&self, until_done: bool, worker: &Worker<'_>) -> bool
+        ensures { IsTrue result ↔ IsLeft until_done self.now worker.now }
+    {
+        until_done && self.awaits_log(worker)
+    }
+
     /// Reads the next request, if none is waiting.
     ///
     /// Returns `Memory` if memory runs out.
@@ -41,8 +72,9 @@ impl Conn {
     ) -> Result<bool, Fault>
         requires role { FitsLog self.old.role worker.old }
         ensures outcome { MatchResult result
-            (λ did. (streams : Streams) →
-            Does (scene self.old worker.old streams) (scene self.new worker.new streams) did)
+            (λ did. (until : Bool) (streams : Streams) → ¬ (IsLeft until self.old worker.old) →
+            Does until (scene self.old worker.old streams)
+            (scene self.new worker.new streams) did)
             (λ fault. (streams : Streams) →
             Breaks (scene self.old worker.old streams) (scene self.new worker.new streams) fault) }
         ensures fewer { IfOk result (λ did. MatchBool did
@@ -53,7 +85,7 @@ impl Conn {
         match self.waiting.take() {
             Some(request) => {
                 let ends = ends_stream(&request);
-                respond(self.role, request, &mut self.queue, worker, gate)?;
+                respond(&self.role, request, &mut self.queue, worker, gate)?;
                 self.is_over |= ends;
                 Ok(true)
             }
@@ -61,45 +93,58 @@ impl Conn {
         }
     }
 
-    /// Takes a request, if a whole one is held and the queue isn't too long. Returns whether it
-    /// did.
-    fn take_one<G: Gate>(&mut self, worker: &mut Worker<'_>, gate: &mut G) -> Result<bool, Fault>
-        requires role { FitsLog self.old.role worker.old }
-        ensures outcome { MatchResult result
-            (λ did. (streams : Streams) →
-            Does (scene self.old worker.old streams) (scene self.new worker.new streams) did)
-            (λ fault. (streams : Streams) →
-            Breaks (scene self.old worker.old streams) (scene self.new worker.new streams) fault) }
-        ensures fewer { IfOk result
-            (λ did. did ≡ true →
-            most_held (holding_of self.new) < most_held (holding_of self.old)) }
-        ensures held { IfOk result (λ did. did ≡ false → IsHeldBehind self.new) }
-        ensures keeps { KeepsStreams self.old self.new worker.old worker.new }
-    {
-        self.look()?;
-        if self.queue.len() > QUEUE_BYTES {
-            return Ok(false);
-        }
-        self.answer_waiting(worker, gate)
-    }
-
-    /// Takes whole requests while the queue isn't too long. Returns whether any was taken.
-    pub(crate) fn take<G: Gate>(
+    /// Takes a request, if a whole one is held, the queue isn't too long and, if commands are left
+    /// to the next log, it isn't one that awaits it. Returns whether it did.
+    fn take_one<G: Gate>(
         &mut self,
+        until_done: bool,
         worker: &mut Worker<'_>,
         gate: &mut G,
     ) -> Result<bool, Fault>
         requires role { FitsLog self.old.role worker.old }
         ensures outcome { MatchResult result
             (λ did. (streams : Streams) →
-            Does (scene self.old worker.old streams) (scene self.new worker.new streams) did)
+            Does until_done (scene self.old worker.old streams)
+            (scene self.new worker.new streams) did)
             (λ fault. (streams : Streams) →
             Breaks (scene self.old worker.old streams) (scene self.new worker.new streams) fault) }
-        ensures held { OnOk result (IsHeldBehind self.new) }
+        ensures fewer { IfOk result
+            (λ did. did ≡ true →
+            most_held (holding_of self.new) < most_held (holding_of self.old)) }
+        ensures held { IfOk result
+            (λ did. did ≡ false → IsHeldBehind until_done self.new worker.new) }
+        ensures keeps { KeepsStreams self.old self.new worker.old worker.new }
+    {
+        self.look()?;
+        if self.queue.len() > QUEUE_BYTES {
+            return Ok(false);
+        }
+        if self.is_left(until_done, worker) {
+            return Ok(false);
+        }
+        self.answer_waiting(worker, gate)
+    }
+
+    /// Takes whole requests while the queue isn't too long and, if commands are left to the next
+    /// log, none awaits it. Returns whether any was taken.
+    pub(crate) fn take<G: Gate>(
+        &mut self,
+        until_done: bool,
+        worker: &mut Worker<'_>,
+        gate: &mut G,
+    ) -> Result<bool, Fault>
+        requires role { FitsLog self.old.role worker.old }
+        ensures outcome { MatchResult result
+            (λ did. (streams : Streams) →
+            Does until_done (scene self.old worker.old streams)
+            (scene self.new worker.new streams) did)
+            (λ fault. (streams : Streams) →
+            Breaks (scene self.old worker.old streams) (scene self.new worker.new streams) fault) }
+        ensures held { OnOk result (IsHeldBehind until_done self.new worker.new) }
         ensures keeps { KeepsStreams self.old self.new worker.old worker.new }
     {
         let mut did = false;
-        while self.take_one(worker, gate)? {
+        while self.take_one(until_done, worker, gate)? {
             did = true;
         }
         Ok(did)

@@ -1,9 +1,9 @@
 //! A turn of a connection.
-ghost use Rattle.std.specs.Prelude.{◌≡◌, true, false, Ok, MatchResult};
+ghost use Rattle.std.specs.Prelude.{◌≡◌, ◌≢◌, true, false, IfOk, Ok, MatchResult};
 ghost use Rattle.mc_stream.specs.Stream.{both};
 ghost use Rattle.mc_conn.specs.ConnFault.{TellsStarved};
-ghost use Rattle.mc_conn.specs.Ending.{Breaks, Pulls, Stops, Turns};
-ghost use Rattle.mc_conn.specs.Parts.{StateIs, TellsOf};
+ghost use Rattle.mc_conn.specs.Ending.{Breaks, Pulls, Stops, Turns, TurnsUntil};
+ghost use Rattle.mc_conn.specs.Parts.{GoesRound, StateIs, TellsOf};
 ghost use Rattle.mc_conn.specs.Owed.{FitsLog};
 ghost use Rattle.mc_conn.specs.Turn.{queue_of, scene};
 
@@ -25,11 +25,13 @@ fn tell_starved<O: Output>(queue: &[u8], output: &mut O)
 
 impl Conn {
     /// Returns the state after a turn; `did` is whether the turn did anything.
-    fn state(&self, did: bool) -> State
-        ensures { StateIs self.now did result }
+    fn state(&self, until_done: bool, worker: &Worker<'_>, did: bool) -> State
+        ensures { StateIs until_done self.now worker.now did result }
     {
         if (self.has_ended | self.is_over) && self.waiting.is_none() && self.queue.is_empty() {
             State::Closed
+        } else if self.is_left(until_done, worker) {
+            State::Full
         } else if did {
             State::Busy
         } else {
@@ -37,12 +39,13 @@ impl Conn {
         }
     }
 
-    /// Makes a turn as `turn` does, but at a fault neither sends the client anything nor closes the
-    /// connection.
+    /// Makes a turn as `turn` or `turn_until` does, but at a fault neither sends the client anything
+    /// nor closes the connection.
     ///
     /// It pushes before the pull as well as at the end, since an input may wait for its next bytes.
     fn go_round<I: Input, O: Output, G: Gate>(
         &mut self,
+        until_done: bool,
         worker: &mut Worker<'_>,
         input: &mut I,
         output: &mut O,
@@ -51,7 +54,8 @@ impl Conn {
     ) -> Result<State, Fault>
         requires role { FitsLog self.old.role worker.old }
         ensures outcome { MatchResult result
-            (Turns (scene self.old worker.old (both (I.tells input.old) (O.tells output.old)))
+            (GoesRound until_done
+            (scene self.old worker.old (both (I.tells input.old) (O.tells output.old)))
             (scene self.new worker.new (both (I.tells input.new) (O.tells output.new))))
             (Breaks (scene self.old worker.old (both (I.tells input.old) (O.tells output.old)))
             (scene self.new worker.new (both (I.tells input.new) (O.tells output.new)))) }
@@ -60,14 +64,16 @@ impl Conn {
             (scene self.new worker.new (both (I.tells input.new) (O.tells output.new))) }
     {
         let first = self.push(output)?;
-        let taken = self.take(worker, gate)?;
-        let pulled = self.pull_and_take(worker, input, output, gate, buffer)?;
+        let taken = self.take(until_done, worker, gate)?;
+        let pulled = self.pull_and_take(until_done, worker, input, output, gate, buffer)?;
         let last = self.push(output)?;
-        Ok(self.state(first | taken | pulled | last))
+        Ok(self.state(until_done, worker, first | taken | pulled | last))
     }
 
-    /// Closes the connection for good. If memory ran out, that is reported to the client.
-    fn close<O: Output>(&mut self, fault: Fault, output: &mut O)
+    /// Closes the connection for good. If memory ran out, that is reported to the client, after the
+    /// queued replies, as far as the output takes it at once. For a caller that has no log to go on
+    /// with.
+    pub fn close<O: Output>(&mut self, fault: Fault, output: &mut O)
         ensures closed { self.new.is_closed ≡ true }
         ensures same { (self.new.role ≡ self.old.role) × (queue_of self.new ≡ queue_of self.old) }
         ensures told { TellsOf fault (queue_of self.old) (O.tells output.old) (O.tells output.new) }
@@ -75,6 +81,43 @@ impl Conn {
         self.is_closed = true;
         if fault == Fault::Memory {
             tell_starved(self.queue.as_slice(), output);
+        }
+    }
+
+    /// Makes a turn, which may leave commands to the next log. Closes the connection at a fault.
+    fn turn_or_close<I: Input, O: Output, G: Gate>(
+        &mut self,
+        until_done: bool,
+        worker: &mut Worker<'_>,
+        input: &mut I,
+        output: &mut O,
+        gate: &mut G,
+        buffer: &mut [u8; PULL_BYTES],
+    ) -> Result<State, Fault>
+        requires role { FitsLog self.old.role worker.old }
+        ensures outcome { self.old.is_closed ≡ false → MatchResult result
+            (GoesRound until_done
+            (scene self.old worker.old (both (I.tells input.old) (O.tells output.old)))
+            (scene self.new worker.new (both (I.tells input.new) (O.tells output.new))))
+            (Stops (scene self.old worker.old (both (I.tells input.old) (O.tells output.old)))
+            (scene self.new worker.new (both (I.tells input.new) (O.tells output.new)))) }
+        ensures pulls { Pulls
+            (scene self.old worker.old (both (I.tells input.old) (O.tells output.old)))
+            (scene self.new worker.new (both (I.tells input.new) (O.tells output.new))) }
+        ensures same { (self.new.role ≡ self.old.role) × (worker.new.log ≡ worker.old.log) }
+        ensures closed { self.old.is_closed ≡ true → (result ≡ Ok State.Closed)
+            × (self.new ≡ self.old) × (worker.new ≡ worker.old)
+            × (input.new ≡ input.old) × (output.new ≡ output.old) }
+    {
+        if self.is_closed {
+            return Ok(State::Closed);
+        }
+        match self.go_round(until_done, worker, input, output, gate, buffer) {
+            Ok(state) => Ok(state),
+            Err(fault) => {
+                self.close(fault, output);
+                Err(fault)
+            }
         }
     }
 
@@ -111,21 +154,46 @@ impl Conn {
         ensures pulls { Pulls
             (scene self.old worker.old (both (I.tells input.old) (O.tells output.old)))
             (scene self.new worker.new (both (I.tells input.new) (O.tells output.new))) }
+        // No command is left to another log.
+        ensures takes_all { IfOk result (λ state. state ≢ State.Full) }
         // It is still the same client's, on the same log.
         ensures same { (self.new.role ≡ self.old.role) × (worker.new.log ≡ worker.old.log) }
         ensures closed { self.old.is_closed ≡ true → (result ≡ Ok State.Closed)
             × (self.new ≡ self.old) × (worker.new ≡ worker.old)
             × (input.new ≡ input.old) × (output.new ≡ output.old) }
     {
-        if self.is_closed {
-            return Ok(State::Closed);
-        }
-        match self.go_round(worker, input, output, gate, buffer) {
-            Ok(state) => Ok(state),
-            Err(fault) => {
-                self.close(fault, output);
-                Err(fault)
-            }
-        }
+        self.turn_or_close(false, worker, input, output, gate, buffer)
+    }
+
+    /// Makes one turn as `turn` does, but leaves commands to the next log: where the next request is
+    /// to be logged and the worker has replayed all places of its log, the request isn't
+    /// taken. It stays first in line, and the state is `Full`, once what is queued is pushed as far
+    /// as the output takes it.
+    ///
+    /// Returns the errors of `turn`.
+    pub fn turn_until<I: Input, O: Output, G: Gate>(
+        &mut self,
+        worker: &mut Worker<'_>,
+        input: &mut I,
+        output: &mut O,
+        gate: &mut G,
+        buffer: &mut [u8; PULL_BYTES],
+    ) -> Result<State, Fault>
+        requires role { FitsLog self.old.role worker.old }
+        // As for `turn`; and no request was logged once the worker had replayed all places.
+        ensures outcome { self.old.is_closed ≡ false → MatchResult result
+            (TurnsUntil (scene self.old worker.old (both (I.tells input.old) (O.tells output.old)))
+            (scene self.new worker.new (both (I.tells input.new) (O.tells output.new))))
+            (Stops (scene self.old worker.old (both (I.tells input.old) (O.tells output.old)))
+            (scene self.new worker.new (both (I.tells input.new) (O.tells output.new)))) }
+        ensures pulls { Pulls
+            (scene self.old worker.old (both (I.tells input.old) (O.tells output.old)))
+            (scene self.new worker.new (both (I.tells input.new) (O.tells output.new))) }
+        ensures same { (self.new.role ≡ self.old.role) × (worker.new.log ≡ worker.old.log) }
+        ensures closed { self.old.is_closed ≡ true → (result ≡ Ok State.Closed)
+            × (self.new ≡ self.old) × (worker.new ≡ worker.old)
+            × (input.new ≡ input.old) × (output.new ≡ output.old) }
+    {
+        self.turn_or_close(true, worker, input, output, gate, buffer)
     }
 }

@@ -1,10 +1,15 @@
 //! Tests of the connection engine through what its crates make public: streams in pieces of any
-//! size, a queue above its bound, faults, two tenants on one log, and a full log. They are in a
+//! size, a queue above its bound, faults, two tenants on one log, quotas set by an administrator,
+//! a full log, and a command that is left to the next one. They are in a
 //! crate above those that they test, since a crate with tests is proved twice.
 #![tactic(auto)]
 
 #[cfg(test)]
+mod admin;
+#[cfg(test)]
 mod faults;
+#[cfg(test)]
+mod leaving;
 #[cfg(test)]
 mod lines;
 #[cfg(test)]

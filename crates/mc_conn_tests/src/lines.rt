@@ -1,11 +1,10 @@
 //! A connection with its worker and log, and with an input and an output in memory.
-ghost use Rattle.std.specs.Prelude.{◌≡◌, ◌<◌, ℕ, Some, slice_get, IfOk, IfSome};
-ghost use Rattle.mc_conn.specs.declared.conn.Role.TheVariants.{Tenant};
-ghost use Rattle.mc_conn.specs.Owed.{FitsLog};
+ghost use Rattle.std.specs.Prelude.{◌≡◌, ℕ, Some, slice_get, IfOk, IfSome, IsTrue};
+ghost use Rattle.mc_conn.specs.Owed.{FitsLog, IsAmong};
 ghost use Rattle.uc_log.specs.Passes.{IsUnusedPass};
 
-use mc_conn::{Conn, PULL_BYTES, State};
-use mc_model::{Fault, Limits, Settings, TenantId};
+use mc_conn::{Conn, PULL_BYTES, Role, State};
+use mc_model::{Fault, Limits, Names, Settings, TenantId};
 use mc_stream::{Input, InputStep, MemoryInput, MemoryOutput, Output, OutputStep, Pull, Push};
 use std::alloc::Global;
 use uc_log::{Log, Pass};
@@ -25,12 +24,22 @@ const TURNS: u32 = 100_000;
 pub(crate) struct Line<'a> {
     log: &'a Log,
     worker: Worker<'a>,
-    tenant: TenantId,
+    role: Role,
     conn: Conn,
     input: MemoryInput,
     output: MemoryOutput,
     ghost same: { worker.log.now ≡ log.now },
-    ghost whose: { conn.role ≡ Tenant tenant },
+    ghost whose: { conn.role ≡ role },
+}
+
+/// Returns whether a role fits a log with this many tenants.
+fn is_among(role: &Role, tenants: usize) -> bool
+    ensures { IsTrue result → IsAmong role.now tenants }
+{
+    match role {
+        Role::Tenant(tenant) => usize::from(tenant.number()) < tenants,
+        Role::Admin(names) => names.len() == tenants,
+    }
 }
 
 /// Makes a turn, and promises only that the role and the worker's log stay the same.
@@ -48,6 +57,22 @@ fn turn(
     conn.turn(worker, input, output, &mut Open, buffer)
 }
 
+/// Makes a turn that leaves commands to the next log, and promises only that the role and the
+/// worker's log stay the same.
+fn turn_until(
+    conn: &mut Conn,
+    worker: &mut Worker<'_>,
+    input: &mut MemoryInput,
+    output: &mut MemoryOutput,
+    buffer: &mut [u8; PULL_BYTES],
+) -> Result<State, Fault>
+    requires { FitsLog conn.old.role worker.old }
+    ensures role { conn.new.role ≡ conn.old.role }
+    ensures log { worker.new.log ≡ worker.old.log }
+{
+    conn.turn_until(worker, input, output, &mut Open, buffer)
+}
+
 impl<'a> Line<'a> {
     /// Returns a line of the tenant and the worker with this pass, on which nothing has come yet.
     pub(crate) fn open(
@@ -62,22 +87,48 @@ impl<'a> Line<'a> {
         let Some(tenant) = TenantId::new(tenant) else {
             return Err(Fault::BadEvent);
         };
+        let role = Role::Tenant(tenant);
+        let conn = Conn::of(alloc, role.share()?);
         let worker = Worker::open(alloc, log, pass)?;
-        let conn = Conn::new(alloc, tenant);
         let (input, output) = ends;
         Ok(Line {
             log,
             worker,
-            tenant,
+            role,
             conn,
             input,
             output,
         })
     }
 
-    /// Makes a turn, if there is such a tenant.
+    /// Returns a line of an administrator, to whom the tenants have these names, and of the worker
+    /// with this pass. Nothing has come on it yet.
+    pub(crate) fn admin(
+        alloc: Global,
+        log: &'a Log,
+        pass: Pass,
+        names: Names,
+        ends: (MemoryInput, MemoryOutput),
+    ) -> Result<Line<'a>, Fault>
+        requires { IsUnusedPass log.now pass }
+    {
+        let role = Role::Admin(names.share()?);
+        let conn = Conn::admin(alloc, names);
+        let worker = Worker::open(alloc, log, pass)?;
+        let (input, output) = ends;
+        Ok(Line {
+            log,
+            worker,
+            role,
+            conn,
+            input,
+            output,
+        })
+    }
+
+    /// Makes a turn, if the line's role fits the log.
     pub(crate) fn turn(&mut self, buffer: &mut [u8; PULL_BYTES]) -> Result<State, Fault> {
-        if usize::from(self.tenant.number()) >= self.log.settings().tenants().len() {
+        if !is_among(&self.role, self.log.settings().tenants().len()) {
             return Err(Fault::BadEvent);
         }
         turn(
@@ -87,6 +138,25 @@ impl<'a> Line<'a> {
             &mut self.output,
             buffer,
         )
+    }
+
+    /// Makes a turn that leaves commands to the next log, if the line's role fits the log.
+    pub(crate) fn turn_until(&mut self, buffer: &mut [u8; PULL_BYTES]) -> Result<State, Fault> {
+        if !is_among(&self.role, self.log.settings().tenants().len()) {
+            return Err(Fault::BadEvent);
+        }
+        turn_until(
+            &mut self.conn,
+            &mut self.worker,
+            &mut self.input,
+            &mut self.output,
+            buffer,
+        )
+    }
+
+    /// Closes the connection as after this fault.
+    pub(crate) fn close(&mut self, fault: Fault) {
+        self.conn.close(fault, &mut self.output);
     }
 
     /// Makes turns until one ends in this state. Returns whether one does.

@@ -1,9 +1,9 @@
 //! The tables of all tenants, indexed by tenant number.
 ghost use Rattle.std.specs.Option.{option_copied};
-ghost use Rattle.std.specs.Prelude.{◌≡◌, false, ℕ, ◌-◌, ◌^◌, ◌<◌, List, Option, Some, slice_get, IfOk, IfSome, OnOk, OnErr, IsOk, IsOkUnless};
+ghost use Rattle.std.specs.Prelude.{◌≡◌, ◌↔◌, false, ℕ, ◌-◌, ◌^◌, ◌<◌, List, Option, Some, slice_get, IfOk, IfSome, OnOk, OnErr, IsOk, IsOkUnless, IsTrue};
 ghost use Rattle.mc_model.specs.Kinds.{IsRetrieval, NeedsNoMemory};
 ghost use Rattle.mc_items.specs.Asker.{answer_for, is_own, reply_for};
-ghost use Rattle.mc_model.specs.Replay.{EachStands, IsRefused, TakeEffect, empty_tables};
+ghost use Rattle.mc_model.specs.Replay.{EachStands, HaveRoom, IsRefused, TakeEffect, empty_tables};
 ghost use Rattle.mc_model.specs.State.{TableState, empty_table};
 ghost use Rattle.mc_model.specs.declared.request.Entry.{Entry};
 ghost use Rattle.mc_model.specs.declared.settings.Limits.{Limits};
@@ -29,6 +29,27 @@ pub fn tables_of(alloc: Global, limits: &[Limits]) -> Result<Vec<Items>, Fault>
         .map(|limits| empty(alloc, limits))
         .collect(alloc)?;
     Ok(tables)
+}
+
+/// Returns copies of the tables. Returns `Memory` if an allocation fails.
+pub fn copies_of(alloc: Global, tables: &[Items]) -> Result<Vec<Items>, Fault>
+    ensures same { IfOk result (λ copies. copies.items ≡ tables.now) }
+    ensures memory { IsOkUnless result Fault.Memory }
+{
+    let mut copies = Vec::with_capacity(alloc, tables.len())?;
+    for table in tables {
+        copies.push(table.try_clone()?)?;
+    }
+    Ok(copies)
+}
+
+/// Returns whether in each of the tables this many more changes can get uniques of 64 bits.
+pub fn have_room(tables: &[Items], places: u64) -> bool
+    ensures { IsTrue result ↔ HaveRoom tables.now places }
+{
+    tables
+        .iter()
+        .all(|table| table.last_unique() <= u64::MAX - places)
 }
 
 /// Returns whether the entry is the asker's own.

@@ -1,4 +1,5 @@
 mod Keys
+mod Names
 mod Puts
 mod Quotas
 mod Refusals

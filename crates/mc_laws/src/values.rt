@@ -1,5 +1,5 @@
 //! Which values are valid, and when two of them are equal.
-ghost use Rattle.std.specs.Prelude.{◌≡◌, ◌≢◌, ◌↔◌, ◌⊎◌, ℕ, ◌<◌, ◌≤◌, All, Bool, List, length, IsTrue};
+ghost use Rattle.std.specs.Prelude.{◌≡◌, ◌≢◌, ◌↔◌, ◌⊎◌, ℕ, ◌<◌, ◌≤◌, All, Bool, List, length, slice_get, Some, IsTrue};
 ghost use Rattle.mc_model.specs.declared.command.Command.{Command};
 ghost use Rattle.mc_model.specs.declared.command.Command.TheVariants.{Delete, Flush, Get, Limit};
 ghost use Rattle.mc_model.specs.declared.id.TheConstants.{TENANTS, WORKERS};
@@ -7,17 +7,21 @@ ghost use Rattle.mc_model.specs.declared.item.TheConstants.{DATA_BYTES};
 ghost use Rattle.mc_model.specs.declared.key.Key.{Key};
 ghost use Rattle.mc_model.specs.declared.key.KeyList.{KeyList};
 ghost use Rattle.mc_model.specs.declared.key.TheConstants.{KEY_BYTES};
+ghost use Rattle.mc_model.specs.declared.name.Name.{Name};
+ghost use Rattle.mc_model.specs.declared.name.TheConstants.{NAME_BYTES};
 ghost use Rattle.mc_model.specs.declared.settings.Limits.{Limits};
 ghost use Rattle.mc_model.specs.declared.settings.TheConstants.{MAX_BYTES, MAX_ITEMS, MAX_PLACES};
 ghost use Rattle.mc_model.specs.Key.{is_lawful_key};
 ghost use Rattle.mc_model.specs.Kinds.{IsRetrieval, NeedsNoMemory, SetsLimits};
+ghost use Rattle.mc_model.specs.Name.{is_lawful_name, tenant_named};
 ghost use Rattle.mc_model.specs.Settings.{Configuration, IsLawful};
 
-use mc_model::{Data, Key, KeyList, ValueList};
+use mc_model::{Data, Key, KeyList, Name, ValueList};
 
 /// The numbers in this project's profile.
 pub fn the_profiles_numbers()
     ensures key { KEY_BYTES ≡ 250 }
+    ensures name { NAME_BYTES ≡ 32 }
     ensures data_block { DATA_BYTES ≡ 1048576 }
     ensures tenants { TENANTS ≡ 64 }
     ensures workers { WORKERS ≡ 16 }
@@ -32,6 +36,23 @@ pub fn lawful_keys_are_plain()
         IsTrue (is_lawful_key bytes)
         ↔ (((0 < length bytes) × (length bytes ≤ 250))
         × All (λ byte. (32 < byte) × (byte ≢ 127)) bytes) }
+{}
+
+/// A valid name is 1 to 32 bytes, each of `a` to `z`, `0` to `9`, `-` or `_`.
+pub fn lawful_names_are_spelled_so()
+    ensures { (bytes : List ℕ) →
+        IsTrue (is_lawful_name bytes)
+        ↔ (((0 < length bytes) × (length bytes ≤ 32))
+        × All (λ byte. (97 ≤ byte) × (byte ≤ 122) ⊎ (48 ≤ byte) × (byte ≤ 57) ⊎ (byte ≡ 45)
+        ⊎ (byte ≡ 95)) bytes) }
+{}
+
+/// A name is that of the tenant at whose number, below 64, it stands first among the names.
+pub fn a_name_finds_its_first_tenant()
+    ensures { (names : List Name) (name : Name) (tenant : ℕ) →
+        (tenant_named names name ≡ Some tenant)
+        ↔ ((tenant < 64) × (slice_get names tenant ≡ Some name)
+        × ((before : ℕ) → before < tenant → slice_get names before ≢ Some name)) }
 {}
 
 /// Settings are valid if there are 1 to 16 workers, 1 to 1,048,576 places and 1 to 64 tenants, and
@@ -62,6 +83,13 @@ pub fn keys_are_equal_by_their_bytes(key: &Key, other: &Key) -> bool
     ensures { IsTrue result ↔ (key.now ≡ other.now) }
 {
     key == other
+}
+
+/// Two names are equal exactly when their bytes are.
+pub fn names_are_equal_by_their_bytes(name: &Name, other: &Name) -> bool
+    ensures { IsTrue result ↔ (name.now ≡ other.now) }
+{
+    name == other
 }
 
 /// Two data blocks are equal exactly when their bytes are.

@@ -1,4 +1,5 @@
 pub mod Key
+pub mod Name
 pub mod Number
 pub mod Numerals
 pub mod Settings

@@ -1,6 +1,6 @@
 -- The settings of a server, this project's profile: how many workers and places, and each tenant's
 -- quotas.
-use Rattle.std.specs.Prelude.{ℕ, zero, suc, ◌≤◌, List, length, Option, Some, None, All}
+use Rattle.std.specs.Prelude.{ℕ, suc, ◌≤◌, List, length, Option, Some, None, All}
 use Rattle.mc_model.specs.declared.settings.Limits.{Limits}
 use Rattle.mc_model.specs.declared.settings.TheConstants.{MAX_ITEMS, MAX_BYTES, MAX_PLACES}
 use Rattle.mc_model.specs.declared.id.TheConstants.{TENANTS, WORKERS}

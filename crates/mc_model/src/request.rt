@@ -1,13 +1,25 @@
 //! What a connection asks for, and what a log keeps of it.
-use crate::{Command, Reply, TenantId, Ticket};
+use crate::{Command, Limits, Name, Reply, TenantId, Ticket};
 
 /// A request as read from a connection. A quiet one gets no reply.
 #[derive(Debug, PartialEq, Eq, Drop)]
 pub enum Request {
     /// A command for the log.
-    Logged { command: Command, quiet: bool },
+    Logged {
+        command: Command,
+        quiet: bool,
+    },
     /// A request that is answered without the log.
-    Local { reply: Reply, quiet: bool },
+    Local {
+        reply: Reply,
+        quiet: bool,
+    },
+    /// The quotas of the tenant with this name are to be set.
+    Limit {
+        name: Name,
+        limits: Limits,
+        quiet: bool,
+    },
     /// The client ends the connection.
     Quit,
     /// A line that is too long; nothing after it is read.

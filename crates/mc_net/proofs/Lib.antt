@@ -1,4 +1,5 @@
 pub mod Askings
+pub mod Counts
 pub mod Lives
 pub mod Numbers
 pub mod Runnings

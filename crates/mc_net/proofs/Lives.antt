@@ -18,7 +18,7 @@ use Rattle.mc_conn.specs.declared.conn.Role.{Role}
 use Rattle.mc_conn.specs.Owed.{Mark, Owes, mark_of}
 use Rattle.mc_conn.specs.Turn.{Takes, holding_of, queue_of, scene}
 use Rattle.mc_conn.specs.declared.conn.State.{State}
-use Rattle.mc_conn.specs.declared.conn.State.TheVariants.{Closed, Idle, Busy}
+use Rattle.mc_conn.specs.declared.conn.State.TheVariants.{Closed, Idle, Busy, Full}
 use Rattle.uc_worker.specs.contracts.laws.WorkerGoesOn.TheImpl.{continues_self-value}
 use Rattle.lists.specs.Lists.{BeginsWith}
 use Rattle.mc_model.specs.declared.fault.Fault.{Fault}
@@ -322,6 +322,7 @@ going_on : (before after : Worker) (old new : Connection) (state : State) → st
 going_on before after old new Closed isnt later = absurd (isnt refl)
 going_on before after old new Idle isnt later = later.stands.going
 going_on before after old new Busy isnt later = later.stands.going
+going_on before after old new Full isnt later = later.stands.going
 
 later_lives : (before after : Worker) (old new : Connection) (state : State) → state ≢ Closed → IsServedLater before after old new state → Lives before old → Lives after new
 later_lives before after old new state isnt later lives =

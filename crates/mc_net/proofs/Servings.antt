@@ -1,14 +1,17 @@
 -- What a turn leaves of its connection, turns after turns, and whether a connection stays.
 use Rattle.std.proofs.Common.{◌≡◌, ◌≢◌, ◌⊎◌, ℕ, ◌+◌, ◌≤◌, ◌∷◌, length, ap, arith, Bool, true, false, Option, Some, None, Result, Ok, Err, IsSome, ⊎_elim, inl, inr, refl, sym, subst, ◌∙◌}
 use Rattle.std.proofs.lemmas.Option.{same_Some}
+use Rattle.std.specs.Option.{option_map_or}
 use Rattle.slab.specs.Slab.{Updates, get, with_value}
 use Rattle.slab.proofs.SlabLemmas.{Updates-with_value}
 use Rattle.mc_conn.specs.declared.conn.Conn.{Conn}
 use Rattle.mc_conn.specs.declared.conn.State.{State}
-use Rattle.mc_conn.specs.declared.conn.State.TheVariants.{Closed, Idle, Busy}
-use Rattle.mc_conn.specs.Ending.{IsDone, PullsOnce, Stops, Turns}
+use Rattle.mc_conn.specs.declared.conn.State.TheVariants.{Closed, Idle, Busy, Full}
+use Rattle.mc_conn.specs.Ending.{AwaitsLog, IsDone, PullsOnce, Stops, Turns, logs_next}
+use Rattle.mc_conn.specs.Owed.{demand_of, is_logged}
 use Rattle.mc_conn.specs.Turn.{Scene, Takes, scene}
 use Rattle.mc_model.specs.declared.fault.Fault.{Fault}
+use Rattle.mc_model.specs.declared.request.Request.{Request}
 use Rattle.mc_stream.specs.Stream.{Inflow, Streams}
 use Rattle.uc_worker.specs.Going.{Continues}
 use Rattle.uc_worker.specs.declared.worker.Worker.{Worker}
@@ -40,10 +43,18 @@ takes_same takes_self a conn worker streams one two three =
 not_ended : (b : Scene) → b.conn.is_closed ≡ false → ¬ (IsDone b.conn) → ¬ (HasEnded b.conn)
 not_ended b opened going = ⊎_elim (λ (closed : b.conn.is_closed ≡ true). let no : true ≡ false = sym closed ∙ opened in cc) going
 
+-- a request that awaits the next log isn't taken
+unfinished : (conn : Conn) (worker : Worker) → AwaitsLog conn worker → ¬ (IsDone conn)
+unfinished conn worker awaits done =
+    let none : logs_next conn ≡ false = ap (λ waiting. option_map_or (λ (one : Request). is_logged (demand_of conn.role one)) waiting false) done.1.0 in
+    let no : true ≡ false = sym awaits.0 ∙ none in cc
+
 stands_going : TakesNothing → (a b : Scene) (state : State) → b.conn.is_closed ≡ false → PullsOnce a.streams.input b.streams.input → Turns a b state → Stands a b state
 stands_going takes_self a b Closed opened once turns = inr turns.state_is
 stands_going takes_self a b Idle opened once turns = record { going = not_ended b opened turns.state_is.0; between = a; earlier = takes_self a; once = once; last = turns }
 stands_going takes_self a b Busy opened once turns = record { going = not_ended b opened turns.state_is.0; between = a; earlier = takes_self a; once = once; last = turns }
+stands_going takes_self a b Full opened once turns =
+    record { going = not_ended b opened (unfinished b.conn b.worker turns.state_is); between = a; earlier = takes_self a; once = once; last = turns }
 
 -- the state that a turn returned
 abbrev pub state_answered : Result State Fault → State
@@ -111,6 +122,7 @@ pub stands_later : TakeOn → (a b c : Scene) (state : State) → Takes a b → 
 stands_later takes_trans a b c Closed one two stands = stands
 stands_later takes_trans a b c Idle one two stands = stays_later takes_trans a b c Idle one stands
 stands_later takes_trans a b c Busy one two stands = stays_later takes_trans a b c Busy one stands
+stands_later takes_trans a b c Full one two stands = stays_later takes_trans a b c Full one stands
 
 -- a turn pulls once at most
 pub once_few : (before after : Inflow) → PullsOnce before after → length after.events ≤ 1 + length before.events

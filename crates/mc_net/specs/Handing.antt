@@ -3,16 +3,16 @@ use Rattle.std.specs.Prelude.{◌≡◌, ℕ, ◌+◌, ◌%◌, ◌^◌, List, S
 use Rattle.mc_net.specs.declared.handing.Accepted.{Accepted}
 use Rattle.mc_net.specs.declared.handing.Accepted.TheVariants.{One, None as NoneWaits, Failed}
 use Rattle.mc_net.specs.declared.listener.Arrival.{Arrival}
-use Rattle.mc_net.specs.declared.listener.TenantListener.{TenantListener}
+use Rattle.mc_net.specs.declared.listener.RoleListener.{RoleListener}
 
 -- the number of the place that receives the next stream after `done` streams, round-robin
 abbrev pub turn_of : ℕ → ℕ → ℕ
 turn_of done places = done % places
 
--- the arrival is a stream that the listener accepted, for the listener's tenant
-pub record IsArrivalOf {L S : Type 0} (accepted_by : L → S → Type 0) (listener : TenantListener L)
+-- the arrival is a stream that the listener accepted, of the listener's role
+pub record IsArrivalOf {L S : Type 0} (accepted_by : L → S → Type 0) (listener : RoleListener L)
     (arrival : Arrival S) : Type 0 where
-  pub tenant : arrival.tenant ≡ listener.tenant
+  pub role : arrival.role ≡ listener.role
   pub accepted : accepted_by listener.socket arrival.stream
 
 -- the place that is next after `done` streams has received the arrival
@@ -22,10 +22,10 @@ pub record IsHanded {P S : Type 0} (received : P → Arrival S → Type 0) (plac
   pub turn : slice_get places (turn_of done (length places)) ≡ Some place
   pub has : received place arrival
 
--- a stream that the listener accepted was handed, as one of the listener's tenant, to the place
+-- a stream that the listener accepted was handed, as one of the listener's role, to the place
 -- that is next
 pub record IsPassed {L P S : Type 0} (accepted_by : L → S → Type 0)
-    (received : P → Arrival S → Type 0) (listener : TenantListener L) (places : List P)
+    (received : P → Arrival S → Type 0) (listener : RoleListener L) (places : List P)
     (done : ℕ) : Type 0 where
   pub arrival : Arrival S
   pub of : IsArrivalOf accepted_by listener arrival

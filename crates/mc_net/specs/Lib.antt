@@ -1,5 +1,6 @@
 pub mod Asking
 pub mod Beginning
+pub mod Counting
 pub mod Handing
 pub mod Life
 pub mod Running

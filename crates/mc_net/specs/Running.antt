@@ -2,15 +2,16 @@
 use Rattle.std.specs.Prelude.{◌≡◌, ◌<◌, ℕ, List, [], ◌∷◌, All, length, map, slice_index_or, IfOk, Ok}
 use Rattle.uc_log.specs.declared.log.Log.{Log}
 use Rattle.mc_net.specs.declared.event_loop.EventLoop.{EventLoop}
-use Rattle.mc_net.specs.declared.listener.TenantListener.{TenantListener}
+use Rattle.mc_net.specs.declared.listener.RoleListener.{RoleListener}
+use Rattle.mc_conn.specs.declared.conn.Role.{Role}
 use Rattle.mc_net.specs.Working.{HasWorked, IsNewFor, standing_at}
 use Rattle.mc_net.specs.declared.worker_thread.Returned.{Returned}
 use Rattle.mc_net.specs.declared.worker_thread.WorkerThread.{WorkerThread}
 use Rattle.uc_worker.specs.declared.worker.Worker.{Worker}
 
--- the tenant and the listener of each
-abbrev pub listeners_of : {L : Type 0} → List (TenantListener L) → List (ℕ × L)
-listeners_of listeners = map (λ listener. (listener.tenant, listener.socket)) listeners
+-- the role and the listener of each
+abbrev pub listeners_of : {L : Type 0} → List (RoleListener L) → List (Role × L)
+listeners_of listeners = map (λ listener. (listener.role, listener.socket)) listeners
 
 -- the worker of each thread
 abbrev pub workers_of : {G : Type 0} → List (WorkerThread G) → List Worker

@@ -2,9 +2,8 @@
 use Rattle.std.specs.Prelude.{◌≡◌, ◌≢◌, ◌⊎◌, ℕ, ◌+◌, ◌≤◌, true, false, List, [], ◌∷◌, length, Option, Some, None}
 use Rattle.slab.specs.Slab.{Updates, get}
 use Rattle.mc_conn.specs.declared.conn.Conn.{Conn}
-use Rattle.mc_conn.specs.declared.conn.Role.TheVariants.{Tenant}
 use Rattle.mc_conn.specs.declared.conn.State.{State}
-use Rattle.mc_conn.specs.declared.conn.State.TheVariants.{Closed, Idle, Busy}
+use Rattle.mc_conn.specs.declared.conn.State.TheVariants.{Closed, Idle, Busy, Full}
 use Rattle.mc_conn.specs.Ending.{IsDone, PullsOnce, Stops, Turns}
 use Rattle.mc_conn.specs.Held.{nothing_held}
 use Rattle.mc_conn.specs.Turn.{Scene, Takes, holding_of, queue_of, scene}
@@ -35,7 +34,7 @@ scene_of connection worker =
 -- the arrival's connection, on which nothing has come and nothing was sent
 pub record IsNewConnection (connection : Connection) (arrival : Arrival _) : Type 0 where
   pub stream : connection.stream ≡ arrival.stream
-  pub role : connection.conn.role ≡ Tenant arrival.tenant
+  pub role : connection.conn.role ≡ arrival.role
   pub holding : holding_of connection.conn ≡ nothing_held connection.conn.role
   pub queue : queue_of connection.conn ≡ []
   pub going : (connection.conn.has_ended ≡ false) × (connection.conn.is_over ≡ false)
@@ -71,11 +70,12 @@ pub record Stays (before after : Scene) (state : State) : Type 0 where
   pub last : Turns between after state
 
 -- what a connection's state after its turns means: it has ended; or it hasn't, and the last of them
--- found nothing to do, or did something
+-- found nothing to do, or did something; none leaves a command to another log
 abbrev pub Stands : Scene → Scene → State → Type 0
 Stands before after Closed = HasEnded after.conn
 Stands before after Idle = Stays before after Idle
 Stands before after Busy = Stays before after Busy
+Stands before after Full = Stays before after Full
 
 -- there are at most this many more pulls or pushes
 abbrev pub HasAtMost : ℕ → List Event → List Event → Type 0

@@ -3,9 +3,10 @@ ghost use Rattle.std.specs.Prelude.{◌≡◌, IfOk, MatchResult};
 ghost use Rattle.mc_net.specs.Beginning.{HaltsServing};
 
 use crate::beginning::Begin;
+use crate::connections::is_admin;
 use crate::halt::Halt;
 use crate::handing::{Accepted, accept_one};
-use crate::listener::TenantListener;
+use crate::listener::RoleListener;
 use crate::mailbox::{Mailboxes, Signal};
 use mc_model::Fault;
 use mio::net::TcpListener;
@@ -32,10 +33,12 @@ const POLLS_TO_BEGIN: u32 = 10_000;
 /// The listeners, and the poll that reports their streams.
 #[derive(Drop)]
 pub(crate) struct Acceptor {
-    pub(crate) listeners: Vec<TenantListener<TcpListener>>,
+    pub(crate) listeners: Vec<RoleListener<TcpListener>>,
     poll: Poll,
     events: Events,
-    // How many streams have been accepted, and how many are to be; 0 for no end.
+    // How many streams have been handed over, of tenants and administrators.
+    handed: u64,
+    // How many of tenants have been, and how many are to be; 0 for no end.
     done: u64,
     most: u64,
     // How many rounds there were. Each begins one listener after the one at which the last began.
@@ -53,7 +56,7 @@ impl Acceptor {
     pub(crate) fn new(
         alloc: Global,
         poll: Poll,
-        listeners: Vec<TenantListener<TcpListener>>,
+        listeners: Vec<RoleListener<TcpListener>>,
         most: u64,
     ) -> Result<Acceptor, Halt>
         ensures { IfOk result (λ acceptor. acceptor.listeners ≡ listeners) }
@@ -63,6 +66,7 @@ impl Acceptor {
             listeners,
             poll,
             events,
+            handed: 0,
             done: 0,
             most,
             rounds: 0,
@@ -94,7 +98,12 @@ impl Acceptor {
             let Some(open) = self.listeners.get(number) else {
                 return Ok(());
             };
-            match accept_one(rt, open, &mailboxes.of_workers, &mut self.done)? {
+            let counts = !is_admin(&open.role);
+            let mut handed = self.handed;
+            let accepted = accept_one(rt, open, &mailboxes.of_workers, &mut handed)?;
+            self.handed = handed;
+            match accepted {
+                Accepted::One if counts => self.done = self.done.wrapping_add(1),
                 Accepted::One => {}
                 Accepted::None => return Ok(()),
                 Accepted::Failed => {
@@ -193,8 +202,8 @@ impl Acceptor {
         Ok(())
     }
 
-    /// Accepts until `most` streams were handed over or another loop has failed, and then signals
-    /// to the workers that no more come.
+    /// Accepts until `most` streams of tenants were handed over or another loop has failed, and
+    /// then signals to the workers that no more come.
     ///
     /// Returns the errors of `poll_and_accept`, and `Poll` if a worker can't be woken.
     fn accept_all<R: Wait>(&mut self, rt: &R, mailboxes: &Mailboxes) -> Result<(), Halt>

@@ -8,7 +8,7 @@ ghost use Rattle.mc_stream.specs.Stream.{both};
 ghost use Rattle.uc_worker.specs.Worker.{tenants_of};
 
 use crate::closing::Closing;
-use crate::connections::{Connection, Connections, MOST_CONNECTIONS};
+use crate::connections::{Connection, Connections, is_admin, is_among};
 use crate::listener::Arrival;
 use crate::socket::{SocketReader, SocketWriter};
 use mc_conn::{Conn, PULL_BYTES, State};
@@ -88,7 +88,8 @@ impl Connections {
     /// Admits an arrival as a connection. Returns its key, which is also the token of its events.
     ///
     /// Closes the stream without sending a byte and returns `None` if there are `MOST_CONNECTIONS`
-    /// already, the stream can't be registered, or the log has no such tenant. Needs no memory.
+    /// of tenants, or `MOST_ADMINS` of administrators, already, the stream can't be registered, or
+    /// the log has no such role. Needs no memory.
     pub(crate) fn admit(
         &mut self,
         alloc: Global,
@@ -98,10 +99,10 @@ impl Connections {
         ensures admits { IfSome result (Admits self.old self.new arrival) }
         ensures same { IfNone result (self.new ≡ self.old) }
     {
-        let Arrival { tenant, mut stream } = arrival;
+        let Arrival { role, mut stream } = arrival;
+        let is_of_admin = is_admin(&role);
         // The queue is behind a lock, so nothing is proved about what comes out of it.
-        let is_known = usize::from(tenant.number()) < self.tenants;
-        if self.by_key.len() >= MOST_CONNECTIONS || !is_known {
+        if !self.has_place(is_of_admin) || !is_among(&role, self.tenants) {
             return None;
         }
         let token = Token(self.by_key.vacant_key());
@@ -111,10 +112,11 @@ impl Connections {
         }
         let connection = Connection {
             stream,
-            conn: Conn::new(alloc, tenant),
+            conn: Conn::of(alloc, role),
             received: Tape::new(),
             sent: Tape::new(),
         };
+        self.admins += usize::from(is_of_admin);
         Some(self.by_key.insert_reserved(connection))
     }
 
@@ -141,6 +143,7 @@ impl Connections {
             let Some(connection) = self.by_key.try_remove(key) else {
                 unreachable!();
             };
+            self.admins -= usize::from(is_admin(connection.conn.role()));
             self.ended = self.ended.and(&connection);
             closing.keep(connection.stream, buffer);
         }

@@ -8,11 +8,12 @@ use crate::accepting::Acceptor;
 use crate::beginning::Begin;
 use crate::event_loop::EventLoop;
 use crate::halt::Halt;
-use crate::listener::TenantListener;
+use crate::listener::RoleListener;
 use crate::mailbox::{Mailbox, Mailboxes};
 use crate::running::{first_failure, parted, run_all, threads_of};
 use crate::worker_thread::Returned;
-use mc_model::{Fault, TenantId};
+use mc_conn::Role;
+use mc_model::Fault;
 use mio::Poll;
 use mio::net::TcpListener;
 use std::alloc::Global;
@@ -68,31 +69,31 @@ fn new_event_loops<R: Net>(
     Ok((mailboxes, event_loops))
 }
 
-/// Returns these listeners with their tenants, in order.
+/// Returns these listeners with their roles, in order.
 ///
 /// Returns `Memory` if memory runs out.
-fn tenant_listeners(
+fn role_listeners(
     alloc: Global,
-    listeners: Vec<(TenantId, TcpListener)>,
-) -> Result<Vec<TenantListener<TcpListener>>, Halt>
+    listeners: Vec<(Role, TcpListener)>,
+) -> Result<Vec<RoleListener<TcpListener>>, Halt>
     ensures { IfOk result (λ all. listeners_of all.items ≡ listeners.items) }
 {
     let mut all = Vec::new(alloc);
-    for (tenant, socket) in listeners {
-        all.push(TenantListener { tenant, socket })?;
+    for (role, socket) in listeners {
+        all.push(RoleListener { role, socket })?;
     }
     Ok(all)
 }
 
 impl Front {
     /// Returns the front of these listeners, for this many workers of a log of this many tenants.
-    /// It is to accept `connections` streams; 0 for no end.
+    /// It is to accept `connections` streams of tenants; 0 for no end.
     ///
     /// Returns `Memory` if memory runs out, and `Poll` if a poll or a mailbox can't be made.
     pub(crate) fn new<R: Net>(
         rt: &R,
         alloc: Global,
-        listeners: Vec<(TenantId, TcpListener)>,
+        listeners: Vec<(Role, TcpListener)>,
         connections: u64,
         workers: usize,
         tenants: usize,
@@ -105,7 +106,7 @@ impl Front {
     {
         let (of_workers, event_loops) = new_event_loops(rt, alloc, workers, tenants)?;
         let (poll, of_acceptor) = new_poll(rt, alloc)?;
-        let listeners = tenant_listeners(alloc, listeners)?;
+        let listeners = role_listeners(alloc, listeners)?;
         let acceptor = Acceptor::new(alloc, poll, listeners, connections)?;
         let mailboxes = Mailboxes {
             of_workers,

@@ -4,7 +4,7 @@ ghost use Rattle.mc_net.specs.declared.listener.Arrival.{Arrival};
 ghost use Rattle.mc_net.specs.Handing.{IsHanded, IsPassed, count_after};
 
 use crate::halt::Halt;
-use crate::listener::{Arrival, Listen, TenantListener};
+use crate::listener::{Arrival, Listen, RoleListener};
 use std::io::ErrorKind;
 use std::sync::Wait;
 
@@ -52,7 +52,7 @@ pub enum Accepted {
 /// Returns the errors of `hand_over`.
 pub fn accept_one<R: Wait, L: Listen, P: Receive<L::Stream>>(
     rt: &R,
-    listener: &TenantListener<L>,
+    listener: &RoleListener<L>,
     places: &[P],
     done: &mut u64,
 ) -> Result<Accepted, Halt>

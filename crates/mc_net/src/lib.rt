@@ -1,4 +1,5 @@
-//! The network: an acceptor takes the streams of each tenant's listeners and hands them to the
+//! The network: an acceptor takes the streams of the tenants' and the
+//! administrators' listeners and hands them to the
 //! workers round-robin; each worker serves its connections in a thread of its own until they end;
 //! and then the workers come back. Begin with `serve`.
 //!
@@ -13,7 +14,7 @@ pub use beginning::Begin;
 pub use ended::Ended;
 pub use halt::Halt;
 pub use handing::{Accepted, Receive, accept_one, hand_over};
-pub use listener::{Arrival, Listen, TenantListener};
+pub use listener::{Arrival, Listen, RoleListener};
 pub use serving::{into_workers, serve};
 pub use worker_thread::Returned;
 

@@ -1,10 +1,11 @@
-//! Listeners, each with its tenant.
+//! Listeners, each with the role of those who connect there.
 ghost use Rattle.std.specs.Prelude.{⊤, IfOk};
 ghost use Rattle.mc_net.specs.Handing.{IsArrivalOf};
 
-use mc_model::TenantId;
+use mc_conn::Role;
 use mio::net::{TcpListener, TcpStream};
 use std::io;
+use std::io::ErrorKind;
 
 /// Accepts streams.
 pub trait Listen {
@@ -35,32 +36,34 @@ impl Listen for TcpListener {
     }
 }
 
-/// A listener, and the tenant that owns its streams.
+/// A listener, and the role of those who connect there: a tenant, or an administrator.
 #[derive(Drop)]
-pub struct TenantListener<L> {
-    pub tenant: TenantId,
+pub struct RoleListener<L> {
+    pub role: Role,
     pub socket: L,
 }
 
-/// A stream, and the tenant that owns it.
+/// A stream, and the role of its client.
 #[derive(Drop)]
 pub struct Arrival<S> {
-    pub tenant: TenantId,
+    pub role: Role,
     pub stream: S,
 }
 
-impl<L: Listen> TenantListener<L> {
-    /// Accepts a stream for the listener's tenant.
+impl<L: Listen> RoleListener<L> {
+    /// Accepts a stream of the listener's role.
     ///
-    /// Returns the listener's errors.
+    /// Returns the listener's errors, and one of the kind `OutOfMemory` if the role can't be shared
+    /// once more.
     pub fn accept(&self) -> io::Result<Arrival<L::Stream>>
         ensures { IfOk result (IsArrivalOf L.accepted_by self.now) }
     {
+        let role = match self.role.share() {
+            Ok(role) => role,
+            Err(_) => return Err(io::Error::from(ErrorKind::OutOfMemory)),
+        };
         match self.socket.accept_stream() {
-            Ok(stream) => Ok(Arrival {
-                tenant: self.tenant,
-                stream,
-            }),
+            Ok(stream) => Ok(Arrival { role, stream }),
             Err(error) => Err(error),
         }
     }

@@ -4,7 +4,7 @@ ghost use Rattle.mc_net.specs.Working.{IsNewFor, Works, standing};
 ghost use Rattle.uc_worker.specs.Worker.{tenants_of};
 
 use crate::closing::{Closing, place_of};
-use crate::connections::{Connections, MOST_CONNECTIONS};
+use crate::connections::{Connections, MOST_OF_ALL};
 use crate::halt::Halt;
 use crate::mailbox::WAKER;
 use mc_conn::{PULL_BYTES, State};
@@ -41,8 +41,8 @@ impl ReadyQueue {
     {
         let mut again = Vec::new(alloc);
         let mut next = Vec::new(alloc);
-        again.reserve(MOST_CONNECTIONS)?;
-        next.reserve(MOST_CONNECTIONS)?;
+        again.reserve(MOST_OF_ALL)?;
+        next.reserve(MOST_OF_ALL)?;
         let connections = Connections::new(alloc, tenants)?;
         let closing = Closing::new(alloc)?;
         Ok(ReadyQueue {

@@ -2,6 +2,7 @@
 ghost use Rattle.std.specs.List.{AllZip};
 ghost use Rattle.std.specs.Prelude.{◌≡◌, ◌<◌, All, IfErr, IfOk, length, map, vec_len};
 ghost use Rattle.uc_worker.specs.Going.{Continues};
+ghost use Rattle.mc_conn.specs.Owed.{IsAmong};
 ghost use Rattle.mc_net.specs.Asking.{HasBeenAsked};
 ghost use Rattle.mc_net.specs.Beginning.{HaltsServing};
 ghost use Rattle.mc_net.specs.Life.{HasAnswered};
@@ -11,7 +12,8 @@ ghost use Rattle.mc_net.specs.Working.{HasServed};
 use crate::beginning::Begin;
 use crate::front::Front;
 use crate::worker_thread::Returned;
-use mc_model::{Fault, TenantId};
+use mc_conn::Role;
+use mc_model::Fault;
 use mio::net::TcpListener;
 use std::alloc::{AllocError, Global};
 use std::net::Net;
@@ -36,13 +38,14 @@ pub fn into_workers<'a>(
     Ok(workers)
 }
 
-/// Serves the tenants' listeners with these workers of the log, each in a thread of its own if one
-/// can be made.
+/// Serves these listeners with these workers of the log, each in a thread of its own if one can be
+/// made.
 ///
-/// A stream is a connection of its listener's tenant, and streams go to the workers round-robin.
-/// With `connections` above 0, serving ends once this many streams were accepted and all of them
-/// have ended: the workers are returned in their order, each with the connections that it has
-/// served. With 0 it doesn't end. A fault of a connection ends that one alone.
+/// A stream is a connection of its listener's role, a tenant or an administrator, and streams go to
+/// the workers round-robin. With `connections` above 0, serving ends once this many streams of
+/// tenants were accepted and every connection has ended: the workers are returned in their order,
+/// each with the connections that it has served. With 0 it doesn't end. A fault of a connection ends
+/// that one alone.
 ///
 /// When every worker's loop has begun and before anything is accepted, `begin` is called, once, with
 /// the state. Returns `Memory` if a loop doesn't begin within about ten seconds, for example because
@@ -54,7 +57,7 @@ pub fn serve<'a, R: Threads + Wait + Net + Sync, G: Gate + Send + Drop, B: Begin
     alloc: Global,
     log: &'a Log,
     workers: Vec<Worker<'a>>,
-    listeners: Vec<(TenantId, TcpListener)>,
+    listeners: Vec<(Role, TcpListener)>,
     connections: u64,
     gates: Vec<G>,
     begin: &B,
@@ -62,8 +65,8 @@ pub fn serve<'a, R: Threads + Wait + Net + Sync, G: Gate + Send + Drop, B: Begin
 ) -> Result<Vec<Returned<'a>>, Fault>
     requires some { (0 < vec_len workers) × (0 < vec_len listeners) }
     requires logs { All (λ worker. worker.log.now ≡ log.now) workers.items }
-    requires tenants { All
-        (λ listener. listener.0 < length log.now.settings.tenants) listeners.items }
+    requires roles { All
+        (λ listener. IsAmong listener.0 (length log.now.settings.tenants)) listeners.items }
     requires gates { vec_len gates ≡ vec_len workers }
     // Each worker that comes back is the same one, later on.
     ensures back { IfOk result

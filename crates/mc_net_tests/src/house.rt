@@ -1,9 +1,12 @@
-//! Tenants who are served over sockets on loopback.
-ghost use Rattle.std.specs.Prelude.{◌≡◌, ◌<◌, ℕ, ⊤, All, IfOk, Some, length, slice_get};
+//! Tenants and administrators who are served over sockets on loopback.
+ghost use Rattle.std.proofs.Props.{props};
+ghost use Rattle.std.specs.Prelude.{◌≡◌, ℕ, ⊤, All, IfOk, Some, length, slice_get};
+ghost use Rattle.mc_conn.specs.Owed.{IsAmong, IsAmong-prop};
 ghost use Rattle.uc_log.specs.Passes.{IsUnusedPass};
 
 use crate::signals::Holding;
-use mc_model::{Fault, Limits, Settings, TenantId};
+use mc_conn::Role;
+use mc_model::{Fault, Limits, Names, Settings, TenantId};
 use mc_net::{Begin, into_workers, serve};
 use mio::net::TcpListener;
 use std::alloc::{AllocError, Global};
@@ -19,12 +22,20 @@ use uc_worker::Worker;
 /// How many places each log has.
 const PLACES: u64 = 1_024;
 
-/// The quotas of all tenants, and the listeners of each that has any.
+/// The quotas of all tenants, the listeners of each that has any, and those of administrators.
 #[derive(Drop)]
 pub(crate) struct House {
     quotas: Vec<Limits>,
-    listeners: Vec<(TenantId, TcpListener)>,
-    ghost known: { All (λ listener. listener.0 < length quotas.items) listeners.items },
+    listeners: Vec<(Role, TcpListener)>,
+    ghost known: { All (λ listener. IsAmong listener.0 (length quotas.items)) listeners.items } by { Prim.hlevel (props, IsAmong-prop) },
+}
+
+/// Returns a listener at a free port, and its address.
+fn bound<R: Net>(rt: &R) -> io::Result<(TcpListener, SocketAddr)> {
+    let any = SocketAddr::from((Ipv4Addr::LOCALHOST, 0));
+    let listener = TcpListener::bind(rt, any)?;
+    let address = listener.local_addr()?;
+    Ok((listener, address))
 }
 
 impl House {
@@ -43,10 +54,19 @@ impl House {
             Some(tenant) if usize::from(number) < self.quotas.len() => tenant,
             _ => return Err(io::Error::from(ErrorKind::InvalidInput)),
         };
-        let any = SocketAddr::from((Ipv4Addr::LOCALHOST, 0));
-        let listener = TcpListener::bind(rt, any)?;
-        let address = listener.local_addr()?;
-        self.listeners.push((tenant, listener))?;
+        let (listener, address) = bound(rt)?;
+        self.listeners.push((Role::Tenant(tenant), listener))?;
+        Ok(address)
+    }
+
+    /// Listens for administrators at a free port, to whom the tenants have these names, and returns
+    /// its address.
+    pub(crate) fn listen_admin<R: Net>(&mut self, rt: &R, names: Names) -> io::Result<SocketAddr> {
+        if names.len() != self.quotas.len() {
+            return Err(io::Error::from(ErrorKind::InvalidInput));
+        }
+        let (listener, address) = bound(rt)?;
+        self.listeners.push((Role::Admin(names), listener))?;
         Ok(address)
     }
 }
@@ -125,7 +145,7 @@ impl Begin<u32> for Counting {
     }
 }
 
-/// Serves `connections` connections by as many workers as there are gates, and returns the number
+/// Serves `connections` connections of tenants by as many workers as there are gates, and returns the number
 /// of each entry's tenant, in the log's order.
 ///
 /// Returns `BadEvent` if serving didn't begin exactly once, or if the workers' histories differ.

@@ -4,6 +4,8 @@
 #![tactic(auto)]
 
 #[cfg(test)]
+mod admins;
+#[cfg(test)]
 mod apart;
 #[cfg(test)]
 mod clients;

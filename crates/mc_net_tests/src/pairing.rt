@@ -1,8 +1,9 @@
 //! Streams of listeners that are test doubles, at mailboxes that the test can look into.
 ghost use Rattle.std.specs.Prelude.{◌≡◌, ⊤, IfOk, OnOk};
 
-use mc_model::TenantId;
-use mc_net::{Accepted, Arrival, Halt, Listen, Receive, TenantListener, accept_one};
+use mc_conn::Role;
+use mc_model::{Name, Names, TenantId};
+use mc_net::{Accepted, Arrival, Halt, Listen, Receive, RoleListener, accept_one};
 use std::alloc::Global;
 use std::io;
 use std::io::ErrorKind;
@@ -27,7 +28,7 @@ impl Listen for Numbered {
     }
 }
 
-/// Keeps what it receives: each tenant's number and its stream.
+/// Keeps what it receives: each tenant's number, or 255 for an administrator, and its stream.
 #[derive(Drop)]
 struct Pigeonhole {
     kept: Mutex<Vec<(u8, u8)>>,
@@ -39,7 +40,11 @@ impl Receive<u8> for Pigeonhole {
     fn receive<R: Wait>(&self, rt: &R, arrival: Arrival<u8>) -> Result<(), Halt>
         ensures { OnOk result ⊤ }
     {
-        let pair = (arrival.tenant.number(), arrival.stream);
+        let number = match &arrival.role {
+            Role::Tenant(tenant) => tenant.number(),
+            Role::Admin(_) => u8::MAX,
+        };
+        let pair = (number, arrival.stream);
         self.kept.lock(rt).push(pair)?;
         Ok(())
     }
@@ -60,12 +65,12 @@ fn streams_go_round_with_their_tenants(rt: HostRuntime) -> Result<(), Fail> {
     let alloc = rt.alloc();
     let one = TenantId::new(3).ok_or("no tenant")?;
     let two = TenantId::new(5).ok_or("no tenant")?;
-    let first = TenantListener {
-        tenant: one,
+    let first = RoleListener {
+        role: Role::Tenant(one),
         socket: Numbered { number: 30 },
     };
-    let second = TenantListener {
-        tenant: two,
+    let second = RoleListener {
+        role: Role::Tenant(two),
         socket: Numbered { number: 50 },
     };
     let places = [hole(alloc), hole(alloc), hole(alloc)];
@@ -81,6 +86,27 @@ fn streams_go_round_with_their_tenants(rt: HostRuntime) -> Result<(), Fail> {
     assert!(rt; holds(&rt, &places[0], &[(3, 30), (3, 30)]));
     assert!(rt; holds(&rt, &places[1], &[(5, 50)]));
     assert!(rt; holds(&rt, &places[2], &[(3, 30)]));
+    Ok(())
+}
+
+#[test]
+fn an_administrators_streams_are_an_administrators(rt: HostRuntime) -> Result<(), Fail> {
+    let alloc = rt.alloc();
+    let mut names = Vec::new(alloc);
+    names.push(Name::new(alloc, b"shop")?.ok_or("no name")?)?;
+    let listener = RoleListener {
+        role: Role::Admin(Names::new(names)?),
+        socket: Numbered { number: 7 },
+    };
+    let places = [hole(alloc)];
+    let mut done = 0;
+    for _ in 0..2u8 {
+        assert_eq!(rt;
+            accept_one(&rt, &listener, &places, &mut done)?,
+            Accepted::One
+        );
+    }
+    assert!(rt; holds(&rt, &places[0], &[(u8::MAX, 7), (u8::MAX, 7)]));
     Ok(())
 }
 
@@ -103,9 +129,9 @@ impl Listen for Refusing {
 }
 
 /// Returns a tenant's listener that refuses for this reason.
-fn refusing_listener(tenant: TenantId, kind: ErrorKind) -> TenantListener<Refusing> {
-    TenantListener {
-        tenant,
+fn refusing_listener(tenant: TenantId, kind: ErrorKind) -> RoleListener<Refusing> {
+    RoleListener {
+        role: Role::Tenant(tenant),
         socket: Refusing { kind },
     }
 }
@@ -125,8 +151,8 @@ fn only_streams_are_counted(rt: HostRuntime) -> Result<(), Fail> {
     assert_eq!(rt; accept_one(&rt, &idle, &places, &mut done)?, Accepted::None);
     assert_eq!(rt; done, 1);
     assert!(rt; holds(&rt, &places[0], &[]) && holds(&rt, &places[1], &[]));
-    let open = TenantListener {
-        tenant,
+    let open = RoleListener {
+        role: Role::Tenant(tenant),
         socket: Numbered { number: 30 },
     };
     assert_eq!(rt; accept_one(&rt, &open, &places, &mut done)?, Accepted::One);

@@ -2,9 +2,10 @@
 use crate::clients::{Act, first_failure};
 use crate::house::{House, served};
 use crate::signals::{Holding, Signals};
-use mc_model::{Fault, Limits};
+use mc_model::{Fault, Limits, Name, Names};
 use std::alloc::{AllocError, Global};
 use std::io;
+use std::io::ErrorKind;
 use std::net::{Net, SocketAddr, TcpListener, TcpStream};
 use std::sync::Wait;
 use std::thread::{Threads, join};
@@ -19,7 +20,8 @@ pub(crate) const QUOTAS: Limits = Limits {
 #[derive(Clone, Copy)]
 pub(crate) struct Visit<'a> {
     pub(crate) quotas: &'a [Limits],
-    /// Which tenant each listener belongs to.
+    /// Which tenant each listener belongs to; administrators have one after these, at which a tenant
+    /// has a letter as its name.
     pub(crate) listeners: &'a [u8],
     pub(crate) workers: usize,
     pub(crate) acts: &'a [Act<'a>],
@@ -49,6 +51,18 @@ fn gates_of<'a>(
     Ok(gates)
 }
 
+/// The names of the tenants.
+const LETTERS: [&[u8]; 3] = [b"a", b"b", b"c"];
+
+/// Returns the first names, as many as these.
+fn names(alloc: Global, count: usize) -> Result<Names, Fault> {
+    let mut names = Vec::new(alloc);
+    for letter in LETTERS.iter().take(count) {
+        names.push(Name::new(alloc, letter)?.ok_or(Fault::BadSettings)?)?;
+    }
+    Names::new(names)
+}
+
 /// Returns the house of a visit, and the address of each listener.
 fn opened<R: Net>(rt: &R, alloc: Global, visit: Visit) -> io::Result<(House, Vec<SocketAddr>)> {
     let mut house = House::new(alloc, visit.quotas)?;
@@ -56,6 +70,10 @@ fn opened<R: Net>(rt: &R, alloc: Global, visit: Visit) -> io::Result<(House, Vec
     for tenant in visit.listeners {
         addresses.push(house.listen(rt, *tenant)?)?;
     }
+    let Ok(names) = names(alloc, visit.quotas.len()) else {
+        return Err(io::Error::from(ErrorKind::InvalidInput));
+    };
+    addresses.push(house.listen_admin(rt, names)?)?;
     Ok((house, addresses))
 }
 
@@ -75,7 +93,7 @@ where
     let connections = visit
         .acts
         .iter()
-        .filter(|act| matches!(act, Act::Connect(_)))
+        .filter(|act| matches!(act, Act::Connect(number) if *number < visit.listeners.len()))
         .count();
     let (tenants, failed) = join(
         rt,

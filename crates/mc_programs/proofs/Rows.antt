@@ -13,8 +13,9 @@ use Rattle.clap.specs.Faults.{fault_of}
 use Rattle.clap.specs.declared.error.kind.ErrorKind.TheVariants as kind
 use Rattle.clap.proofs.OnLiterals.{clap_on_literals}
 use Rattle.mc_conn.specs.declared.conn.TheConstants.{PULL_BYTES, QUEUE_BYTES}
-use Rattle.mc_programs.specs.Options.{limits_asked, places_asked, stdin_app}
+use Rattle.mc_programs.specs.Options.{generations_asked, limits_asked, places_asked, stdin_app}
 use Rattle.mc_conn.specs.Alone.{owed}
+use Rattle.mc_programs.specs.Serving.{owed_by_logs}
 use Rattle.mc_write.specs.Text.{text}
 
 -- a get that shows no item
@@ -39,6 +40,11 @@ full_log : owed plenty 1 (Logged (Store Set (codes "a") 0 []) true ∷ Logged (G
     ≡ codes "SERVER_ERROR log full\r\nERROR\r\n"
 full_log = refl
 
+-- two logs of one place owe what one log of two places owes
+two_logs : owed_by_logs plenty 1 2 (Logged (Store Set (codes "a") 0 []) true ∷ Logged (Store Set (codes "a") 0 []) true ∷ Logged (Get (codes "a" ∷ []) false) false ∷ [])
+    ≡ codes "SERVER_ERROR log full\r\n"
+two_logs = refl
+
 -- how much may be queued when a request is taken, and how much is pulled at once
 queue_bytes : QUEUE_BYTES ≡ 1048576
 queue_bytes = refl
@@ -50,6 +56,14 @@ pull_bytes = refl
 no_words : places_asked [] ≡ 65536
 unfolding clap_on_literals
 no_words = refl
+
+no_generations : generations_asked [] ≡ 1
+unfolding clap_on_literals
+no_generations = refl
+
+three_logs : generations_asked (codes "--places=2" ∷ codes "--generations" ∷ codes "3" ∷ []) ≡ 3
+unfolding clap_on_literals
+three_logs = refl
 
 no_quotas : limits_asked [] ≡ plenty
 unfolding clap_on_literals

@@ -1,4 +1,5 @@
 pub mod Faults
+pub mod Generations
 pub mod Lists
 pub mod Options
 pub mod Opening

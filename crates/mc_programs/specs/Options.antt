@@ -10,23 +10,30 @@ use Rattle.mc_model.specs.declared.fault.Fault.TheVariants.{BadSettings}
 use Rattle.mc_model.specs.declared.settings.Limits.{Limits}
 use Rattle.mc_model.specs.declared.settings.TheConstants.{MAX_PLACES}
 use Rattle.mc_programs.specs.declared.options.StdinOptions.{StdinOptions}
+use Rattle.mc_programs.specs.declared.options.TheConstants.{MAX_GENERATIONS}
 use Rattle.mc_programs.specs.Faults.{fault_line}
-use Rattle.mc_programs.specs.Serving.{ServesClient, StopsService}
+use Rattle.mc_programs.specs.Serving.{ServesByLogs, StopsService}
 use Rattle.mc_programs.specs.Words.{FailsToShow, ShowsHelp, TellsMistake, bare_app, number_asked, number_rule}
 use Rattle.mc_stream.specs.Pushing.{PushesOrFails}
 use Rattle.mc_stream.specs.Stream.{Outflow, Streams}
 
--- the command: `--places`, `--items` and `--bytes`
+-- the command's options on its logs: `--places` and `--generations`
+abbrev pub log_app : App
+log_app =
+    with_rule (with_rule (bare_app (codes "mc_stdin")) (number_rule (codes "places")))
+    (number_rule (codes "generations"))
+
+-- the command: these, `--items` and `--bytes`
 abbrev pub stdin_app : App
 stdin_app =
-    with_rule
-    (with_rule (with_rule (bare_app (codes "mc_stdin")) (number_rule (codes "places")))
-    (number_rule (codes "items")))
-    (number_rule (codes "bytes"))
+    with_rule (with_rule log_app (number_rule (codes "items"))) (number_rule (codes "bytes"))
 
--- how many places the words ask for, and which quotas
+-- how many places the words ask for, how many logs, and which quotas
 abbrev pub places_asked : List Text → ℕ
 places_asked words = number_asked stdin_app (codes "places") 65536 words
+
+abbrev pub generations_asked : List Text → ℕ
+generations_asked words = number_asked stdin_app (codes "generations") 1 words
 
 abbrev pub limits_asked : List Text → Limits
 limits_asked words = record {
@@ -34,9 +41,11 @@ limits_asked words = record {
   bytes = number_asked stdin_app (codes "bytes") 67108864 words;
 }
 
--- the numbers of places, items and bytes are in their ranges
+-- the numbers of places, logs, items and bytes are in their ranges
 abbrev pub IsInRange : List Text → Type 0
-IsInRange words = IsBetween 1 MAX_PLACES (places_asked words) × AreLawfulLimits (limits_asked words)
+IsInRange words =
+    IsBetween 1 MAX_PLACES (places_asked words)
+    × IsBetween 1 MAX_GENERATIONS (generations_asked words) × AreLawfulLimits (limits_asked words)
 
 -- the command takes the words, and the numbers are in their ranges
 abbrev pub AsksInRange : List Text → Type 0
@@ -50,27 +59,30 @@ AsksOutOfRange words = (fault_of stdin_app words ≡ []) × ¬ (IsInRange words)
 pub record StdinAsksFor (words : List Text) (options : StdinOptions) : Type 0 where
   pub taken : fault_of stdin_app words ≡ []
   pub places : options.places ≡ places_asked words
+  pub generations : options.generations ≡ generations_asked words
   pub limits : options.limits ≡ limits_asked words
 
 -- A run that failed met one fault; the client was given what that fault leaves it, the input and
 -- the output failed as it says, and it was reported.
-pub record Fails (limits : Limits) (places : ℕ) (before after : Streams)
+pub record Fails (limits : Limits) (places generations : ℕ) (before after : Streams)
     (errors_before errors : Outflow) : Type 0 where
   pub fault : Fault
-  pub stops : StopsService limits places before after fault
+  pub stops : StopsService limits places generations before after fault
   pub told : PushesOrFails (fault_line (codes "mc_stdin") fault) errors_before errors
 
 -- a client was served by the numbers that the words ask for, or help or the version was shown
 abbrev pub StdinEndsWell : List Text → Streams → Streams → Type 0
 StdinEndsWell words before after =
-    AsksInRange words × ServesClient (limits_asked words) (places_asked words) before after
+    AsksInRange words
+    × ServesByLogs (limits_asked words) (places_asked words) (generations_asked words) before after
     ⊎ ShowsHelp stdin_app words before after
 
 -- a fault ended the service, or kept the words from being read or answered, and was reported
 abbrev pub StdinEndsInFault : List Text → Streams → Streams → Outflow → Outflow → Type 0
 StdinEndsInFault words before after errors_before errors =
     AsksInRange words
-    × Fails (limits_asked words) (places_asked words) before after errors_before errors
+    × Fails (limits_asked words) (places_asked words) (generations_asked words) before after
+    errors_before errors
     ⊎ FailsToShow (codes "mc_stdin") stdin_app words before after errors_before errors
 
 -- a number is out of its range, or the words are a mistake, and that was reported

@@ -19,6 +19,7 @@ pub use waiting::push_all;
 pub use words::{answer_words, number, number_option, refuse_words, words_after_name};
 
 mod faults;
+mod generations;
 mod options;
 mod schedule;
 mod schedule_words;

@@ -3,7 +3,8 @@ ghost use Rattle.std.specs.Prelude.{◌≡◌, ◌↔◌, IfOk, IsTrue, MatchRes
 ghost use Rattle.clap.specs.Words.{HasKind, app_of, fault_of};
 ghost use Rattle.mc_model.specs.Settings.{AreLawfulLimits, IsBetween};
 ghost use Rattle.mc_model.specs.declared.settings.TheConstants.{MAX_PLACES};
-ghost use Rattle.mc_programs.specs.Options.{StdinAsksFor, stdin_app};
+ghost use Rattle.mc_programs.specs.declared.options.TheConstants.{MAX_GENERATIONS};
+ghost use Rattle.mc_programs.specs.Options.{StdinAsksFor, log_app, stdin_app};
 
 use crate::words::{number, number_option};
 use clap::{Command, Error};
@@ -14,16 +15,24 @@ use std::alloc::{AllocError, Global};
 /// How many places the log has by default.
 const DEFAULT_PLACES: u64 = 65_536;
 
+/// How many logs there are by default, one after another.
+const DEFAULT_GENERATIONS: u64 = 1;
+
+/// How many logs there may be, one after another.
+pub(crate) const MAX_GENERATIONS: u64 = 65_536;
+
 /// How many items a tenant's table may hold by default.
 const DEFAULT_ITEMS: u64 = 1_048_576;
 
 /// How many bytes the keys and data of a tenant's table may have by default.
 const DEFAULT_BYTES: u64 = 67_108_864;
 
-/// What the words of mc_stdin ask for: how many places its log has, and its tenant's quotas.
+/// What the words of mc_stdin ask for: how many places a log has, how many logs there are at most,
+/// and its tenant's quotas.
 #[derive(Clone, Copy, Debug, PartialEq, Eq)]
 pub(crate) struct StdinOptions {
     pub places: u64,
+    pub generations: u64,
     pub limits: Limits,
 }
 
@@ -31,10 +40,29 @@ impl StdinOptions {
     /// Returns whether the numbers are within their bounds.
     pub(crate) fn is_in_range(&self) -> bool
         ensures { IsTrue result ↔ IsBetween 1 MAX_PLACES self.now.places
+            × IsBetween 1 MAX_GENERATIONS self.now.generations
             × AreLawfulLimits self.now.limits }
     {
-        (1..=MAX_PLACES).contains(&self.places) && self.limits.are_lawful()
+        (1..=MAX_PLACES).contains(&self.places)
+            && (1..=MAX_GENERATIONS).contains(&self.generations)
+            && self.limits.are_lawful()
     }
+}
+
+/// Returns mc_stdin's command line without the options on its table.
+///
+/// Returns an error if memory runs out.
+fn log_command<'a>(alloc: Global) -> Result<Command<'a>, AllocError>
+    ensures { IfOk result (λ command. app_of command ≡ log_app) }
+{
+    let places = "How many commands a log takes, from 1 to 1048576 [default: 65536]";
+    let generations = "How many logs there are, one after another, from 1 to 65536 [default: 1]";
+    Command::new(alloc, "mc_stdin")
+        .no_binary_name(true)
+        .version("1.0.0")
+        .about("A memcached server for one client, from standard input to standard output")
+        .arg(number_option(alloc, "places", places))?
+        .arg(number_option(alloc, "generations", generations))
 }
 
 /// Returns the command line that mc_stdin takes.
@@ -43,14 +71,9 @@ impl StdinOptions {
 fn stdin_command<'a>(alloc: Global) -> Result<Command<'a>, AllocError>
     ensures { IfOk result (λ command. app_of command ≡ stdin_app) }
 {
-    let places = "How many commands are applied, from 1 to 1048576 [default: 65536]";
     let items = "How many items may be held, from 1 to 1048576 [default: 1048576]";
     let bytes = "How many bytes keys and data may have, from 1 to 1073741824 [default: 67108864]";
-    Command::new(alloc, "mc_stdin")
-        .no_binary_name(true)
-        .version("1.0.0")
-        .about("A memcached server for one client, from standard input to standard output")
-        .arg(number_option(alloc, "places", places))?
+    log_command(alloc)?
         .arg(number_option(alloc, "items", items))?
         .arg(number_option(alloc, "bytes", bytes))
 }
@@ -69,6 +92,7 @@ pub(crate) fn read_words(alloc: Global, words: &[String]) -> Result<StdinOptions
     };
     Ok(StdinOptions {
         places: number(&matches, "places").unwrap_or(DEFAULT_PLACES),
+        generations: number(&matches, "generations").unwrap_or(DEFAULT_GENERATIONS),
         limits,
     })
 }

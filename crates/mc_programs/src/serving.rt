@@ -1,12 +1,13 @@
-//! Serving one client with one worker, over a log of its own.
-ghost use Rattle.std.specs.Prelude.{◌≡◌, ◌⊎◌, IfErr, IfOk, MatchResult};
+//! Serving one client with one worker, over logs of its own.
+ghost use Rattle.std.specs.Prelude.{◌≡◌, ◌≤◌, ◌⊎◌, IfErr, IfOk, MatchResult};
 ghost use Rattle.mc_model.specs.Settings.{IsLawful};
 ghost use Rattle.mc_model.specs.declared.fault.Fault.TheVariants as faults;
-ghost use Rattle.mc_programs.specs.Serving.{ServesClient, StopsService, settings_alone};
+ghost use Rattle.mc_programs.specs.Serving.{ServesByLogs, StopsService, settings_alone};
 ghost use Rattle.mc_programs.specs.Opening.{IsOpened, RefusesToOpen};
 ghost use Rattle.mc_stream.specs.Stream.{both};
 
-use mc_conn::{Conn, pump};
+use crate::generations::serve_logs;
+use mc_conn::Conn;
 use mc_model::{Fault, Limits, Settings, TenantId, WireNo};
 use mc_stream::{Input, Output, push_while_taken};
 use mc_write::refusal_text;
@@ -14,7 +15,7 @@ use std::alloc::Global;
 use std::mem;
 use std::sync::Wait;
 use uc_log::{Log, Pass};
-use uc_worker::Worker;
+use uc_worker::Next;
 
 /// Opens a log with one worker, for one tenant.
 ///
@@ -45,7 +46,7 @@ fn first_tenant() -> TenantId
 
 /// Returns the fault. If memory ran out, that is reported to the client first, as far as the output
 /// takes it at once: no request was read then.
-fn refuse_to_open<O: Output>(fault: Fault, output: &mut O) -> Fault
+pub(crate) fn refuse_to_open<O: Output>(fault: Fault, output: &mut O) -> Fault
     ensures fault { result ≡ fault }
     ensures told { RefusesToOpen fault (O.tells output.old) (O.tells output.new) }
 {
@@ -55,7 +56,7 @@ fn refuse_to_open<O: Output>(fault: Fault, output: &mut O) -> Fault
     fault
 }
 
-/// What becomes of the memory of a client's table and commands after the client was served.
+/// What becomes of the memory of a client's last log and its commands after the client was served.
 #[derive(Clone, Copy)]
 pub(crate) enum Memory {
     /// It is freed, piece by piece.
@@ -64,51 +65,63 @@ pub(crate) enum Memory {
     Left,
 }
 
-/// Serves one client as `serve_client` does, but may leave the memory of the table and the commands
-/// to the operating system.
+impl Memory {
+    /// Returns whether the memory of a log is left that was served with this result: never if
+    /// another log follows.
+    pub(crate) fn is_left(self, served: &Result<Option<Next>, Fault>) -> bool {
+        matches!(self, Memory::Left) && !matches!(served, Ok(Some(_)))
+    }
+}
+
+/// Serves one client as `serve_client` does, but may leave the memory of the last log's commands to
+/// the operating system.
 pub(crate) fn serve_and_leave<R: Wait, I: Input, O: Output>(
     rt: &R,
     alloc: Global,
     limits: Limits,
     places: u64,
+    generations: u64,
     memory: Memory,
     input: &mut I,
     output: &mut O,
 ) -> Result<(), Fault>
+    requires generations { 1 ≤ generations }
     ensures outcome { MatchResult result
-        (λ _. ServesClient limits places (both (I.tells input.old) (O.tells output.old))
+        (λ _. ServesByLogs limits places generations (both (I.tells input.old) (O.tells output.old))
         (both (I.tells input.new) (O.tells output.new)))
-        (StopsService limits places (both (I.tells input.old) (O.tells output.old))
+        (StopsService limits places generations (both (I.tells input.old) (O.tells output.old))
         (both (I.tells input.new) (O.tells output.new))) }
 {
     let (log, pass) = match open_alone(alloc, limits, places) {
         Ok(opened) => opened,
         Err(fault) => return Err(refuse_to_open(fault, output)),
     };
-    let mut worker = match Worker::open(alloc, &log, pass) {
-        Ok(worker) => worker,
-        Err(fault) => return Err(refuse_to_open(fault, output)),
-    };
-
-    // The laws from which the outcome follows.
-    mc_read::laws::every_stream_reads();
-    mc_conn::laws::a_worker_alone_answers_in_order();
     let mut conn = Conn::new(alloc, first_tenant());
-    let served = pump(rt, &mut conn, &mut worker, input, output);
+    let served = serve_logs(
+        rt,
+        alloc,
+        log,
+        pass,
+        generations,
+        memory,
+        &mut conn,
+        input,
+        output,
+    );
     if let Memory::Left = memory {
         mem::forget(conn);
-        mem::forget(worker);
-        mem::forget(log);
     }
     served
 }
 
-/// Serves one client over a log of its own, until the input ends or a request ends the stream.
+/// Serves one client over logs of its own, until the input ends or a request ends the stream.
 ///
-/// The log has this many places, one worker, and one tenant with these quotas. The worker reads
-/// requests from the input, submits their commands, and pushes the replies; a command after the
-/// last place is answered `SERVER_ERROR log full`. An input that has nothing, and an output that is
-/// full, are asked again.
+/// Each log has this many places, one worker, and one tenant with these quotas. The worker reads
+/// requests from the input, submits their commands, and pushes the replies. When all places are
+/// taken and another command comes, the next log is opened over the table, up to `generations` of
+/// them; a command after the last place of the last one is answered `SERVER_ERROR log full`. That
+/// is so too where the next log can't be opened: memory runs out, or the changes of a whole log
+/// couldn't all get uniques. An input that has nothing and an output that is full are asked again.
 ///
 /// Returns `Memory` if memory runs out: the queued replies and then `SERVER_ERROR out of memory`
 /// are pushed, as far as the output takes them at once. Returns `Input` or `Output` if the input or
@@ -120,17 +133,27 @@ pub fn serve_client<R: Wait, I: Input, O: Output>(
     alloc: Global,
     limits: Limits,
     places: u64,
+    generations: u64,
     input: &mut I,
     output: &mut O,
 ) -> Result<(), Fault>
-
+    requires generations { 1 ≤ generations }
     // How the service ends, from the bytes that came in to the bytes that went out, and which fault
     // comes when.
     ensures outcome { MatchResult result
-        (λ _. ServesClient limits places (both (I.tells input.old) (O.tells output.old))
+        (λ _. ServesByLogs limits places generations (both (I.tells input.old) (O.tells output.old))
         (both (I.tells input.new) (O.tells output.new)))
-        (StopsService limits places (both (I.tells input.old) (O.tells output.old))
+        (StopsService limits places generations (both (I.tells input.old) (O.tells output.old))
         (both (I.tells input.new) (O.tells output.new))) }
 {
-    serve_and_leave(rt, alloc, limits, places, Memory::Freed, input, output)
+    serve_and_leave(
+        rt,
+        alloc,
+        limits,
+        places,
+        generations,
+        Memory::Freed,
+        input,
+        output,
+    )
 }

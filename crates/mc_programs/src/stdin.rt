@@ -19,17 +19,17 @@ const NAME: &[u8] = b"mc_stdin";
 ///
 /// Serves one client from the input to the output. The status is 0 if the input ended or a request
 /// ended the stream, and 1 if a fault ended the service, which is reported on `errors` as
-/// `mc_stdin: TEXT` and a line feed. `--places N` sets how many places the log has (by default
-/// 65,536), `--items N` how many items the table may hold (1,048,576), and `--bytes N` how many
-/// bytes its keys and data may have (67,108,864). A number out of its range is reported as
-/// `bad settings`, with status 2.
+/// `mc_stdin: TEXT` and a line feed. `--places N` sets how many places a log has (by default
+/// 65,536), `--generations N` how many logs there are at most, one after another (1), `--items N`
+/// how many items the table may hold (1,048,576), and `--bytes N` how many bytes its keys and data
+/// may have (67,108,864). A number out of its range is reported as `bad settings`, with status 2.
 ///
 /// Help and the version go to the output, with status 0, and a mistake in the words to `errors`,
 /// with status 2, as clap's text; running out of memory and a failure of the output are faults
 /// there too. Nothing is pulled then. A failure of `errors` is ignored.
 ///
-/// The program is expected to end afterwards: the memory of the table and the commands is left to
-/// the operating system.
+/// The program is expected to end afterwards: the memory of the last log's commands is left to the
+/// operating system.
 pub fn run_stdin<R: Wait, I: Input, O: Output, E: Output>(
     rt: &R,
     alloc: Global,
@@ -53,8 +53,17 @@ pub fn run_stdin<R: Wait, I: Input, O: Output, E: Output>(
         tell_fault(rt, NAME, Fault::BadSettings, errors);
         return 2;
     }
-    let (limits, places) = (options.limits, options.places);
-    match serve_and_leave(rt, alloc, limits, places, Memory::Left, input, output) {
+    let served = serve_and_leave(
+        rt,
+        alloc,
+        options.limits,
+        options.places,
+        options.generations,
+        Memory::Left,
+        input,
+        output,
+    );
+    match served {
         Ok(()) => 0,
         Err(fault) => fail(rt, NAME, fault, errors),
     }

@@ -4,6 +4,8 @@
 #![tactic(auto)]
 
 #[cfg(test)]
+mod administering;
+#[cfg(test)]
 mod programs;
 #[cfg(test)]
 mod reading;

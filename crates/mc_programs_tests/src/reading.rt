@@ -4,8 +4,8 @@ ghost use Rattle.std.specs.Prelude.{◌<◌};
 
 use crate::runs::{columns, joined};
 use itoa::Buffer;
-use mc_model::{Command, Data, Fault, Key, Reply, Request, Verb};
-use mc_read::Reader;
+use mc_model::{Command, Data, Fault, Key, Limits, Name, Reply, Request, Verb};
+use mc_read::{Reader, Speaker};
 use mc_write::refusal_text;
 use std::process::Abort;
 use std::test::Fail;
@@ -134,6 +134,12 @@ fn after_command<'a>(text: &'a [u8], command: &Command) -> Option<&'a [u8]> {
     }
 }
 
+/// Returns what follows the setting of quotas: its name, the tenant's name and the numbers.
+fn after_limit<'a>(text: &'a [u8], name: &Name, limits: &Limits) -> Option<&'a [u8]> {
+    let text = after_word(after(text, b"limit")?, name.as_bytes())?;
+    after_number(after_number(text, limits.items)?, limits.bytes)
+}
+
 fn after_reply<'a>(text: &'a [u8], reply: &Reply) -> Option<&'a [u8]> {
     match reply {
         Reply::Version => after(text, b"version\r\n"),
@@ -158,6 +164,14 @@ fn after_request<'a>(text: &'a [u8], request: &Request) -> Option<&'a [u8]> {
             after(after_command(after_quiet(text, *quiet)?, command)?, b"\r\n")
         }
         Request::Local { reply, quiet } => after_reply(after_quiet(text, *quiet)?, reply),
+        Request::Limit {
+            name,
+            limits,
+            quiet,
+        } => {
+            let text = after_limit(after_quiet(text, *quiet)?, name, limits)?;
+            after(text, b"\r\n")
+        }
         Request::Quit => after(text, b"quit\r\n"),
         Request::TooLong => after(text, b"line too long\r\n"),
     }
@@ -188,10 +202,22 @@ fn feed(reader: &mut Reader, piece: &[u8]) -> Result<(), Fault> {
     }
 }
 
+fn reader_of(rt: &impl AllocGlobal, speaker: Speaker) -> Reader {
+    match speaker {
+        Speaker::Tenant => Reader::new(rt.alloc()),
+        Speaker::Admin => Reader::admin(rt.alloc()),
+    }
+}
+
 impl<'a> Reading<'a> {
+    /// Returns a reading of a tenant's stream.
     fn new(rt: &impl AllocGlobal, text: &'a [u8]) -> Reading<'a> {
+        Reading::of(rt, Speaker::Tenant, text)
+    }
+
+    fn of(rt: &impl AllocGlobal, speaker: Speaker, text: &'a [u8]) -> Reading<'a> {
         Reading {
-            reader: Reader::new(rt.alloc()),
+            reader: reader_of(rt, speaker),
             text,
             agrees: true,
         }
@@ -246,9 +272,10 @@ impl<'a> Reading<'a> {
     }
 }
 
-/// A named stream, and a text of the requests that it reads as.
+/// A named stream of some speaker, and a text of the requests that it reads as.
 #[derive(Clone, Copy)]
 struct Case<'a> {
+    speaker: Speaker,
     name: &'a str,
     sent: &'a [u8],
     wanted: &'a [u8],
@@ -275,7 +302,7 @@ fn reads_in_pieces(
 ) -> Result<bool, Fault>
     requires { 0 < size }
 {
-    let mut reading = Reading::new(rt, case.wanted);
+    let mut reading = Reading::of(rt, case.speaker, case.wanted);
     read_pieces(&mut reading, case.sent, first, size)?;
     Ok(reading.is_done())
 }
@@ -310,15 +337,31 @@ fn check_cuts(
 
 /// Asserts that the stream reads as these requests, byte by byte, and cut in two at every place,
 /// its end included.
+pub(crate) fn check_of(
+    rt: &(impl AllocGlobal + Abort),
+    speaker: Speaker,
+    name: &str,
+    sent: &[u8],
+    wanted: &[u8],
+) -> Result<(), Fault> {
+    let case = Case {
+        speaker,
+        name,
+        sent,
+        wanted,
+    };
+    check_pieces(rt, case, 0, 1)?;
+    check_cuts(rt, case, 0, sent.len())
+}
+
+/// Does as `check_of` for a tenant's stream.
 fn check(
     rt: &(impl AllocGlobal + Abort),
     name: &str,
     sent: &[u8],
     wanted: &[u8],
 ) -> Result<(), Fault> {
-    let case = Case { name, sent, wanted };
-    check_pieces(rt, case, 0, 1)?;
-    check_cuts(rt, case, 0, sent.len())
+    check_of(rt, Speaker::Tenant, name, sent, wanted)
 }
 
 /// Does as `check` for a row: a name, a stream and its requests, with `|` between them.
@@ -589,7 +632,12 @@ fn check_long(
     sent: &[u8],
     wanted: &[u8],
 ) -> Result<(), Fault> {
-    let case = Case { name, sent, wanted };
+    let case = Case {
+        speaker: Speaker::Tenant,
+        name,
+        sent,
+        wanted,
+    };
     check_pieces(rt, case, 0, 1)?;
     check_sixty_fourths(rt, case)?;
     check_block_ends(rt, case)?;

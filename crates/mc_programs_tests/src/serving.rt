@@ -106,16 +106,24 @@ fn open(
     })
 }
 
-/// Serves a client on a log of this many places.
-fn serve_places(rt: &(impl Wait + AllocGlobal), places: u64, served: &mut Served) {
+/// Serves a client on up to so many logs of this many places.
+fn serve_logs(rt: &(impl Wait + AllocGlobal), places: u64, generations: u64, served: &mut Served)
+    requires { 1 ≤ generations }
+{
     served.result = serve_client(
         rt,
         rt.alloc(),
         LIMITS,
         places,
+        generations,
         &mut served.input,
         &mut served.output,
     );
+}
+
+/// Serves a client on one log of this many places.
+fn serve_places(rt: &(impl Wait + AllocGlobal), places: u64, served: &mut Served) {
+    serve_logs(rt, places, 1, served);
 }
 
 /// Serves a client that sends these bytes, with these steps.
@@ -543,6 +551,30 @@ fn a_full_log_refuses_commands_alone(rt: HostRuntime) -> Result<(), Fail> {
     let wanted = bytes_of(&rt, replies)?;
     let served = serve_two_places(&rt, sent.as_bytes())?;
     check_end(&rt, &served, Ok(()), &wanted)?;
+    Ok(())
+}
+
+/// What the requests of `FULL_LOG` get from three logs of two places: no command is refused.
+const THREE_LOGS: &[&str] = &[
+    "ERROR\r\n",
+    "VALUE a 7 1\r\nx\r\nEND\r\n",
+    "STORED\r\n",
+    "VALUE a 0 1\r\nx\r\nEND\r\n",
+    "ERROR\r\n",
+    "CLIENT_ERROR bad data chunk\r\n",
+    "VALUE a 0 1\r\nx\r\nEND\r\n",
+];
+
+#[test]
+fn a_full_log_is_followed_by_the_next_one(rt: HostRuntime) -> Result<(), Fail> {
+    let (sent, replies) = FULL_LOG;
+    let mut served = open(&rt, sent.as_bytes(), &[], &[])?;
+    serve_logs(&rt, 2, 3, &mut served);
+    check_end(&rt, &served, Ok(()), &bytes_of(&rt, THREE_LOGS)?)?;
+    // With one log it is refused.
+    let mut served = open(&rt, sent.as_bytes(), &[], &[])?;
+    serve_logs(&rt, 2, 1, &mut served);
+    check_end(&rt, &served, Ok(()), &bytes_of(&rt, replies)?)?;
     Ok(())
 }
 

@@ -230,6 +230,13 @@ fn serves_worked_runs_under_options(rt: HostRuntime) -> Result<(), Fail> {
             "set a 0 0 1\r\nx\r\nset b 0 0 1\r\ny\r\nget a\r\nversion\r\n",
             "STORED\r\nSTORED\r\nSERVER_ERROR log full\r\nVERSION 1.0.0\r\n",
         ),
+        // A full log is followed by the next one, as many times as is asked for: uniques go on, and
+        // what holds of the first log's items holds in the second.
+        (
+            "--places 2 --generations 3",
+            "set a 0 0 1\r\nx\r\nset b 0 0 1\r\ny\r\ngets a b\r\ncas a 0 0 1 1\r\nz\r\ngets a\r\nincr c 1\r\nget a\r\nversion\r\n",
+            "STORED\r\nSTORED\r\nVALUE a 0 1 1\r\nx\r\nVALUE b 0 1 2\r\ny\r\nEND\r\nSTORED\r\nVALUE a 0 1 3\r\nz\r\nEND\r\nNOT_FOUND\r\nSERVER_ERROR log full\r\nVERSION 1.0.0\r\n",
+        ),
         // The quota of items refuses a new key; an old key may be set again.
         (
             "--items 1",
@@ -329,11 +336,12 @@ const HELP: &str = "A memcached server for one client, from standard input to st
 Usage: mc_stdin [OPTIONS]
 
 Options:
-      --places <N>  How many commands are applied, from 1 to 1048576 [default: 65536]
-      --items <N>   How many items may be held, from 1 to 1048576 [default: 1048576]
-      --bytes <N>   How many bytes keys and data may have, from 1 to 1073741824 [default: 67108864]
-  -h, --help        Print help
-  -V, --version     Print version
+      --places <N>       How many commands a log takes, from 1 to 1048576 [default: 65536]
+      --generations <N>  How many logs there are, one after another, from 1 to 65536 [default: 1]
+      --items <N>        How many items may be held, from 1 to 1048576 [default: 1048576]
+      --bytes <N>        How many bytes keys and data may have, from 1 to 1073741824 [default: 67108864]
+  -h, --help             Print help
+  -V, --version          Print version
 ";
 
 /// Asserts that these words are answered on standard output.
@@ -376,6 +384,8 @@ fn refuses_words_that_ask_for_no_service(rt: HostRuntime) -> Result<(), Fail> {
     for (given, text) in [
         ("--places 0", "mc_stdin: bad settings\n"),
         ("--places 1048577", "mc_stdin: bad settings\n"),
+        ("--generations 0", "mc_stdin: bad settings\n"),
+        ("--generations 65537", "mc_stdin: bad settings\n"),
         ("--items 0", "mc_stdin: bad settings\n"),
         ("--items 1048577", "mc_stdin: bad settings\n"),
         ("--bytes 0", "mc_stdin: bad settings\n"),

@@ -14,7 +14,8 @@ use Rattle.mc_model.specs.declared.reply.Reply.TheVariants.{Version}
 use Rattle.mc_model.specs.declared.reply.TheConstants.WireNo.{BAD_BLOCK, BAD_DELTA, BAD_FORMAT}
 use Rattle.mc_model.specs.declared.reply.WireNo.{WireNo}
 use Rattle.mc_model.specs.declared.request.Request.{Request}
-use Rattle.mc_model.specs.declared.request.Request.TheVariants.{Local, Logged, Quit, TooLong}
+use Rattle.mc_model.specs.declared.request.Request.TheVariants.{Limit, Local, Logged, Quit, TooLong}
+use Rattle.mc_model.specs.declared.settings.Limits.{Limits}
 use Rattle.mc_model.specs.Key.{is_lawful_key}
 use Rattle.mc_model.specs.Number.{is_numeral, number_up_to}
 use Rattle.mc_read.specs.declared.line.Asked.{Asked}
@@ -39,13 +40,14 @@ IsLawfulStorage (CheckAndSet unique) = unique ≤ UNIQUE
 abbrev AsksLawfully : Asked → Type 0
 AsksLawfully (LineOnly (Logged command quiet)) = IsLawfulCommand command
 AsksLawfully (LineOnly (Local reply quiet)) = ⊤
+AsksLawfully (LineOnly (Limit name limits quiet)) = ⊥
 AsksLawfully (LineOnly Quit) = ⊤
 AsksLawfully (LineOnly TooLong) = ⊤
 AsksLawfully (RefusedBlock length refusal quiet) = ⊤
 AsksLawfully (StoredBlock header) = IsTrue (is_lawful_key header.key) × (header.flags ≤ FLAGS) × (header.length ≤ DATA_BYTES) × IsLawfulStorage header.storage
 
 -- a number, or 0 where there is none, is within its limit
-within_limit : (limit : ℕ) (word : List ℕ) → unwrap_or (number_up_to limit word) 0 ≤ limit
+pub within_limit : (limit : ℕ) (word : List ℕ) → unwrap_or (number_up_to limit word) 0 ≤ limit
 within_limit limit word = by_test (is_numeral word && nat_le (digits_value 10 word) limit) refl
   where
     by_test : (test : Bool) → (is_numeral word && nat_le (digits_value 10 word) limit) ≡ test → unwrap_or (cond test (Some (digits_value 10 word)) None) 0 ≤ limit
@@ -205,3 +207,21 @@ module _ (command : Command) (quiet : Bool) where
     where
       no_command_is_long : Logged command quiet ≡ TooLong → ⊥
       no_command_is_long same = cc
+
+-- No line of a tenant's asks for quotas to be set.
+module _ (name : List ℕ) (limits : Limits) (quiet : Bool) where
+  none_stored : (header : Header) (block : List ℕ) (is_whole : Bool) → stored_if is_whole header block ≡ Limit name limits quiet → ⊥
+  none_stored header block true is = cc
+  none_stored header block false is = cc
+
+  none_asked : (a : Asked) (body : List ℕ) → AsksLawfully a → request_of a body ≡ Limit name limits quiet → ⊥
+  none_asked (LineOnly request) body lawful is = subst (λ r. AsksLawfully (LineOnly r)) is lawful
+  none_asked (RefusedBlock size refusal noreply) body lawful is = cc
+  none_asked (StoredBlock header) body lawful is = none_stored header (take header.length body) (ends_well (drop header.length body)) is
+
+  pub no_setting : (text : List ℕ) → IsRequestText asked text (Limit name limits quiet) → ⊥
+  no_setting text (inl is) = none_asked (asked is.line) is.body (asks_by (words is.line)) (sym is.is_asked)
+  no_setting text (inr is) = no_long is.is_too_long
+    where
+      no_long : Limit name limits quiet ≡ TooLong → ⊥
+      no_long same = cc

@@ -7,6 +7,7 @@ pub mod States
 pub mod Sending
 pub mod Exptimes
 pub mod Lawful
+pub mod Setting
 mod Rows
 pub mod Readings
 pub mod Texts

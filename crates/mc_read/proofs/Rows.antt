@@ -5,7 +5,8 @@ use Rattle.mc_model.specs.declared.command.Command.TheVariants.{Cas, Decr, Delet
 use Rattle.mc_model.specs.declared.command.Verb.TheVariants.{Append, Set}
 use Rattle.mc_model.specs.declared.reply.Reply.TheVariants.{Version}
 use Rattle.mc_model.specs.declared.reply.TheConstants.WireNo.{BAD_BLOCK, BAD_DELTA, BAD_FORMAT, NO_EXPIRY, UNKNOWN_COMMAND}
-use Rattle.mc_model.specs.declared.request.Request.TheVariants.{Local, Logged, Quit}
+use Rattle.mc_model.specs.declared.request.Request.TheVariants.{Limit, Local, Logged, Quit}
+use Rattle.mc_read.specs.Administering.{asked_by_admin}
 use Rattle.mc_read.specs.First.{first_request, found}
 use Rattle.mc_read.specs.Line.{asked, refused}
 
@@ -88,3 +89,25 @@ quit_alone = refl
 
 quit_with_a_word : first_request asked (codes "quit now\r\n") ≡ found (refused UNKNOWN_COMMAND false) []
 quit_with_a_word = refl
+
+-- an administrator sets the quotas of a tenant by its name
+limit_by_name : first_request asked_by_admin (codes "limit a 2 100\r\nlimit x 1 1\r\n")
+    ≡ found (Limit (codes "a") (record { items = 2; bytes = 100 }) false) (codes "limit x 1 1\r\n")
+limit_by_name = refl
+
+quiet_limit : first_request asked_by_admin (codes "limit a-b_0 1048576 1073741824 noreply\r\n")
+    ≡ found (Limit (codes "a-b_0") (record { items = 1048576; bytes = 1073741824 }) true) []
+quiet_limit = refl
+
+limit_out_of_range_is_answered : first_request asked_by_admin (codes "limit a 0 1 noreply\r\n") ≡ found (refused BAD_FORMAT false) []
+limit_out_of_range_is_answered = refl
+
+limit_of_five_arguments : first_request asked_by_admin (codes "limit a 1 1 noreply x\r\n") ≡ found (refused UNKNOWN_COMMAND false) []
+limit_of_five_arguments = refl
+
+-- an administrator has no command on a table, and a tenant none that sets quotas
+get_of_an_administrator : first_request asked_by_admin (codes "get a\r\nquit\r\n") ≡ found (refused UNKNOWN_COMMAND false) (codes "quit\r\n")
+get_of_an_administrator = refl
+
+limit_of_a_tenant : first_request asked (codes "limit a 2 100\r\n") ≡ found (refused UNKNOWN_COMMAND false) []
+limit_of_a_tenant = refl

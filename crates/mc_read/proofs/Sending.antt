@@ -33,7 +33,7 @@ use Rattle.mc_read.specs.Text.{IsRequestText, IsUnbroken, ends_well, body_length
 use Rattle.mc_read.specs.Word.{is_exptime, is_space, is_zero, spaced_words, without_return, words}
 
 -- no control character and no space
-abbrev is_above_space : List ℕ → Bool
+abbrev pub is_above_space : List ℕ → Bool
 is_above_space word = list_all (λ byte. nat_lt 32 byte) word
 
 -- a word that a line can have: 1 to 250 such bytes
@@ -49,7 +49,7 @@ fit_parts word fit =
 above_parts : (byte : ℕ) (bytes : List ℕ) → is_above_space (byte ∷ bytes) ≡ true → (32 < byte) × (is_above_space bytes ≡ true)
 above_parts byte bytes above = let parts = and_parts (nat_lt 32 byte) (is_above_space bytes) above in (ltb-true 32 byte parts.0, parts.1)
 
-abbrev are_fit : List (List ℕ) → Bool
+abbrev pub are_fit : List (List ℕ) → Bool
 are_fit words = list_all is_fit words
 
 -- Words that are joined by a space are the words of the line.
@@ -122,34 +122,47 @@ length_joined (word ∷ next ∷ others) fit =
     let parts = and_parts (is_fit word) (are_fit (next ∷ others)) fit in
     omega (arith, (fit_parts word parts.0).1, length-append word (32 ∷ join_with_byte 32 (next ∷ others)), length_joined (next ∷ others) parts.1)
 
--- A line of such words is the text of the request that they ask for.
-pub text_of_words : (parts : List (List ℕ)) (body : List ℕ) (a : Asked) → are_fit parts ≡ true → length (join_with_byte 32 parts) + 1 ≤ LINE_BYTES
-    → asked_by parts ≡ a → length body ≡ body_length a → IsRequestText asked (line_sent parts ++ body) (request_of a body)
-text_of_words parts body a fit short is whole =
-    let line = join_with_byte 32 parts ++ 13 ∷ [] in
-    let is_asked : asked line ≡ a = ap asked_by (words_joined parts fit) ∙ is in
-    inl (record {
-      line = line;
-      body = body;
-      short = omega (arith, short, length-append (join_with_byte 32 parts) (13 ∷ []));
-      unbroken = All-append (λ byte. byte ≢ 10) (join_with_byte 32 parts) (13 ∷ []) (unbroken_joined parts fit) (All-cons (λ byte. byte ≢ 10) 13 [] (λ same. omega (arith, same)) (All-nil (λ byte. byte ≢ 10)));
-      whole = whole ∙ ap body_length (sym is_asked);
-      in_text = append_assoc (join_with_byte 32 parts) (13 ∷ 10 ∷ []) body ∙ sym (append_assoc (join_with_byte 32 parts) (13 ∷ []) (10 ∷ body));
-      is_asked = ap (λ b. request_of b body) (sym is_asked);
-    })
-
--- without a block
-pub text_of_line : (parts : List (List ℕ)) (request : Request) → are_fit parts ≡ true → length (join_with_byte 32 parts) + 1 ≤ LINE_BYTES
-    → asked_by parts ≡ LineOnly request → IsRequestText asked (line_sent parts) request
-text_of_line parts request fit short is =
-    subst (λ text. IsRequestText asked text request) (append-nil (line_sent parts)) (text_of_words parts [] (LineOnly request) fit short is refl)
-
 -- a line of so few words is short
 few_words : (parts : List (List ℕ)) → are_fit parts ≡ true → length parts ≤ 7 → length (join_with_byte 32 parts) + 1 ≤ LINE_BYTES
 few_words parts fit few = omega (arith, length_joined parts fit, few)
 
+-- A line of such words is the text of the request that they ask for, whoever's line it is.
+module _ (by : List (List ℕ) → Asked) where
+  pub text_by_words : (parts : List (List ℕ)) (body : List ℕ) (a : Asked) → are_fit parts ≡ true → length (join_with_byte 32 parts) + 1 ≤ LINE_BYTES
+      → by parts ≡ a → length body ≡ body_length a → IsRequestText (λ line. by (words line)) (line_sent parts ++ body) (request_of a body)
+  text_by_words parts body a fit short is whole =
+      let line = join_with_byte 32 parts ++ 13 ∷ [] in
+      let is_asked : by (words line) ≡ a = ap by (words_joined parts fit) ∙ is in
+      inl (record {
+        line = line;
+        body = body;
+        short = omega (arith, short, length-append (join_with_byte 32 parts) (13 ∷ []));
+        unbroken = All-append (λ byte. byte ≢ 10) (join_with_byte 32 parts) (13 ∷ []) (unbroken_joined parts fit) (All-cons (λ byte. byte ≢ 10) 13 [] (λ same. omega (arith, same)) (All-nil (λ byte. byte ≢ 10)));
+        whole = whole ∙ ap body_length (sym is_asked);
+        in_text = append_assoc (join_with_byte 32 parts) (13 ∷ 10 ∷ []) body ∙ sym (append_assoc (join_with_byte 32 parts) (13 ∷ []) (10 ∷ body));
+        is_asked = ap (λ b. request_of b body) (sym is_asked);
+      })
+
+  -- without a block
+  pub text_by_line : (parts : List (List ℕ)) (request : Request) → are_fit parts ≡ true → length (join_with_byte 32 parts) + 1 ≤ LINE_BYTES
+      → by parts ≡ LineOnly request → IsRequestText (λ line. by (words line)) (line_sent parts) request
+  text_by_line parts request fit short is =
+      subst (λ text. IsRequestText (λ line. by (words line)) text request) (append-nil (line_sent parts)) (text_by_words parts [] (LineOnly request) fit short is refl)
+
+  -- and of few words
+  pub text_by_few : (parts : List (List ℕ)) (request : Request) → are_fit parts ≡ true → length parts ≤ 7 → by parts ≡ LineOnly request → IsRequestText (λ line. by (words line)) (line_sent parts) request
+  text_by_few parts request fit few = text_by_line parts request fit (few_words parts fit few)
+
+pub text_of_words : (parts : List (List ℕ)) (body : List ℕ) (a : Asked) → are_fit parts ≡ true → length (join_with_byte 32 parts) + 1 ≤ LINE_BYTES
+    → asked_by parts ≡ a → length body ≡ body_length a → IsRequestText asked (line_sent parts ++ body) (request_of a body)
+text_of_words = text_by_words asked_by
+
+text_of_line : (parts : List (List ℕ)) (request : Request) → are_fit parts ≡ true → length (join_with_byte 32 parts) + 1 ≤ LINE_BYTES
+    → asked_by parts ≡ LineOnly request → IsRequestText asked (line_sent parts) request
+text_of_line = text_by_line asked_by
+
 text_of_few : (parts : List (List ℕ)) (request : Request) → are_fit parts ≡ true → length parts ≤ 7 → asked_by parts ≡ LineOnly request → IsRequestText asked (line_sent parts) request
-text_of_few parts request fit few = text_of_line parts request fit (few_words parts fit few)
+text_of_few = text_by_few asked_by
 
 -- What the words of a command are.
 above_space_from_key : (bytes : List ℕ) → list_all is_key_byte bytes ≡ true → is_above_space bytes ≡ true
@@ -180,7 +193,7 @@ pub fit_noreply : (quiet : Bool) → are_fit (noreply_if quiet) ≡ true
 fit_noreply true = refl
 fit_noreply false = refl
 
-one_more : (quiet : Bool) → length (noreply_if quiet) ≤ 1
+pub one_more : (quiet : Bool) → length (noreply_if quiet) ≤ 1
 one_more true = omega arith
 one_more false = omega arith
 

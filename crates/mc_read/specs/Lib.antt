@@ -1,5 +1,6 @@
 pub mod Word
 pub mod Line
+pub mod Administering
 pub mod Words
 pub mod Text
 pub mod Reading

@@ -3,13 +3,15 @@
 -- another.
 use Rattle.std.specs.Prelude.{◌≡◌, ◌≢◌, ◌↔◌, ℕ, Bool, true, false, nat_lt, MatchBool, List, [], ◌∷◌, ◌++◌, length, drop}
 use Rattle.mc_model.specs.declared.request.Request.{Request}
-use Rattle.mc_model.specs.declared.request.Request.TheVariants.{Local, Logged, Quit, TooLong}
+use Rattle.mc_model.specs.declared.request.Request.TheVariants.{Limit, Local, Logged, Quit, TooLong}
+use Rattle.mc_read.specs.declared.speaker.Speaker.{Speaker}
 use Rattle.mc_read.specs.Text.{IsRequestText, Lines}
 
 -- nothing is read after such a request
 abbrev pub ends_stream : Request → Bool
 ends_stream (Logged command quiet) = false
 ends_stream (Local reply quiet) = false
+ends_stream (Limit name limits quiet) = false
 ends_stream Quit = true
 ends_stream TooLong = true
 
@@ -34,8 +36,9 @@ pub data Held : Type 0 where
   Swallowing : Request → ℕ → List ℕ → Held
   Ended : Held
 
--- A reader as contracts see it.
+-- A reader as contracts see it: whose lines it reads, and what it holds.
 pub record ReaderView : Type 0 where
+  pub speaker : Speaker
   pub held : Held
 
 -- the first of the requests is this one, and P holds of the others

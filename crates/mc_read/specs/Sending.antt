@@ -8,6 +8,7 @@ use Rattle.mc_model.specs.declared.command.Command.TheVariants.{Cas, Decr, Delet
 use Rattle.mc_model.specs.declared.command.Verb.{Verb}
 use Rattle.mc_model.specs.declared.command.Verb.TheVariants.{Add, Append, Prepend, Replace, Set}
 use Rattle.mc_model.specs.declared.item.Data.{Data}
+use Rattle.mc_model.specs.declared.name.Name.{Name}
 use Rattle.mc_model.specs.Key.{is_lawful_key}
 
 -- <command name>
@@ -48,6 +49,12 @@ sent (Incr key by) quiet = line_sent (codes "incr" ∷ key ∷ decimal by ∷ no
 sent (Decr key by) quiet = line_sent (codes "decr" ∷ key ∷ decimal by ∷ noreply_if quiet)
 sent Flush quiet = line_sent (codes "flush_all" ∷ noreply_if quiet)
 sent (Limit limits) quiet = []
+
+-- what an administrator sends to set a tenant's quotas:
+-- limit <name> <items> <bytes> [noreply]
+abbrev pub setting_sent : Name → ℕ → ℕ → Bool → List ℕ
+setting_sent name items bytes quiet =
+    line_sent (codes "limit" ∷ name ∷ decimal items ∷ decimal bytes ∷ noreply_if quiet)
 
 -- a command whose keys are valid, with numbers and data that a line can name; no line of a tenant's
 -- client sets quotas

@@ -4,22 +4,28 @@
 //! list.
 ghost use Rattle.std.specs.Prelude.{◌≡◌, ◌≢◌, ℕ, ◌^◌, ◌-◌, ◌<◌, ◌≤◌, Bool, false, All, IsTrue, List, [], ◌∷◌, ◌++◌, length, codes, decimal};
 ghost use Rattle.mc_model.specs.declared.command.Command.{Command};
+ghost use Rattle.mc_model.specs.declared.command.Command.TheVariants as commands;
 ghost use Rattle.mc_model.specs.declared.command.Command.TheVariants.{Cas, Decr, Delete, Flush, Get, Incr, Store};
 ghost use Rattle.mc_model.specs.declared.command.Verb.{Verb};
 ghost use Rattle.mc_model.specs.declared.command.Verb.TheVariants.{Append, Prepend};
 ghost use Rattle.mc_model.specs.declared.item.Data.{Data};
 ghost use Rattle.mc_model.specs.declared.key.Key.{Key};
 ghost use Rattle.mc_model.specs.declared.key.KeyList.{KeyList};
+ghost use Rattle.mc_model.specs.declared.name.Name.{Name};
 ghost use Rattle.mc_model.specs.declared.reply.Reply.TheVariants.{Refused};
 ghost use Rattle.mc_model.specs.declared.reply.TheConstants.WireNo.{BAD_FORMAT, TOO_LARGE};
 ghost use Rattle.mc_model.specs.declared.request.Request.{Request};
-ghost use Rattle.mc_model.specs.declared.request.Request.TheVariants.{Local, Logged, TooLong};
+ghost use Rattle.mc_model.specs.declared.request.Request.TheVariants.{Limit, Local, Logged, TooLong};
+ghost use Rattle.mc_model.specs.declared.settings.Limits.{Limits};
 ghost use Rattle.mc_model.specs.Key.{is_lawful_key};
+ghost use Rattle.mc_model.specs.Name.{is_lawful_name};
+ghost use Rattle.mc_model.specs.Settings.{AreLawfulLimits};
 ghost use Rattle.mc_read.specs.declared.line.TheConstants.{BLOCK_LENGTH, DELTA, FLAGS, LINE_BYTES, UNIQUE};
+ghost use Rattle.mc_read.specs.Administering.{asked_by_admin};
 ghost use Rattle.mc_read.specs.Line.{asked};
 ghost use Rattle.mc_read.specs.Reading.{Reads};
-ghost use Rattle.mc_read.specs.Sending.{IsLawfulCommand, block_sent, line_sent, noreply_if, sent, verb_name};
-ghost use Rattle.mc_read.specs.Text.{IsRequestText, IsUnbroken};
+ghost use Rattle.mc_read.specs.Sending.{IsLawfulCommand, block_sent, line_sent, noreply_if, sent, setting_sent, verb_name};
+ghost use Rattle.mc_read.specs.Text.{IsRequestText, IsUnbroken, body_length};
 ghost use Rattle.mc_read.specs.Word.{is_zero, words};
 
 /// Every byte list has a reading.
@@ -121,4 +127,34 @@ pub fn no_command_expires()
         IsUnbroken line → words line ≡ codes "flush_all" ∷ exptime ∷ more →
         exptime ≢ codes "noreply" →
         IsRequestText asked (line ++ 10 ∷ body) (Logged command quiet) → IsTrue (is_zero exptime) }
+{}
+
+/// Only administrators set quotas: no line of a tenant's client asks for that, by a tenant's name
+/// or as a command of its own.
+pub fn only_administrators_set_quotas()
+    ensures requests { (text : List ℕ) (name : Name) (limits : Limits) (quiet : Bool) →
+        IsRequestText asked text (Limit name limits quiet) → ⊥ }
+    ensures commands { (text : List ℕ) (limits : Limits) (quiet : Bool) →
+        IsRequestText asked text (Logged (commands.Limit limits) quiet) → ⊥ }
+{}
+
+/// Quotas are set by a line of an administrator's: each valid name with valid quotas can be sent,
+/// with `noreply` and without, and no other quotas, and none under another name, are read.
+pub fn quotas_are_set_by_name()
+    ensures sent { (name : Name) (items bytes : ℕ) (quiet : Bool) →
+        IsTrue (is_lawful_name name) → 1 ≤ items → items ≤ 1048576 → 1 ≤ bytes →
+        bytes ≤ 1073741824 →
+        IsRequestText asked_by_admin (setting_sent name items bytes quiet)
+        (Limit name (record { items = items; bytes = bytes }) quiet) }
+    ensures only { (text : List ℕ) (name : Name) (limits : Limits) (quiet : Bool) →
+        IsRequestText asked_by_admin text (Limit name limits quiet) →
+        IsTrue (is_lawful_name name) × AreLawfulLimits limits }
+{}
+
+/// An administrator sends no command for a table of its own: no line asks for one, and none has a
+/// block.
+pub fn administrators_send_no_command()
+    ensures commands { (text : List ℕ) (command : Command) (quiet : Bool) →
+        IsRequestText asked_by_admin text (Logged command quiet) → ⊥ }
+    ensures blocks { (line : List ℕ) → body_length (asked_by_admin line) ≡ 0 }
 {}

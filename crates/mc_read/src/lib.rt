@@ -6,11 +6,13 @@
 #![tactic(auto)]
 
 pub use reader::{Reader, ends_stream};
+pub use speaker::Speaker;
 
 mod buffer;
 pub mod laws;
 mod line;
 mod reader;
+mod speaker;
 mod storage;
 mod without_block;
 mod words;

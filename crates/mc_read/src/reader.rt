@@ -3,13 +3,15 @@ ghost use Rattle.std.specs.Bool.{MatchBool, OnTrue};
 ghost use Rattle.std.specs.Prelude.{◌≡◌, ◌≢◌, ℕ, ◌+◌, ◌-◌, ◌<◌, ◌≤◌, if◌then◌else◌, List, [], ◌++◌, length, take, drop, IfOk, IfSome, IsOk, IsOkUnless, OnOk, OnErr};
 ghost use Rattle.mc_model.specs.declared.item.TheConstants.{DATA_BYTES};
 ghost use Rattle.mc_model.specs.declared.request.Request.{Request};
-ghost use Rattle.mc_read.specs.Line.{asked};
+ghost use Rattle.mc_read.specs.declared.speaker.Speaker.TheVariants as speakers;
+ghost use Rattle.mc_read.specs.Administering.{lines_spoken};
 ghost use Rattle.mc_read.specs.Reading.{ends_stream, Ended, IsFed, Kept, Swallowing};
 ghost use Rattle.mc_read.specs.State.{EndsInRefusal, IsNextAnswer, IsLineAt, IsSearched, IsSought, IsStateOf, IsTaken, held_in, state_past};
 ghost use Rattle.mc_read.specs.Text.{IsTooLongText, IsUnended, ends_well, stored_if};
 
 use crate::buffer::Buffer;
-use crate::line::{Asked, BLOCK_LENGTH, Header, LINE_BYTES, ask, refused};
+use crate::line::{Asked, BLOCK_LENGTH, Header, LINE_BYTES, refused};
+use crate::speaker::Speaker;
 use mc_model::{Data, Fault, Request, WireNo};
 use memchr::memchr;
 use std::alloc::Global;
@@ -162,20 +164,23 @@ fn move_on(buffer: &mut Buffer, count: usize, request: &Request) -> State
 /// nothing is removed then.
 fn read_line(
     alloc: Global,
+    speaker: Speaker,
     buffer: &mut Buffer,
     line: usize,
 ) -> Result<(Option<Request>, State), Fault>
     requires { IsLineAt buffer.old line }
     ensures answer { IfOk result
-        (λ step. IsNextAnswer asked (Kept buffer.old) step.0 (held_in step.1 buffer.new)) }
-    ensures state { IfOk result (λ step. IsStateOf asked step.1 buffer.new) }
+        (λ step. IsNextAnswer (lines_spoken speaker) (Kept buffer.old) step.0
+        (held_in step.1 buffer.new)) }
+    ensures state { IfOk result (λ step. IsStateOf (lines_spoken speaker) step.1 buffer.new) }
     ensures end { IfOk result (λ step. IfSome step.0 (λ request. step.1 ≡ state_past request)) }
-    ensures refused { (request : Request) (left : ℕ) → EndsInRefusal asked buffer.old request left →
+    ensures refused { (request : Request) (left : ℕ) →
+        EndsInRefusal (lines_spoken speaker) buffer.old request left →
         IfOk result (λ step. held_in step.1 buffer.new ≡ Swallowing request left []) }
     ensures memory { IsOkUnless result Fault.Memory }
     ensures unchanged { OnErr result (buffer.new ≡ buffer.old) }
 {
-    match ask(alloc, &buffer.as_slice()[..line])? {
+    match speaker.ask(alloc, &buffer.as_slice()[..line])? {
         Asked::LineOnly(request) => {
             let state = move_on(buffer, line + 1, &request);
             Ok((Some(request), state))
@@ -217,15 +222,18 @@ fn read_line(
 /// allocation fails; nothing is removed then.
 fn next_line(
     alloc: Global,
+    speaker: Speaker,
     buffer: &mut Buffer,
     searched: usize,
 ) -> Result<(Option<Request>, State), Fault>
     requires { IsSearched searched buffer.old }
     ensures answer { IfOk result
-        (λ step. IsNextAnswer asked (Kept buffer.old) step.0 (held_in step.1 buffer.new)) }
-    ensures state { IfOk result (λ step. IsStateOf asked step.1 buffer.new) }
+        (λ step. IsNextAnswer (lines_spoken speaker) (Kept buffer.old) step.0
+        (held_in step.1 buffer.new)) }
+    ensures state { IfOk result (λ step. IsStateOf (lines_spoken speaker) step.1 buffer.new) }
     ensures end { IfOk result (λ step. IfSome step.0 (λ request. step.1 ≡ state_past request)) }
-    ensures refused { (request : Request) (left : ℕ) → EndsInRefusal asked buffer.old request left →
+    ensures refused { (request : Request) (left : ℕ) →
+        EndsInRefusal (lines_spoken speaker) buffer.old request left →
         IfOk result (λ step. held_in step.1 buffer.new ≡ Swallowing request left []) }
     ensures unended { IsUnended buffer.old →
         result ≡ Ok (None, State.AwaitsLine (length buffer.old)) × (buffer.new ≡ buffer.old) }
@@ -236,7 +244,7 @@ fn next_line(
     ensures unchanged { OnErr result (buffer.new ≡ buffer.old) }
 {
     match find_line(buffer.as_slice(), searched) {
-        Sought::Found(line) => read_line(alloc, buffer, line),
+        Sought::Found(line) => read_line(alloc, speaker, buffer, line),
         Sought::TooLong => {
             buffer.clear();
             Ok((Some(Request::TooLong), State::Ended))
@@ -255,29 +263,48 @@ fn next_line(
 #[derive(Debug, Drop)]
 pub struct Reader {
     alloc: Global,
+    speaker: Speaker,
     buffer: Buffer,
     state: State,
 }
 
 impl Model for Reader {
-    ghost use Rattle.mc_read.specs.Line.{asked};
+    ghost use Rattle.mc_read.specs.Administering.{lines_spoken};
     ghost use Rattle.mc_read.specs.Reading.{ReaderView};
     ghost use Rattle.mc_read.specs.State.{IsStateOf, held_in};
 
     ghost Value = { ReaderView };
 
-    ghost view = { λ reader. record { held = held_in reader.state reader.buffer } };
+    ghost view = { λ reader. record { speaker = reader.speaker; held = held_in reader.state reader.buffer } };
 
-    ghost invariant = { λ reader. IsStateOf asked reader.state reader.buffer };
+    ghost invariant = { λ reader. IsStateOf (lines_spoken reader.speaker) reader.state reader.buffer };
 }
 
 impl Reader {
-    /// Returns a reader at the beginning of a stream. Allocates nothing.
+    /// Returns a reader at the beginning of a tenant's stream. Allocates nothing.
     pub fn new(alloc: Global) -> Reader
-        ensures { result.held ≡ Kept [] }
+        ensures speaker { result.speaker ≡ speakers.Tenant }
+        ensures held { result.held ≡ Kept [] }
+    {
+        Reader::of(alloc, Speaker::Tenant)
+    }
+
+    /// Returns a reader at the beginning of an administrator's stream. Allocates nothing.
+    pub fn admin(alloc: Global) -> Reader
+        ensures speaker { result.speaker ≡ speakers.Admin }
+        ensures held { result.held ≡ Kept [] }
+    {
+        Reader::of(alloc, Speaker::Admin)
+    }
+
+    /// Returns a reader at the beginning of this speaker's stream.
+    fn of(alloc: Global, speaker: Speaker) -> Reader
+        ensures speaker { result.speaker ≡ speaker }
+        ensures held { result.held ≡ Kept [] }
     {
         Reader {
             alloc,
+            speaker,
             buffer: Buffer::new(alloc),
             state: State::AwaitsLine { searched: 0 },
         }
@@ -298,7 +325,9 @@ impl Reader {
     /// Takes the next piece of the stream; after the end it is dropped. Returns `Memory` if an
     /// allocation fails; the piece isn't taken then.
     pub fn feed(&mut self, piece: &[u8]) -> Result<(), Fault>
-        ensures readings { OnOk result (IsFed asked self.old.held piece.now self.new.held) }
+        ensures readings { OnOk result
+            (IsFed (lines_spoken self.old.speaker) self.old.held piece.now self.new.held) }
+        ensures speaker { self.new.speaker ≡ self.old.speaker }
         ensures memory { IsOkUnless result Fault.Memory }
         ensures unchanged { OnErr result (self.new.held ≡ self.old.held) }
 
@@ -330,7 +359,10 @@ impl Reader {
     pub fn next(&mut self) -> Result<Option<Request>, Fault>
         // Whatever follows, what was held reads as the request and then as what is held now, which
         // is less. Without a request it reads as before, and there was no request in it.
-        ensures answer { IfOk result (λ next. IsNextAnswer asked self.old.held next self.new.held) }
+        ensures answer { IfOk result
+            (λ next. IsNextAnswer (lines_spoken self.old.speaker) self.old.held next
+            self.new.held) }
+        ensures speaker { self.new.speaker ≡ self.old.speaker }
         ensures end { IfOk result
             (λ next. IfSome next
             (λ request. OnTrue (ends_stream request) (self.new.held ≡ Ended))) }
@@ -339,7 +371,8 @@ impl Reader {
         // Of a refused block only the length is kept; until all of it has arrived, and then for its
         // request, no memory is needed.
         ensures refused { (bytes : List ℕ) (request : Request) (left : ℕ) →
-            self.old.held ≡ Kept bytes → EndsInRefusal asked bytes request left →
+            self.old.held ≡ Kept bytes →
+            EndsInRefusal (lines_spoken self.old.speaker) bytes request left →
             OnOk result (self.new.held ≡ Swallowing request left []) }
         ensures swallowing { (request : Request) (left : ℕ) →
             self.old.held ≡ Swallowing request left [] → 0 < left → result ≡ Ok None
@@ -359,7 +392,12 @@ impl Reader {
     {
         match &self.state {
             State::AwaitsLine { searched } => {
-                let (request, state) = next_line(self.alloc, &mut self.buffer, *searched)?;
+                let (request, state) = next_line(
+                    self.alloc,
+                    self.speaker,
+                    &mut self.buffer,
+                    *searched,
+                )?;
                 self.state = state;
                 Ok(request)
             }

@@ -184,7 +184,7 @@ fn ask_flush(arguments: &[&[u8]]) -> Asked
 }
 
 /// Returns what a name without arguments asks for; `arguments` are the words after it.
-fn ask_name(request: Request, arguments: &[&[u8]]) -> Asked
+pub fn ask_name(request: Request, arguments: &[&[u8]]) -> Asked
     ensures { result ≡ asked_of_name request (map (λ word. word.now) arguments.now) }
 {
     if arguments.is_empty() {

@@ -1,13 +1,11 @@
 -- What an entry that is nobody's does to a list of tables, and what they stand for after a
 -- sighting.
-use Rattle.std.proofs.Common.{◌≡◌, ℕ, ◌≤◌, List, [], ◌∷◌, ◌++◌, length, Option, Some, None, true, false, refl, sym, ap, ap₂, subst, ◌∙◌, arith, slice_get, ◌==◌, if◌then◌else◌}
+use Rattle.std.proofs.Common.{◌≡◌, ◌≤◌, List, [], ◌∷◌, ◌++◌, length, Option, Some, None, true, false, refl, sym, ap, subst, ◌∙◌, arith, slice_get, ◌==◌, if◌then◌else◌}
 use Rattle.std.proofs.lemmas.Bool.Decides.{nat_tests}
 use Rattle.std.proofs.lemmas.Iterator.Adapters.{option_map_id}
 use Rattle.std.proofs.lemmas.List.{map-append}
 use Rattle.std.proofs.lemmas.Option.{slice_get_past}
 use Rattle.std.specs.Option.{option_map}
-use Rattle.mc_model.specs.History.{state_from}
-use Rattle.mc_model.specs.Log.{own}
 use Rattle.mc_model.specs.State.{TableState, next_state}
 use Rattle.mc_model.specs.declared.request.Entry.{Entry}
 use Rattle.uc_cells.specs.Sighting.{Sighting, entries}
@@ -50,11 +48,15 @@ EachStands-seen openings history seen found old new is stands takes =
 pub tables-stay : (openings : List TableState) (log later : List (Option Entry)) (old new : List TableState) → EachStands openings log old → EachStands openings later new → length new ≡ length old
 tables-stay openings log later old new stands stands_later = EachStands-length openings later new stands_later ∙ sym (EachStands-length openings log old stands)
 
--- tables of one history that were opened over the same tables are the same
+-- tables after one log that were opened over the same tables are the same
+pub one_list : (openings : List TableState) (log : List (Option Entry)) (tables others : List TableState) →
+    EachStands openings log tables → EachStands openings log others → tables ≡ others
+one_list openings log tables others stands stands_too = same_by_places tables others (λ tenant. stands tenant ∙ sym (stands_too tenant))
+
+-- so it is of one history
 pub tables_agree : (openings openings2 : List TableState) (history history2 : List Sighting) (tables tables2 : List TableState) →
     openings ≡ openings2 → history ≡ history2 →
     EachStands openings (entries history) tables → EachStands openings2 (entries history2) tables2 → tables ≡ tables2
-tables_agree openings openings2 history history2 tables tables2 quotas seen stands stands2 =
-    let state = λ (tenant : ℕ) (all : List TableState) (log : List Sighting).
-    option_map (λ opening. state_from opening (own tenant (entries log))) (slice_get all tenant) in
-    same_by_places tables tables2 (λ tenant. stands tenant ∙ (ap₂ (state tenant) quotas seen ∙ sym (stands2 tenant)))
+tables_agree openings openings2 history history2 tables tables2 same seen stands stands2 =
+    one_list openings (entries history) tables tables2 stands
+    (subst (λ (both : List TableState × List Sighting). EachStands both.0 (entries both.1) tables2) (λ i. (sym same i, sym seen i)) stands2)

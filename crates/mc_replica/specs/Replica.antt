@@ -6,8 +6,10 @@ use Rattle.mc_items.specs.Asker.{is_own}
 use Rattle.mc_model.specs.declared.fault.Fault.{Fault}
 use Rattle.mc_model.specs.declared.fault.Fault.TheVariants.{Memory}
 use Rattle.mc_model.specs.Kinds.{IsRetrieval, NeedsNoMemory}
-use Rattle.mc_model.specs.Replay.{EachStands, HaveRoom, IsNobodys, IsRefused, TakeEffect}
+use Rattle.mc_model.specs.Replay.{EachStands, HaveRoom, IsNobodys, IsRefused, TakeEffect, empty_tables}
 use Rattle.mc_model.specs.State.{TableState, coded_state}
+use Rattle.mc_replica.specs.declared.replica.Opening.{Opening}
+use Rattle.mc_replica.specs.declared.replica.Opening.TheVariants.{Empty, Over}
 use Rattle.uc_cells.specs.Sighting.{Sighting, coded_sighting, entries}
 
 -- the entry that was seen; an entry of another ticket already counts as absent
@@ -18,6 +20,11 @@ entry_of seen = seen.entry
 abbrev pub SameCells : List Sighting → List Sighting → Type 0
 SameCells ones others = (place : ℕ) (one other : Sighting) → slice_get ones place ≡ Some one →
     slice_get others place ≡ Some other → (one.ticket ≡ other.ticket) × (one.row ≡ other.row)
+
+-- the tables that a replica was opened over: empty ones, or those of a base
+abbrev pub opened_by : Opening → List TableState
+opened_by (Empty limits) = empty_tables limits.items
+opened_by (Over base) = base.now
 
 -- its worker, how many places its history may have, each tenant's table as it was opened, what was
 -- seen of the places, and each tenant's table

@@ -1,8 +1,9 @@
 //! What any two replicas agree on.
-ghost use Rattle.std.specs.Prelude.{◌≡◌, ℕ, Some, slice_get};
+ghost use Rattle.std.specs.Prelude.{◌≡◌, ℕ, List, Option, Some, slice_get};
 ghost use Rattle.mc_model.specs.declared.request.Entry.{Entry};
 ghost use Rattle.mc_model.specs.Log.{own};
-ghost use Rattle.mc_model.specs.Replay.{reply_to};
+ghost use Rattle.mc_model.specs.Replay.{EachStands, reply_to};
+ghost use Rattle.mc_model.specs.State.{TableState};
 ghost use Rattle.uc_cells.specs.Sighting.{entries};
 
 use crate::Replica;
@@ -28,3 +29,10 @@ pub fn replicas_agree(one: &Replica<'_>, other: &Replica<'_>)
     let _ = one.history();
     let _ = other.history();
 }
+
+/// The tables after a log are determined by that log and by the tables that it was opened over.
+pub fn a_log_leaves_one_list_of_tables()
+    ensures { (openings : List TableState) (log : List (Option Entry))
+        (tables others : List TableState) →
+        EachStands openings log tables → EachStands openings log others → tables ≡ others }
+{}

@@ -1,28 +1,37 @@
 //! A worker's replica of the shared log: what it has seen of the log's places, replayed on its own
 //! tables.
-ghost use Rattle.std.specs.Prelude.{◌≡◌, ◌<◌, ◌≤◌, ◌↔◌, [], length, Some, slice_get, IfOk, IsOkUnless, IsTrue};
+ghost use Rattle.std.specs.Prelude.{◌≡◌, ◌<◌, ◌≤◌, ◌↔◌, [], List, length, None, Some, slice_get, IfOk, IfSome, IsOkUnless, IsTrue};
 ghost use Rattle.std.specs.Option.{option_map};
 ghost use Rattle.mc_model.specs.History.{state_from};
 ghost use Rattle.mc_model.specs.Log.{own};
-ghost use Rattle.mc_model.specs.Replay.{EachStands, answer_to, empty_tables};
+ghost use Rattle.mc_model.specs.Replay.{EachStands, HaveRoom, answer_to, empty_tables};
+ghost use Rattle.mc_model.specs.declared.settings.Limits.{Limits};
 ghost use Rattle.mc_items.specs.Asker.{answer_for};
 ghost use Rattle.mc_replica.specs.Replica.{Replays, SameCells, entry_of};
 ghost use Rattle.uc_cells.specs.Sighting.{entries};
 
 use mc_items::Items;
-use mc_items::tables::{tables_of, take_effect};
+use mc_items::tables::{copies_of, have_room, tables_of, take_effect};
 use mc_model::{Fault, Limits, Reply, TenantId, WorkerId};
 use std::alloc::Global;
 use std::marker::Model;
 use uc_cells::Seen;
+
+/// What a replica was opened over.
+#[derive(Drop)]
+pub(crate) enum Opening<'a> {
+    /// Empty tables with these quotas.
+    Empty(Vec<Limits>),
+    /// The tables that an earlier log has left.
+    Over(&'a [Items]),
+}
 
 /// The tables of all tenants after what one worker has seen of the log.
 #[derive(Drop)]
 pub struct Replica<'a> {
     worker: WorkerId,
     places: u64,
-    /// The quotas that each tenant's table was opened with.
-    limits: Vec<Limits>,
+    opening: Opening<'a>,
     /// Has capacity for all places from its opening on.
     history: Vec<Seen<'a>>,
     /// One table per tenant, indexed by tenant number.
@@ -31,16 +40,15 @@ pub struct Replica<'a> {
 
 impl<'a> Model for Replica<'a> {
     ghost use Rattle.std.specs.Prelude.{vec_capacity};
-    ghost use Rattle.mc_model.specs.Replay.{empty_tables};
-    ghost use Rattle.mc_replica.specs.Replica.{IsSoundReplica, ReplicaState, coded_replica};
+    ghost use Rattle.mc_replica.specs.Replica.{IsSoundReplica, ReplicaState, coded_replica, opened_by};
 
     ghost Value = { ReplicaState };
 
     ghost coded = { coded_replica };
 
-    ghost view = { λ r. record { worker = r.worker; places = r.places; openings = empty_tables r.limits.items; history = r.history.items; tables = r.tables.items } };
+    ghost view = { λ r. record { worker = r.worker; places = r.places; openings = opened_by r.opening; history = r.history.items; tables = r.tables.items } };
 
-    ghost invariant = { λ r. IsSoundReplica r.places (vec_capacity r.history) (empty_tables r.limits.items) r.history.items r.tables.items };
+    ghost invariant = { λ r. IsSoundReplica r.places (vec_capacity r.history) (opened_by r.opening) r.history.items r.tables.items };
 }
 
 impl<'a> Replica<'a> {
@@ -68,8 +76,37 @@ impl<'a> Replica<'a> {
         Ok(Replica {
             worker,
             places,
-            limits: limits_kept,
+            opening: Opening::Empty(limits_kept),
             history,
+            tables,
+        })
+    }
+
+    /// Returns this worker's replica, which has seen nothing, over the tables of this base: its own
+    /// tables are copies of them. The history's capacity, `places`, is reserved here, once. Returns
+    /// `Memory` if an allocation fails.
+    pub fn open_over(
+        alloc: Global,
+        worker: WorkerId,
+        base: &'a [Items],
+        places: u64,
+    ) -> Result<Replica<'a>, Fault>
+        requires { HaveRoom base.now places }
+        ensures worker { IfOk result (λ replica. replica.worker ≡ worker) }
+        ensures places { IfOk result (λ replica. replica.places ≡ places) }
+        ensures openings { IfOk result (λ replica. replica.openings ≡ base.now) }
+        ensures history { IfOk result (λ replica. replica.history ≡ []) }
+        ensures tables { IfOk result (λ replica. replica.tables ≡ base.now) }
+        ensures stands { IfOk result
+            (λ replica. EachStands replica.openings (entries replica.history) replica.tables) }
+        ensures memory { IsOkUnless result Fault.Memory }
+    {
+        let tables = copies_of(alloc, base)?;
+        Ok(Replica {
+            worker,
+            places,
+            opening: Opening::Over(base),
+            history: Vec::with_capacity(alloc, places as usize)?,
             tables,
         })
     }
@@ -173,6 +210,20 @@ impl<'a> Replica<'a> {
         (self.history.len() as u64) < self.places
     }
 
+    /// Returns each tenant's table, indexed by tenant number.
+    pub fn tables(&self) -> &[Items]
+        ensures { result.now ≡ self.now.tables }
+    {
+        self.tables.as_slice()
+    }
+
+    /// Returns whether in each of its tables this many more changes can get uniques of 64 bits.
+    pub fn has_room(&self, places: u64) -> bool
+        ensures { IsTrue result ↔ HaveRoom self.now.tables places }
+    {
+        have_room(self.tables(), places)
+    }
+
     /// Returns the worker whose replica this is.
     pub fn worker(&self) -> WorkerId
         ensures { result ≡ self.now.worker }
@@ -181,11 +232,17 @@ impl<'a> Replica<'a> {
         *worker
     }
 
-    /// Returns the quotas that each tenant's table was opened with, indexed by tenant number.
-    pub fn limits(&self) -> &[Limits]
-        ensures { self.now.openings ≡ empty_tables result.now }
+    /// Returns the tables that it was opened over, indexed by tenant number, or `None` if those were
+    /// empty.
+    pub fn base(&self) -> Option<&'a [Items]>
+        ensures over { IfSome result (λ base. base.now ≡ self.now.openings) }
+        ensures empty { result ≡ None →
+            (limits : List Limits) × (self.now.openings ≡ empty_tables limits) }
     {
-        self.limits.as_slice()
+        match &self.opening {
+            Opening::Empty(_) => None,
+            Opening::Over(base) => Some(*base),
+        }
     }
 
     /// Returns the number of places that its history may have.

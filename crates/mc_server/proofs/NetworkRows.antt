@@ -1,7 +1,6 @@
 -- Worked rows of wfmc, checked against the definitions: what its words give and ask for.
 use Rattle.std.specs.Prelude.{codes}
-use Rattle.std.proofs.Common.{◌≡◌, ℕ, true, false, [], ◌∷◌, IsTrue, refl, lit<, lit≤}
-use Rattle.std.proofs.lemmas.List.Elements.{All-from_recursion}
+use Rattle.std.proofs.Common.{◌≡◌, ℕ, true, false, [], ◌∷◌, IsTrue, Some, None, refl, lit<}
 use Rattle.std.specs.Fmt.{digits}
 use Rattle.std.specs.List.{IsDistinct}
 use Rattle.std.specs.Net.Grammar.{IsSocketV4Text}
@@ -10,19 +9,28 @@ use Rattle.std.specs.declared.net.socket_addr.SocketAddrV4.{SocketAddrV4}
 use Rattle.clap.specs.Faults.{fault_of}
 use Rattle.clap.specs.declared.error.kind.ErrorKind.TheVariants as kind
 use Rattle.clap.proofs.OnLiterals.{clap_on_literals}
+use Rattle.mc_model.specs.Name.{is_lawful_name}
 use Rattle.mc_server.specs.NetworkWords.{given_by_words, network_app, tenant_words}
-use Rattle.mc_server.specs.TenantWord.{IsName, Says, is_name_byte}
+use Rattle.mc_server.specs.TenantWord.{Says}
 
 -- ---- what words give
 
-one_tenant : given_by_words (codes "a=127.0.0.1:0,1,1" ∷ []) ≡ record { workers = 2; places = 65536; connections = 0; tenants = codes "a=127.0.0.1:0,1,1" ∷ [] }
+one_tenant : given_by_words (codes "a=127.0.0.1:0,1,1" ∷ []) ≡ record { workers = 2; places = 65536; connections = 0; admin = None; tenants = codes "a=127.0.0.1:0,1,1" ∷ [] }
 unfolding clap_on_literals
 one_tenant = refl
 
 all_options : given_by_words (codes "--workers" ∷ codes "3" ∷ codes "a" ∷ codes "--places=4" ∷ codes "b" ∷ codes "--connections" ∷ codes "5" ∷ [])
-    ≡ record { workers = 3; places = 4; connections = 5; tenants = codes "a" ∷ codes "b" ∷ [] }
+    ≡ record { workers = 3; places = 4; connections = 5; admin = None; tenants = codes "a" ∷ codes "b" ∷ [] }
 unfolding clap_on_literals
 all_options = refl
+
+an_admin : given_by_words (codes "a" ∷ codes "--admin" ∷ codes "127.0.0.1:0" ∷ []) ≡ record { workers = 2; places = 65536; connections = 0; admin = Some (codes "127.0.0.1:0"); tenants = codes "a" ∷ [] }
+unfolding clap_on_literals
+an_admin = refl
+
+two_admins : fault_of network_app (codes "--admin=a" ∷ codes "--admin" ∷ codes "b" ∷ codes "c" ∷ []) ≡ kind.ArgumentConflict ∷ []
+unfolding clap_on_literals
+two_admins = refl
 
 -- a name may begin with a dash, after two
 dashes : tenant_words (codes "--" ∷ codes "-a" ∷ codes "--b" ∷ []) ≡ codes "-a" ∷ codes "--b" ∷ []
@@ -66,11 +74,8 @@ version = refl
 local : ℕ → SocketAddrV4
 local port = record { ip = record { octets = 127 ∷ 0 ∷ 0 ∷ 1 ∷ [] }; port = port }
 
-a_name : IsName (codes "shop-2_b")
-a_name = record {
-  size = (lit≤ tt, lit≤ tt);
-  bytes = All-from_recursion (λ byte. IsTrue (is_name_byte byte)) (codes "shop-2_b") (refl, (refl, (refl, (refl, (refl, (refl, (refl, (refl, tt))))))));
-}
+a_name : IsTrue (is_lawful_name (codes "shop-2_b"))
+a_name = refl
 
 an_address : IsSocketV4Text (codes "127.0.0.1:11211") (local 11211)
 unfolding local digits

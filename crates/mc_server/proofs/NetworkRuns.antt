@@ -6,6 +6,8 @@ use Rattle.std.proofs.lemmas.Slice.Zip.{AllZip-long}
 use Rattle.std.specs.List.{AllZip}
 use Rattle.std.specs.Prelude.{MatchResult}
 use Rattle.clap.specs.Walk.{Text}
+use Rattle.mc_conn.specs.Owed.{IsAmong}
+use Rattle.mc_conn.specs.declared.conn.Role.{Role}
 use Rattle.uc_worker.specs.Going.{Continues}
 use Rattle.mc_model.specs.declared.fault.Fault.{Fault}
 use Rattle.mc_model.specs.Settings.{Configuration}
@@ -14,16 +16,19 @@ use Rattle.mc_net.specs.Running.{returned_worker}
 use Rattle.mc_net.specs.declared.worker_thread.Returned.{Returned}
 use Rattle.mc_programs.specs.Waiting.{FailsToPush, PushesAll}
 use Rattle.mc_server.proofs.Waited.{all_more, fails_more}
-use Rattle.mc_server.proofs.Numbered.{all_below}
-use Rattle.mc_server.specs.Listeners.{CountsFrom, StopsListening}
+use Rattle.mc_server.proofs.Numbered.{asked_roles}
+use Rattle.mc_server.proofs.TenantLists.{mapped}
+use Rattle.mc_server.specs.Listeners.{AreAsked, AreBound, AreListenersOf, CountsFrom, IsListeningFor, StopsListening, asked_at, roles_asked}
 use Rattle.mc_server.specs.Network.{AreOf, AreWorkersOf, HaveMet, HaveServed, HasPrintedLength, IsReady, IsServed, WereServed, number_of, StopsFinishing, StopsRun, StopsServing, names_of}
 use Rattle.mc_server.specs.NetworkTexts.{done_line, ready_text}
 use Rattle.mc_server.specs.NetworkWords.{Asks, WordsGive, AsksForNone, AsksForService, AsksInVain, IsChecked, NetworkAsked, NetworkGiven, given_in, served_by}
+use Rattle.mc_server.specs.declared.listeners.Listeners.{Listeners}
 use Rattle.mc_server.specs.declared.network_words.NetworkWords.{NetworkWords}
 use Rattle.mc_server.specs.declared.network_words.Service.{Service}
 use Rattle.mc_server.specs.declared.listeners.Stop.{Stop}
 use Rattle.mc_server.specs.declared.listeners.Stop.TheVariants.{CannotListen, Failed}
 use Rattle.mc_server.specs.declared.network_texts.Listening.{Listening}
+use Rattle.mc_server.specs.declared.wanted.Wanted.{Wanted}
 use Rattle.mc_stream.specs.Stream.{Outflow}
 use Rattle.uc_log.specs.declared.log.Log.{Log}
 use Rattle.uc_worker.specs.declared.worker.Worker.{Worker}
@@ -85,16 +90,25 @@ are_workers settings log workers back onward all = record {
   numbers = subst (CountsFrom 0) (sym (back_numbers workers back onward)) all.numbers;
 }
 
--- each listener's number is a tenant's
+-- the log has each listener's role
 from_map : {A B : Type 0} (f : A → B) (P : B → Type 0) (xs : List A) → All P (map f xs) → All (λ x. P (f x)) xs
 from_map f P [] h = All-nil (λ x. P (f x))
 from_map f P (x ∷ xs) h = All-cons (λ x. P (f x)) x xs (All-head P (f x) (map f xs) h) (from_map f P xs (All-tail P (f x) (map f xs) h))
 
-pub are_tenants : {A : Type 0} (number : A → ℕ) (listeners : List A) (count : ℕ) → CountsFrom 0 (map number listeners) → length listeners ≡ count → All (λ listener. number listener < count) listeners
-are_tenants number listeners count h e =
-    let below = all_below 0 (map number listeners) h in
-    let P = λ (bound : ℕ). All (λ listener. number listener < bound) listeners in
-    subst P (omega (arith, length-map listeners number)) (from_map number (λ n. n < 0 + length (map number listeners)) listeners below)
+pub are_among : {A : Type 0} (role : A → Role) (listeners : List A) (asked : NetworkAsked) (count : ℕ) → map role listeners ≡ roles_asked asked → length asked.tenants ≡ count
+    → All (λ listener. IsAmong (role listener) count) listeners
+are_among role listeners asked count e long = from_map role (λ one. IsAmong one count) listeners (subst (All (λ one. IsAmong one count)) (sym e) (asked_roles asked count long))
+
+-- what is to be bound is what is asked for
+pub names_wanted : (asked : NetworkAsked) (wanted : List Wanted) → AreAsked asked wanted → map (λ (one : Wanted). one.name.now) wanted ≡ names_of asked
+names_wanted asked wanted are = sym (mapped asked_at (λ listener. listener.name) wanted) ∙ ap (map (λ listener. listener.name)) are.listeners
+
+pub are_bound : (asked : NetworkAsked) (lent wanted : List Wanted) (bound : Listeners) → lent ≡ wanted → AreAsked asked wanted
+    → AreBound (map asked_at lent) (map (λ (one : Wanted). one.role) lent) bound → AreListenersOf asked bound
+are_bound asked lent wanted bound e are h = record {
+  roles_are = h.roles_are ∙ ap (map (λ (one : Wanted). one.role)) e ∙ are.roles;
+  told = subst (λ known. AllZip IsListeningFor known bound.told.items) (ap (map asked_at) e ∙ are.listeners) h.told;
+}
 
 -- not all listeners were bound, and nothing was printed
 pub listening_stops : (names : List (List ℕ)) (asked : NetworkAsked) (stop : Stop) (before : Outflow) → names ≡ names_of asked → StopsListening names stop → StopsRun asked before before stop

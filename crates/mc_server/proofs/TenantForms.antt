@@ -1,27 +1,44 @@
 -- The parts of a tenant's word lack the bytes that end them, and are read in one way.
-use Rattle.std.proofs.Common.{◌≡◌, ◌≢◌, ℕ, ◌<◌, ◌==◌, ◌^◌, ◌-◌, Bool, true, false, List, [], ◌∷◌, ◌++◌, get_or, Option, Some, None, Result, IsTrue, cond, arith, refl, sym, ap, ◌∙◌, decimal, subst}
+use Rattle.std.proofs.Common.{◌≡◌, ◌≢◌, ℕ, ◌<◌, ◌==◌, ◌&&◌, ◌^◌, ◌-◌, Bool, true, false, List, [], ◌∷◌, ◌++◌, get_or, Option, Some, None, Result, IsTrue, cond, arith, refl, sym, ap, ◌∙◌, decimal, subst}
 use Rattle.std.proofs.lemmas.Bool.{cond_both, eqb-true}
 use Rattle.std.proofs.lemmas.Fmt.{decimal_is_IsNumeral}
 use Rattle.std.proofs.lemmas.List.Elements.{All-append, All-cons, All-from_get_or, All-nil, All-weaker}
 use Rattle.std.proofs.lemmas.Str.Parse.{digit_at}
 use Rattle.std.proofs.NetLemmas.Theorems.{IsSocketV4Text_unique, Parses_gives}
 use Rattle.std.specs.Int.{IsInRange}
+use Rattle.std.specs.List.{list_all}
 use Rattle.std.specs.Net.Grammar.{IsDotted, IsSocketV4Text, Parses}
 use Rattle.std.specs.Net.Text.{dotted_text}
 use Rattle.std.specs.Option.{IsSomeAnd}
 use Rattle.std.specs.Result.{result_ok}
 use Rattle.std.specs.Str.Parse.{AllDigits}
 use Rattle.std.specs.declared.net.socket_addr.SocketAddrV4.{SocketAddrV4}
+use Rattle.mc_model.specs.Name.{is_lawful_name, is_name_byte}
 use Rattle.mc_model.specs.Number.{number_up_to}
 use Rattle.model_lemmas.proofs.NumberTests.{number_test}
-use Rattle.mc_server.specs.TenantWord.{IsName, Lacks, Says, TenantAsked, is_name_byte, tenant_text}
+use Rattle.mc_server.specs.NetworkWords.{IsNoAddress, IsOnlyAddress, SpellsAddress}
+use Rattle.mc_server.specs.TenantWord.{Lacks, Says, TenantAsked, tenant_text}
 use Rattle.mc_programs.specs.Words.{u64_of}
 use Rattle.mc_server.specs.declared.tenant_word.Parts.{Parts}
 
 -- ---- bytes that parts lack
 
-name_lacks : (name : List ℕ) → IsName name → Lacks 61 name
-name_lacks name h = All-weaker (λ byte. IsTrue (is_name_byte byte)) (λ byte. byte ≢ 61) (λ byte passes e. let at : is_name_byte byte ≡ false = ap is_name_byte e in cc) name h.bytes
+-- both hold, if their conjunction does
+parts_hold : (a b : Bool) → (a && b) ≡ true → (a ≡ true) × (b ≡ true)
+parts_hold true b e = (refl, e)
+parts_hold false b e = absurd cc
+
+byte_lacks : (byte : ℕ) → is_name_byte byte ≡ true → byte ≢ 61
+byte_lacks byte passes e = let at : is_name_byte byte ≡ false = ap is_name_byte e in cc
+
+all_lack : (name : List ℕ) → list_all is_name_byte name ≡ true → Lacks 61 name
+all_lack [] h = All-nil (λ byte. byte ≢ 61)
+all_lack (x ∷ xs) h =
+    let both = parts_hold (is_name_byte x) (list_all is_name_byte xs) h in
+    All-cons (λ byte. byte ≢ 61) x xs (byte_lacks x both.0) (all_lack xs both.1)
+
+name_lacks : (name : List ℕ) → IsTrue (is_lawful_name name) → Lacks 61 name
+name_lacks name h = all_lack name (parts_hold _ (list_all is_name_byte name) h).1
 
 digits_lack : (digits : List ℕ) → AllDigits 10 digits → Lacks 44 digits
 digits_lack digits h = All-from_get_or (λ byte. byte ≢ 44) digits 0 λ i low e. let range : IsInRange 48 57 (get_or digits i 0) = digit_at digits i h low in omega arith
@@ -76,7 +93,7 @@ CutsOnly word found =
 -- the parts from which a tenant is read
 pub record AreOf (parts : Parts) (asked : TenantAsked) : Type 0 where
   pub name : parts.name.now ≡ asked.name
-  pub is_name : IsName parts.name.now
+  pub is_name : IsTrue (is_lawful_name parts.name.now)
   pub address : IsSocketV4Text parts.address.now asked.address
   pub items : u64_of parts.items.now ≡ Some asked.limits.items
   pub bytes : u64_of parts.bytes.now ≡ Some asked.limits.bytes
@@ -108,3 +125,15 @@ parts_of word found asked parts only says some = let P : Option Parts → Type 0
 pub reads_address : {E : Type 0} (text : List ℕ) (address : SocketAddrV4) (read : Result SocketAddrV4 E) → IsSocketV4Text text address → Parses IsSocketV4Text text read
     → result_ok read ≡ Some address
 reads_address text address read h parsed = ap result_ok (Parses_gives IsSocketV4Text text address read (IsSocketV4Text_unique text) h parsed)
+
+-- what is written spells this address and no other, or none
+pub only_address : (text : List ℕ) (address : SocketAddrV4) → IsSocketV4Text text address → IsOnlyAddress (Some text) (Some address)
+only_address text address spelled = record { spells = spelled; only = unique }
+  where
+    unique : (other : Option SocketAddrV4) → SpellsAddress (Some text) other → other ≡ Some address
+    unique None h = absurd h
+    unique (Some x) h = ap Some (IsSocketV4Text_unique text x address h spelled)
+
+pub no_address : (text : List ℕ) → ((address : SocketAddrV4) → ¬ (IsSocketV4Text text address)) → IsNoAddress (Some text)
+no_address text none None h = h
+no_address text none (Some x) h = none x h

@@ -1,9 +1,11 @@
 -- Lists of tenants, each the only one that its word says.
-use Rattle.std.proofs.Common.{◌≡◌, ℕ, List, [], ◌∷◌, ◌++◌, map, Option, Some, None, ap, sym, ◌∙◌, refl}
+use Rattle.std.proofs.Common.{◌≡◌, ℕ, All, IsTrue, List, [], ◌∷◌, ◌++◌, map, Option, Some, None, ap, sym, ◌∙◌, refl}
+use Rattle.std.proofs.lemmas.List.Elements.{All-cons, All-nil}
 use Rattle.std.proofs.lemmas.Slice.Zip.{AllZip-left, all_zipped_more}
 use Rattle.std.specs.List.{AllZip, slice_get}
 use Rattle.std.specs.Option.{IsSomeAnd, MatchOption}
 use Rattle.clap.specs.Walk.{Text}
+use Rattle.mc_model.specs.Name.{is_lawful_name}
 use Rattle.mc_model.specs.declared.settings.Limits.{Limits}
 use Rattle.mc_server.specs.NetworkWords.{Asks, NetworkAsked, NetworkGiven, settings_asked}
 use Rattle.mc_server.specs.TenantWord.{IsOnly, Says, TenantAsked, asked_of}
@@ -46,7 +48,7 @@ none_say words others place word is none h = go (slice_get words place) (slice_g
     go (Some x) (Some t) e h = let same : x ≡ word = cc in none t (rw same at h)
 
 -- what is asked, in what was read
-mapped : {A B C : Type 0} (f : A → B) (g : B → C) (xs : List A) → map g (map f xs) ≡ map (λ x. g (f x)) xs
+pub mapped : {A B C : Type 0} (f : A → B) (g : B → C) (xs : List A) → map g (map f xs) ≡ map (λ x. g (f x)) xs
 mapped f g [] = refl
 mapped f g (x ∷ xs) = ap (λ rest. g (f x) ∷ rest) (mapped f g xs)
 
@@ -55,6 +57,13 @@ limits_are tenants = mapped asked_of (λ tenant. tenant.limits) tenants
 
 pub names_are_read : (tenants : List Tenant) → map (λ (tenant : TenantAsked). tenant.name) (map asked_of tenants) ≡ map (λ tenant. tenant.name.now) tenants
 names_are_read tenants = mapped asked_of (λ tenant. tenant.name) tenants
+
+-- their names are valid
+pub names_lawful : (words : List Text) (tenants : List Tenant) → AllZip IsOnly words (map asked_of tenants) → All (λ (tenant : Tenant). IsTrue (is_lawful_name tenant.name.now)) tenants
+names_lawful [] [] h = All-nil (λ (tenant : Tenant). IsTrue (is_lawful_name tenant.name.now))
+names_lawful [] (t ∷ ts) h = absurd h
+names_lawful (w ∷ ws) [] h = All-nil (λ (tenant : Tenant). IsTrue (is_lawful_name tenant.name.now))
+names_lawful (w ∷ ws) (t ∷ ts) h = All-cons (λ (tenant : Tenant). IsTrue (is_lawful_name tenant.name.now)) t ts h.0.says.is_name (names_lawful ws ts h.1)
 
 pub names_are : (asked : NetworkAsked) (tenants : List Tenant) → asked.tenants ≡ map asked_of tenants → map (λ tenant. tenant.name) asked.tenants ≡ map (λ tenant. tenant.name.now) tenants
 names_are asked tenants e = ap (map (λ tenant. tenant.name)) e ∙ names_are_read tenants

@@ -55,3 +55,18 @@ pub none_is_own : (tenants : List Tenant) → length tenants < 1 → IsTrue true
 unfolding IsDistinct
 none_is_own [] low = ((λ passes. tt), λ distinct. refl)
 none_is_own (x ∷ xs) low = absurd (omega arith)
+
+-- a name that is reserved, beside names that are used once
+pub reserved_is_free : (name : List ℕ) (tenants : List Tenant) (has own : Bool) → has ≡ uses name tenants → has ≡ false
+    → IsTrue own ↔ IsDistinct bytes_eq (map (λ tenant. tenant.name.now) tenants) → IsTrue own ↔ IsDistinct bytes_eq (name ∷ map (λ tenant. tenant.name.now) tenants)
+unfolding IsDistinct
+reserved_is_free name tenants has own e unused h =
+    let free = none_uses name tenants (sym e ∙ unused) in ((λ passes. (free, h.0 passes)), λ distinct. h.1 distinct.1)
+
+pub reserved_is_used : (name : List ℕ) (tenants : List Tenant) (has : Bool) → has ≡ uses name tenants → has ≡ true
+    → IsTrue (not has) ↔ IsDistinct bytes_eq (name ∷ map (λ tenant. tenant.name.now) tenants)
+unfolding IsDistinct
+reserved_is_used name tenants has e used = (
+  (λ (passes : not has ≡ true). let fails : not has ≡ false = ap not used in absurd (cc)),
+  λ distinct. let free = not_used name tenants distinct.0 in absurd (cc),
+)

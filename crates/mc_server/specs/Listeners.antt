@@ -1,35 +1,92 @@
--- The listeners of wfmc's tenants, and what is printed for them; this project's profile.
+-- The listeners of wfmc's tenants and administrators, and what is printed for them; this project's
+-- profile.
 use Rattle.std.specs.List.{AllZip}
-use Rattle.std.specs.Prelude.{◌≡◌, ◌+◌, ℕ, List, [], ◌∷◌, length, map, Contains}
+use Rattle.std.specs.Prelude.{◌≡◌, ◌+◌, ℕ, List, [], ◌∷◌, ◌++◌, Option, Some, None, map, Contains}
+use Rattle.std.specs.declared.net.socket_addr.SocketAddrV4.{SocketAddrV4}
+use Rattle.clap.specs.Walk.{Text}
+use Rattle.mc_conn.specs.declared.conn.Role.{Role}
+use Rattle.mc_conn.specs.declared.conn.Role.TheVariants.{Admin, Tenant}
 use Rattle.mc_model.specs.declared.fault.Fault.TheVariants.{Memory}
 use Rattle.mc_server.specs.NetworkTexts.{told_address}
-use Rattle.mc_server.specs.TenantWord.{TenantAsked, asked_of}
+use Rattle.mc_server.specs.NetworkWords.{NetworkAsked, admin_name}
+use Rattle.mc_server.specs.TenantWord.{TenantAsked}
 use Rattle.mc_server.specs.declared.listeners.Listeners.{Listeners}
 use Rattle.mc_server.specs.declared.listeners.Stop.{Stop}
 use Rattle.mc_server.specs.declared.listeners.Stop.TheVariants.{CannotListen, Failed}
 use Rattle.mc_server.specs.declared.network_texts.Listening.{Listening}
-use Rattle.mc_server.specs.declared.tenant_word.Tenant.{Tenant}
+use Rattle.mc_server.specs.declared.wanted.Wanted.{Wanted}
 
 -- the numbers go up by one, from this one on
 abbrev pub CountsFrom : ℕ → List ℕ → Type 0
 CountsFrom number [] = Unit {0}
 CountsFrom number (x ∷ xs) = (x ≡ number) × CountsFrom (number + 1) xs
 
--- what is printed for a tenant's listener: the tenant's name and address, with the port that the
--- listener was given if the address leaves it open
-pub record IsListeningFor (tenant : TenantAsked) (listening : Listening) : Type 0 where
-  pub name : listening.name.now ≡ tenant.name
+-- a listener: the name that it goes by, and the address that is asked for
+pub record ListenerAsked : Type 0 where
+  pub name : Text
+  pub address : SocketAddrV4
+
+abbrev pub listener_of : TenantAsked → ListenerAsked
+listener_of tenant = record { name = tenant.name; address = tenant.address }
+
+-- the administrators' listener, if there is to be one
+abbrev pub admin_listener : Option SocketAddrV4 → List ListenerAsked
+admin_listener None = []
+admin_listener (Some address) = record { name = admin_name; address = address } ∷ []
+
+-- the listeners that are asked for: the tenants', in the tenants' order, and then the
+-- administrators'
+abbrev pub listeners_asked : NetworkAsked → List ListenerAsked
+listeners_asked asked = map listener_of asked.tenants ++ admin_listener asked.admin
+
+-- the roles of tenants whose numbers go up by one, from this one on
+abbrev pub roles_from : ℕ → List TenantAsked → List Role
+roles_from number [] = []
+roles_from number (x ∷ xs) = Tenant number ∷ roles_from (number + 1) xs
+
+-- the role of those who connect at the administrators' listener: they name tenants by these names
+abbrev pub admin_role : Option SocketAddrV4 → List Text → List Role
+admin_role None names = []
+admin_role (Some address) names = Admin names ∷ []
+
+-- the roles of the listeners that are asked for, in their order
+abbrev pub roles_asked : NetworkAsked → List Role
+roles_asked asked =
+    roles_from 0 asked.tenants ++ admin_role asked.admin (map (λ tenant. tenant.name) asked.tenants)
+
+-- what contracts see of a listener that is to be bound
+abbrev pub asked_at : Wanted → ListenerAsked
+asked_at wanted = record { name = wanted.name.now; address = wanted.address }
+
+-- These are the tenants' listeners, each with its role.
+pub record AreOfTenants (tenants : List TenantAsked) (wanted : List Wanted) : Type 0 where
+  pub listeners_of : map asked_at wanted ≡ map listener_of tenants
+  pub roles_of : map (λ one. one.role) wanted ≡ roles_from 0 tenants
+
+-- These are the listeners that are asked for, each with its role.
+pub record AreAsked (asked : NetworkAsked) (wanted : List Wanted) : Type 0 where
+  pub listeners : map asked_at wanted ≡ listeners_asked asked
+  pub roles : map (λ one. one.role) wanted ≡ roles_asked asked
+
+-- what is printed for a listener: its name and its address, with the port that it was given if the
+-- address leaves it open
+pub record IsListeningFor (asked : ListenerAsked) (listening : Listening) : Type 0 where
+  pub name : listening.name.now ≡ asked.name
   pub given : ℕ
-  pub address : listening.address ≡ told_address tenant.address given
+  pub address : listening.address ≡ told_address asked.address given
 
--- There is a listener for each tenant, under its number, and this is printed for each.
-pub record AreListenersOf (tenants : List Tenant) (bound : Listeners) : Type 0 where
-  pub count : length bound.listeners.items ≡ length tenants
-  pub numbers : CountsFrom 0 (map (λ listener. listener.0) bound.listeners.items)
-  pub told : AllZip IsListeningFor (map asked_of tenants) bound.told.items
+-- Listeners were bound at these addresses for these roles, and this is printed for each.
+pub record AreBound (asked : List ListenerAsked) (roles : List Role)
+    (bound : Listeners) : Type 0 where
+  pub roles_are : map (λ listener. listener.0) bound.listeners.items ≡ roles
+  pub told : AllZip IsListeningFor asked bound.told.items
 
--- why not all tenants have a listener: the address of a tenant with one of these names can't be
--- listened on, or memory ran out
+-- There is a listener for each tenant, and one for administrators if it is asked for.
+abbrev pub AreListenersOf : NetworkAsked → Listeners → Type 0
+AreListenersOf asked bound = AreBound (listeners_asked asked) (roles_asked asked) bound
+
+-- why not all have a listener: the address of one with one of these names can't be listened on, or
+-- memory ran out
 abbrev pub StopsListening : List (List ℕ) → Stop → Type 0
 StopsListening names (CannotListen name) = Contains names name.now
 StopsListening names (Failed fault) = fault ≡ Memory

@@ -15,7 +15,7 @@ use Rattle.mc_net.specs.Running.{returned_worker}
 use Rattle.mc_net.specs.Serving.{IsNetworkFault}
 use Rattle.mc_net.specs.declared.worker_thread.Returned.{Returned}
 use Rattle.mc_programs.specs.Faults.{fault_line}
-use Rattle.mc_server.specs.Listeners.{CountsFrom, IsListeningFor}
+use Rattle.mc_server.specs.Listeners.{CountsFrom, IsListeningFor, listeners_asked}
 use Rattle.mc_server.specs.NetworkTexts.{cannot_listen_line, done_line, ready_text}
 use Rattle.mc_server.specs.NetworkWords.{AsksForNone, AsksForService, NetworkAsked, network_app, settings_asked}
 use Rattle.mc_programs.specs.Waiting.{FailsToPush, PushesAll}
@@ -123,7 +123,7 @@ pub record WereServed (settings : Configuration) (number : ℕ) : Type 0 where
 abbrev pub alone : Outflow → Streams
 alone output = both (record { events = []; left = None }) output
 
--- it was printed which tenant's listener is at which address
+-- it was printed which listener is at which address
 abbrev pub IsReady : List Listening → Outflow → Outflow → Type 0
 IsReady listening before after = PushesAll (ready_text listening) before after
 
@@ -132,8 +132,8 @@ abbrev pub HasPrintedLength : List Worker → Outflow → Outflow → Type 0
 HasPrintedLength workers before after =
     (number : ℕ) × HaveMet workers number × PushesAll (done_line number) before after
 
--- it was printed which tenant's listener is at which address, and then, when the tenants had been
--- served, the length of the log
+-- it was printed which listener is at which address, and then, when all had been served, the length
+-- of the log
 abbrev pub IsServed : Configuration → List Listening → Outflow → Outflow → Type 0
 IsServed settings listening before after =
     (number : ℕ) × WereServed settings number
@@ -155,9 +155,9 @@ StopsServing settings listening before after fault =
     ⊎ ((number : ℕ) × WereServed settings number
     × FailsToPush (ready_text listening ++ done_line number) before after fault)
 
--- the tenants' names
+-- the listeners' names
 abbrev pub names_of : NetworkAsked → List Text
-names_of asked = map (λ tenant. tenant.name) asked.tenants
+names_of asked = map (λ listener. listener.name) (listeners_asked asked)
 
 -- what was printed if a run stopped: nothing if an address can't be listened on, or memory ran out
 -- before all listeners were bound; and otherwise what the fault leaves
@@ -166,7 +166,7 @@ StopsRun asked before after (CannotListen name) =
     Contains (names_of asked) name.now × (after ≡ before)
 StopsRun asked before after (Failed fault) =
     (fault ≡ Memory) × (after ≡ before)
-    ⊎ ((listening : List Listening) × AllZip IsListeningFor asked.tenants listening
+    ⊎ ((listening : List Listening) × AllZip IsListeningFor (listeners_asked asked) listening
     × StopsServing (settings_asked asked) listening before after fault)
 
 -- the line that reports why a run stopped
@@ -181,11 +181,11 @@ pub record FailsToServe (asked : NetworkAsked)
   pub stops : StopsRun asked before after stop
   pub told : PushesOrFails (stop_line stop) errors_before errors
 
--- Each tenant had a listener, all connections were served, and the listeners' lines and the length
--- of the log were printed.
+-- Each tenant had a listener, and administrators one if it was asked for, all connections were
+-- served, and the listeners' lines and the length of the log were printed.
 pub record ServesTenants (asked : NetworkAsked) (before after : Outflow) : Type 0 where
   pub listening : List Listening
-  pub is_told : AllZip IsListeningFor asked.tenants listening
+  pub is_told : AllZip IsListeningFor (listeners_asked asked) listening
   pub served : IsServed (settings_asked asked) listening before after
 
 -- what the words ask for was served, or help or the version was shown

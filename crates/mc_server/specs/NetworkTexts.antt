@@ -11,7 +11,7 @@ use Rattle.mc_server.specs.declared.network_texts.Listening.{Listening}
 abbrev pub told_address : SocketAddrV4 → ℕ → SocketAddrV4
 told_address address given = if address.port == 0 then record address { port = given } else address
 
--- the line for a tenant's listener
+-- the line for a listener, of a tenant or of administrators
 abbrev pub listening_line : Text → SocketAddrV4 → List ℕ
 listening_line name address =
     codes "listening " ++ (name ++ (codes " " ++ (socket_v4_text address ++ codes "\n")))
@@ -25,6 +25,6 @@ ready_text listening =
 abbrev pub done_line : ℕ → List ℕ
 done_line length = codes "done " ++ (decimal length ++ codes "\n")
 
--- the line for a tenant whose address can't be listened on
+-- the line for a listener whose address can't be listened on
 abbrev pub cannot_listen_line : Text → List ℕ
 cannot_listen_line name = program_line (codes "wfmc") (codes "cannot listen " ++ name)

@@ -1,17 +1,22 @@
 -- What the words after the program's name ask for on wfmc's command line, by clap's own definitions
 -- of a command; this project's profile.
 use Rattle.std.specs.List.{AllZip, IsDistinct}
-use Rattle.std.specs.Prelude.{◌≡◌, ℕ, List, [], Some, codes, map, true, unwrap_or}
+use Rattle.std.specs.Prelude.{◌≡◌, ℕ, List, [], ◌∷◌, ◌++◌, All, IsTrue, Option, Some, None, codes, map, option_and_then, slice_get, true, unwrap_or}
+use Rattle.std.specs.Net.Grammar.{IsSocketV4Text}
+use Rattle.std.specs.Option.{IsSomeAnd, option_map}
 use Rattle.std.specs.Str.{bytes_eq}
+use Rattle.std.specs.declared.net.socket_addr.SocketAddrV4.{SocketAddrV4}
 use Rattle.clap.specs.Faults.{fault_of}
 use Rattle.clap.specs.Lexer.{usize_max}
 use Rattle.clap.specs.Simple.{App, matches_of, new_rule, with_rule}
 use Rattle.clap.specs.Walk.{Rule, Text, all_of}
+use Rattle.mc_model.specs.Name.{is_lawful_name}
 use Rattle.mc_model.specs.Settings.{Configuration, IsLawful}
 use Rattle.mc_server.specs.TenantWord.{Says, TenantAsked, asked_of}
 use Rattle.mc_programs.specs.Words.{bare_app, number_asked, number_rule}
 use Rattle.mc_server.specs.declared.network_words.NetworkWords.{NetworkWords}
 use Rattle.mc_server.specs.declared.network_words.Service.{Service}
+use Rattle.mc_server.specs.declared.tenant_word.Tenant.{Tenant}
 
 -- the positional words, one for each tenant, of which there has to be at least one
 abbrev pub tenants_rule : Rule
@@ -21,13 +26,22 @@ tenants_rule = record (new_rule (codes "tenants")) {
   required = true;
 }
 
--- the options: `--workers`, `--places` and `--connections`
-abbrev pub options_app : App
-options_app =
+-- the option `--admin ADDR`, the address at which administrators connect
+abbrev pub admin_rule : Rule
+admin_rule =
+    record (new_rule (codes "admin")) { long = Some (codes "admin"); value_names = 1 }
+
+-- the options that are numbers: `--workers`, `--places` and `--connections`
+abbrev pub numbers_app : App
+numbers_app =
     with_rule
     (with_rule (with_rule (bare_app (codes "wfmc")) (number_rule (codes "workers")))
     (number_rule (codes "places")))
     (number_rule (codes "connections"))
+
+-- the options: these, and `--admin`
+abbrev pub options_app : App
+options_app = with_rule numbers_app admin_rule
 
 -- the command: the options and the tenants' words
 abbrev pub network_app : App
@@ -37,11 +51,19 @@ network_app = with_rule options_app tenants_rule
 abbrev pub tenant_words : List Text → List Text
 tenant_words words = unwrap_or (all_of (codes "tenants") (matches_of network_app words)) []
 
--- what the words give: numbers, or their defaults, and the tenants' words
+-- what is written for the administrators' address, if anything is
+abbrev pub admin_word : List Text → Option Text
+admin_word words =
+    option_and_then (λ texts. slice_get texts 0)
+    (all_of (codes "admin") (matches_of network_app words))
+
+-- what the words give: numbers, or their defaults, what is written for the administrators' address,
+-- and the tenants' words
 pub record NetworkGiven : Type 0 where
   pub workers : ℕ
   pub places : ℕ
   pub connections : ℕ
+  pub admin : Option Text
   pub tenants : List Text
 
 abbrev pub given_by_words : List Text → NetworkGiven
@@ -49,22 +71,42 @@ given_by_words words = record {
   workers = number_asked network_app (codes "workers") 2 words;
   places = number_asked network_app (codes "places") 65536 words;
   connections = number_asked network_app (codes "connections") 0 words;
+  admin = admin_word words;
   tenants = tenant_words words;
 }
 
--- what is to be served: how many workers and places there are, after how many connections it ends
--- (0: never), and the tenants by their numbers
+-- what is to be served: how many workers and places there are, after how many connections of tenants
+-- it ends (0: never), at which address administrators connect, if at any, and the tenants by their
+-- numbers
 pub record NetworkAsked : Type 0 where
   pub workers : ℕ
   pub places : ℕ
   pub connections : ℕ
+  pub admin : Option SocketAddrV4
   pub tenants : List TenantAsked
 
--- What is given asks for this; each tenant's word is of the form.
+-- what is written spells this address, as std's `SocketAddrV4` is written; or nothing is, and there
+-- is none
+abbrev pub SpellsAddress : Option Text → Option SocketAddrV4 → Type 0
+SpellsAddress None address = address ≡ None
+SpellsAddress (Some text) address = IsSomeAnd address (IsSocketV4Text text)
+
+-- What is written spells this address, if any, and no other.
+pub record IsOnlyAddress (text : Option Text) (address : Option SocketAddrV4) : Type 0 where
+  pub spells : SpellsAddress text address
+  pub only : (other : Option SocketAddrV4) → SpellsAddress text other → other ≡ address
+
+-- something is written that spells no address
+abbrev pub IsNoAddress : Option Text → Type 0
+IsNoAddress text = (address : Option SocketAddrV4) → ¬ (SpellsAddress text address)
+
+-- What is given asks for this; each tenant's word is of the form, and the administrators' address
+-- is one.
 pub record Asks (given : NetworkGiven) (asked : NetworkAsked) : Type 0 where
   pub workers : asked.workers ≡ given.workers
   pub places : asked.places ≡ given.places
   pub connections : asked.connections ≡ given.connections
+  pub admin : SpellsAddress given.admin asked.admin
   pub tenants : AllZip Says given.tenants asked.tenants
 
 -- the settings that are asked for: each tenant's quotas, by the tenants' numbers
@@ -75,13 +117,22 @@ settings_asked asked = record {
   tenants = map (λ tenant. tenant.limits) asked.tenants;
 }
 
+-- the name of the administrators' listener, which no tenant has then
+abbrev pub admin_name : Text
+admin_name = codes "admin"
+
+abbrev pub reserved_names : Option SocketAddrV4 → List Text
+reserved_names None = []
+reserved_names (Some address) = admin_name ∷ []
+
 -- each number is within its bounds, and no name is used twice
 pub record IsServable (asked : NetworkAsked) : Type 0 where
   pub lawful : IsLawful (settings_asked asked)
-  pub names : IsDistinct bytes_eq (map (λ tenant. tenant.name) asked.tenants)
+  pub names : IsDistinct bytes_eq
+      (reserved_names asked.admin ++ map (λ tenant. tenant.name) asked.tenants)
 
--- what is given asks for nothing that can be served: a tenant's word is of another form, a number
--- is out of its bounds, or a name is used twice
+-- what is given asks for nothing that can be served: a tenant's word or an address is of another
+-- form, a number is out of its bounds, or a name is used twice
 abbrev pub AsksInVain : NetworkGiven → Type 0
 AsksInVain given = (asked : NetworkAsked) → Asks given asked → ¬ (IsServable asked)
 
@@ -100,6 +151,7 @@ given_in words = record {
   workers = words.workers;
   places = words.places;
   connections = words.connections;
+  admin = option_map (λ word. word.now) words.admin;
   tenants = map (λ word. word.now) words.tenants.items;
 }
 
@@ -108,6 +160,7 @@ served_by service = record {
   workers = service.settings.workers;
   places = service.settings.places;
   connections = service.connections;
+  admin = service.admin;
   tenants = map asked_of service.tenants.items;
 }
 
@@ -116,7 +169,8 @@ pub record WordsGive (words : List Text) (read : NetworkWords) : Type 0 where
   pub taken : fault_of network_app words ≡ []
   pub given : given_in read ≡ given_by_words words
 
--- The settings are those of what is to be served, and it can be served.
+-- The settings are those of what is to be served, and it can be served; the tenants have valid names.
 pub record IsChecked (service : Service) : Type 0 where
   pub settings : service.settings ≡ settings_asked (served_by service)
   pub servable : IsServable (served_by service)
+  pub names : All (λ (tenant : Tenant). IsTrue (is_lawful_name tenant.name.now)) service.tenants.items

@@ -1,10 +1,10 @@
 -- What a tenant's word says on wfmc's command line, `NAME=ADDR,ITEMS,BYTES`; this project's
 -- profile. An address is written as std's `SocketAddrV4` is, and a number as an option's.
 use Rattle.std.specs.Net.Grammar.{IsSocketV4Text}
-use Rattle.std.specs.Prelude.{◌≡◌, ◌≢◌, ◌==◌, ◌&&◌, ◌||◌, ℕ, Bool, nat_le, All, Some, IsTrue, ◌++◌, codes, length}
+use Rattle.std.specs.Prelude.{◌≡◌, ◌≢◌, ℕ, All, Some, IsTrue, ◌++◌, codes}
 use Rattle.std.specs.declared.net.socket_addr.SocketAddrV4.{SocketAddrV4}
 use Rattle.clap.specs.Walk.{Text}
-use Rattle.mc_model.specs.Settings.{IsBetween}
+use Rattle.mc_model.specs.Name.{is_lawful_name}
 use Rattle.mc_model.specs.declared.settings.Limits.{Limits}
 use Rattle.mc_programs.specs.Words.{u64_of}
 use Rattle.mc_server.specs.declared.tenant_word.Tenant.{Tenant}
@@ -19,17 +19,6 @@ pub record TenantAsked : Type 0 where
 abbrev pub asked_of : Tenant → TenantAsked
 asked_of tenant =
     record { name = tenant.name.now; address = tenant.address; limits = tenant.limits }
-
--- `a` to `z`, `0` to `9`, `-` or `_`
-abbrev pub is_name_byte : ℕ → Bool
-is_name_byte byte =
-    (nat_le 97 byte && nat_le byte 122) || (nat_le 48 byte && nat_le byte 57)
-    || (byte == 45) || (byte == 95)
-
--- 1 to 32 such bytes
-pub record IsName (name : Text) : Type 0 where
-  pub size : IsBetween 1 32 (length name)
-  pub bytes : All (λ byte. IsTrue (is_name_byte byte)) name
 
 -- the byte isn't in the text
 abbrev pub Lacks : ℕ → Text → Type 0
@@ -46,7 +35,7 @@ pub record Says (word : Text) (tenant : TenantAsked) : Type 0 where
   pub items : Text
   pub bytes : Text
   pub spelled : word ≡ tenant_text tenant.name address items bytes
-  pub is_name : IsName tenant.name
+  pub is_name : IsTrue (is_lawful_name tenant.name)
   pub is_address : IsSocketV4Text address tenant.address
   pub is_items : u64_of items ≡ Some tenant.limits.items
   pub is_bytes : u64_of bytes ≡ Some tenant.limits.bytes

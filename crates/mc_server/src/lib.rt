@@ -15,3 +15,4 @@ mod network;
 mod network_texts;
 mod network_words;
 mod tenant_word;
+mod wanted;

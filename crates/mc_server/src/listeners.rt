@@ -1,30 +1,29 @@
-//! The listeners of wfmc's tenants.
-ghost use Rattle.std.specs.Prelude.{◌≡◌, ◌≤◌, IfOk, MatchResult, length, map};
+//! The listeners of wfmc's tenants and administrators.
+ghost use Rattle.std.specs.Prelude.{◌≡◌, IfOk, MatchResult, map};
 ghost use Rattle.mc_model.specs.declared.fault.Fault.TheVariants.{Memory};
-ghost use Rattle.mc_model.specs.declared.id.TheConstants.{TENANTS};
-ghost use Rattle.mc_server.specs.Listeners.{AreListenersOf, IsListeningFor, StopsListening};
-ghost use Rattle.mc_server.specs.TenantWord.{asked_of};
+ghost use Rattle.mc_server.specs.Listeners.{AreBound, IsListeningFor, StopsListening, asked_at};
 ghost use Rattle.mc_server.specs.declared.listeners.Stop.TheVariants.{Failed};
 
 use crate::network_texts::{Listening, told_address};
-use crate::tenant_word::Tenant;
-use mc_model::{Fault, TenantId};
+use crate::wanted::Wanted;
+use mc_conn::Role;
+use mc_model::Fault;
 use mio::net::TcpListener;
 use std::alloc::{AllocFailed, Global};
 use std::io;
 use std::net::{Net, SocketAddr};
 
-/// The tenants' listeners under the tenants' numbers, and what is printed for each.
+/// Listeners with the roles of those who connect there, and what is printed for each.
 #[derive(Drop)]
 pub(crate) struct Listeners<'a> {
-    pub listeners: Vec<(TenantId, TcpListener)>,
+    pub listeners: Vec<(Role, TcpListener)>,
     pub told: Vec<Listening<'a>>,
 }
 
 /// Why a run of wfmc fails.
 #[derive(Clone, Copy, Debug)]
 pub(crate) enum Stop<'a> {
-    /// The address of the tenant with this name can't be listened on.
+    /// The address of the listener with this name can't be listened on.
     CannotListen(&'a str),
     Failed(Fault),
 }
@@ -45,44 +44,41 @@ impl<T: Drop> From<AllocFailed<T>> for Stop<'_> {
     }
 }
 
-/// Binds a tenant's listener. Returns it, and what is printed for it.
+/// Binds a listener. Returns it, and what is printed for it.
 ///
 /// Returns the system's error if it can't be bound or its port can't be found out.
-fn bind<'a, R: Net>(rt: &R, tenant: &Tenant<'a>) -> io::Result<(TcpListener, Listening<'a>)>
-    ensures { IfOk result (λ bound. IsListeningFor (asked_of tenant.now) bound.1) }
+fn bind<'a, R: Net>(rt: &R, wanted: &Wanted<'a>) -> io::Result<(TcpListener, Listening<'a>)>
+    ensures { IfOk result (λ bound. IsListeningFor (asked_at wanted.now) bound.1) }
 {
-    let listener = TcpListener::bind(rt, SocketAddr::V4(tenant.address))?;
+    let listener = TcpListener::bind(rt, SocketAddr::V4(wanted.address))?;
     let given = listener.local_addr()?.port();
     let told = Listening {
-        name: tenant.name,
-        address: told_address(tenant.address, given),
+        name: wanted.name,
+        address: told_address(wanted.address, given),
     };
     Ok((listener, told))
 }
 
-/// Binds a listener for each tenant, in the tenants' order.
+/// Binds these listeners, in their order.
 ///
-/// Returns `CannotListen` for the first tenant whose listener can't be bound, and `Failed(Memory)`
-/// if memory runs out.
+/// Returns `CannotListen` for the first that can't be bound, and `Failed(Memory)` if memory runs
+/// out.
 pub(crate) fn bind_all<'a, R: Net>(
     rt: &R,
     alloc: Global,
-    tenants: &[Tenant<'a>],
+    wanted: &[Wanted<'a>],
 ) -> Result<Listeners<'a>, Stop<'a>>
-    requires { length tenants.now ≤ TENANTS }
-    ensures outcome { MatchResult result (AreListenersOf tenants.now)
-        (StopsListening (map (λ tenant. tenant.name.now) tenants.now)) }
+    ensures outcome { MatchResult result
+        (AreBound (map asked_at wanted.now) (map (λ one. one.role) wanted.now))
+        (StopsListening (map (λ one. one.name.now) wanted.now)) }
 {
     let mut listeners = Vec::new(alloc);
     let mut told = Vec::new(alloc);
-    for (number, tenant) in tenants.iter().enumerate() {
-        let Some(id) = TenantId::new(number as u8) else {
-            unreachable!()
+    for one in wanted {
+        let Ok((listener, listening)) = bind(rt, one) else {
+            return Err(Stop::CannotListen(one.name));
         };
-        let Ok((listener, listening)) = bind(rt, tenant) else {
-            return Err(Stop::CannotListen(tenant.name));
-        };
-        listeners.push((id, listener))?;
+        listeners.push((one.role.share()?, listener))?;
         told.push(listening)?;
     }
     Ok(Listeners { listeners, told })

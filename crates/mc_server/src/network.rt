@@ -10,6 +10,7 @@ use crate::crew::{meet_all, open_workers};
 use crate::listeners::{Listeners, Stop, bind_all};
 use crate::network_texts::{ready_text, tell_cannot_listen, tell_done};
 use crate::network_words::{Service, read_words, service_of};
+use crate::wanted::wanted_by;
 use mc_model::Fault;
 use mc_net::{into_workers, serve};
 use mc_programs::{answer_words, fail, tell_fault};
@@ -42,9 +43,9 @@ fn finish<R: Wait, O: Output>(
     tell_done(rt, count as u64, output)
 }
 
-/// Serves the tenants at their listeners until all connections are served. Once every worker's loop
-/// has begun it prints which tenant's listener is at which address, and at the end the length of the
-/// log.
+/// Serves the tenants and administrators at their listeners until all connections are served. Once
+/// every worker's loop has begun it prints which listener is at which address, and at the end the
+/// length of the log.
 ///
 /// Returns `Memory` if memory runs out or a worker's loop doesn't begin, `Input` if waiting for
 /// connections fails, and `Output` if the output fails.
@@ -56,7 +57,7 @@ fn serve_tenants<R: Threads + Wait + Net + Sync, O: Output>(
     output: &mut O,
 ) -> Result<(), Fault>
     requires checked { IsChecked service.now }
-    requires bound { AreListenersOf service.now.tenants.items bound }
+    requires bound { AreListenersOf (served_by service.now) bound }
     ensures outcome { let settings = settings_asked (served_by service.now) in
         MatchResult result
         (λ _. IsServed settings bound.entry.told.items (O.tells output.old) (O.tells output.new))
@@ -83,9 +84,10 @@ fn serve_tenants<R: Threads + Wait + Net + Sync, O: Output>(
     finish(rt, alloc, workers, output)
 }
 
-/// Binds a listener for each tenant, and serves them all. Nothing is printed before all are bound.
+/// Binds a listener for each tenant, and one for administrators if it is asked for, and serves them
+/// all. Nothing is printed before all are bound.
 ///
-/// Returns the errors of `bind_all` and `serve_tenants`.
+/// Returns the errors of `wanted_by`, `bind_all` and `serve_tenants`.
 fn run_service<'a, R: Threads + Wait + Net + Sync, O: Output>(
     rt: &R,
     alloc: Global,
@@ -97,7 +99,8 @@ fn run_service<'a, R: Threads + Wait + Net + Sync, O: Output>(
         (λ _. ServesTenants (served_by service.now) (O.tells output.old) (O.tells output.new))
         (StopsRun (served_by service.now) (O.tells output.old) (O.tells output.new)) }
 {
-    let bound = bind_all(rt, alloc, &service.tenants)?;
+    let wanted = wanted_by(alloc, service)?;
+    let bound = bind_all(rt, alloc, &wanted)?;
     Ok(serve_tenants(rt, alloc, service, bound, output)?)
 }
 
@@ -113,15 +116,18 @@ fn tell_stop<R: Wait, E: Output>(rt: &R, stop: Stop, errors: &mut E)
 
 /// Does what the words after the program's name ask for, and returns the program's exit status.
 ///
-/// Serves the tenants that the words name, each at a listener of its own. Prints
-/// `listening NAME ADDR` for each, in their order and with the port that its listener has, and then
-/// `ready`, all of it once every worker's loop has begun. With `--connections N` above 0 it ends
-/// once N connections were accepted and all of them have ended: then the workers meet, `done L` is
-/// printed, where L is the length of the log, and the status is 0. Otherwise it doesn't end.
+/// Serves the tenants that the words name, each at a listener of its own, and administrators at the
+/// address of `--admin`, if that is given. Prints `listening NAME ADDR` for each tenant, in their
+/// order and with the port that its listener has, then `listening admin ADDR` for administrators,
+/// and then `ready`, all of it once every worker's loop has begun. With `--connections N` above 0 it
+/// ends once N connections of tenants were accepted and every connection has ended: then the workers
+/// meet, `done L` is printed, where L is the length of the log, and the status is 0. Otherwise it
+/// doesn't end.
 ///
-/// A tenant's word of another form, a number out of its range, or a name that is used twice is
-/// reported on `errors` as `wfmc: bad settings`, with status 2, and an address that can't be
-/// listened on as `wfmc: cannot listen NAME`, with status 1; nothing is printed then. If memory
+/// A tenant's word or an address of another form, a number out of its range, or a name that is used
+/// twice, `admin` among them if there are administrators, is reported on `errors` as
+/// `wfmc: bad settings`, with status 2, and an address that can't be listened on as
+/// `wfmc: cannot listen NAME`, with status 1; nothing is printed then. If memory
 /// runs out, a worker's loop doesn't begin within about ten seconds, waiting for connections fails,
 /// or the output fails, that is reported as `wfmc: TEXT`, with status 1.
 ///

@@ -12,7 +12,10 @@ use std::alloc::{AllocError, Global};
 use std::net::SocketAddrV4;
 use std::sync::Wait;
 
-/// A tenant's name, and the address on which its listener listens.
+/// The name of the administrators' listener.
+pub(crate) const ADMIN: &str = "admin";
+
+/// The name of a listener, its tenant's or the administrators', and the address on which it listens.
 #[derive(Clone, Copy, Debug)]
 pub(crate) struct Listening<'a> {
     pub name: &'a str,
@@ -31,7 +34,7 @@ pub(crate) fn told_address(address: SocketAddrV4, given: u16) -> SocketAddrV4
     }
 }
 
-/// Returns the line for a tenant's listener.
+/// Returns the line for a listener.
 ///
 /// Returns an error if memory runs out.
 fn listening_line(alloc: Global, name: &str, address: SocketAddrV4) -> Result<String, AllocError>
@@ -89,7 +92,7 @@ pub(crate) fn tell_done<R: Wait, O: Output>(
     push_line(rt, b"done ", buffer.format(length).as_bytes(), output)
 }
 
-/// Reports that a tenant's address can't be listened on. A failure of `errors` is ignored. Needs no
+/// Reports that a listener's address can't be listened on. A failure of `errors` is ignored. Needs no
 /// memory.
 pub(crate) fn tell_cannot_listen<R: Wait, E: Output>(rt: &R, name: &str, errors: &mut E)
     ensures { PushesOrFails (cannot_listen_line name.now) (E.tells errors.old)

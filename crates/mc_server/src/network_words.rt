@@ -1,17 +1,20 @@
 //! The options and tenants of wfmc's command line.
 ghost use Rattle.std.specs.List.{AllZip, IsDistinct, list_any};
-ghost use Rattle.std.specs.Prelude.{◌≡◌, ◌↔◌, ◌⊎◌, List, IfOk, IsTrue, MatchResult, false, map, string_bytes};
+ghost use Rattle.std.specs.Prelude.{◌≡◌, ◌++◌, ◌↔◌, ◌⊎◌, List, IfOk, IsTrue, MatchResult, false, map, string_bytes};
+ghost use Rattle.std.specs.Option.{option_map};
 ghost use Rattle.std.specs.Str.{bytes_eq};
 ghost use Rattle.clap.specs.Words.{HasKind, app_of, fault_of, rule_of};
 ghost use Rattle.mc_model.specs.declared.fault.Fault.TheVariants as faults;
-ghost use Rattle.mc_server.specs.NetworkWords.{Asks, WordsGive, AsksInVain, IsChecked, given_in, network_app, options_app, served_by, tenants_rule};
+ghost use Rattle.mc_server.specs.NetworkWords.{Asks, WordsGive, AsksInVain, IsChecked, IsNoAddress, IsOnlyAddress, admin_rule, given_in, network_app, numbers_app, options_app, reserved_names, served_by, tenants_rule};
 ghost use Rattle.mc_server.specs.TenantWord.{IsOnly, Says, TenantAsked, asked_of};
 
+use crate::network_texts::ADMIN;
 use crate::tenant_word::{Tenant, read_tenant};
 use clap::{Arg, Command, Error};
 use mc_model::{Fault, Limits, Settings};
 use mc_programs::{number, number_option};
 use std::alloc::{AllocError, Global};
+use std::net::SocketAddrV4;
 
 /// How many workers there are by default.
 const DEFAULT_WORKERS: u64 = 2;
@@ -25,31 +28,36 @@ const DEFAULT_CONNECTIONS: u64 = 0;
 /// The form of a tenant's word, as help shows it.
 const FORM: &str = "\
 Each TENANT is NAME=ADDR,ITEMS,BYTES:
-  NAME   1 to 32 of a to z, 0 to 9, - and _; no name twice
+  NAME   1 to 32 of a to z, 0 to 9, - and _; no name twice, and with --admin none is admin
   ADDR   an IPv4 address and a port, as numbers, at which the tenant's clients connect;
          the port from 0 to 65535, where 0 takes a free one
   ITEMS  how many items the tenant may hold, from 1 to 1048576
   BYTES  how many bytes their keys and data may have, from 1 to 1073741824
 Where a word is of another form, a number out of its range, or a name used twice: wfmc: bad settings.
 
+With --admin, whoever connects at ADDR may set a tenant's quotas: limit NAME ITEMS BYTES.
+
 Example, two tenants apart from each other on two ports:
   wfmc shop=127.0.0.1:11211,1000,1048576 blog=127.0.0.1:11212,1000,1048576";
 
-/// What the words of wfmc give: numbers, or their defaults, and the tenants' words in their order.
+/// What the words of wfmc give: numbers, or their defaults, what is written for the administrators'
+/// address, and the tenants' words in their order.
 #[derive(Debug, Drop)]
 pub(crate) struct NetworkWords<'a> {
     pub workers: u64,
     pub places: u64,
     pub connections: u64,
+    pub admin: Option<&'a str>,
     pub tenants: Vec<&'a str>,
 }
 
-/// What wfmc is to serve: settings, after how many connections it ends (0: never), and the tenants
-/// by their numbers.
+/// What wfmc is to serve: settings, after how many connections of tenants it ends (0: never), at
+/// which address administrators connect, if at any, and the tenants by their numbers.
 #[derive(Debug, Drop)]
 pub(crate) struct Service<'a> {
     pub settings: Settings,
     pub connections: u64,
+    pub admin: Option<SocketAddrV4>,
     pub tenants: Vec<Tenant<'a>>,
 }
 
@@ -65,15 +73,26 @@ fn tenants_argument<'a>(alloc: Global) -> Arg<'a>
         .help("A tenant: NAME=ADDR,ITEMS,BYTES, as below; from 1 to 64 of them")
 }
 
-/// Returns wfmc's command line with its options only.
+/// Returns the option for the administrators' address.
+fn admin_option<'a>(alloc: Global) -> Arg<'a>
+    ensures rule { rule_of result ≡ admin_rule }
+    ensures local { result.global ≡ false }
+{
+    Arg::new(alloc, "admin")
+        .long("admin")
+        .value_name("ADDR")
+        .help("At which IPv4 address and port administrators connect; without it there are none")
+}
+
+/// Returns wfmc's command line with the options only that are numbers.
 ///
 /// Returns an error if memory runs out.
-fn options_command<'a>(alloc: Global) -> Result<Command<'a>, AllocError>
-    ensures { IfOk result (λ command. app_of command ≡ options_app) }
+fn numbers_command<'a>(alloc: Global) -> Result<Command<'a>, AllocError>
+    ensures { IfOk result (λ command. app_of command ≡ numbers_app) }
 {
     let workers = "How many threads serve, from 1 to 16 [default: 2]";
     let places = "How many commands of all tenants are applied, from 1 to 1048576 [default: 65536]";
-    let connections = "After how many connections it ends; 0 for never [default: 0]";
+    let connections = "After how many connections of tenants it ends; 0 for never [default: 0]";
     Command::new(alloc, "wfmc")
         .no_binary_name(true)
         .version("1.0.0")
@@ -82,6 +101,15 @@ fn options_command<'a>(alloc: Global) -> Result<Command<'a>, AllocError>
         .arg(number_option(alloc, "workers", workers))?
         .arg(number_option(alloc, "places", places))?
         .arg(number_option(alloc, "connections", connections))
+}
+
+/// Returns wfmc's command line with its options only.
+///
+/// Returns an error if memory runs out.
+fn options_command<'a>(alloc: Global) -> Result<Command<'a>, AllocError>
+    ensures { IfOk result (λ command. app_of command ≡ options_app) }
+{
+    numbers_command(alloc)?.arg(admin_option(alloc))
 }
 
 /// Returns the command line that wfmc takes.
@@ -107,6 +135,7 @@ pub(crate) fn read_words(alloc: Global, words: &[String]) -> Result<NetworkWords
         workers: number(&matches, "workers").unwrap_or(DEFAULT_WORKERS),
         places: number(&matches, "places").unwrap_or(DEFAULT_PLACES),
         connections: number(&matches, "connections").unwrap_or(DEFAULT_CONNECTIONS),
+        admin: matches.get_str("admin"),
         tenants,
     })
 }
@@ -131,6 +160,23 @@ fn read_tenants<'a>(alloc: Global, words: &[&'a str]) -> Result<Vec<Tenant<'a>>,
     Ok(tenants)
 }
 
+/// Returns the address that is written for the administrators' listener, or `None` if nothing is.
+///
+/// Returns `BadSettings` if it isn't an IPv4 address with a port.
+fn read_admin(word: Option<&str>) -> Result<Option<SocketAddrV4>, Fault>
+    ensures { let text = option_map (λ word. word.now) word.entry in
+        MatchResult result (IsOnlyAddress text)
+        (λ fault. (fault ≡ faults.BadSettings) × IsNoAddress text) }
+{
+    let Some(word) = word else {
+        return Ok(None);
+    };
+    match word.parse::<SocketAddrV4>() {
+        Ok(address) => Ok(Some(address)),
+        Err(_) => Err(Fault::BadSettings),
+    }
+}
+
 /// Returns whether a tenant has this name.
 fn has_name(tenants: &[Tenant], name: &str) -> bool
     ensures { result ≡ list_any (λ tenant. bytes_eq name.now tenant.name.now) tenants.now }
@@ -148,6 +194,17 @@ fn have_own_names(tenants: &[Tenant]) -> bool
     }
 }
 
+/// Returns whether no name is used twice: with administrators none of the tenants is `admin`.
+fn are_names_free(admin: Option<SocketAddrV4>, tenants: &[Tenant]) -> bool
+    ensures { IsTrue result ↔ IsDistinct bytes_eq
+        (reserved_names admin ++ map (λ tenant. tenant.name.now) tenants.now) }
+{
+    match admin {
+        Some(_) => !has_name(tenants, ADMIN) && have_own_names(tenants),
+        None => have_own_names(tenants),
+    }
+}
+
 /// Returns the tenants' quotas, in the tenants' order.
 ///
 /// Returns an error if memory runs out.
@@ -159,8 +216,8 @@ fn quotas_of(alloc: Global, tenants: &[Tenant]) -> Result<Vec<Limits>, AllocErro
 
 /// Returns what the words ask to be served.
 ///
-/// Returns `BadSettings` if that can't be served: a tenant's word is of another form, a number is
-/// out of its bounds, or a name is used twice. Returns `Memory` if memory runs out.
+/// Returns `BadSettings` if that can't be served: a tenant's word or an address is of another form, a
+/// number is out of its bounds, or a name is used twice. Returns `Memory` if memory runs out.
 pub(crate) fn service_of<'a>(alloc: Global, words: &NetworkWords<'a>) -> Result<Service<'a>, Fault>
     ensures outcome { MatchResult result
         (λ service. Asks (given_in words.now) (served_by service) × IsChecked service)
@@ -168,15 +225,17 @@ pub(crate) fn service_of<'a>(alloc: Global, words: &NetworkWords<'a>) -> Result<
         ⊎ (fault ≡ faults.BadSettings) × AsksInVain (given_in words.now)) }
 {
     let tenants = read_tenants(alloc, &words.tenants)?;
+    let admin = read_admin(words.admin)?;
     let quotas = quotas_of(alloc, &tenants)?;
     let settings = Settings::check(words.workers, words.places, quotas)?;
     // `Settings::check` has bounded the number of names that are compared here.
-    if !have_own_names(&tenants) {
+    if !are_names_free(admin, &tenants) {
         return Err(Fault::BadSettings);
     }
     Ok(Service {
         settings,
         connections: words.connections,
+        admin,
         tenants,
     })
 }

@@ -1,14 +1,11 @@
 //! A tenant's word on wfmc's command line.
 ghost use Rattle.std.specs.Option.{IsSomeAnd};
-ghost use Rattle.std.specs.Prelude.{◌≡◌, ◌↔◌, ℕ, List, Some, IfSome, IsTrue};
-ghost use Rattle.mc_server.specs.TenantWord.{IsName, Lacks, Says, TenantAsked, asked_of, is_name_byte, tenant_text};
+ghost use Rattle.std.specs.Prelude.{◌≡◌, ℕ, List, Some, IfSome};
+ghost use Rattle.mc_server.specs.TenantWord.{Lacks, Says, TenantAsked, asked_of, tenant_text};
 ghost use Rattle.mc_programs.specs.Words.{u64_of};
 
-use mc_model::Limits;
+use mc_model::{Limits, Name};
 use std::net::SocketAddrV4;
-
-/// The greatest length of a tenant's name, in bytes.
-const MAX_NAME: usize = 32;
 
 /// A tenant as its word describes it: its name, the address on which it listens, and its quotas,
 /// which may be out of their bounds.
@@ -26,20 +23,6 @@ struct Parts<'a> {
     address: &'a str,
     items: &'a str,
     bytes: &'a str,
-}
-
-/// Returns whether a byte may be in a name.
-fn is_name_byte(byte: u8) -> bool
-    ensures { result ≡ is_name_byte byte }
-{
-    matches!(byte, b'a'..=b'z' | b'0'..=b'9' | b'-' | b'_')
-}
-
-/// Returns whether a tenant may have this name.
-fn is_name(name: &str) -> bool
-    ensures { IsTrue result ↔ IsName name.now }
-{
-    (1..=MAX_NAME).contains(&name.len()) && name.bytes().all(|byte| is_name_byte(byte))
 }
 
 /// Returns the number of 64 bits that a text spells. The text may begin with a plus.
@@ -79,7 +62,7 @@ pub(crate) fn read_tenant(word: &str) -> Option<Tenant<'_>>
         IsSomeAnd result (λ tenant. asked_of tenant ≡ asked) }
 {
     let parts = cut(word)?;
-    if !is_name(parts.name) {
+    if !Name::is_lawful(parts.name.as_bytes()) {
         return None;
     }
     let address = parts.address.parse::<SocketAddrV4>().ok()?;

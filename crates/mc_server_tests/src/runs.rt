@@ -75,17 +75,20 @@ Arguments:
 Options:
       --workers <N>      How many threads serve, from 1 to 16 [default: 2]
       --places <N>       How many commands of all tenants are applied, from 1 to 1048576 [default: 65536]
-      --connections <N>  After how many connections it ends; 0 for never [default: 0]
+      --connections <N>  After how many connections of tenants it ends; 0 for never [default: 0]
+      --admin <ADDR>     At which IPv4 address and port administrators connect; without it there are none
   -h, --help             Print help
   -V, --version          Print version
 
 Each TENANT is NAME=ADDR,ITEMS,BYTES:
-  NAME   1 to 32 of a to z, 0 to 9, - and _; no name twice
+  NAME   1 to 32 of a to z, 0 to 9, - and _; no name twice, and with --admin none is admin
   ADDR   an IPv4 address and a port, as numbers, at which the tenant's clients connect;
          the port from 0 to 65535, where 0 takes a free one
   ITEMS  how many items the tenant may hold, from 1 to 1048576
   BYTES  how many bytes their keys and data may have, from 1 to 1073741824
 Where a word is of another form, a number out of its range, or a name used twice: wfmc: bad settings.
+
+With --admin, whoever connects at ADDR may set a tenant's quotas: limit NAME ITEMS BYTES.
 
 Example, two tenants apart from each other on two ports:
   wfmc shop=127.0.0.1:11211,1000,1048576 blog=127.0.0.1:11212,1000,1048576
@@ -163,6 +166,11 @@ fn what_cannot_be_served_is_refused(rt: HostRuntime) -> Result<(), Fail> {
         "--workers 17 a=127.0.0.1:0,1,1",
         "--places 0 a=127.0.0.1:0,1,1",
         "--places 1048577 a=127.0.0.1:0,1,1",
+        "--admin 127.0.0.1:0 admin=127.0.0.1:0,1,1",
+        "--admin 127.0.0.1:0 a=127.0.0.1:0,1,1 admin=127.0.0.1:0,1,1",
+        "--admin 127.0.0.1 a=127.0.0.1:0,1,1",
+        "--admin localhost:1 a=127.0.0.1:0,1,1",
+        "--admin=127.0.0.1:65536 a=127.0.0.1:0,1,1",
     ] {
         check_told(&rt, given, 2, "wfmc: bad settings\n")?;
     }
@@ -182,6 +190,15 @@ fn the_first_address_that_cannot_be_listened_at_is_told(rt: HostRuntime) -> Resu
             "wfmc: cannot listen b_2\n",
         ),
         ("-- -a=192.0.2.1:0,+1,01", "wfmc: cannot listen -a\n"),
+        (
+            "--admin 192.0.2.1:0 a=127.0.0.1:0,1,1",
+            "wfmc: cannot listen admin\n",
+        ),
+        (
+            "--admin 192.0.2.1:0 a=192.0.2.1:0,1,1",
+            "wfmc: cannot listen a\n",
+        ),
+        ("admin=192.0.2.1:0,1,1", "wfmc: cannot listen admin\n"),
     ] {
         check_told(&rt, given, 1, told)?;
     }

@@ -1,6 +1,6 @@
 -- An event that leads on meets no fault, and it leads to one state alone, with one reply or with
 -- none.
-use Rattle.std.proofs.Common.{◌≡◌, ◌≢◌, ◌⊎◌, ℕ, ◌+◌, ◌<◌, List, length, Option, Some, None, ◌≤◌, Bool, true, false, ◌||◌, not, ltb, is_some, slice_get, slice_set, ⊎_elim, refl, sym, ap, ap₂, ◌∙◌, arith}
+use Rattle.std.proofs.Common.{◌≡◌, ◌≢◌, ◌⊎◌, ℕ, ◌+◌, ◌<◌, List, length, Option, Some, None, ◌≤◌, Bool, true, false, ◌||◌, not, ltb, is_some, slice_get, slice_set, ⊎_elim, inl, inr, true≢false, refl, sym, ap, ap₂, ◌∙◌, arith}
 use Rattle.std.proofs.lemmas.Bool.Decides.{nat_tests}
 use Rattle.std.proofs.lemmas.Option.{same_Some, slice_get_within}
 use Rattle.std.specs.Option.{option_map}
@@ -18,7 +18,7 @@ use Rattle.mc_model.specs.Replay.{reply_from, with_command}
 use Rattle.mc_model.specs.Shown.{announce, look, proposal, propose, read, stop}
 use Rattle.mc_model.specs.State.{TableState}
 use Rattle.uc_core.specs.Core.{CoreState, ReplayState, core_size}
-use Rattle.uc_core.specs.Headline.{HasReplica, NobodyWaits, StepsAreEnabled, StepsAreOne, WorkersAreFree}
+use Rattle.uc_core.specs.Headline.{FaultsAreOrdered, FaultsStand, HasReplica, NobodyWaits, StepsAreEnabled, StepsAreOne, WorkersAreFree}
 use Rattle.uc_core.specs.Step.{CoreStep, actor, announced_entry, entry_at, is_idle, is_looked, is_pending, is_stopped, needs, refusal, refusal_by, refusal_of, with_entry}
 use Rattle.uc_core.specs.declared.event.Event.{Event}
 use Rattle.uc_core.specs.declared.event.Event.TheVariants.{Announce, Look, Propose, Read, Replay, Stop}
@@ -82,6 +82,30 @@ module _ (core : CoreState) (law : CoreLaw core) where
 denied : (condition : Bool) (fault : Fault) (others : Option Fault) → condition ≡ false → needs condition fault others ≡ Some fault
 denied condition fault others is = ap (λ (b : Bool). needs b fault others) is
 
+not_idle : (phase : Phase) → phase ≢ Idle → is_idle phase ≡ false
+not_idle Idle other = absurd (other refl)
+not_idle Pending other = refl
+not_idle Looked other = refl
+not_idle Stopped other = refl
+
+not_pending : (phase : Phase) → phase ≢ Pending → is_pending phase ≡ false
+not_pending Idle other = refl
+not_pending Pending other = absurd (other refl)
+not_pending Looked other = refl
+not_pending Stopped other = refl
+
+not_looked : (phase : Phase) → phase ≢ Looked → is_looked phase ≡ false
+not_looked Idle other = refl
+not_looked Pending other = refl
+not_looked Looked other = absurd (other refl)
+not_looked Stopped other = refl
+
+neither : (phase : Phase) → phase ≢ Idle → phase ≢ Pending → (is_idle phase || is_pending phase) ≡ false
+neither Idle other pending = absurd (other refl)
+neither Pending other pending = absurd (pending refl)
+neither Looked other pending = refl
+neither Stopped other pending = refl
+
 is_not_below : (n m : ℕ) → m ≤ n → ltb n m ≡ false
 is_not_below n m above = grind (arith, nat_tests)
 
@@ -106,6 +130,40 @@ module _ (core : CoreState) (number : ℕ) (worker : WorkerState) (replay : Repl
     where
       met_first : (condition : Bool) (others : Option Fault) → condition ≡ true → needs condition BadEvent others ≡ others
       met_first condition others is = ap (λ (b : Bool). needs b BadEvent others) is
+
+  -- a bad event, if the first condition fails, or a bad event comes of those after it
+  bad_first : (condition : Bool) (others : Option Fault) → (condition ≡ false) ⊎ (others ≡ Some BadEvent) →
+      needs condition BadEvent others ≡ Some BadEvent
+  bad_first false others either = refl
+  bad_first true others (inl is) = absurd (true≢false is)
+  bad_first true others (inr is) = is
+
+  passed : (condition : Bool) (others : Option Fault) → condition ≡ true → needs condition BadEvent others ≡ others
+  passed condition others is = ap (λ (b : Bool). needs b BadEvent others) is
+
+  faults_are_ordered : FaultsAreOrdered core number worker replay
+  faults_are_ordered = record {
+    announces = λ tenant command either. by_its_own (Announce number tenant command) (Some BadEvent) refl
+        (bad_first _ _ (⊎_elim (λ other. inl (not_idle _ other)) (λ unknown. inr (denied _ _ _ (is_not_below _ _ unknown))) either));
+    reads = λ either. by_its_own (Read number) (Some BadEvent) refl
+        (bad_first _ _ (⊎_elim (λ other. inl (neither _ other.0 other.1)) (λ none. inr (denied _ _ _ (is_not_below _ _ none))) either));
+    looks = λ other. by_its_own (Look number) (Some BadEvent) refl (bad_first _ _ (inl (not_pending _ other)));
+    looks_full = λ phase none. by_its_own (Look number) (Some LogFull) refl
+        (passed _ _ (ap is_pending phase) ∙ denied _ _ _ (is_not_below _ _ none));
+    looks_unmarked = λ phase room none. by_its_own (Look number) (Some BadEvent) refl
+        (passed _ _ (ap is_pending phase)
+        ∙ ap (λ (b : Bool). needs b LogFull (needs (is_some worker.mark) BadEvent None)) (is_below _ _ room)
+        ∙ denied _ _ _ (ap is_some none));
+    proposes = λ other. by_its_own (Propose number) (Some BadEvent) refl (bad_first _ _ (inl (not_looked _ other)));
+    replays = λ either. by_its_own (Replay number) (Some BadEvent) refl
+        (bad_first _ _ (⊎_elim (λ stopped. inl (ap (λ (it : Phase). not (is_stopped it)) stopped))
+        (λ none. inr (denied _ _ _ (is_not_below _ _ none))) either));
+    stops = λ stopped. by_its_own (Stop number) (Some BadEvent) refl
+        (bad_first _ _ (inl (ap (λ (it : Phase). not (is_stopped it)) stopped)));
+  }
+
+pub faults_stand : (core : CoreState) → FaultsStand core
+faults_stand core number worker replay has = faults_are_ordered core number worker replay has
 
 pub workers_are_free : (core : CoreState) → WorkersAreFree core
 workers_are_free core number worker replay has = nobody_waits core number worker replay has

@@ -3,7 +3,7 @@
 -- its events.
 use Rattle.std.specs.Prelude.{◌≡◌, ◌≢◌, ◌⊎◌, ℕ, ◌+◌, ◌<◌, ◌≤◌, List, length, map, take, Option, Some, None, slice_get}
 use Rattle.mc_model.specs.declared.command.Command.{Command}
-use Rattle.mc_model.specs.declared.fault.Fault.TheVariants.{LogFull}
+use Rattle.mc_model.specs.declared.fault.Fault.TheVariants.{BadEvent, LogFull}
 use Rattle.mc_model.specs.declared.id.Ticket.{Ticket}
 use Rattle.mc_model.specs.declared.reply.Reply.{Reply}
 use Rattle.mc_model.specs.declared.request.Entry.{Entry}
@@ -224,6 +224,32 @@ pub record NobodyWaits (core : CoreState) (number : ℕ) (worker : WorkerState)
 abbrev pub WorkersAreFree : CoreState → Type 0
 WorkersAreFree core = (number : ℕ) (worker : WorkerState) (replay : ReplayState) →
     HasReplica core number worker replay → NobodyWaits core number worker replay
+
+-- Which fault an event meets that can't be taken, and in which order its conditions are tried: this
+-- project's profile. A full log is reported to an idle worker that announces for a tenant that is
+-- there (`NobodyWaits`), and to a pending one that looks, whether it has a mark or not. Every other
+-- event that can't be taken is a bad event.
+pub record FaultsAreOrdered (core : CoreState) (number : ℕ) (worker : WorkerState)
+    (replay : ReplayState) : Type 0 where
+  pub announces : (tenant : ℕ) (command : Command) →
+      (worker.phase ≢ Idle) ⊎ (length core.openings ≤ tenant) →
+      refusal core (Announce number tenant command) ≡ Some BadEvent
+  pub reads : (worker.phase ≢ Idle) × (worker.phase ≢ Pending)
+      ⊎ (core.places ≤ length worker.learned) → refusal core (Read number) ≡ Some BadEvent
+  pub looks : worker.phase ≢ Pending → refusal core (Look number) ≡ Some BadEvent
+  pub looks_full : worker.phase ≡ Pending → core.places ≤ length worker.learned →
+      refusal core (Look number) ≡ Some LogFull
+  pub looks_unmarked : worker.phase ≡ Pending → HasRoom (core_size core) worker →
+      worker.mark ≡ None → refusal core (Look number) ≡ Some BadEvent
+  pub proposes : worker.phase ≢ Looked → refusal core (Propose number) ≡ Some BadEvent
+  pub replays : (worker.phase ≡ Stopped) ⊎ (length worker.learned ≤ replay.replayed) →
+      refusal core (Replay number) ≡ Some BadEvent
+  pub stops : worker.phase ≡ Stopped → refusal core (Stop number) ≡ Some BadEvent
+
+-- this holds for every worker
+abbrev pub FaultsStand : CoreState → Type 0
+FaultsStand core = (number : ℕ) (worker : WorkerState) (replay : ReplayState) →
+    HasReplica core number worker replay → FaultsAreOrdered core number worker replay
 
 -- an event leaves the shown state of every other worker, and what that worker has replayed, as they
 -- are

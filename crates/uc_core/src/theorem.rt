@@ -6,15 +6,16 @@
 //! a table holding only its tenant's commands in log order, so runs whose logs agree for a tenant
 //! give equal replies. Each command is answered at most once, and one that was answered before
 //! another was announced stands before it.
-ghost use Rattle.std.specs.Prelude.{◌≡◌, ◌⊎◌, ◌↔◌, ℕ, [], ◌∷◌, true, Some, None};
+ghost use Rattle.std.specs.Prelude.{◌≡◌, ◌⊎◌, ◌↔◌, ℕ, ◌<◌, [], ◌∷◌, length, true, Some, None};
 ghost use Rattle.mc_model.specs.declared.reply.Reply.{Reply};
 ghost use Rattle.mc_model.specs.Helping.{HelpingLaw, IsSoonDecided, LogLaw};
-ghost use Rattle.mc_model.specs.Lawful.{IsReached};
+ghost use Rattle.mc_model.specs.Lawful.{IsReached, turn};
 ghost use Rattle.mc_model.specs.declared.shown.LogSize as size;
 ghost use Rattle.mc_model.specs.declared.shown.ShownState as state;
+ghost use Rattle.mc_model.specs.declared.shown.WorkerState as worker;
 ghost use Rattle.uc_core.specs.Asked.{AnnouncementsStand, ByEvents, FewProposals, IsOfSettings, ReplaysCount};
 ghost use Rattle.uc_core.specs.Core.{CoreState, core_size};
-ghost use Rattle.uc_core.specs.Headline.{AnswerAlike, AnsweredOnce, IsDecidedSoon, KeepsRealTime, LogIsSound, OfEveryRun, OwnAreAnswered, RepliesAreAnswers, ReplicasAgree, StandsAfterDecided, StepsAreAlone, StepsAreEnabled, StepsAreOne, StepsLeadOn, StepsLearn, StopsForGood, TablesStand, WorkersAreFree};
+ghost use Rattle.uc_core.specs.Headline.{AnswerAlike, AnsweredOnce, FaultsStand, IsDecidedSoon, KeepsRealTime, LogIsSound, OfEveryRun, OwnAreAnswered, RepliesAreAnswers, ReplicasAgree, StandsAfterDecided, StepsAreAlone, StepsAreEnabled, StepsAreOne, StepsLeadOn, StepsLearn, StopsForGood, TablesStand, WorkersAreFree};
 ghost use Rattle.uc_core.specs.Run.{given_by, replayed_by};
 ghost use Rattle.uc_core.specs.Step.{actor, is_quiet};
 ghost use Rattle.uc_core.specs.declared.event.Event.{Event};
@@ -79,6 +80,9 @@ pub fn events_lead_one_way()
     // No worker waits for another.
     ensures free { (core : CoreState) → WorkersAreFree core }
 
+    // Which fault another event meets, whichever of its conditions fail.
+    ensures faults { (core : CoreState) → FaultsStand core }
+
     // An event changes its own worker alone.
     ensures alone { (core : CoreState) → StepsAreAlone core }
 
@@ -125,4 +129,7 @@ pub fn shown_states()
     ensures lawful { (n : size.LogSize) (s : state.ShownState) → IsReached n s → LogLaw n s }
     ensures helping { (n : size.LogSize) (s : state.ShownState) → IsReached n s → HelpingLaw n s }
     ensures soon { (n : size.LogSize) → IsSoonDecided n }
+    // At each of the first places it is the turn of the worker with the place's number.
+    ensures turns { (n : size.LogSize) (w : worker.WorkerState) → length w.learned < n.workers →
+        turn n w ≡ length w.learned }
 {}

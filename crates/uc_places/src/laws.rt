@@ -1,6 +1,14 @@
 //! What follows from the contracts of a seat's calls. A law is the contract of a function with an
 //! empty body.
+ghost use Rattle.std.specs.Prelude.{◌≡◌, ℕ, ◌<◌, List, Some, slice_get};
+ghost use Rattle.lists.specs.Lists.{BeginsWith};
+ghost use Rattle.mc_model.specs.declared.id.Ticket.{Ticket};
+ghost use Rattle.mc_model.specs.declared.shown.LogSize.{LogSize};
+ghost use Rattle.uc_places.specs.Calls.{last_of, state_of, worker_of};
+ghost use Rattle.uc_places.specs.End.{IsEnd};
 ghost use Rattle.uc_places.specs.OneRun.{CallsLieOnOneRun, OthersLeaveIt};
+ghost use Rattle.uc_places.specs.Seats.{desk_of};
+ghost use Rattle.uc_places.specs.declared.seats.Seat.{Seat};
 
 /// The calls of a seat, in order, are its worker's own events of one run of the log, whatever other
 /// workers do in between.
@@ -10,4 +18,16 @@ pub fn calls_lie_on_one_run()
     ensures run { CallsLieOnOneRun }
     // Between two calls the worker's state stays the same, and no decided place changes.
     ensures between { OthersLeaveIt }
+{}
+
+/// The log that `close` gives goes on from where its first seat was.
+pub fn the_end_goes_on_from_a_seat()
+    // It begins with all that was decided after that seat's last event.
+    ensures begins { (size : LogSize) (tickets : List Ticket) (seat : Seat) →
+        IsEnd size tickets (Some seat) → BeginsWith tickets (last_of (desk_of seat)).decided }
+    // Of that seat's worker it has no other commands than those that the seat has announced.
+    ensures own { (size : LogSize) (tickets : List Ticket) (seat : Seat) (place : ℕ)
+        (ticket : Ticket) → IsEnd size tickets (Some seat) →
+        slice_get tickets place ≡ Some ticket → ticket.worker ≡ worker_of (desk_of seat) →
+        ticket.number < (state_of (desk_of seat)).announced }
 {}

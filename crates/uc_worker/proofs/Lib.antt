@@ -6,3 +6,4 @@ pub mod Telling
 pub mod Replies
 pub mod Counting
 pub mod Lacking
+pub mod TurningOver

@@ -4,4 +4,5 @@ pub mod Counting
 pub mod Waiting
 pub mod Worker
 pub mod Going
+pub mod TurningOver
 pub mod Cited

@@ -52,6 +52,10 @@ next_of worker tenant command = next_sighting worker.log.now worker.pass tenant 
 abbrev pub IsFull : Worker → Type 0
 IsFull worker = length (seat_of worker).state.learned ≡ (seat_of worker).size.places
 
+-- it has replayed all places of its log
+abbrev pub HasReplayedAll : Worker → Type 0
+HasReplayedAll worker = length (history_of worker) ≡ worker.log.now.settings.places
+
 -- it has replayed all that it has learned
 abbrev pub IsUpToDate : Worker → Type 0
 IsUpToDate worker = length (history_of worker) ≡ length (seat_of worker).state.learned

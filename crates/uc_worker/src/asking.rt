@@ -1,12 +1,13 @@
 //! What a worker reports about itself.
-ghost use Rattle.std.specs.Prelude.{◌≡◌, ◌<◌, true, false, length, Some, slice_get};
+ghost use Rattle.std.specs.Prelude.{◌≡◌, ◌<◌, ◌↔◌, true, false, length, Some, slice_get, IsTrue};
 ghost use Rattle.std.specs.Option.{option_map};
 ghost use Rattle.mc_model.specs.History.{state_from};
 ghost use Rattle.mc_model.specs.Lawful.{HasRoom};
 ghost use Rattle.mc_model.specs.Log.{own};
+ghost use Rattle.mc_model.specs.Replay.{HaveRoom};
 ghost use Rattle.uc_cells.specs.Sighting.{entries};
 ghost use Rattle.uc_worker.specs.Histories.{AreDecided, Follows, LacksAtMostOne};
-ghost use Rattle.uc_worker.specs.Worker.{history_of, openings_of, seat_of, tenants_of};
+ghost use Rattle.uc_worker.specs.Worker.{HasReplayedAll, history_of, openings_of, seat_of, tables_of, tenants_of};
 ghost use Rattle.uc_places.specs.Reached.{LastIsReached};
 ghost use Rattle.uc_places.specs.SeatLaw.{SeatLaw};
 
@@ -52,6 +53,20 @@ impl<'a> Worker<'a> {
         // The contract of `history` says that there is a table for each tenant.
         let _ = self.replica.history();
         self.replica.table(tenant)
+    }
+
+    /// Returns whether the worker has replayed all places of its log.
+    pub fn is_done(&self) -> bool
+        ensures { IsTrue result ↔ HasReplayedAll self.now }
+    {
+        !self.replica.has_place()
+    }
+
+    /// Returns whether in each of its tables this many more changes can get uniques of 64 bits.
+    pub fn has_room(&self, places: u64) -> bool
+        ensures { IsTrue result ↔ HaveRoom (tables_of self.now) places }
+    {
+        self.replica.has_room(places)
     }
 
     /// Returns whether the worker has learned all places. If so, nothing more is ever logged for

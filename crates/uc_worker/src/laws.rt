@@ -1,10 +1,17 @@
 //! What follows from the definitions. A law is the contract of a function with an empty body.
-ghost use Rattle.std.specs.Prelude.{ℕ, ◌+◌, refl};
+ghost use Rattle.std.specs.Prelude.{◌≡◌, ◌⊎◌, ℕ, ◌+◌, length, refl};
 ghost use Rattle.std.proofs.Common.{◌∙◌};
 ghost use Rattle.lists.proofs.Public.{begins_self, begins_through};
+ghost use Rattle.mc_model.specs.declared.fault.Fault.{Fault};
+ghost use Rattle.mc_model.specs.declared.fault.Fault.TheVariants.{LogFull, Memory, Taken};
+ghost use Rattle.mc_model.specs.Legal.{count};
 ghost use Rattle.uc_places.specs.declared.desk.Desk.{Desk};
+ghost use Rattle.uc_places.specs.declared.view.View.{View};
+ghost use Rattle.uc_places.specs.Reached.{LastIsReached};
+ghost use Rattle.uc_places.specs.SeatLaw.{SeatLaw};
 ghost use Rattle.uc_worker.specs.Counting.{TakesFew};
 ghost use Rattle.uc_worker.specs.Going.{CatchesUp, Continues};
+ghost use Rattle.uc_worker.specs.Steps.{HasReadOn, Leaves};
 ghost use Rattle.uc_worker.specs.Worker.{announced_of, history_of, seat_of};
 ghost use Rattle.uc_worker.specs.declared.worker.Worker.{Worker};
 
@@ -56,4 +63,25 @@ pub fn events_add_up()
     ensures none { (desk : Desk) → TakesFew 0 desk desk }
     ensures through { (few more : ℕ) (first second third : Desk) → TakesFew few first second →
         TakesFew more second third → TakesFew (few + more) first third }
+{}
+
+/// A worker that has read on has learned as many places as were decided after its last event.
+pub fn who_has_read_on_has_learned_the_log()
+    ensures { (view : View) → LastIsReached view → HasReadOn view →
+        length view.last.decided ≡ length view.state.learned }
+{}
+
+/// What a fault leaves, by what the worker has learned. If memory ran out or the cell was taken, all
+/// its commands are among that, and at the latter the call has announced none. If the log is full,
+/// the call's command isn't.
+pub fn faults_leave_nothing_open()
+    ensures settled { (fault : Fault) (old new : View) → Leaves fault old new →
+        SeatLaw new.size new.worker new.state → (fault ≡ Memory) ⊎ (fault ≡ Taken) →
+        count new.worker new.state.learned ≡ new.state.announced }
+    ensures taken { (old new : View) → Leaves Taken old new →
+        new.state.announced ≡ old.state.announced }
+    ensures full { (old new : View) → Leaves LogFull old new →
+        SeatLaw new.size new.worker new.state →
+        new.state.announced ≡ old.state.announced + 1 →
+        count new.worker new.state.learned + 1 ≡ new.state.announced }
 {}

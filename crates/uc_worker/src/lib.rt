@@ -5,6 +5,7 @@
 #![tactic(auto)]
 
 pub use gate::{Gate, Open, Step};
+pub use turning_over::{Base, Next, turn_over, turn_over_alone};
 pub use worker::{Answer, Worker};
 
 mod announcing;
@@ -17,4 +18,5 @@ mod meeting;
 mod opening;
 mod replaying;
 mod submitting;
+pub mod turning_over;
 pub mod worker;

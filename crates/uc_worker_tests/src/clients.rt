@@ -1,5 +1,6 @@
 //! A worker together with the log that it works on, and several of them.
-ghost use Rattle.std.specs.Prelude.{◌≡◌, ℕ, Some, slice_get, All, IfOk, IfSome};
+ghost use Rattle.std.specs.Prelude.{◌≡◌, ℕ, Some, length, slice_get, All, IfOk, IfSome};
+ghost use Rattle.mc_model.specs.Replay.{HaveRoom};
 ghost use Rattle.uc_log.specs.Passes.{IsUnusedPass};
 
 use crate::texts::{command_of, reads_as, settings_of};
@@ -8,7 +9,7 @@ use mc_model::{Command, Fault, Limits, TenantId};
 use std::alloc::Global;
 use uc_cells::Seen;
 use uc_log::{Log, Pass};
-use uc_worker::{Answer, Gate, Open, Worker};
+use uc_worker::{Answer, Base, Gate, Open, Worker};
 
 /// A worker and its log.
 #[derive(Drop)]
@@ -25,6 +26,22 @@ impl<'a> Client<'a> {
         ensures { IfOk result (λ client. client.log.now ≡ log.now) }
     {
         let worker = Worker::open(alloc, log, pass)?;
+        Ok(Client { log, worker })
+    }
+
+    /// Opens the client of the worker with this pass over the base.
+    pub(crate) fn open_over(
+        alloc: Global,
+        log: &'a Log,
+        pass: Pass,
+        base: &'a Base,
+    ) -> Result<Client<'a>, Fault>
+        requires unused { IsUnusedPass log.now pass }
+        requires tenants { length base.now.tables.items ≡ length log.now.settings.tenants }
+        requires room { HaveRoom base.now.tables.items log.now.settings.places }
+        ensures { IfOk result (λ client. client.log.now ≡ log.now) }
+    {
+        let worker = Worker::open_over(alloc, log, pass, base)?;
         Ok(Client { log, worker })
     }
 

@@ -4,6 +4,8 @@
 #![tactic(auto)]
 
 #[cfg(test)]
+mod alone;
+#[cfg(test)]
 mod answers;
 #[cfg(test)]
 mod asking;
@@ -16,6 +18,8 @@ mod four;
 #[cfg(test)]
 mod full;
 #[cfg(test)]
+mod generations;
+#[cfg(test)]
 mod helping;
 #[cfg(test)]
 mod hundred;
@@ -25,6 +29,8 @@ mod meeting;
 mod parts;
 #[cfg(test)]
 mod recomputing;
+#[cfg(test)]
+mod refused;
 #[cfg(test)]
 mod standing;
 #[cfg(test)]

@@ -24,4 +24,5 @@ returns c =
     let items = c.unwrap_or.ensures ∙ ap (λ o. unwrap_or o 1048576) (c.number.ensures ∙ number_of (codes "items")) in
     let bytes = c.unwrap_or-2.ensures ∙ ap (λ o. unwrap_or o 67108864) (c.number-2.ensures ∙ number_of (codes "bytes")) in
     let places = c.unwrap_or-3.ensures ∙ ap (λ o. unwrap_or o 65536) (c.number-3.ensures ∙ number_of (codes "places")) in
-    record { outcome = record { taken = taken; places = places; limits = λ i. record { items = items i; bytes = bytes i } } }
+    let generations = c.unwrap_or-4.ensures ∙ ap (λ o. unwrap_or o 1) (c.number-4.ensures ∙ number_of (codes "generations")) in
+    record { outcome = record { taken = taken; places = places; generations = generations; limits = λ i. record { items = items i; bytes = bytes i } } }

@@ -1,5 +1,5 @@
 use Rattle.std.proofs.Common.{arith}
-use Rattle.mc_read.specs.Line.{asked}
+use Rattle.mc_read.specs.Administering.{lines_spoken}
 use Rattle.mc_read.proofs.Lines.{line_length_le}
 use Rattle.mc_read.proofs.Steps.{answer_first, answer_none, first_open, first_too_long, not_too_long, not_unended}
 use Rattle.mc_read.proofs.reader.next_line.Goals as goal
@@ -14,7 +14,7 @@ returns-in-Found-clause-too_long c = λ text more request same is.
 
 pub returns-in-TooLong-clause-answer : goal.returns-in-TooLong-clause-answer
 returns-in-TooLong-clause-answer c =
-    answer_first asked c.args.buffer.now _ _ (first_too_long asked c.args.buffer.now (rw c.as_slice.ensures at c.in-TooLong.ensures))
+    answer_first (lines_spoken c.args.speaker) c.args.buffer.now _ _ (first_too_long (lines_spoken c.args.speaker) c.args.buffer.now (rw c.as_slice.ensures at c.in-TooLong.ensures))
 
 pub returns-in-TooLong-clause-unended : goal.returns-in-TooLong-clause-unended
 returns-in-TooLong-clause-unended c = λ is.
@@ -23,4 +23,4 @@ returns-in-TooLong-clause-unended c = λ is.
 pub returns-in-Open-clause-answer : goal.returns-in-Open-clause-answer
 returns-in-Open-clause-answer c =
     let is_open = rw c.as_slice.ensures at c.in-Open.ensures in
-    answer_none asked c.args.buffer.now (first_open asked c.args.buffer.now is_open.0 is_open.1) (omega (arith, is_open.1))
+    answer_none (lines_spoken c.args.speaker) c.args.buffer.now (first_open (lines_spoken c.args.speaker) c.args.buffer.now is_open.0 is_open.1) (omega (arith, is_open.1))

@@ -1,12 +1,10 @@
-use Rattle.std.proofs.Common.{◌≡◌, length, map, take}
+use Rattle.std.proofs.Common.{◌≡◌, map, take}
 use Rattle.std.specs.List.{AllZip}
-use Rattle.mc_server.specs.Listeners.{CountsFrom, IsListeningFor}
-use Rattle.mc_server.specs.TenantWord.{asked_of}
+use Rattle.mc_server.specs.Listeners.{IsListeningFor, asked_at}
 use Rattle.mc_server.proofs.listeners.bind_all.Given as goal
 
-abbrev pub invariant-loop-number : goal.invariant-loop-number
-invariant-loop-number g l = record {
-  count : length l.listeners.items ≡ l.number;
-  numbers : CountsFrom 0 (map (λ listener. listener.0) l.listeners.items);
-  told : AllZip IsListeningFor (map asked_of (take l.number l.tenants)) l.told.items;
+abbrev pub invariant-loop-one : goal.invariant-loop-one
+invariant-loop-one g l = record {
+  roles : map (λ listener. listener.0) l.listeners.items ≡ map (λ one. one.role) (take l.one-index l.wanted);
+  told : AllZip IsListeningFor (map asked_at (take l.one-index l.wanted)) l.told.items;
 }

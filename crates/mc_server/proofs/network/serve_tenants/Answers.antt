@@ -2,12 +2,12 @@ use Rattle.std.proofs.Common.{◌≡◌, ◌∙◌, ℕ, List, length, map, ap, 
 use Rattle.std.proofs.lemmas.List.{length-map}
 use Rattle.std.proofs.lemmas.Result.{err_from_is_err_and}
 use Rattle.mc_model.specs.Settings.{Configuration}
-use Rattle.mc_server.proofs.NetworkRuns.{serving_halts, are_tenants, are_workers, finished}
+use Rattle.mc_server.proofs.NetworkRuns.{serving_halts, are_among, are_workers, finished}
+use Rattle.mc_server.proofs.Numbered.{some_listener}
 use Rattle.mc_programs.specs.Waiting.{PushesAll}
 use Rattle.mc_server.specs.Network.{AreWorkersOf, HaveServed}
 use Rattle.mc_server.specs.NetworkTexts.{ready_text}
 use Rattle.mc_server.specs.NetworkWords.{served_by, settings_asked}
-use Rattle.mc_server.specs.TenantWord.{asked_of}
 use Rattle.mc_server.proofs.network.serve_tenants.Goals as goal
 
 pub returns-in_err-back : goal.returns-in_err-back
@@ -21,12 +21,20 @@ returns-in_err-back g c =
 pub open_workers-requires-clause-count : goal.open_workers-requires-clause-count
 open_workers-requires-clause-count g c = c.in_ok-log.ensures.count ∙ sym (ap (λ (settings : Configuration). settings.workers) c.in_ok-log.ensures.settings)
 
-pub serve-requires-clause-tenants : goal.serve-requires-clause-tenants
-serve-requires-clause-tenants g c κs within =
+pub serve-requires-clause-some : goal.serve-requires-clause-some
+serve-requires-clause-some g c κs within =
+    let asked = served_by c.args.service.now in
+    let opened = ap (λ (settings : Configuration). settings.workers) (c.in_ok-log.ensures.settings ∙ c.requires.checked.settings) in
+    let lawful = c.requires.checked.servable.lawful in
+    let some = some_listener (λ listener. listener.0) c.args.bound.listeners.items asked c.requires.bound.roles_are (omega (arith, length-map asked.tenants (λ tenant. tenant.limits), lawful.tenants.0)) in
+    (omega (arith, opened, c.in_ok-workers.workers.ok.0, c.in_ok-workers.ensures.outcome.0.many, lawful.workers.0), omega (arith, some, c.args.bound.listeners.ok.0))
+
+pub serve-requires-clause-roles : goal.serve-requires-clause-roles
+serve-requires-clause-roles g c κs within =
+    let asked = served_by c.args.service.now in
     let tenants = ap (λ (settings : Configuration). length settings.tenants) (c.in_ok-log.ensures.settings ∙ c.requires.checked.settings) in
-    let count : length c.args.bound.listeners.items ≡ length c.in_ok-log.log.settings.tenants =
-    omega (arith, c.requires.bound.count, tenants, length-map (map asked_of c.args.service.now.tenants.items) (λ tenant. tenant.limits), length-map c.args.service.now.tenants.items asked_of) in
-    are_tenants (λ listener. listener.0) c.args.bound.listeners.items _ c.requires.bound.numbers count
+    let count : length asked.tenants ≡ length c.in_ok-log.log.settings.tenants = omega (arith, tenants, length-map asked.tenants (λ tenant. tenant.limits)) in
+    are_among (λ listener. listener.0) c.args.bound.listeners.items asked _ c.requires.bound.roles_are count
 
 pub finish-requires : goal.finish-requires
 finish-requires g c =

@@ -1,7 +1,8 @@
-use Rattle.std.proofs.Common.{ap, refl, sym, codes, true, map, string_bytes, ◌≡◌, ◌∙◌, List, [], Option, Some, None, Bor}
+use Rattle.std.proofs.Common.{ap, refl, sym, codes, true, map, string_bytes, ◌≡◌, ◌∙◌, ◌∷◌, List, [], Option, Some, None, Bor}
 use Rattle.std.specs.Option.{option_map}
-use Rattle.std.specs.Prelude.{option_and_then, unwrap_or}
-use Rattle.clap.specs.Words.{Text, all_of, app_of, fault_of, found_of, is_simple, is_simple_and_free, matches_of, one_of}
+use Rattle.std.specs.Prelude.{option_and_then, slice_get, unwrap_or}
+use Rattle.clap.specs.Words.{Text, all_of, app_of, fault_of, found_of, is_simple, matched_of, raw_values, is_simple_and_free, matches_of, one_of}
+use Rattle.clap.specs.declared.parser.matches.MatchedArg.{MatchedArg}
 use Rattle.clap.proofs.OnLiterals.{clap_on_literals}
 use Rattle.clap.proofs.WalkLemmas.{one_text-rows, raw_values-rows}
 use Rattle.mc_server.specs.NetworkWords.{network_app}
@@ -21,6 +22,15 @@ lent_words : (o : Option (Bor (List (Bor Text)))) (some : Bor (List (Bor Text)))
 lent_words None some none = ap (map (λ word. word.now)) none
 lent_words (Some x) some none = refl
 
+-- the first value of an option, in what was matched
+first_text : (texts : List (Bor Text)) → option_map (λ (s : Bor Text). s.now) (slice_get texts 0) ≡ slice_get (map (λ (s : Bor Text). s.now) texts) 0
+first_text [] = refl
+first_text (x ∷ xs) = refl
+
+first_of : (matched : Option MatchedArg) → option_and_then (λ (a : MatchedArg). option_map (λ (s : Bor Text). s.now) (slice_get a.vals.items 0)) matched ≡ option_and_then (λ texts. slice_get texts 0) (option_map raw_values matched)
+first_of None = refl
+first_of (Some a) = first_text a.vals.items
+
 pub returns : goal.returns
 returns c =
     let app_is : app_of c.in_ok-network_command.field-0 ≡ network_app = c.in_ok-network_command.ensures in
@@ -30,6 +40,8 @@ returns c =
     let workers = c.unwrap_or.ensures ∙ ap (λ o. unwrap_or o 2) (c.number.ensures ∙ number_of (codes "workers")) in
     let places = c.unwrap_or-2.ensures ∙ ap (λ o. unwrap_or o 65536) (c.number-2.ensures ∙ number_of (codes "places")) in
     let connections = c.unwrap_or-3.ensures ∙ ap (λ o. unwrap_or o 0) (c.number-3.ensures ∙ number_of (codes "connections")) in
+    let first = λ (name : Text). first_of (matched_of (found_of c.in_ok-matches.matches) name) ∙ ap (option_and_then (λ texts. slice_get texts 0)) (raw_values-rows (found_of c.in_ok-matches.matches) name ∙ ap (all_of name) rows) in
+    let admin = c.get_str.ensures ∙ first (codes "admin") in
     let raw = c.get_raw.ensures ∙ raw_values-rows (found_of c.in_ok-matches.matches) (codes "tenants") ∙ ap (all_of (codes "tenants")) rows in
     let tenants = ap (map (λ word. word.now)) (c.in_ok-tenants.ensures.items ∙ ap (λ lent. lent.now) c.unwrap_or-tenants.ensures) ∙ lent_words c.get_raw.result _ refl ∙ ap (λ o. unwrap_or o []) raw in
-    record { outcome = record { taken = taken; given = λ i. record { workers = workers i; places = places i; connections = connections i; tenants = tenants i } } }
+    record { outcome = record { taken = taken; given = λ i. record { workers = workers i; places = places i; connections = connections i; admin = admin i; tenants = tenants i } } }

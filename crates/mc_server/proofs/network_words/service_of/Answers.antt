@@ -1,15 +1,15 @@
-use Rattle.std.proofs.Common.{◌≡◌, ◌∙◌, ◌⊎◌, inl, inr, ⊎_elim, refl, List, ℕ, Bool, Bor, map, sym, ap, subst, true, false}
+use Rattle.std.proofs.Common.{◌≡◌, ◌∙◌, ◌⊎◌, ◌++◌, inl, inr, ⊎_elim, refl, List, ℕ, Bool, Bor, map, sym, ap, subst, true, false}
 use Rattle.std.proofs.lemmas.Result.{err_from_is_err_and}
 use Rattle.std.specs.List.{AllZip, IsDistinct}
 use Rattle.std.specs.Str.{bytes_eq}
 use Rattle.mc_model.specs.declared.fault.Fault.TheVariants.{Memory, BadSettings}
 use Rattle.mc_model.specs.Settings.{Configuration, IsLawful}
 use Rattle.mc_model.specs.declared.settings.Limits.{Limits}
-use Rattle.mc_server.specs.NetworkWords.{Asks, AsksInVain, IsServable, NetworkAsked, given_in}
+use Rattle.mc_server.specs.NetworkWords.{Asks, AsksInVain, IsServable, NetworkAsked, given_in, reserved_names}
 use Rattle.mc_server.specs.TenantWord.{IsOnly, Says, TenantAsked, asked_of}
 use Rattle.mc_server.specs.declared.network_words.NetworkWords.{NetworkWords}
 use Rattle.mc_server.specs.declared.tenant_word.Tenant.{Tenant}
-use Rattle.mc_server.proofs.TenantLists.{all_only, all_say, limits_are, names_are, names_are_read, settings_are}
+use Rattle.mc_server.proofs.TenantLists.{all_only, all_say, limits_are, names_are, names_lawful, names_are_read, settings_are}
 use Rattle.mc_server.proofs.network_words.service_of.Goals as goal
 
 -- the tenants that were read are those that are asked for
@@ -46,13 +46,21 @@ returns-in_err-settings c =
     let left = err_from_is_err_and c.from_residual-in_err-settings.result c.from_residual-in_err-settings.ensures.1 in
     record { outcome = rw (left.1, left.2) (inr (c.in_err-settings.ensures.fault, vain)) }
 
+-- the administrators' address isn't one
+pub returns-in_err-admin : goal.returns-in_err-admin
+returns-in_err-admin c =
+    let vain : AsksInVain (given_in c.args.words.now) = λ asked asks servable. c.in_err-admin.ensures.1 asked.admin asks.admin in
+    let left = err_from_is_err_and c.from_residual-in_err-admin.result c.from_residual-in_err-admin.ensures.1 in
+    record { outcome = rw (left.1, left.2) (inr (c.in_err-admin.ensures.0, vain)) }
+
 -- a name is used twice
-pub returns-then-not-have_own_names : goal.returns-then-not-have_own_names
-returns-then-not-have_own_names c =
+pub returns-then-not-are_names_free : goal.returns-then-not-are_names_free
+returns-then-not-are_names_free c =
     let vain : AsksInVain (given_in c.args.words.now) = λ asked asks servable.
     let tenants = read_are_asked c.args.words.now _ c.in_ok-tenants.tenants.items asked c.in_ok-tenants.ensures.outcome c.deref.ensures.value asks in
     let names = names_are asked c.in_ok-tenants.tenants.items tenants ∙ ap (map (λ tenant. tenant.name.now)) (sym c.deref-3.ensures.value) in
-    apart _ (c.have_own_names.ensures.1 (subst (IsDistinct bytes_eq) names servable.names)) c.if-not-have_own_names.true
+    let admin = c.in_ok-admin.ensures.only asked.admin asks.admin in
+    apart _ (c.are_names_free.ensures.1 (subst (IsDistinct bytes_eq) (λ i. reserved_names (admin i) ++ names i) servable.names)) c.if-not-are_names_free.true
     in
     record { outcome = inr (refl, vain) }
 
@@ -75,16 +83,18 @@ returns c =
       workers = c.in_ok-settings.settings.workers;
       places = c.in_ok-settings.settings.places;
       connections = c.args.words.now.connections;
+      admin = c.in_ok-admin.admin;
       tenants = map asked_of tenants;
     } in
     let asks : Asks (given_in c.args.words.now) asked = record {
       workers = ap (λ (s : Configuration). s.workers) checked;
       places = ap (λ (s : Configuration). s.places) checked;
       connections = refl;
+      admin = c.in_ok-admin.ensures.spells;
       tenants = subst P c.deref.ensures.value (all_say _ _ c.in_ok-tenants.ensures.outcome);
     } in
     let servable : IsServable asked = record {
       lawful = subst IsLawful (sym checked ∙ settings) (c.in_ok-settings.ensures.lawful.0 (λ i. true));
-      names = subst (IsDistinct bytes_eq) lent (c.have_own_names.ensures.0 c.if-not-have_own_names.false);
+      names = subst (IsDistinct bytes_eq) (ap (λ names. reserved_names c.in_ok-admin.admin ++ names) lent) (c.are_names_free.ensures.0 c.if-not-are_names_free.false);
     } in
-    record { outcome = (asks, record { settings = settings; servable = servable }) }
+    record { outcome = (asks, record { settings = settings; servable = servable; names = names_lawful _ tenants c.in_ok-tenants.ensures.outcome }) }

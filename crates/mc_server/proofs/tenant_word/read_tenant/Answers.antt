@@ -1,4 +1,5 @@
-use Rattle.std.proofs.Common.{◌≡◌, true, false, Bool, Option, Some, None}
+use Rattle.std.proofs.Common.{◌≡◌, ◌∙◌, ap, true, false, Bool, Option, Some, None}
+use Rattle.mc_model.specs.Name.{is_lawful_name}
 use Rattle.mc_server.proofs.TenantForms.{is_found, parts_of, reads_address}
 use Rattle.mc_server.proofs.tenant_word.read_tenant.Goals as goal
 
@@ -14,11 +15,11 @@ same read meant x y is some given = cc
 pub returns-in_err-parts-clause-only : goal.returns-in_err-parts-clause-only
 returns-in_err-parts-clause-only c asked says = absurd (is_found c.args.word.now _ asked c.cut.ensures.only says c.in_err-parts.was)
 
-pub returns-then-not-is_name-clause-only : goal.returns-then-not-is_name-clause-only
-returns-then-not-is_name-clause-only c asked says =
+pub returns-then-not-is_lawful-clause-only : goal.returns-then-not-is_lawful-clause-only
+returns-then-not-is_lawful-clause-only c asked says =
     let parts = parts_of c.args.word.now _ asked _ c.cut.ensures.only says c.in_ok-parts.was in
-    let passes : c.is_name.result ≡ true = c.is_name.ensures.1 parts.is_name in
-    apart _ passes c.if-not-is_name.true
+    let passes : c.is_lawful.result ≡ true = c.is_lawful.ensures ∙ ap is_lawful_name c.as_bytes.ensures.value ∙ parts.is_name in
+    apart _ passes c.if-not-is_lawful.true
 
 pub returns-in_err-address-clause-only : goal.returns-in_err-address-clause-only
 returns-in_err-address-clause-only c asked says =

@@ -2,7 +2,7 @@
 -- determined by the state before it (`OneWay`, `Leads`, `Alone`).
 use Rattle.uc_core.proofs.Alone.{steps_are_alone}
 use Rattle.uc_core.proofs.Leads.{steps_lead_on, steps_learn}
-use Rattle.uc_core.proofs.OneWay.{steps_are_enabled, steps_are_one, workers_are_free}
+use Rattle.uc_core.proofs.OneWay.{faults_stand, steps_are_enabled, steps_are_one, workers_are_free}
 use Rattle.uc_core.proofs.Runs.{law_of}
 use Rattle.uc_core.proofs.theorem.events_lead_one_way.Goals as goal
 
@@ -23,3 +23,6 @@ returns-clause-learns c = steps_learn
 
 pub returns-clause-free : goal.returns-clause-free
 returns-clause-free c = workers_are_free
+
+pub returns-clause-faults : goal.returns-clause-faults
+returns-clause-faults c = faults_stand

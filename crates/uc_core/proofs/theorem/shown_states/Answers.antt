@@ -1,4 +1,5 @@
 -- The laws of the shown states: `Waiting` shows the first two clauses, `Turns` the third.
+use Rattle.std.proofs.Math.Nat.{mod-eq_of_lt}
 use Rattle.model_lemmas.proofs.Turns.{is_soon_decided}
 use Rattle.model_lemmas.proofs.Waiting.{is_helping, is_lawful}
 use Rattle.uc_core.proofs.theorem.shown_states.Goals as goal
@@ -11,3 +12,6 @@ returns-clause-helping c = is_helping
 
 pub returns-clause-soon : goal.returns-clause-soon
 returns-clause-soon c = is_soon_decided
+
+pub returns-clause-turns : goal.returns-clause-turns
+returns-clause-turns c = λ n w first. mod-eq_of_lt first

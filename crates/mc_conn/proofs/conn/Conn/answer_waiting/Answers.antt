@@ -1,25 +1,27 @@
 use Rattle.std.proofs.Common.{◌≡◌, ◌||◌, Some, refl, ap}
 use Rattle.std.proofs.lemmas.Result.{err_from_is_err_and}
 use Rattle.mc_conn.proofs.Breakings.{breaks_taking}
-use Rattle.mc_conn.specs.Held.{lines_of}
+use Rattle.mc_read.specs.Administering.{lines_spoken}
+use Rattle.mc_conn.proofs.Awaiting.{not_left}
 use Rattle.mc_conn.proofs.Readings.{fewer_taken, read_answered, read_same}
 use Rattle.mc_conn.proofs.Takings.{does_looked, does_responded}
 use Rattle.mc_conn.proofs.conn.Conn.answer_waiting.Goals as goal
 
 pub returns-in_ok-respond-in-Some-clause-outcome : goal.returns-in_ok-respond-in-Some-clause-outcome
-returns-in_ok-respond-in-Some-clause-outcome g c streams =
+returns-in_ok-respond-in-Some-clause-outcome g c until streams room =
     let value = c.take.ensures.value in
     let is = c.in-Some.is in
     let old : c.args.self.now.waiting ≡ Some c.in-Some.request = cc in
-    does_responded c.args.self.now _ _ _ streams c.in-Some.request (read_answered (lines_of c.args.self.now.role) c.args.self.now.waiting c.take.new.self c.args.self.now.reader.held c.in-Some.request old c.take.ensures.after) refl refl refl
-    (ap (λ ends. c.args.self.now.is_over || ends) c.ends_stream-ends.ensures) c.respond.ensures.onward c.in_ok-respond-in-Some.ensures.outcome
+    does_responded c.args.self.now _ _ _ streams c.in-Some.request (read_answered (lines_spoken c.args.self.now.reader.speaker) c.args.self.now.waiting c.take.new.self c.args.self.now.reader.held c.in-Some.request old c.take.ensures.after) refl refl refl
+    (ap (λ ends. c.args.self.now.is_over || ends) c.ends_stream-ends.ensures) c.respond.ensures.onward c.in_ok-respond-in-Some.ensures.outcome until
+    (not_left until c.args.self.now c.args.worker.now c.in-Some.request old room)
 
 pub returns-in_ok-respond-in-Some-clause-fewer : goal.returns-in_ok-respond-in-Some-clause-fewer
 returns-in_ok-respond-in-Some-clause-fewer g c =
     let value = c.take.ensures.value in
     let is = c.in-Some.is in
     let old : c.args.self.now.waiting ≡ Some c.in-Some.request = cc in
-    fewer_taken (lines_of c.args.self.now.role) c.args.self.now.waiting c.take.new.self c.args.self.now.reader.held c.in-Some.request old c.take.ensures.after
+    fewer_taken (lines_spoken c.args.self.now.reader.speaker) c.args.self.now.waiting c.take.new.self c.args.self.now.reader.held c.in-Some.request old c.take.ensures.after
 
 pub returns-in_err-respond-in-Some-clause-outcome : goal.returns-in_err-respond-in-Some-clause-outcome
 returns-in_err-respond-in-Some-clause-outcome g c =
@@ -29,14 +31,14 @@ returns-in_err-respond-in-Some-clause-outcome g c =
     let out = err_from_is_err_and c.from_residual.result c.from_residual.ensures.1 in
     rw (out.1, out.2) (λ streams.
     breaks_taking c.in_err-respond-in-Some.field-0.0 c.args.self.now _ _ _ streams c.in-Some.request
-    (read_answered (lines_of c.args.self.now.role) c.args.self.now.waiting c.take.new.self c.args.self.now.reader.held c.in-Some.request old c.take.ensures.after) refl c.respond.ensures.onward
+    (read_answered (lines_spoken c.args.self.now.reader.speaker) c.args.self.now.waiting c.take.new.self c.args.self.now.reader.held c.in-Some.request old c.take.ensures.after) refl c.respond.ensures.onward
     c.in_err-respond-in-Some.ensures.outcome)
 
 pub returns-in-None-clause-outcome : goal.returns-in-None-clause-outcome
-returns-in-None-clause-outcome g c streams =
+returns-in-None-clause-outcome g c until streams room =
     let value = c.take.ensures.value in
     let is = c.in-None.is in
     let after = c.take.ensures.after in
     let same : c.take.new.self ≡ c.args.self.now.waiting = cc in
-    does_looked c.args.self.now _ _ streams (read_same (lines_of c.args.self.now.role) c.args.self.now.waiting c.take.new.self c.args.self.now.reader.held same)
+    does_looked until c.args.self.now _ _ streams (read_same (lines_spoken c.args.self.now.reader.speaker) c.args.self.now.waiting c.take.new.self c.args.self.now.reader.held same)
     (record { role = refl; has_ended = refl; is_closed = refl; queue = refl; over = refl })

@@ -4,8 +4,8 @@ use Rattle.std.proofs.lemmas.Result.{err_from_is_err_and}
 use Rattle.mc_conn.specs.ConnFault.{InputFailed, OutOfMemory}
 use Rattle.mc_stream.specs.Event.{ends, failures, has_ended, moved}
 use Rattle.mc_conn.proofs.Breakings.{breaks_pulling}
-use Rattle.mc_conn.specs.Held.{lines_of}
-use Rattle.mc_conn.proofs.Readings.{fed_by_role, read_fed_at, read_refl}
+use Rattle.mc_read.specs.Administering.{lines_spoken}
+use Rattle.mc_conn.proofs.Readings.{read_by, read_fed_at, read_refl}
 use Rattle.mc_conn.proofs.Takings.{does_fed, does_waited, remembers_open}
 use Rattle.mc_conn.specs.Turn.{holding_of}
 use Rattle.mc_conn.proofs.conn.Conn.pull.Goals as goal
@@ -18,25 +18,29 @@ returns-in_err-feed-in-Bytes-clause-outcome g c =
     breaks_pulling OutOfMemory c.args.self.now _ worker _ _ output (take c.in-Bytes.count c.pull.new.buffer) refl refl (ap moved said.event) said.rest (ap failures said.event, refl))
 
 pub returns-in_ok-feed-in-Bytes-clause-outcome : goal.returns-in_ok-feed-in-Bytes-clause-outcome
-returns-in_ok-feed-in-Bytes-clause-outcome g c worker output =
+returns-in_ok-feed-in-Bytes-clause-outcome g c until worker output =
     let said = c.in-Bytes.ensures in
-    does_fed c.args.self.now _ worker _ _ output (take c.in-Bytes.count c.pull.new.buffer)
-    (read_fed_at (lines_of c.args.self.now.role) c.args.self.now.waiting c.args.self.now.waiting c.args.self.now.reader.held c.feed.new.self.held (take c.in-Bytes.count c.pull.new.buffer) c.requires.waiting refl
-    (fed_by_role c.args.self.now.role c.args.self.now.reader.held c.feed.new.self.held (take c.in-Bytes.count c.pull.new.buffer) c.in_ok-feed-in-Bytes.ensures.readings))
-    refl refl refl (ap moved said.event) said.rest (ap failures said.event) (remembers_open c.args.self.now.has_ended _ _ c.requires.going (ap ends said.event)) refl
+    let piece = take c.in-Bytes.count c.pull.new.buffer in
+    let waiting = c.args.self.now.waiting in
+    let old = c.args.self.now.reader in
+    let new = c.feed.new.self in
+    does_fed c.args.self.now _ worker _ _ output piece
+    (read_by old.speaker new.speaker c.feed.ensures.speaker waiting waiting old.held new.held piece []
+    (read_fed_at (lines_spoken old.speaker) waiting waiting old.held new.held piece c.requires.waiting refl c.in_ok-feed-in-Bytes.ensures.readings))
+    refl refl refl (ap moved said.event) said.rest (ap failures said.event) (remembers_open c.args.self.now.has_ended _ _ c.requires.going (ap ends said.event)) refl until
     (let taken = length-take-le c.in-Bytes.count c.pull.new.buffer said.count.1 in let some = said.count.0 in omega arith)
 
 pub returns-in-Empty-clause-outcome : goal.returns-in-Empty-clause-outcome
-returns-in-Empty-clause-outcome g c worker output =
+returns-in-Empty-clause-outcome g c until worker output =
     let said = c.in-Empty.ensures in
     does_waited c.args.self.now _ worker _ _ output [] (read_refl (holding_of c.args.self.now)) refl refl refl (ap moved said.event ∙ sym (append-nil _)) said.rest (ap failures said.event)
-    (remembers_open c.args.self.now.has_ended _ _ c.requires.going (ap ends said.event)) refl refl
+    (remembers_open c.args.self.now.has_ended _ _ c.requires.going (ap ends said.event)) refl until refl
 
 pub returns-in-Ended-clause-outcome : goal.returns-in-Ended-clause-outcome
-returns-in-Ended-clause-outcome g c worker output =
+returns-in-Ended-clause-outcome g c until worker output =
     let said = c.in-Ended.ensures in
     does_waited c.args.self.now _ worker _ _ output [] (read_refl (holding_of c.args.self.now)) refl refl refl (ap moved said.event ∙ sym (append-nil _)) said.rest (ap failures said.event)
-    (inr (ap has_ended said.event, said.no_more refl)) refl refl
+    (inr (ap has_ended said.event, said.no_more refl)) refl until refl
 
 pub returns-in-Failed-clause-outcome : goal.returns-in-Failed-clause-outcome
 returns-in-Failed-clause-outcome g c worker output =

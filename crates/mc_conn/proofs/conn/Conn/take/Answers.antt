@@ -19,7 +19,7 @@ keeps_through old between new before during after first second = record {
 
 pub loop-did-init : goal.loop-did-init
 loop-did-init g c = record {
-  does = λ streams. does_nothing _;
+  does = λ streams. does_nothing _ _;
   keeps = record { role = refl; has_ended = refl; onward = continues_self-value.it _ };
 }
 
@@ -33,7 +33,7 @@ loop-did-smaller g c = c.in_ok-take_one.ensures.fewer c.if-branch.true
 
 pub loop-did-preserved : goal.loop-did-preserved
 loop-did-preserved g c = record {
-  does = λ streams. did_then _ _ _ _ _ c.if-branch.true (c.loop-did.invariant.does streams) (c.in_ok-take_one.ensures.outcome streams);
+  does = λ streams. did_then _ _ _ _ _ _ c.if-branch.true (c.loop-did.invariant.does streams) (c.in_ok-take_one.ensures.outcome streams);
   keeps = keeps_through _ _ _ _ _ _ c.loop-did.invariant.keeps c.take_one.ensures.keeps;
 }
 
@@ -44,4 +44,4 @@ pub returns-clause-keeps : goal.returns-clause-keeps
 returns-clause-keeps g c = keeps_through _ _ _ _ _ _ c.loop-did.invariant.keeps c.take_one.ensures.keeps
 
 pub returns-clause-outcome : goal.returns-clause-outcome
-returns-clause-outcome g c streams = did_not _ _ _ _ _ c.if-branch.false (c.loop-did.invariant.does streams) (c.in_ok-take_one.ensures.outcome streams)
+returns-clause-outcome g c streams = did_not _ _ _ _ _ _ c.if-branch.false (c.loop-did.invariant.does streams) (c.in_ok-take_one.ensures.outcome streams)

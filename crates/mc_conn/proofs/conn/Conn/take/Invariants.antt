@@ -7,7 +7,7 @@ use Rattle.mc_conn.proofs.conn.Conn.take.Given as goal
 -- what was taken so far is a part of the turn
 abbrev pub invariant-loop-did : goal.invariant-loop-did
 invariant-loop-did g l = record {
-  does : (streams : Streams) → Does (scene l.fn.self l.fn.worker streams) (scene l.self l.worker streams) l.did;
+  does : (streams : Streams) → Does l.fn.until_done (scene l.fn.self l.fn.worker streams) (scene l.self l.worker streams) l.did;
   keeps : KeepsStreams l.fn.self l.self l.fn.worker l.worker;
 }
 

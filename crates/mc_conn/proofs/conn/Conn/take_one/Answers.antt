@@ -1,6 +1,8 @@
+use Rattle.std.proofs.Common.{◌≡◌, ◌∙◌, true, false, sym}
 use Rattle.std.proofs.lemmas.Result.{err_from_is_err_and}
 use Rattle.mc_stream.specs.Stream.{Streams}
 use Rattle.mc_conn.specs.Held.{most_held}
+use Rattle.mc_conn.specs.Parts.{IsLeft}
 use Rattle.mc_conn.specs.Turn.{holding_of, scene}
 use Rattle.mc_conn.proofs.Breakings.{breaks_later, breaks_looking}
 use Rattle.mc_conn.proofs.Outcomes.{if_ok_map, match_map}
@@ -15,15 +17,20 @@ returns-in_err-look-clause-outcome g c =
 
 pub returns-then-len-gt-QUEUE_BYTES-clause-outcome : goal.returns-then-len-gt-QUEUE_BYTES-clause-outcome
 returns-then-len-gt-QUEUE_BYTES-clause-outcome g c streams =
-    does_looked c.args.self.now c.look.new.self _ streams c.in_ok-look.ensures.read c.look.ensures.looks
+    does_looked c.args.until_done c.args.self.now c.look.new.self _ streams c.in_ok-look.ensures.read c.look.ensures.looks
 
 pub returns-clause-outcome : goal.returns-clause-outcome
 returns-clause-outcome g c =
-    let looked = λ (streams : Streams). does_looked c.args.self.now c.look.new.self c.args.worker.now streams c.in_ok-look.ensures.read c.look.ensures.looks in
-    match_map c.answer_waiting.result _ _ _ _ (λ did does streams. does_trans _ (scene c.look.new.self _ streams) _ _ did (looked streams) (does streams))
+    let room : ¬ (IsLeft c.args.until_done c.look.new.self c.args.worker.now) = λ left. let no : true ≡ false = sym (c.is_left.ensures.1 left) ∙ c.if-is_left.false in cc in
+    let looked = λ (streams : Streams). does_looked c.args.until_done c.args.self.now c.look.new.self c.args.worker.now streams c.in_ok-look.ensures.read c.look.ensures.looks in
+    match_map c.answer_waiting.result _ _ _ _ (λ did does streams. does_trans _ _ (scene c.look.new.self _ streams) _ _ did (looked streams) (does c.args.until_done streams room))
     (λ fault breaks streams. breaks_later fault _ (scene c.look.new.self _ streams) _ (looked streams).takes (breaks streams)) c.answer_waiting.ensures.outcome
 
 pub returns-clause-fewer : goal.returns-clause-fewer
 returns-clause-fewer g c =
     if_ok_map c.answer_waiting.result _ _ (λ did fewer. fewer_after did (most_held (holding_of c.args.self.now)) (most_held (holding_of c.look.new.self)) (most_held (holding_of c.answer_waiting.new.self)) _ c.in_ok-look.ensures.most fewer)
     c.answer_waiting.ensures.fewer
+
+pub returns-then-is_left-clause-outcome : goal.returns-then-is_left-clause-outcome
+returns-then-is_left-clause-outcome g c streams =
+    does_looked c.args.until_done c.args.self.now c.look.new.self _ streams c.in_ok-look.ensures.read c.look.ensures.looks

@@ -1,10 +1,11 @@
-use Rattle.mc_conn.proofs.Endings.{pulls_told, stops}
+use Rattle.mc_conn.proofs.Endings.{never_full, turns}
+use Rattle.mc_conn.proofs.Outcomes.{match_map}
 use Rattle.mc_conn.proofs.conn.Conn.turn.Goals as goal
 
-pub returns-in-Err-clause-outcome : goal.returns-in-Err-clause-outcome
-returns-in-Err-clause-outcome g c =
-    λ going. stops _ _ _ _ _ _ _ c.in-Err.fault c.close.ensures.same c.in-Err.ensures.outcome c.close.ensures.told c.close.ensures.closed
+pub returns-clause-outcome : goal.returns-clause-outcome
+returns-clause-outcome g c going =
+    match_map c.turn_or_close.result _ _ _ _ (λ state round. (turns _ _ state round).0) (λ fault stops. stops) (c.turn_or_close.ensures.outcome going)
 
-pub returns-in-Err-clause-pulls : goal.returns-in-Err-clause-pulls
-returns-in-Err-clause-pulls g c =
-    pulls_told _ _ _ _ _ _ _ c.in-Err.fault c.close.ensures.same c.in-Err.ensures.outcome c.close.ensures.told c.go_round.ensures.pulls
+pub returns-clause-takes_all : goal.returns-clause-takes_all
+returns-clause-takes_all g c =
+    never_full c.args.self.now.is_closed c.turn_or_close.result _ _ c.turn_or_close.ensures.outcome (λ closed. (c.turn_or_close.ensures.closed closed).0)

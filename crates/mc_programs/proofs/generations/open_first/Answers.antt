@@ -1,0 +1,14 @@
+use Rattle.std.proofs.Common.{◌≡◌, ℕ, sym, ap, ◌∙◌}
+use Rattle.mc_programs.proofs.Openings.{fresh_over, opens_empty}
+use Rattle.mc_programs.proofs.Served.{unopened}
+use Rattle.mc_programs.proofs.generations.open_first.Goals as goal
+
+pub returns-clause-served : goal.returns-clause-served
+returns-clause-served g c limits places served settings =
+    c.serve_log.ensures.served limits places 0 _ served settings
+    (fresh_over limits places served.requests c.args.log.now c.args.pass c.in-Ok.worker settings c.requires.new c.in-Ok.ensures.seat c.in-Ok.ensures.history
+    (opens_empty limits places served.requests c.args.log.now c.in-Ok.worker settings served.full c.in-Ok.ensures.openings))
+
+pub returns-in-Err-clause-served : goal.returns-in-Err-clause-served
+returns-in-Err-clause-served g c limits places served settings =
+    unopened limits places c.in-Err.fault _ _ _ _ c.refuse_to_open.ensures.fault c.in-Err.ensures.memory c.refuse_to_open.ensures.told

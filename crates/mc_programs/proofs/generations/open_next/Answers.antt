@@ -1,0 +1,13 @@
+use Rattle.std.proofs.Common.{◌≡◌, ℕ, sym, ap, ◌∙◌}
+use Rattle.mc_programs.proofs.Openings.{fresh_over, unopened_next}
+use Rattle.mc_programs.proofs.generations.open_next.Goals as goal
+
+pub returns-clause-served : goal.returns-clause-served
+returns-clause-served g c limits places logs first served settings tables some =
+    c.serve_log.ensures.served limits places logs first served settings
+    (fresh_over limits places served.requests c.args.log.now c.args.pass c.in-Ok.worker settings c.requires.new c.in-Ok.ensures.seat c.in-Ok.ensures.history
+    (c.in-Ok.ensures.openings ∙ tables))
+
+pub returns-in-Err-clause-served : goal.returns-in-Err-clause-served
+returns-in-Err-clause-served g c limits places logs first served settings tables some =
+    unopened_next limits places logs first _ _ served c.every_stream_reads.ensures some _ (c.close.ensures.told.0 c.in-Err.ensures.memory) c.in-Err.fault c.in-Err.ensures.memory
