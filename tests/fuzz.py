@@ -453,7 +453,8 @@ def check_refused_threads(program):
     """Threads of which the system refuses some, since no memory holds the stacks that they ask for: the server ends, and has served nobody."""
     limits = 'ulimit -s 1048576 && ulimit -v 2500000 && exec "$@"'
     with Server("sh", ["-c", limits, "sh", program, "--workers", "4"], {"a": LARGE}) as server:
-        clients = [connect(server.ports["a"], 3 * LATE) for _ in range(4)]
+        # It prints where it listens once all threads have begun.
+        clients = [connect(server.ports["a"], 3 * LATE) for _ in range(4)] if server.ports else []
         for client in clients:
             client.sendall(b"version\r\n")
         served = sum(is_served(client) for client in clients)
