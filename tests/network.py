@@ -113,6 +113,12 @@ def are_answered(clients, wanted=VERSION):
     return all(is_answered(client, wanted) for client in clients)
 
 
+def is_answered_again(client):
+    """Whether one more request is answered, by which time the worker has noticed who closed before it."""
+    client.sendall(b"version\r\n")
+    return is_answered(client)
+
+
 def is_ended(client):
     """Whether the end comes next."""
     try:
@@ -278,8 +284,10 @@ def check_admins_places():
         check("the quota is in force", is_answered(clients[0], b"STORED\r\n" + NO_ROOM))
         for client in first:
             client.close()
+        check("those who stay go on", is_answered_again(clients[2]))
         check("places of administrators alone are free", is_answered(ask(server, "admin")) and is_closed(server.connect("a", PATIENCE)))
         clients[1].close()
+        check("and on", is_answered_again(clients[2]))
         check("a tenant's place is free again", is_answered(ask(server, "a")))
         for client in clients + later:
             client.close()
