@@ -5,11 +5,10 @@
 help: ## prints this list
 	@awk -F ':.*## ' '/^[a-z-]+:.*## / { printf "make %-20s %s\n", $$1, $$2 }' Makefile
 
-serve: kit ## proves, builds and runs wfmc with two tenants on loopback and a log as long as may be, until it is interrupted
+serve: kit ## proves, builds and runs wfmc with two tenants on loopback, until it is interrupted
 	@tools/prove.sh wfmc >&2
-	@printf '%s\n' "The program is crates/wfmc/out/wfmc. Two tenants, each a memcached of its own; talk to the first, for example, by: printf 'set a 0 0 1\\r\\nx\\r\\nget a\\r\\nquit\\r\\n' | nc 127.0.0.1 11211" \
-		"The log has places for 1048576 commands of both tenants; each later one is answered SERVER_ERROR log full, until wfmc is started again."
-	@exec crates/wfmc/out/wfmc --places 1048576 shop=127.0.0.1:11211,1000000,64000000 blog=127.0.0.1:11212,1000000,64000000
+	@printf '%s\n' "The program is crates/wfmc/out/wfmc. Two tenants, each a memcached of its own; talk to the first, for example, by: printf 'set a 0 0 1\\r\\nx\\r\\nget a\\r\\nquit\\r\\n' | nc 127.0.0.1 11211"
+	@exec crates/wfmc/out/wfmc --places 1048576 --generations 0 shop=127.0.0.1:11211,1000000,64000000 blog=127.0.0.1:11212,1000000,64000000
 
 run: kit ## proves, builds and runs mc_stdin on its first run, and prints what it prints
 	@tools/prove.sh mc_stdin >&2
@@ -54,15 +53,17 @@ proxy: kit ## tests twemproxy over three instances of wfmc; installs what it nee
 	@tools/prove.sh wfmc >&2
 	@tools/proxy.sh
 
-# How many minutes the fuzzer takes, and as many the histories.
+# How many minutes the fuzzer takes, and as many the histories, each time.
 MINUTES = 2
-fuzz: linearizability ## fuzzes wfmc over sockets for MINUTES (2), after make linearizability
+fuzz: linearizability ## fuzzes wfmc over sockets for twice MINUTES (2), over one log and over one after another, after make linearizability
 	@python3 tests/fuzz.py $$(($(MINUTES) * 60))
+	@python3 tests/fuzz.py $$(($(MINUTES) * 60)) --generations
 
-linearizability: kit ## tests for MINUTES (2) that the histories of wfmc's clients are linearizable
+linearizability: kit ## tests for twice MINUTES (2) that the histories of wfmc's clients are linearizable, over one log and over one after another
 	@tools/prove.sh wfmc >&2
 	@python3 tests/linearizability.py --self-test
 	@python3 tests/linearizability.py $$(($(MINUTES) * 60))
+	@python3 tests/linearizability.py $$(($(MINUTES) * 60)) --generations
 
 allocation-failures: kit ## runs the programs, and the tests of the cells and of a turn over, with each allocation refused in turn, and mc_stdin with less and less memory
 	@tools/prove.sh wfmc mc_stdin mc_schedule >&2
@@ -94,6 +95,7 @@ bench: kit ## measures the built programs; the figures of docs/BENCHMARKS.md com
 	@python3 bench/submits.py
 	@python3 bench/wfmc.py
 	@python3 bench/operating.py
+	@python3 bench/generations.py
 	@python3 bench/schedule.py
 	@python3 bench/profile.py
 

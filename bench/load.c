@@ -2,9 +2,11 @@
  * there. Prints requests a second, and the median and the 99th percentile of the time from a send to its last reply, each as a line of
  * its name, its value and its unit with tabs between them.
  *
- * load PORT[,PORT...] CONNECTIONS DEPTH REQUESTS: the connections go to the ports in turn. 95 in 100 requests are gets of one of 1,000
- * keys, the others sets, with data of 100 bytes; the keys are set before the clock starts. Every reply has a known length, by which it
- * is counted, and the last bytes of each batch are compared. */
+ * load [-k KEYS] [-o] [-l COUNT] [-s SECONDS] PORT[,PORT...] CONNECTIONS DEPTH REQUESTS: the connections go to the ports in turn. 95 in
+ * 100 requests are gets of one of KEYS (1,000) keys, the others sets, with data of 100 bytes. The keys are set before the clock starts, with
+ * -o by an earlier run. Every reply has a known length, by which it is counted, and the last bytes of each batch are compared. With -l it
+ * prints the COUNT longest of the times too, the longest first. With -s it ends after this many seconds, if it hasn't sent all requests
+ * before, and prints how many were answered in each. */
 #define _GNU_SOURCE
 #include <arpa/inet.h>
 #include <errno.h>
@@ -19,7 +21,7 @@
 #include <time.h>
 #include <unistd.h>
 
-enum { KEYS = 1000, DATA = 100, MOST = 64 };
+enum { DATA = 100, MOST = 64, MOST_SECONDS = 3600, PATIENCE = 60000 };
 
 struct client {
     int socket;
@@ -29,6 +31,8 @@ struct client {
     double sent_at;
 };
 
+static unsigned keys = 1000;
+static int digits = 5;  /* of a key's number */
 static char data[DATA];
 static uint64_t state = 88172645463325252u;
 
@@ -68,11 +72,11 @@ static void send_all(int socket, const char *bytes, size_t count) {
 /* A request, and how many bytes its reply has. */
 static size_t ask(char *to, int is_get, unsigned key, size_t *wanted) {
     if (is_get) {
-        *wanted += strlen("VALUE key00000 0 100\r\n") + DATA + strlen("\r\nEND\r\n");
-        return (size_t)sprintf(to, "get key%05u\r\n", key);
+        *wanted += strlen("VALUE key 0 100\r\n") + (size_t)digits + DATA + strlen("\r\nEND\r\n");
+        return (size_t)sprintf(to, "get key%0*u\r\n", digits, key);
     }
     *wanted += strlen("STORED\r\n");
-    return (size_t)sprintf(to, "set key%05u 0 0 100\r\n%.*s\r\n", key, DATA, data);
+    return (size_t)sprintf(to, "set key%0*u 0 0 100\r\n%.*s\r\n", digits, key, DATA, data);
 }
 
 static void send_batch(struct client *client, int depth) {
@@ -81,7 +85,7 @@ static void send_batch(struct client *client, int depth) {
     client->wanted = 0;
     for (int i = 0; i < depth; i++) {
         client->ends_with_get = next_random() % 100 < 95;
-        count += ask(text + count, client->ends_with_get, next_random() % KEYS, &client->wanted);
+        count += ask(text + count, client->ends_with_get, next_random() % keys, &client->wanted);
     }
     client->sent_at = now();
     send_all(client->socket, text, count);
@@ -112,10 +116,11 @@ static int compare(const void *one, const void *two) {
 }
 
 static void set_keys(int port) {
-    char text[256];
+    static char text[MOST * 160];
     struct client client = {.socket = connect_to(port)};
-    for (unsigned key = 0; key < KEYS; key++) {
-        size_t count = ask(text, 0, key, &client.wanted);
+    for (unsigned key = 0; key < keys;) {
+        size_t count = 0;
+        for (int i = 0; i < MOST && key < keys; i++, key++) count += ask(text + count, 0, key, &client.wanted);
         send_all(client.socket, text, count);
         while (!take_in(&client)) continue;
     }
@@ -123,13 +128,25 @@ static void set_keys(int port) {
 }
 
 int main(int count, char **words) {
-    if (count != 5) return fprintf(stderr, "load PORT[,PORT...] CONNECTIONS DEPTH REQUESTS\n"), 2;
+    int option, are_set = 0;
+    long longest = 0, seconds = 0;
+    while ((option = getopt(count, words, "k:ol:s:")) != -1) {
+        if (option == 'k') keys = (unsigned)atol(optarg);
+        if (option == 'o') are_set = 1;
+        if (option == 'l') longest = atol(optarg);
+        if (option == 's') seconds = atol(optarg);
+        if (option == '?') return 2;
+    }
+    words += optind - 1, count -= optind - 1;
+    if (count != 5) return fprintf(stderr, "load [-k KEYS] [-o] [-l COUNT] [-s SECONDS] PORT[,PORT...] CONNECTIONS DEPTH REQUESTS\n"), 2;
     int connections = atoi(words[2]), depth = atoi(words[3]), ports[MOST], known = 0;
     long requests = atol(words[4]), batches = requests / depth, begun = 0, done = 0;
     for (char *word = strtok(words[1], ","); word && known < MOST; word = strtok(NULL, ",")) ports[known++] = atoi(word);
-    if (depth < 1 || depth > MOST || connections < 1 || !known) return fprintf(stderr, "numbers out of range\n"), 2;
+    if (depth < 1 || depth > MOST || connections < 1 || !known || !keys || seconds < 0 || seconds > MOST_SECONDS) return fprintf(stderr, "numbers out of range\n"), 2;
+    if (keys > 100000) digits = 7;
     memset(data, 'v', DATA);
-    for (int i = 0; i < known; i++) set_keys(ports[i]);
+    for (int i = 0; i < known && !are_set; i++) set_keys(ports[i]);
+    long *in_second = calloc((size_t)seconds + 1, sizeof *in_second);
     struct client *clients = calloc((size_t)connections, sizeof *clients);
     double *times = malloc((size_t)batches * sizeof *times);
     int poll = epoll_create1(0);
@@ -138,23 +155,28 @@ int main(int count, char **words) {
         struct epoll_event event = {.events = EPOLLIN, .data.ptr = &clients[i]};
         epoll_ctl(poll, EPOLL_CTL_ADD, clients[i].socket, &event);
     }
-    double start = now();
+    double start = now(), until = start + (double)seconds * 1e6;
     for (int i = 0; i < connections && begun < batches; i++, begun++) send_batch(&clients[i], depth);
-    while (done < batches) {
+    while (done < begun) {
         struct epoll_event events[MOST];
-        int ready = epoll_wait(poll, events, MOST, 10000);
+        int ready = epoll_wait(poll, events, MOST, PATIENCE);
         if (ready <= 0) return fprintf(stderr, "no reply comes\n"), 1;
         for (int i = 0; i < ready; i++) {
             struct client *client = events[i].data.ptr;
             if (!take_in(client)) continue;
-            times[done++] = now() - client->sent_at;
-            if (begun < batches) begun++, send_batch(client, depth);
+            double moment = now();
+            times[done++] = moment - client->sent_at;
+            if (moment < until) in_second[(long)((moment - start) / 1e6)] += depth;
+            if (begun < batches && (!seconds || moment < until)) begun++, send_batch(client, depth);
         }
     }
-    double seconds = (now() - start) / 1e6;
-    qsort(times, (size_t)batches, sizeof *times, compare);
-    printf("requests\t%.0f\trequests/s\n", (double)(batches * depth) / seconds);
-    printf("50th percentile of the times to a reply\t%.0f\tus\n", times[batches / 2]);
-    printf("99th percentile of the times to a reply\t%.0f\tus\n", times[batches * 99 / 100]);
+    double took = (now() - start) / 1e6;
+    qsort(times, (size_t)done, sizeof *times, compare);
+    printf("requests\t%.0f\trequests/s\n", (double)(done * depth) / took);
+    printf("50th percentile of the times to a reply\t%.0f\tus\n", times[done / 2]);
+    printf("99th percentile of the times to a reply\t%.0f\tus\n", times[done * 99 / 100]);
+    if (longest) printf("time of the run\t%.0f\tus\n", took * 1e6);
+    for (long i = 0; i < longest && i < done; i++) printf("longest of the times to a reply\t%.0f\tus\n", times[done - 1 - i]);
+    for (long i = 0; i < seconds; i++) printf("requests in a second\t%ld\trequests/s\n", in_second[i]);
     return 0;
 }

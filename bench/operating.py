@@ -373,6 +373,7 @@ def show_errors():
             ("65 tenants", many, {}),
             ("17 workers", ["--workers", "17", tenant()], {}),
             ("more than 1,048,576 places", ["--places", "2000000", tenant()], {}),
+            ("more than 65,536 logs", ["--generations", "100000", tenant()], {}),
             ("no number", ["--places", "many", tenant()], {}),
             ("an unknown option", ["--port", "11211", tenant()], {}),
             ("no tenant", [], {}),

@@ -5,7 +5,7 @@ On purpose it uses nothing of oracle/core.py: the number has to come from a seco
 
 A state is what each worker shows (phase, places learned and replayed, mark, proposals, commands announced), how many places
 were decided when it announced its latest command, how many commands the worker it has looked at had announced, and the decided
-places. The test `every_state_of_a_small_core_is_sound` of mc_schedules_tests finds the same number.
+places. The test `every_state_of_a_small_core_is_sound` of mc_replica_tests finds the same number.
 """
 
 import sys

@@ -1,5 +1,5 @@
 #!/usr/bin/env python3
-"""Fuzzes wfmc, as built, over sockets on loopback: fuzz.py [SECONDS] [BINARY] [--seed N] [--round N].
+"""Fuzzes wfmc, as built, over sockets on loopback: fuzz.py [SECONDS] [BINARY] [--seed N] [--round N] [--generations].
 
 For this many seconds (60) it runs rounds, each with a server and tenants of its own, and all of these at once:
 - tenants with one connection after another, random and mutated streams in random pieces: the replies byte for byte as the oracle has them;
@@ -12,6 +12,10 @@ After each round every descriptor has to be given back, and the processor to res
 where it was; more connections than there may be descriptors are served one after another; connections that came and went close no other tenant's,
 and those that come and go without end keep no other waiting; a quiet connection keeps nothing of its large replies; where the system refuses
 threads the server ends; and gets whose replies no memory holds end their own connections alone, under a limit (RLIMIT_AS).
+
+With `--generations` the logs have 64 places and follow one another without an end, below one worker; there are four tenants,
+one of each of the first four kinds, and no reply is that the log is full. Before the rounds it is the memory under a load that is repeated.
+
 Replay a round with --seed N --round M. Prints a line for each failure; the last line is 'N passed, M failed'.
 """
 
@@ -33,7 +37,7 @@ from harness.client import Exchange, connect, exchange, reset
 from harness.results import Results
 from harness.servers import ADMIN, Server
 from oracle import protocol
-from oracle.replies import Replies
+from oracle.replies import NEVER_FULL, Replies
 from oracle.table import Table
 
 LATE = 10.0
@@ -42,6 +46,18 @@ LARGE = (1_000_000, 1_000_000_000)
 QUOTAS = ((1, 60), (3, 300), (4, 70_000), (1_000, 2_000_000), LARGE)
 VERSION = b"VERSION 1.0.0\r\n"
 LIMITED = ("first-of-four", "another", "third_in_order", "last")
+# Options for logs that follow one another, and the numbers of workers over them.
+ENDLESS = ("--places", "64", "--generations", "0")
+# A worker whose command loses the last place of a log to another's says that the log is full; one that is alone loses none.
+ENDLESS_WORKERS = (1,)
+# Whether the log is full at first, as far as it is known.
+full_at_first = False
+
+
+def know_endless():
+    """Notes that no log will be the last."""
+    global full_at_first
+    full_at_first = NEVER_FULL
 
 
 def fault_of(received, ending, asked, replies):
@@ -57,7 +73,7 @@ def fault_of(received, ending, asked, replies):
 
 def solo(port, seed, quotas):
     """One connection after another; the tenant's table is known throughout."""
-    chance, table, is_full, found = random.Random(seed), Table(*quotas), False, []
+    chance, table, is_full, found = random.Random(seed), Table(*quotas), full_at_first, []
     generator = StreamGenerator(chance)
     for session in range(6):
         stream = generator.stream(chance.randrange(1, 120))
@@ -75,7 +91,7 @@ def solo(port, seed, quotas):
 
 def limited(port, admin_port, seed, quotas, name):
     """As `solo`, with an administrator's connection between two of the tenant's; both kinds of lines are random, and some are mutated."""
-    chance, table, is_full, found = random.Random(seed), Table(*quotas), False, []
+    chance, table, is_full, found = random.Random(seed), Table(*quotas), full_at_first, []
     generator = StreamGenerator(chance)
     for session in range(10):
         is_admin = session % 2 == 1
@@ -101,7 +117,7 @@ def shared(port, seed, number):
     chance = random.Random(seed)
     stream = StreamGenerator(chance, b"%d:" % number).stream(200)
     received, ending = exchange(port, pieces(chance, stream))
-    replies = Replies(Table(*LARGE), received, masks_uniques=True)
+    replies = Replies(Table(*LARGE), received, full_at_first, masks_uniques=True)
     return [("several connections of a tenant", fault_of(received, ending, protocol.requests(stream), replies))]
 
 
@@ -120,7 +136,7 @@ def killed(port, seed, number):
     client.wait_for(chance.choice((0, 0, 1, owed // 2)) if owed else 0)
     received, ending = bytes(client.received), client.ending
     reset(client.connection) if chance.random() < 0.5 else client.close()
-    replies = Replies(Table(*LARGE), received, is_cut=True, masks_uniques=True)
+    replies = Replies(Table(*LARGE), received, full_at_first, is_cut=True, masks_uniques=True)
     # After a request that ends the stream the server may have closed it first.
     is_early = ending in ("end", "reset") and not (asked and asked[-1].ends_stream)
     wrong = f"ended by {ending}" if is_early else fault_of(received, None, asked, replies)
@@ -139,7 +155,8 @@ def leaves(port, left):
         if request.command:
             table.answer(request.command)
             fronts.append(table.answer(asked))
-    wrong = None if shown in (*fronts, protocol.LOG_FULL) else f"what it left is no first part's: {shown[:200]!r}"
+    refused = [] if full_at_first is NEVER_FULL else [protocol.LOG_FULL]
+    wrong = None if shown in (*fronts, *refused) else f"what it left is no first part's: {shown[:200]!r}"
     return [("what killed connections leave", wrong)]
 
 
@@ -157,7 +174,7 @@ def slow_reader(port, seed):
         time.sleep(0.005 if time.monotonic() < until else 0)
     client.close()
     wanted = protocol.STORED + (b"VALUE slow%d 0 100000\r\n" % seed + block + b"\r\nEND\r\n") * 60
-    full = protocol.LOG_FULL in (received[: len(protocol.LOG_FULL)], received[-len(protocol.LOG_FULL) :])
+    full = full_at_first is not NEVER_FULL and protocol.LOG_FULL in (received[: len(protocol.LOG_FULL)], received[-len(protocol.LOG_FULL) :])
     return [("a slow reader", None if received == wanted or full else f"{len(received)} bytes in place of {len(wanted)}, or others")]
 
 
@@ -170,7 +187,7 @@ def slow_writer(port, seed):
         client.send(stream[at : at + 1])
         time.sleep(0.0005)
     received = client.finish()
-    replies = Replies(Table(*LARGE), received, masks_uniques=True)
+    replies = Replies(Table(*LARGE), received, full_at_first, masks_uniques=True)
     return [("a slow writer", fault_of(received, client.ending, protocol.requests(stream), replies))]
 
 
@@ -255,6 +272,9 @@ def settled(server, base):
 class Round:
     """A server and all who talk to it at once, all made from one seed."""
 
+    noise = "noise"  # the tenant of those whose replies aren't compared
+    calm = "steady"  # and of the one whose waits are measured
+
     def __init__(self, program, seed):
         self.program = program
         chance = random.Random(seed)
@@ -281,8 +301,8 @@ class Round:
         yield from ((shared, (ports["shared"], seed(), number)) for number in range(4))
         yield from ((killed, (ports["killed"], seed(), number)) for number in range(24))
         for disturber in (slow_reader, slow_writer, flood, flood, storm, storm):
-            yield disturber, (ports["noise"], seed())
-        yield steady, (ports["steady"], 0)
+            yield disturber, (ports[self.noise], seed())
+        yield steady, (ports[self.calm], 0)
 
     def run(self, pool):
         """All that was found, as pairs of what was tried and what is wrong, and the steady client's longest wait."""
@@ -304,6 +324,19 @@ class Round:
             if not server.is_running():
                 found.append(("it still runs", f"it has ended: {server.end()}"))
             return found, longest
+
+
+class EndlessRound(Round):
+    """A round over logs that follow one another, with four tenants."""
+
+    noise = calm = "shared"
+
+    def __init__(self, program, seed, workers):
+        self.program, self.workers = program, workers
+        chance = random.Random(seed)
+        self.options = [*ADMIN, "--workers", str(workers), *ENDLESS]
+        self.tenants = {name: chance.choice(QUOTAS) for name in ("solo0", LIMITED[0])} | dict.fromkeys(("shared", "killed"), LARGE)
+        self.seeds = chance
 
 
 def attempt(call, words):
@@ -349,6 +382,25 @@ def check_flat(program):
         print(f"memory under a load that comes again: {', '.join(map(str, sizes))} KB", flush=True)
         yield "descriptors and threads after it", wrong
         yield "memory after it", f"it grew by {grown} KB" if grown > 4_096 else None
+
+
+def check_flat_over_logs(program):
+    """The memory after as many logs as for the sixth time is that after the second."""
+    with Server(program, ["--workers", "2", *ENDLESS], {"a": LARGE}) as server:
+        base = at_rest(server, 2)
+        asked = b"set k%d 0 0 1000\r\n%s\r\nget k%d\r\n"
+        stream = b"".join(asked % (number % 200, b"%04d" % number * 250, number % 100) for number in range(10_000))
+        sizes = []
+        for _ in range(6):
+            received, ending = exchange(server.ports["a"], [stream])
+            all_stored = ending == "end" and received.count(protocol.STORED) == 10_000
+            yield "a load over many logs", None if all_stored else f"{ending}, {received[-100:]!r}"
+            wrong = settled(server, base)
+            sizes.append(server.resident() >> 10)
+        grown = sizes[5] - sizes[1]
+        print(f"memory under a load over many logs that comes again: {', '.join(map(str, sizes))} KB", flush=True)
+        yield "descriptors and threads after many logs", wrong
+        yield "memory after many logs", f"it grew by {grown} KB" if grown > 4_096 else None
 
 
 def check_few_descriptors(program):
@@ -525,14 +577,32 @@ def words():
     parser.add_argument("program", nargs="?", default=repository.program("wfmc"))
     parser.add_argument("--seed", type=int, default=int.from_bytes(os.urandom(3), "big"))
     parser.add_argument("--round", type=int, help="this round alone")
+    parser.add_argument("--generations", action="store_true", help="over logs of 64 places, one after another")
     return parser.parse_intermixed_args()
+
+
+def round_of(asked, number):
+    """The round of this number."""
+    seed = f"{asked.seed}/{number}"
+    if asked.generations:
+        return EndlessRound(asked.program, seed, ENDLESS_WORKERS[number % len(ENDLESS_WORKERS)])
+    return Round(asked.program, seed)
+
+
+def first_checks(asked, pool):
+    """The checks before the rounds."""
+    if asked.generations:
+        return [check_flat_over_logs(asked.program)]
+    alone = (check_flat, check_few_descriptors, check_dead_arrivals, check_quiet_connections, check_refused_threads)
+    others = [check_rush(asked.program, pool), *(check_starved(asked.program, pool, workers) for workers in (1, 3))]
+    return [*(part(asked.program) for part in alone), *others]
 
 
 def rounds(asked, pool):
     """Rounds until the time is over, or the one that is asked for."""
     until, number, longest = time.monotonic() + asked.seconds, asked.round or 0, 0.0
     while number == (asked.round or 0) or (asked.round is None and time.monotonic() < until):
-        found, waited = Round(asked.program, f"{asked.seed}/{number}").run(pool)
+        found, waited = round_of(asked, number).run(pool)
         longest = max(longest, waited)
         yield from ((f"--seed {asked.seed} --round {number}: {what}", wrong) for what, wrong in found)
         number += 1
@@ -543,13 +613,11 @@ def main():
     asked, results = words(), Results()
     repository.enter(asked.program)
     print(f"--seed {asked.seed}", flush=True)
-    with concurrent.futures.ProcessPoolExecutor(48) as pool:
-        parts = [rounds(asked, pool)]
-        if asked.round is None:
-            alone = (check_flat, check_few_descriptors, check_dead_arrivals, check_quiet_connections, check_refused_threads)
-            others = [check_rush(asked.program, pool), *(check_starved(asked.program, pool, workers) for workers in (1, 3))]
-            parts = [*(part(asked.program) for part in alone), *others, *parts]
-        for part in parts:
+    if asked.generations:
+        know_endless()
+    with concurrent.futures.ProcessPoolExecutor(48, initializer=know_endless if asked.generations else None) as pool:
+        parts = first_checks(asked, pool) if asked.round is None else []
+        for part in [*parts, rounds(asked, pool)]:
             for what, wrong in part:
                 results.check(what, wrong is None, wrong)
     results.finish()

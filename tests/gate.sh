@@ -1,7 +1,8 @@
 #!/usr/bin/env bash
 # The gate: the kit's own (every proof from nothing, the mutants of must-fail/, the tests, the programs on their stored runs), and then the
-# built programs on their golden tests, wfmc over sockets, whether its clients' histories are linearizable, a round of the fuzzer, that no
-# crate cites another's proofs but those of a crate of lemmas, and that the picture of the crates and the generated documents are up to date.
+# built programs on their golden tests, wfmc over sockets, whether its clients' histories are linearizable, a round of the fuzzer (these two
+# over one log, and over one after another), that no crate cites another's proofs but those of a crate of lemmas, and that the picture of the
+# crates and the generated documents are up to date.
 # The last line is 'N passed, M failed', in total.
 set -euo pipefail
 cd "$(dirname "$0")/.."
@@ -35,8 +36,10 @@ done
 echo "the histories of wfmc's clients are linearizable"
 count python3 tests/linearizability.py --self-test
 count python3 tests/linearizability.py 20
+count python3 tests/linearizability.py 5 --generations
 echo "a round of the fuzzer on wfmc"
 count python3 tests/fuzz.py --seed 77 --round 3
+count python3 tests/fuzz.py --seed 77 --round 2 --generations
 echo "names, layers, the picture of the crates, and the generated documents"
 count passes python3 tools/layers.py
 count passes tools/picture.py --check

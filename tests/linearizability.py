@@ -1,14 +1,22 @@
 #!/usr/bin/env python3
-"""Tests that each tenant's history is linearizable: linearizability.py [SECONDS] [BINARY] [--seed N] | --self-test.
+"""Tests that each tenant's history is linearizable: linearizability.py [SECONDS] [BINARY] [--seed N] [--generations] | --self-test.
 
 For this many seconds (60) it starts wfmc with 1 to 4 workers, or 16, and for each of several tenants clients at once, each a process with a
 connection of its own. They send commands over the same few keys, some ahead of replies, and note when each was sent and answered. Next to the
 clients of some tenants an administrator lowers and raises that tenant's quotas. Then linearizability_checker.py looks for one order of a tenant's commands that explains all replies and puts no command before another that was
-answered when it was sent, so a client reads its own writes too. `--self-test` tests the checker instead: histories made wrong on purpose
-must be refused, and right ones accepted. The last line is 'N passed, M failed'.
+answered when it was sent, so a client reads its own writes too.
+
+With `--generations` the logs have 64 places and follow one another without an end, below 1, 2 and 4 workers by turns; there are four tenants,
+each with an administrator and with a client whose connections are killed at any byte. One order explains the replies over all logs, and none
+is that the log is full.
+
+`--self-test` tests the checker instead: histories made wrong on purpose must be refused, and right ones accepted. The last line is
+'N passed, M failed'.
 """
 
 import argparse
+import dataclasses
+import math
 import multiprocessing
 import os
 import random
@@ -17,8 +25,8 @@ import time
 
 import linearizability_checker as checker
 from harness import repository
-from harness.client import connect
-from harness.processes import SECONDS
+from harness.client import connect, peer_socket, reset
+from harness.processes import SECONDS, sockets
 from harness.results import Results
 from harness.servers import ADMIN, Server
 from linearizability_checker import Call
@@ -26,6 +34,12 @@ from oracle import protocol
 from oracle.table import Table
 
 EPOCHS = 40
+# By how much a client's number rises with each connection of its own.
+MOST_CLIENTS = 100
+# Options for logs that follow one another, and the numbers of workers over them.
+ENDLESS = ("--places", "64", "--generations", "0")
+# A worker whose command loses the last place of a log to another's says that the log is full; one that is alone loses none.
+ENDLESS_WORKERS = (1,)
 KEYS = (b"a", b"b", b"c", b"n")
 QUOTAS = ((1_000, 1_000_000), (1_000, 1_000_000), (3, 1_000_000), (1_000, 60))
 # Quotas that an administrator sets; the first refuse most that grows.
@@ -76,17 +90,30 @@ class Client:
         name = chance.choice((b"set", b"set", b"set", b"add", b"add", b"replace", b"append", b"prepend"))
         return b"%s %s 0 0 %d%s\r\n%s\r\n" % (name, key, len(data), quiet, data)
 
+    def begin_epoch(self):
+        """What it does before it asks."""
+
+    def end_epoch(self):
+        """What it does once it has asked."""
+
     def ask(self, stream):
         """Sends requests together, and notes when each was answered."""
-        asked = protocol.requests(stream, self.of_line)
-        sent = time.monotonic()
-        self.socket.sendall(stream)
+        asked, sent = self.send(stream)
         for request in asked:
-            reply = b"" if request.is_quiet else self.reply(request.command)
-            call = Call(self.number, sent, time.monotonic(), request.command, reply, request.is_quiet)
-            self.calls.append(call)
-            if request.command[0] == b"gets":
-                self.uniques.update({key: unique for key, _, unique in checker.values(reply)[0]})
+            self.take(request, sent)
+
+    def send(self, stream):
+        """The whole requests of what is sent, and when that was."""
+        asked, sent = protocol.requests(stream, self.of_line), time.monotonic()
+        self.socket.sendall(stream)
+        return asked, sent
+
+    def take(self, request, sent):
+        """Notes the reply to a request that was sent at this time."""
+        reply = b"" if request.is_quiet else self.reply(request.command)
+        self.calls.append(Call(self.number, sent, time.monotonic(), request.command, reply, request.is_quiet))
+        if request.command[0] == b"gets":
+            self.uniques.update({key: unique for key, _, unique in checker.values(reply)[0]})
 
     def reply(self, command):
         while (end := checker.reply_end(command, self.received, 0)) is None:
@@ -113,14 +140,56 @@ class Administrator(Client):
         return b"limit %s %d %d%s\r\n" % (self.tenant, items, size, b" noreply" if self.chance.random() < 0.2 else b"")
 
 
+class KilledClient(Client):
+    """A client with a connection for each epoch, which is killed at any byte; `pid` is the server's process."""
+
+    def __init__(self, port, number, seed, pid):
+        super().__init__(port, number, seed)
+        self.port, self.pid = port, pid
+
+    def begin_epoch(self):
+        self.socket.close()
+        self.number += MOST_CLIENTS
+        self.socket = connect(self.port)
+        self.received.clear()
+        self.socket.sendall(b"version\r\n")
+        self.reply((b"version",))
+
+    def end_epoch(self):
+        """Sends some of a stream, takes some of its replies, and kills the connection. Calls that no reply follows are lost."""
+        stream = b"".join(self.request() for _ in range(self.chance.randrange(1, 5)))
+        asked, sent = self.send(stream[: self.chance.randrange(len(stream) + 1)])
+        taken = self.chance.randrange(len(asked) + 1)
+        for request in asked[:taken]:
+            self.take(request, sent)
+        lost = [Call(self.number, sent, sent, request.command, b"", is_quiet=True) for request in asked[taken:]]
+        while self.calls and self.calls[-1].is_quiet and self.calls[-1].client == self.number:
+            lost.insert(0, self.calls.pop())
+        closed = self.kill()
+        changing = (call for call in lost if call.command[0] not in (b"get", b"gets"))
+        self.calls += [dataclasses.replace(call, answered=closed, is_lost=True) for call in changing]
+
+    def kill(self):
+        """Closes the connection, by a reset or not; when the server had closed it too."""
+        held, until = peer_socket(self.socket), time.monotonic() + SECONDS
+        reset(self.socket) if self.chance.random() < 0.7 else self.socket.close()
+        while held in sockets(self.pid):
+            if time.monotonic() > until:
+                raise TimeoutError("a killed connection stays open")
+            time.sleep(0.001)
+        return time.monotonic()
+
+
 def run_client(kind, words, number, seed, barrier, pipe):
     """Sends some requests, then stops together with the others while the first client reads all keys; and again."""
     try:
         client = kind(words[0], number, seed, *words[1:])
         for _ in range(EPOCHS):
             barrier.wait(SECONDS)
+            client.begin_epoch()
             for _ in range(client.chance.randrange(1, 5)):
                 client.ask(b"".join(client.request() for _ in range(client.chance.choice((1, 1, 1, 2, 4)))))
+            client.end_epoch()
             barrier.wait(SECONDS)
             if number == 0:
                 client.ask(b"gets %s\r\n" % b" ".join(KEYS))
@@ -161,33 +230,63 @@ def collect(clients):
     return ", ".join(fault for fault in faults if fault != STOPPED) or STOPPED if faults else history
 
 
-def run(program, seed):
-    """Runs a server, and clients of several tenants at once; each tenant's history, and what ran."""
+def tenants_of(chance, count):
+    return {f"t{number}": chance.choice(QUOTAS) for number in range(count)}
+
+
+def run_one_log(program, seed, _number):
+    """Runs a server over one log, and clients of several tenants at once; each tenant's history, and what ran."""
     chance = random.Random(seed)
     workers = chance.choice((1, 2, 2, 3, 4, 4, 16))
-    tenants = {f"t{number}": chance.choice(QUOTAS) for number in range(chance.choice((1, 2, 3, 4)))}
+    tenants = tenants_of(chance, chance.choice((1, 2, 3, 4)))
     # When the log becomes full is known to a tenant that is alone.
     places = chance.randrange(1, 500) if len(tenants) == 1 else 65_536
     with Server(program, [*ADMIN, "--workers", str(workers), "--places", str(places)], tenants) as server:
-        begun = []
-        for name in tenants:
-            kinds = [(Client, (server.ports[name],))] * chance.choice((3, 4, 5))
-            kinds += [(Administrator, (server.ports["admin"], name))] * chance.choice((0, 1, 1))
-            begun.append(start_clients(kinds, f"{seed}/{name}"))
-        for (name, quotas), (_, clients) in zip(tenants.items(), begun):
-            yield f"{workers} workers, {places} places, tenant {name}, {len(clients)} clients", Table(*quotas), places, collect(clients)
+        kinds = {
+            name: [(Client, (server.ports[name],))] * chance.choice((3, 4, 5))
+            + [(Administrator, (server.ports["admin"], name))] * chance.choice((0, 1, 1))
+            for name in tenants
+        }
+        for name, count, history in histories(kinds, seed):
+            yield f"{workers} workers, {places} places, tenant {name}, {count} clients", Table(*tenants[name]), places, history
 
 
-def check_histories(program, seconds, seed):
+def run_endless(program, seed, number):
+    """As `run_one_log`, over logs that follow one another, next to clients whose connections are killed."""
+    chance = random.Random(seed)
+    workers = ENDLESS_WORKERS[number % len(ENDLESS_WORKERS)]
+    tenants = tenants_of(chance, 4)
+    with Server(program, [*ADMIN, "--workers", str(workers), *ENDLESS], tenants) as server:
+        kinds = {
+            name: [(Client, (server.ports[name],))] * chance.choice((2, 3, 4))
+            + [(Administrator, (server.ports["admin"], name)), (KilledClient, (server.ports[name], server.pid))]
+            for name in tenants
+        }
+        for name, count, history in histories(kinds, seed):
+            yield f"{workers} workers, one log after another, tenant {name}, {count} clients", Table(*tenants[name]), math.inf, history
+
+
+def histories(kinds, seed):
+    """The history of each tenant, whose clients are of these kinds, with their number; all of them at once."""
+    begun = {name: start_clients(of_tenant, f"{seed}/{name}") for name, of_tenant in kinds.items()}
+    for name, (_, clients) in begun.items():
+        yield name, len(clients), collect(clients)
+
+
+def check_histories(run, runs, program, seconds, seed):
+    """Checks at least this many runs, and as many more as begin within the time."""
     until, number, calls, most = time.monotonic() + seconds, 0, 0, 0.0
-    while number == 0 or time.monotonic() < until:
-        for what, table, places, history in run(program, f"{seed}/{number}"):
+    while number < runs or time.monotonic() < until:
+        for what, table, places, history in run(program, f"{seed}/{number}", number):
+            name = f"--seed {seed}, run {number}, {what}"
             if isinstance(history, str):
-                check(f"--seed {seed}, run {number}, {what}: {history}", False)
+                check(f"{name}: {history}", False)
                 continue
             search = checker.Search(history, table, places)
             holds = search.succeeds()
-            check(f"--seed {seed}, run {number}, {what}: no order explains {len(history)} calls; {search.furthest()}", holds)
+            check(f"{name}: no order explains {len(history)} calls; {search.furthest()}", holds)
+            if places == math.inf:
+                check(f"{name}: a reply is that the log is full", all(one.reply != protocol.LOG_FULL for one in history))
             calls += len(history)
             most = max(most, search.steps / len(history))
         number += 1
@@ -198,6 +297,12 @@ def call(client, sent, answered, text, reply):
     """A call, by what is sent and what comes back."""
     (request,) = protocol.requests(text)
     return Call(client, sent, answered, request.command, reply, request.is_quiet)
+
+
+def lost(client, sent, closed, text):
+    """A call over a connection that was killed before the reply came, and that the server had closed by this time."""
+    (request,) = protocol.requests(text)
+    return Call(client, sent, closed, request.command, b"", is_quiet=True, is_lost=True)
 
 
 def limit(client, sent, answered, items, size, reply=protocol.OK):
@@ -256,6 +361,15 @@ HISTORIES = {
     "a write that raised quotas admit": (True, [FIRST, limit(1, 2, 3, 1, 100), limit(1, 4, 5, 2, 100), call(0, 6, 7, SET_B, STORED)]),
     "a write that raised quotas refuse": (False, [FIRST, limit(1, 2, 3, 1, 100), limit(1, 4, 5, 2, 100), call(0, 6, 7, SET_B, NO_ROOM)]),
     "two workers with other quotas": (False, [FIRST, limit(1, 2, 3, 1, 100), call(0, 4, 5, SET_B, NO_ROOM), call(2, 6, 7, SET_B, STORED)]),
+    "a lost write that is read": (True, [FIRST, lost(1, 2, 3, SET_2), call(0, 4, 5, GET_A, IS_2)]),
+    "a lost write that isn't read": (True, [FIRST, lost(1, 2, 3, SET_2), call(0, 4, 5, GET_A, IS_1)]),
+    "a lost write that is read before its connection is closed": (True, [FIRST, lost(1, 2, 9, SET_2), call(0, 3, 4, GET_A, IS_1), call(0, 5, 6, GET_A, IS_2)]),
+    "a lost write after its connection was closed": (False, [FIRST, lost(1, 2, 3, SET_2), call(0, 4, 5, GET_A, IS_1), call(0, 6, 7, GET_A, IS_2)]),
+    "a lost write before it was sent": (False, [FIRST, call(0, 2, 3, GET_A, IS_2), lost(1, 4, 5, SET_2)]),
+    "a lost write that is read and then not": (False, [FIRST, lost(1, 2, 9, SET_2), call(0, 3, 4, GET_A, IS_2), call(0, 5, 6, GET_A, IS_1)]),
+    "the first of two lost writes": (True, [FIRST, lost(1, 2, 3, SET_B), lost(1, 2, 3, SET_C), call(0, 4, 5, b"get b c\r\n", shown(b"b", b"3") + END)]),
+    "the second of two lost writes and not the first": (False, [FIRST, lost(1, 2, 3, SET_B), lost(1, 2, 3, SET_C), call(0, 4, 5, b"get b c\r\n", shown(b"c", b"4") + END)]),
+    "a lost write whose unique is used": (False, [FIRST, lost(1, 2, 3, SET_2), call(0, 4, 5, b"gets a\r\n", shown(b"a", b"2", 3) + END)]),
     "a quiet write that came late": (True, [FIRST, call(0, 2, 2, b"set a 0 0 1 noreply\r\n2\r\n", b""), call(1, 3, 4, GET_A, IS_1), call(0, 3, 9, GET_A, IS_2)]),
     "a quiet write that never came": (False, [FIRST, call(0, 2, 2, b"set a 0 0 1 noreply\r\n2\r\n", b""), call(0, 3, 4, GET_A, IS_1)]),
 }  # fmt: skip
@@ -268,14 +382,20 @@ class PretendedClient(Client):
         self.number, self.chance, self.count, self.uniques = number, random.Random(seed), 0, {}
 
 
-def pretended_history(seed):
-    """A linearizable history: each call takes effect at a moment of its own between its two times."""
+def pretended_history(seed, losing=0.0):
+    """A linearizable history: each call takes effect at a moment of its own between its two times. So many calls are lost, with effect or not."""
     chance, table, history = random.Random(seed), Table(1_000, 1_000_000), []
     clients = [PretendedClient(number, f"{seed}/{number}") for number in range(4)]
     ends = [0.0] * len(clients)
     for moment in range(120):
         number = chance.randrange(len(clients))
         (request,) = protocol.requests(clients[number].request())
+        if chance.random() < losing:
+            if chance.random() < 0.5:
+                table.answer(request.command)
+            times = moment - chance.random() * 4, moment + chance.random() * 4
+            history.append(Call(len(clients) + moment, *times, request.command, b"", is_quiet=True, is_lost=True))
+            continue
         reply = table.answer(request.command)
         if request.command[0] == b"gets":
             clients[number].uniques.update({key: unique for key, _, unique in checker.values(reply)[0]})
@@ -307,8 +427,8 @@ def self_test():
     check_full()
     for what, (wanted, history) in HISTORIES.items():
         check(f"self-test: {what}", checker.is_linearizable(history) == wanted)
-    for seed in range(60):
-        history = pretended_history(seed)
+    for seed, losing in [*((seed, 0.0) for seed in range(60)), *((seed, 0.2) for seed in range(60, 90))]:
+        history = pretended_history(seed, losing)
         check(f"self-test: a right history, {seed}", checker.is_linearizable(history))
         wrong = spoiled(history)
         if wrong:
@@ -320,6 +440,7 @@ def words():
     parser.add_argument("seconds", nargs="?", type=float, default=60.0)
     parser.add_argument("program", nargs="?", default=repository.program("wfmc"))
     parser.add_argument("--seed", type=int, default=int.from_bytes(os.urandom(3), "big"))
+    parser.add_argument("--generations", action="store_true", help="over logs of 64 places, one after another")
     parser.add_argument("--self-test", action="store_true", help="tests the checker itself")
     return parser.parse_intermixed_args()
 
@@ -331,7 +452,8 @@ def main():
     else:
         repository.enter(asked.program)
         print(f"--seed {asked.seed}", flush=True)
-        check_histories(asked.program, asked.seconds, asked.seed)
+        run, runs = (run_endless, len(ENDLESS_WORKERS)) if asked.generations else (run_one_log, 1)
+        check_histories(run, runs, asked.program, asked.seconds, asked.seed)
     results.finish()
 
 

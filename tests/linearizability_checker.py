@@ -3,7 +3,11 @@
 A history is a list of `Call`s of several clients. The search is depth-first: each step takes one of the clients' next calls that was sent
 before every reply still to come. It has to give its reply on the oracle's table, uniques and all. Paths that lead to a table already seen at
 the same calls are dropped, and a change whose unique some reply shows has to be the change that this reply shows. After as many commands as
-the log has places every command has to be answered that the log is full.
+the log has places every command has to be answered that the log is full. How many logs there are makes no difference otherwise: it is one
+order over all of them.
+
+The last calls of a connection that was killed may be lost: each may come next as long as no call has come that was sent after the server
+closed the connection, or be left out with those behind it.
 """
 
 import dataclasses
@@ -19,7 +23,9 @@ VALUE = re.compile(rb"VALUE (\S+) \d+ (\d+)(?: (\d+))?\r\n")
 
 @dataclasses.dataclass(frozen=True)
 class Call:
-    """A command of a client: when it was sent and answered, and the reply; a quiet one has no reply."""
+    """A command of a client: when it was sent and answered, and the reply; a quiet one has no reply.
+
+    A lost one was sent over a connection that was killed before its reply came, and was executed before the time `answered`, or never."""
 
     client: int
     sent: float
@@ -27,6 +33,7 @@ class Call:
     command: tuple
     reply: bytes
     is_quiet: bool = False
+    is_lost: bool = False
 
 
 def values(reply):
@@ -52,10 +59,14 @@ class Search:
 
     def __init__(self, history, table, places=math.inf):
         self.table, self.places = table, places
-        self.clients = [[] for _ in range(max((call.client for call in history), default=-1) + 1)]
+        calls_of = {}
         for call in history:
-            self.clients[call.client].append(call)
+            calls_of.setdefault(call.client, []).append(call)
+        self.clients = [calls_of[client] for client in sorted(calls_of)]
         self.until = [times_of(calls) for calls in self.clients]
+        # How many calls of each client have to be explained: those that aren't lost.
+        self.owed = tuple(sum(not call.is_lost for call in calls) for calls in self.clients)
+        self.loses = any(call.is_lost for call in history)
         # Which key and data the change of a unique made, by a reply that shows it.
         self.owners = {}
         self.is_torn = False
@@ -73,17 +84,30 @@ class Search:
         self.watched |= self.owners.keys()
 
     def _mark(self, taken, table):
-        """What distinguishes two paths: the calls that are left, and the table without uniques that no reply shows."""
+        """What distinguishes two paths: the calls that may still come, and the table without uniques that no reply shows."""
+        if self.loses:
+            latest = self._latest(taken)
+            taken = tuple(len(calls) if self._is_over(client, at, latest) else at for client, (calls, at) in enumerate(zip(self.clients, taken)))
         items = sorted((key, flags, data, unique if unique in self.watched else 0) for key, (flags, data, unique) in table.items.items())
         return taken, table.changes, table.most_items, table.most_bytes, tuple(items)
 
+    def _latest(self, taken):
+        """When the latest of these calls was sent."""
+        return max((calls[at - 1].sent for calls, at in zip(self.clients, taken) if at), default=-math.inf)
+
+    def _is_over(self, client, at, latest):
+        """Whether a client's next call is a lost one that can't come any more, once a call of this time has come."""
+        calls = self.clients[client]
+        return at < len(calls) and calls[at].is_lost and calls[at].answered < latest
+
     def _open(self, taken):
-        """The clients whose next call may come next, the one answered first at the front."""
+        """The clients whose next call may come next, the one answered first at the front, and those at last whose next one may be lost."""
         times = [(until[at], client) for client, (until, at) in enumerate(zip(self.until, taken)) if at < len(until)]
         if not times:
             return []
         first = min(times)[0]
-        return [client for _, client in sorted(times) if self.clients[client][taken[client]].sent <= first]
+        latest = self._latest(taken) if self.loses else -math.inf
+        return [client for _, client in sorted(times) if self.clients[client][taken[client]].sent <= first and not self._is_over(client, taken[client], latest)]
 
     def _after(self, call, table, is_full):
         """The table after a call, or `None` where it would give another reply."""
@@ -110,11 +134,10 @@ class Search:
         if self.is_torn:
             return False
         start = (0,) * len(self.clients)
-        whole = tuple(len(calls) for calls in self.clients)
         seen, paths = set(), [(start, self.table)]
         while paths and self.steps < MOST_STEPS:
             taken, table = paths.pop()
-            if taken == whole:
+            if all(at >= owed for at, owed in zip(taken, self.owed)):
                 return True
             mark = self._mark(taken, table)
             if mark in seen:
@@ -131,7 +154,8 @@ class Search:
 
 
 def times_of(calls):
-    """When each call was done at the latest: a quiet one by the next reply to its client."""
+    """When each call was done at the latest: a quiet one by the next reply to its client. A quiet one that none follows, a lost one among
+    them, has no such time."""
     times, last = [], math.inf
     for call in reversed(calls):
         last = last if call.is_quiet else call.answered

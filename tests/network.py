@@ -54,17 +54,18 @@ def answer(server, tenant, sent):
 
 def options_of(words):
     """The options of wfmc and the quotas of a tenant for a golden test's words; `None` where a server has no such options."""
-    places, items, size = "65536", "1048576", "67108864"
+    options, quotas = [], {"--items": "1048576", "--bytes": "67108864"}
     rest = [it for word in words for it in word.split("=")]
     while rest:
         option, *rest = rest
-        if option not in ("--places", "--items", "--bytes"):
+        if option not in ("--places", "--generations", *quotas):
             return None
         value, *rest = rest
-        places = value if option == "--places" else places
-        items = value if option == "--items" else items
-        size = value if option == "--bytes" else size
-    return ["--places", places], (items, size)
+        if option in quotas:
+            quotas[option] = value
+        else:
+            options += [option, value]
+    return options, tuple(quotas.values())
 
 
 def golden_tests():
@@ -538,6 +539,19 @@ def check_whole_log():
         check("the last command finds the log full", [line for it in lines for line in it if not line.isdigit()] == [b"SERVER_ERROR log full"])
 
 
+def check_logs_in_turn():
+    """A client that asks nothing keeps its connection while another fills several logs, and the length at the end is that of all logs."""
+    with Server(PROGRAM, ["--places", "10", "--generations", "4", "--connections", "2"], {"a": LARGE, "b": LARGE}) as server:
+        idle = ask(server, "b")
+        check("a client before the first log is full", is_answered(idle))
+        replies = answer(server, "a", b"set n 0 0 1\r\n0\r\n" + b"incr n 1\r\n" * 44 + b"quit\r\n")
+        numbers = b"".join(b"%d\r\n" % number for number in range(1, 40))
+        check("four logs, and no more", replies == b"STORED\r\n" + numbers + b"SERVER_ERROR log full\r\n" * 5)
+        check("the same client after the last log is full", is_answered_again(idle))
+        idle.close()
+        check("the length of all logs", server.wait() == (0, b"done 40\n", b""))
+
+
 def check_late_readers():
     """Clients that ask for a large item, end their stream by `quit` or by a line that is too long, and send more."""
     block = b"k" * 400_000
@@ -627,6 +641,7 @@ def main():
     check_no_delay()
     check_together()
     check_whole_log()
+    check_logs_in_turn()
     check_late_readers()
     check_kept_streams()
     check_failing_waits()

@@ -19,7 +19,7 @@ IMPORT = re.compile(r"\bRattle\.(\w+)\.(specs|proofs)\.(\w+)")
 CALL = re.compile(r"\b(\w+)::")
 CITED = re.compile(r"\bRattle\.(\w+)\.")
 # These list only crates whose code they call, and crates of lemmas.
-CALLS_ALL = ("mc_conn", "mc_net", "mc_server")
+CALLS_ALL = ("mc_conn", "mc_connections", "mc_net", "mc_server")
 LISTED = re.compile(r"^(\w+)[^#\n:]*:(.*)$", re.MULTILINE)
 
 

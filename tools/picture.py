@@ -28,6 +28,7 @@ SAYS = {
     "mc_stream": "pulls and pushes",
     "stream_lemmas": "lemmas on these",
     "mc_conn": "one connection, by turns",
+    "mc_connections": "connections, over logs",
     "mc_net": "sockets and threads",
     "mc_programs": "programs over streams",
     "mc_server": "the words of wfmc, its log",

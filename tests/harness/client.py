@@ -25,6 +25,17 @@ def reset(connection):
     connection.close()
 
 
+def peer_socket(connection):
+    """The kernel's number of the socket at the other end of a connection over loopback, if that was accepted."""
+    ends = [f":{end[1]:04X}" for end in (connection.getpeername(), connection.getsockname())]
+    with open("/proc/net/tcp", encoding="ascii") as table:
+        for line in table:
+            _, here, there, *fields = line.split()
+            if [here[-5:], there[-5:]] == ends:
+                return fields[6]
+    return None
+
+
 def exchange(port, pieces, seconds=SECONDS):
     """Sends these pieces and the end of the stream; the replies, and how they ended."""
     both_ways = Exchange(connect(port, seconds), seconds)

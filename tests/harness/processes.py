@@ -1,11 +1,22 @@
 """A process that a script starts."""
 
+import contextlib
 import os
 import signal
 import subprocess
 
 SECONDS = 60
 TICKS = os.sysconf("SC_CLK_TCK")
+
+
+def sockets(pid):
+    """The kernel's numbers of the sockets that a process has open."""
+    found, folder = set(), f"/proc/{pid}/fd"
+    for descriptor in os.listdir(folder):
+        with contextlib.suppress(FileNotFoundError):
+            kind, _, number = os.readlink(f"{folder}/{descriptor}").rstrip("]").partition(":[")
+            found |= {number} if kind == "socket" else set()
+    return found
 
 
 class Process:

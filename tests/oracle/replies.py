@@ -4,13 +4,15 @@ import re
 
 from .protocol import LOG_FULL
 
+NEVER_FULL = None
 
 class Replies:
-    """The bytes that a connection received, taken in reply by reply from a table; `is_cut` where the last of them may be missing."""
+    """The bytes that a connection received, taken in reply by reply from a table; `is_cut` where the last of them may be missing, and
+    `is_full` whether the log has no free place and never will, or `NEVER_FULL`."""
 
     def __init__(self, table, received, is_full=False, is_cut=False, masks_uniques=False):
         self.table, self.received = table, received
-        self.is_full = is_full  # the log has no free place, and never will
+        self.is_full = is_full
         self.is_cut = is_cut
         self.masks_uniques = masks_uniques
         self.at = 0
@@ -41,7 +43,7 @@ class Replies:
         """Whether the next bytes are the reply to this request, which is executed."""
         if not request.command:
             return request.is_quiet or self._takes(request.reply)
-        if not self.is_full and self.received.startswith(LOG_FULL, self.at) and not request.is_quiet:
+        if self.is_full is False and self.received.startswith(LOG_FULL, self.at) and not request.is_quiet:
             self.is_full = True
         reply = LOG_FULL if self.is_full else self.table.answer(request.command)
         return request.is_quiet or self._takes(reply)

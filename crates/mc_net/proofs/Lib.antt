@@ -1,7 +1,1 @@
-pub mod Askings
-pub mod Counts
-pub mod Lives
-pub mod Numbers
 pub mod Runnings
-pub mod Servings
-pub mod Workings

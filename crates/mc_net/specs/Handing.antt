@@ -2,7 +2,7 @@
 use Rattle.std.specs.Prelude.{◌≡◌, ℕ, ◌+◌, ◌%◌, ◌^◌, List, Some, slice_get, length}
 use Rattle.mc_net.specs.declared.handing.Accepted.{Accepted}
 use Rattle.mc_net.specs.declared.handing.Accepted.TheVariants.{One, None as NoneWaits, Failed}
-use Rattle.mc_net.specs.declared.listener.Arrival.{Arrival}
+use Rattle.mc_connections.specs.declared.arrival.Arrival.{Arrival}
 use Rattle.mc_net.specs.declared.listener.RoleListener.{RoleListener}
 
 -- the number of the place that receives the next stream after `done` streams, round-robin

@@ -1,8 +1,5 @@
-pub mod Asking
 pub mod Beginning
-pub mod Counting
+pub mod Halting
 pub mod Handing
-pub mod Life
+pub mod Returning
 pub mod Running
-pub mod Serving
-pub mod Working

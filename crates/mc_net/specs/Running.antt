@@ -1,12 +1,17 @@
 -- What the loops leave; this project's profile.
-use Rattle.std.specs.Prelude.{◌≡◌, ◌<◌, ℕ, List, [], ◌∷◌, All, length, map, slice_index_or, IfOk, Ok}
-use Rattle.uc_log.specs.declared.log.Log.{Log}
+use Rattle.std.specs.List.{AllZip}
+use Rattle.std.specs.Prelude.{◌≡◌, ◌<◌, ◌⊎◌, ℕ, Bool, true, List, [], ◌∷◌, All, length, map, slice_index_or, IfOk, Ok}
+use Rattle.mc_conn.specs.declared.conn.Role.{Role}
+use Rattle.mc_connections.specs.InTurn.{HaveServedInTurn, InTurn, followed_by}
+use Rattle.mc_connections.specs.Working.{IsEmpty, IsNewFor, Standing, Works, standing}
+use Rattle.mc_connections.specs.declared.connections.Connection.{Connection}
+use Rattle.mc_net.specs.declared.ended.Ended.{Ended}
+use Rattle.mc_net.specs.declared.ended.Ended.TheVariants.{Done, Full}
 use Rattle.mc_net.specs.declared.event_loop.EventLoop.{EventLoop}
 use Rattle.mc_net.specs.declared.listener.RoleListener.{RoleListener}
-use Rattle.mc_conn.specs.declared.conn.Role.{Role}
-use Rattle.mc_net.specs.Working.{HasWorked, IsNewFor, standing_at}
-use Rattle.mc_net.specs.declared.worker_thread.Returned.{Returned}
 use Rattle.mc_net.specs.declared.worker_thread.WorkerThread.{WorkerThread}
+use Rattle.uc_log.specs.declared.log.Log.{Log}
+use Rattle.uc_worker.specs.Worker.{HasReplayedAll}
 use Rattle.uc_worker.specs.declared.worker.Worker.{Worker}
 
 -- the role and the listener of each
@@ -21,10 +26,6 @@ workers_of worker_threads = map (λ worker_thread. worker_thread.worker) worker_
 abbrev pub event_loops_of : {G : Type 0} → List (WorkerThread G) → List EventLoop
 event_loops_of worker_threads = map (λ worker_thread. worker_thread.event_loop) worker_threads
 
--- the worker that came back
-abbrev pub returned_worker : Returned → Worker
-returned_worker back = back.worker
-
 -- the event loop is for a log of this many tenants
 abbrev pub IsFor : ℕ → EventLoop → Type 0
 IsFor tenants event_loop = event_loop.ready.connections.tenants ≡ tenants
@@ -32,6 +33,14 @@ IsFor tenants event_loop = event_loop.ready.connections.tenants ≡ tenants
 -- the event loop is for a log of this many tenants, and has served nothing yet
 abbrev pub IsNewLoop : ℕ → EventLoop → Type 0
 IsNewLoop tenants event_loop = IsNewFor tenants event_loop.ready.connections
+
+-- no connection is left at the event loop
+abbrev pub IsEmptyLoop : EventLoop → Type 0
+IsEmptyLoop event_loop = IsEmpty event_loop.ready.connections
+
+-- the connections that have ended at the event loop, the latest first
+abbrev pub ended_at : EventLoop → List Connection
+ended_at event_loop = event_loop.ready.connections.ended.connections
 
 -- each worker is of the log, and there are a gate and an event loop for each, for the log's tenants
 pub record FitTogether {G : Type 0} (log : Log) (workers : List Worker) (gates : List G)
@@ -41,37 +50,65 @@ pub record FitTogether {G : Type 0} (log : Log) (workers : List Worker) (gates :
   pub a_loop_each : length event_loops ≡ length workers
   pub tenants : All (IsFor (length log.settings.tenants)) event_loops
 
--- if a thread's loop has ended well, its worker has worked until no connection was left
-abbrev pub HasRun : {G : Type 0} → WorkerThread G → WorkerThread G → Type 0
-HasRun old new =
-    IfOk new.outcome
-    (λ _. HasWorked (standing_at old.worker old.event_loop) (standing_at new.worker new.event_loop))
+-- a worker with the connections of the event loop that it serves
+abbrev pub standing_at : Worker → EventLoop → Standing
+standing_at worker event_loop = standing worker event_loop.ready.connections
+
+-- how a loop ends without a fault: no connection is left; or the worker has replayed all places, if
+-- commands are left to the next log then
+abbrev pub EndsAs : Bool → Ended → Standing → Type 0
+EndsAs until Done after = IsEmpty after.connections
+EndsAs until Full after = (until ≡ true) × HasReplayedAll after.worker
+
+-- a loop has worked to its end
+pub record HasWorked (until : Bool) (before after : Standing) (ended : Ended) : Type 0 where
+  pub works : Works until before after
+  pub over : EndsAs until ended after
+
+-- if a thread's loop has ended well, its worker has worked to that end
+abbrev pub HasRun : {G : Type 0} → Bool → WorkerThread G → WorkerThread G → Type 0
+HasRun until old new =
+    IfOk new.outcome (HasWorked until (standing_at old.worker old.event_loop)
+    (standing_at new.worker new.event_loop))
 
 -- the same for each thread
-pub record HaveRun {G : Type 0} (old new : List (WorkerThread G)) : Type 0 where
+pub record HaveRun {G : Type 0} (until : Bool) (old new : List (WorkerThread G)) : Type 0 where
   pub long : length new ≡ length old
   pub each : (i : ℕ) (d : WorkerThread G) → i < length old →
-      HasRun (slice_index_or old i d) (slice_index_or new i d)
+      HasRun until (slice_index_or old i d) (slice_index_or new i d)
 
--- what came back from a worker's thread: its worker, and the connections that it has served; its
--- loop has ended well
-pub record IsReturned {G : Type 0} (worker_thread : WorkerThread G) (back : Returned) : Type 0 where
-  pub worker : back.worker ≡ worker_thread.worker
-  pub ended : back.ended ≡ worker_thread.event_loop.ready.connections.ended
-  pub well : worker_thread.outcome ≡ Ok tt
+-- a thread's loop has ended well: as all of them if all are done
+abbrev pub EndsWith : {G : Type 0} → Ended → WorkerThread G → Type 0
+EndsWith ended worker_thread =
+    (worker_thread.outcome ≡ Ok Done) ⊎ (worker_thread.outcome ≡ Ok Full) × (ended ≡ Full)
 
--- a worker came back from an event loop that it had served until no connection was left, with the
--- connections that have ended there
-pub record HasServedAt (worker : Worker) (before : EventLoop) (back : Returned)
-    (after : EventLoop) : Type 0 where
-  pub worked : HasWorked (standing_at worker before) (standing_at back.worker after)
-  pub ended : back.ended ≡ after.ready.connections.ended
+-- A worker went on from the first of its event loop's connections to the others: none is left, or
+-- commands are left to the next log, and not all loops are done.
+pub record HasServedAt (until : Bool) (ended : Ended) (worker : Worker) (before : EventLoop)
+    (back : Worker) (after : EventLoop) : Type 0 where
+  pub works : Works until (standing_at worker before) (standing_at back after)
+  pub over : IsEmptyLoop after ⊎ (until ≡ true) × (ended ≡ Full)
 
 -- the same for each worker, at the event loop of its index
-pub data HaveServedAt : List Worker → List EventLoop → List Returned → List EventLoop → Type 0 where
-  no_more : HaveServedAt [] [] [] []
-  one_more : (worker : Worker) (before : EventLoop) (back : Returned)
-      (after : EventLoop) (workers : List Worker) (befores : List EventLoop)
-      (backs : List Returned) (afters : List EventLoop) →
-      HasServedAt worker before back after → HaveServedAt workers befores backs afters →
-      HaveServedAt (worker ∷ workers) (before ∷ befores) (back ∷ backs) (after ∷ afters)
+pub data HaveServedAt (until : Bool) (ended : Ended) : List Worker → List EventLoop →
+    List Worker → List EventLoop → Type 0 where
+  no_more : HaveServedAt until ended [] [] [] []
+  one_more : (worker : Worker) (before : EventLoop) (back : Worker) (after : EventLoop)
+      (workers : List Worker) (befores : List EventLoop) (backs : List Worker)
+      (afters : List EventLoop) → HasServedAt until ended worker before back after →
+      HaveServedAt until ended workers befores backs afters →
+      HaveServedAt until ended (worker ∷ workers) (before ∷ befores) (back ∷ backs)
+      (after ∷ afters)
+
+-- these have served at the event loop, one after another
+abbrev pub HasBeenServedBy : InTurn → EventLoop → Type 0
+HasBeenServedBy who event_loop = HaveServedInTurn who event_loop.ready.connections
+
+-- at each event loop one more worker has served, from how it was in the first list to how it is in
+-- the second
+abbrev pub each_followed_by : List InTurn → List Worker → List Worker → List InTurn
+each_followed_by [] befores afters = []
+each_followed_by (who ∷ others) [] afters = []
+each_followed_by (who ∷ others) (before ∷ befores) [] = []
+each_followed_by (who ∷ others) (before ∷ befores) (after ∷ afters) =
+    followed_by who before after ∷ each_followed_by others befores afters

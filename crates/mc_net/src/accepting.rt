@@ -3,11 +3,11 @@ ghost use Rattle.std.specs.Prelude.{◌≡◌, IfOk, MatchResult};
 ghost use Rattle.mc_net.specs.Beginning.{HaltsServing};
 
 use crate::beginning::Begin;
-use crate::connections::is_admin;
 use crate::halt::Halt;
 use crate::handing::{Accepted, accept_one};
 use crate::listener::RoleListener;
 use crate::mailbox::{Mailboxes, Signal};
+use mc_connections::is_admin;
 use mc_model::Fault;
 use mio::net::TcpListener;
 use mio::unix::SourceFd;
@@ -47,6 +47,8 @@ pub(crate) struct Acceptor {
     is_troubled: bool,
     // More streams may be waiting at a listener, which is to be asked again at once.
     has_more: bool,
+    // The poll reports the streams of the listeners, since the first log.
+    is_registered: bool,
 }
 
 impl Acceptor {
@@ -72,6 +74,7 @@ impl Acceptor {
             rounds: 0,
             is_troubled: false,
             has_more: false,
+            is_registered: false,
         })
     }
 
@@ -159,8 +162,9 @@ impl Acceptor {
     /// Waits until every worker's loop has begun, so that no stream is handed to a thread that
     /// never runs.
     ///
-    /// No listener is registered yet, so that clients who connect don't shorten the wait. Returns
-    /// `Memory` if a loop doesn't begin in time, for example because the system refuses its thread,
+    /// On the first log no listener is registered yet, so that clients who connect don't shorten the
+    /// wait; on a later one all listeners are asked afterwards, since polls here drop what they
+    /// report. Returns `Memory` if a loop doesn't begin in time, for example because the system refuses its thread,
     /// and `Poll` if a poll fails.
     fn await_workers<R: Wait>(&mut self, rt: &R, mailboxes: &Mailboxes) -> Result<(), Halt>
         ensures { self.new.listeners ≡ self.old.listeners }
@@ -168,6 +172,7 @@ impl Acceptor {
         let pause = Duration::from_millis(1);
         for _ in 0..POLLS_TO_BEGIN {
             if mailboxes.has_begun(rt) {
+                self.has_more = self.is_registered;
                 return Ok(());
             }
             if self.poll.poll(&mut self.events, Some(pause)).is_err() {
@@ -177,12 +182,16 @@ impl Acceptor {
         Err(Halt::Memory)
     }
 
-    /// Registers the listeners. The next poll reports those at which streams are waiting already.
+    /// Registers the listeners, once. The next poll reports those at which streams are waiting
+    /// already.
     ///
     /// Returns `Poll` if one of them can't be registered.
     fn register_listeners(&mut self) -> Result<(), Halt>
         ensures { self.new.listeners ≡ self.old.listeners }
     {
+        if self.is_registered {
+            return Ok(());
+        }
         for number in 0..self.listeners.len() {
             let Some(listener) = self.listeners.get(number) else {
                 break;
@@ -199,19 +208,25 @@ impl Acceptor {
                 return Err(Halt::Poll);
             }
         }
+        self.is_registered = true;
         Ok(())
     }
 
     /// Accepts until `most` streams of tenants were handed over or another loop has failed, and
-    /// then signals to the workers that no more come.
+    /// then signals to the workers that no more come; or until a worker has signalled that the log
+    /// is full.
     ///
     /// Returns the errors of `poll_and_accept`, and `Poll` if a worker can't be woken.
     fn accept_all<R: Wait>(&mut self, rt: &R, mailboxes: &Mailboxes) -> Result<(), Halt>
         ensures { self.new.listeners ≡ self.old.listeners }
     {
         for _ in rt.forever() {
-            if self.is_done() || mailboxes.of_acceptor.signal(rt) == Signal::Halted {
+            let signal = mailboxes.of_acceptor.signal(rt);
+            if self.is_done() || signal == Signal::Halted {
                 return mailboxes.tell_workers(rt, Signal::Closed);
+            }
+            if signal == Signal::Full {
+                return Ok(());
             }
             self.poll_and_accept(rt, mailboxes)?;
         }

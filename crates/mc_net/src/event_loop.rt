@@ -1,13 +1,16 @@
 //! A worker's event loop.
-ghost use Rattle.std.specs.Prelude.{◌≡◌, length, IfOk};
-ghost use Rattle.mc_net.specs.Working.{HasWorked, IsNewFor, Works, standing_at};
+ghost use Rattle.std.specs.Prelude.{◌≡◌, Bool, length, IfOk};
+ghost use Rattle.mc_connections.specs.Working.{IsNewFor, Works};
+ghost use Rattle.mc_net.specs.Running.{HasWorked, standing_at};
+ghost use Rattle.uc_worker.specs.Going.{CatchesUp};
 ghost use Rattle.uc_worker.specs.Worker.{tenants_of};
 ghost use Rattle.uc_worker.specs.declared.worker.Worker.{Worker};
 
+use crate::ended::Ended;
 use crate::halt::Halt;
 use crate::mailbox::{Mailbox, Mailboxes, Signal};
-use crate::ready_queue::ReadyQueue;
 use mc_conn::PULL_BYTES;
+use mc_connections::ReadyQueue;
 use mio::{Events, Poll};
 use std::alloc::Global;
 use std::sync::Wait;
@@ -31,6 +34,10 @@ const LINGER_POLLS: u32 = 200;
 /// How long each of these polls waits at most, in milliseconds.
 const LINGER_MILLIS: u64 = 10;
 
+/// How long a worker waits at most for an event, in milliseconds, before it tries again to catch up
+/// after memory was refused to that.
+const RETRY_MILLIS: u64 = 100;
+
 /// What a worker's event loop works with: its connections, and the poll that reports their events.
 #[derive(Drop)]
 pub(crate) struct EventLoop {
@@ -39,6 +46,8 @@ pub(crate) struct EventLoop {
     events: Events,
     // The worker stopped catching up at its bound, so that more may be decided.
     is_behind: bool,
+    // Memory was refused while the worker caught up, so that it may not have replayed all.
+    is_starved: bool,
     alloc: Global,
 }
 
@@ -76,6 +85,7 @@ impl EventLoop {
             poll,
             events,
             is_behind: false,
+            is_starved: false,
             alloc,
         })
     }
@@ -84,9 +94,10 @@ impl EventLoop {
     ///
     /// Returns the signal that follows them, or `None` if more may be left.
     fn admit_arrivals<R: Wait>(&mut self, rt: &R, mailbox: &Mailbox) -> Option<Signal>
-        ensures { (worker : Worker) →
-            Works (standing_at worker self.old) (standing_at worker self.new) }
+        ensures { (until : Bool) (worker : Worker) →
+            Works until (standing_at worker self.old) (standing_at worker self.new) }
     {
+        mc_connections::laws::work_adds_up();
         for _ in 0..ARRIVALS {
             match mailbox.next(rt) {
                 Ok(arrival) => {
@@ -115,13 +126,26 @@ impl EventLoop {
         }
     }
 
+    /// Catches up with `STRIDE` places at most. Notes whether more may be decided, and whether memory
+    /// was refused.
+    fn catch_up<G: Gate>(&mut self, worker: &mut Worker<'_>, gate: &mut G)
+        ensures catches_up { CatchesUp worker.old worker.new }
+        ensures same { self.new.ready.connections ≡ self.old.ready.connections }
+    {
+        let caught_up = worker.catch_up_some(STRIDE, gate);
+        self.is_starved = caught_up.is_err();
+        self.is_behind = caught_up.unwrap_or(false);
+    }
+
     /// Serves the connections that are to be served, and then catches up with `STRIDE` places at
     /// most. Wakes the other workers if the log has grown a lot meanwhile. Returns whether this
-    /// worker was woken.
+    /// worker was woken. If `until_done` is set, commands are left to the next log once the worker
+    /// has replayed all places.
     ///
     /// Returns `Memory` if memory runs out.
     fn make_round<G: Gate>(
         &mut self,
+        until_done: bool,
         worker: &mut Worker<'_>,
         gate: &mut G,
         buffer: &mut [u8; PULL_BYTES],
@@ -129,43 +153,63 @@ impl EventLoop {
         number: usize,
     ) -> Result<bool, Halt>
         requires { self.old.ready.connections.tenants ≡ length (tenants_of worker.old) }
-        ensures { Works (standing_at worker.old self.old) (standing_at worker.new self.new) }
+        ensures { Works until_done (standing_at worker.old self.old)
+            (standing_at worker.new self.new) }
     {
+        mc_connections::laws::work_adds_up();
         let known = worker.history().len();
-        let is_woken = self.ready.serve_round(worker, gate, buffer, &self.events)?;
+        let events = &self.events;
+        let is_woken = self
+            .ready
+            .serve_round(until_done, worker, gate, buffer, events)?;
         self.ready.closing.register_new(self.poll.registry());
         if passes_stride(known, worker.history().len()) {
             mailboxes.wake_others(number);
         }
-        // If memory runs out it is tried again after the next event.
-        self.is_behind = worker.catch_up_some(STRIDE, gate).unwrap_or(false);
+        self.catch_up(worker, gate);
         Ok(is_woken)
     }
 
+    /// Returns how long a poll may wait: not at all if arrivals may be left in the mailbox, a
+    /// connection is to be served without an event or more may be decided in the log; `RETRY_MILLIS`
+    /// if memory was refused while the worker caught up; and otherwise until an event comes.
+    fn timeout(&self, may_have_arrivals: bool) -> Option<Duration> {
+        if may_have_arrivals || !self.ready.may_wait() || self.is_behind {
+            return Some(Duration::ZERO);
+        }
+        self.is_starved
+            .then_some(Duration::from_millis(RETRY_MILLIS))
+    }
+
     /// Serves the streams that the acceptor leaves in the mailbox of this number, until no more come
-    /// and every connection has ended. Streams that close have about two seconds to end then.
+    /// and every connection has ended. Streams that close have about two seconds to end then. If
+    /// `until_done` is set it also ends, as `Full`, once the worker has replayed all places of the
+    /// log; all other loops are woken then, so that they end too.
     ///
-    /// Returns `Memory` if memory runs out, and `Poll` if a poll fails. Returns `Elsewhere` if
-    /// another loop has failed; this loop's connections are closed then.
+    /// Returns `Memory` if memory runs out, and `Poll` if a poll or a waker fails. Returns
+    /// `Elsewhere` if another loop has failed; this loop's connections are closed then.
     pub(crate) fn run<R: Wait, G: Gate>(
         &mut self,
         rt: &R,
+        until_done: bool,
         worker: &mut Worker<'_>,
         gate: &mut G,
         mailboxes: &Mailboxes,
         number: usize,
-    ) -> Result<(), Halt>
+    ) -> Result<Ended, Halt>
         requires { self.old.ready.connections.tenants ≡ length (tenants_of worker.old) }
-        ensures worked { IfOk result
-            (λ _. HasWorked (standing_at worker.old self.old) (standing_at worker.new self.new)) }
+        ensures worked { IfOk result (HasWorked until_done
+            (standing_at worker.old self.old) (standing_at worker.new self.new)) }
         ensures tenants { self.new.ready.connections.tenants ≡ length (tenants_of worker.new) }
     {
+        mc_connections::laws::work_adds_up();
         let Some(mailbox) = mailboxes.of_workers.get(number) else {
             return Err(Halt::Elsewhere);
         };
         mailbox.raise(rt, Signal::Open);
         let mut buffer = [0u8; PULL_BYTES];
-        let mut signal = Some(Signal::Open);
+        // Arrivals may be left from when an earlier log was served.
+        let mut signal = None;
         for _ in rt.forever() {
             if signal == Some(Signal::Halted) {
                 self.ready.connections.clear();
@@ -173,14 +217,22 @@ impl EventLoop {
             }
             if signal == Some(Signal::Closed) && self.ready.connections.is_empty() {
                 self.linger(&mut buffer);
-                return Ok(());
+                return Ok(Ended::Done);
             }
-            // More may be left in the mailbox or in the log, or a connection is to be served without
-            // an event.
-            let waits = signal.is_some() && self.ready.may_wait() && !self.is_behind;
-            let timeout = if waits { None } else { Some(Duration::ZERO) };
+            if until_done && worker.is_done() {
+                mailboxes.tell_full(rt, number)?;
+                return Ok(Ended::Full);
+            }
+            let timeout = self.timeout(signal.is_none());
             poll_events(&mut self.poll, &mut self.events, timeout)?;
-            let is_woken = self.make_round(worker, gate, &mut buffer, mailboxes, number)?;
+            let is_woken = self.make_round(
+                until_done,
+                worker,
+                gate,
+                &mut buffer,
+                mailboxes,
+                number,
+            )?;
             if is_woken || signal.is_none() {
                 signal = self.admit_arrivals(rt, mailbox);
             }

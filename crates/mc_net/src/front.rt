@@ -1,11 +1,18 @@
 //! Where streams come in, and the event loops that serve them. No worker is part of it, so that
 //! connections outlive the workers that serve them.
-ghost use Rattle.std.specs.Prelude.{◌≡◌, ◌<◌, All, IfOk, MatchResult, vec_len};
+ghost use Rattle.std.specs.List.{AllZip};
+ghost use Rattle.std.specs.Prelude.{◌≡◌, ◌<◌, ⊤, true, All, IfOk, List, MatchResult, length, not, vec_len};
+ghost use Rattle.mc_conn.specs.Owed.{IsAmong};
+ghost use Rattle.mc_connections.specs.InTurn.{InTurn};
 ghost use Rattle.mc_net.specs.Beginning.{HaltsServing};
-ghost use Rattle.mc_net.specs.Running.{FitTogether, HaveServedAt, IsNewLoop, listeners_of};
+ghost use Rattle.mc_net.specs.Halting.{IsNetworkFault};
+ghost use Rattle.mc_net.specs.Returning.{returned_of};
+ghost use Rattle.mc_net.specs.Running.{HasBeenServedBy, HaveServedAt, IsEmptyLoop, IsFor, IsNewLoop, each_followed_by, listeners_of};
+ghost use Rattle.uc_worker.specs.Going.{Continues};
 
 use crate::accepting::Acceptor;
 use crate::beginning::Begin;
+use crate::ended::Ended;
 use crate::event_loop::EventLoop;
 use crate::halt::Halt;
 use crate::listener::RoleListener;
@@ -16,7 +23,7 @@ use mc_conn::Role;
 use mc_model::Fault;
 use mio::Poll;
 use mio::net::TcpListener;
-use std::alloc::Global;
+use std::alloc::{AllocError, Global};
 use std::mem;
 use std::net::Net;
 use std::sync::Wait;
@@ -26,11 +33,18 @@ use uc_worker::{Gate, Worker};
 
 /// The acceptor with its listeners, the event loops with their connections, and each loop's
 /// mailbox.
+///
+/// A front is served by the workers of one log after another: connections stay, whichever log their
+/// commands are on.
 #[derive(Drop)]
-pub(crate) struct Front {
+pub struct Front {
     acceptor: Acceptor,
     mailboxes: Mailboxes,
+    /// One for each worker.
     pub(crate) event_loops: Vec<EventLoop>,
+    /// How many tenants each log has.
+    pub(crate) tenants: usize,
+    ghost known: { All (IsFor tenants) event_loops.items },
 }
 
 /// Returns a poll, and the mailbox that wakes it.
@@ -86,23 +100,27 @@ fn role_listeners(
 }
 
 impl Front {
-    /// Returns the front of these listeners, for this many workers of a log of this many tenants.
+    /// Returns the front of these listeners, for this many workers of each log of this many tenants.
     /// It is to accept `connections` streams of tenants; 0 for no end.
     ///
-    /// Returns `Memory` if memory runs out, and `Poll` if a poll or a mailbox can't be made.
-    pub(crate) fn new<R: Net>(
+    /// Returns `Memory` if memory runs out, and `Input` if a poll or a mailbox can't be made.
+    pub fn new<R: Net>(
         rt: &R,
         alloc: Global,
         listeners: Vec<(Role, TcpListener)>,
         connections: u64,
         workers: usize,
         tenants: usize,
-    ) -> Result<Front, Halt>
-        requires { 0 < workers }
+    ) -> Result<Front, Fault>
+        requires some { (0 < workers) × (0 < vec_len listeners) }
+        requires roles { All (λ listener. IsAmong listener.0 tenants) listeners.items }
         ensures many { IfOk result (λ front. vec_len front.event_loops ≡ workers) }
+        ensures tenants { IfOk result (λ front. front.tenants ≡ tenants) }
+        // Nobody has been served yet.
         ensures new { IfOk result (λ front. All (IsNewLoop tenants) front.event_loops.items) }
         ensures listeners { IfOk result
             (λ front. listeners_of front.acceptor.listeners.items ≡ listeners.items) }
+        ensures faults { MatchResult result (λ _. ⊤) IsNetworkFault }
     {
         let (of_workers, event_loops) = new_event_loops(rt, alloc, workers, tenants)?;
         let (poll, of_acceptor) = new_poll(rt, alloc)?;
@@ -116,42 +134,116 @@ impl Front {
             acceptor,
             mailboxes,
             event_loops,
+            tenants,
         })
     }
 
-    /// Lets these workers of the log serve, each at the event loop of its index and in a thread of
-    /// its own if one can be made, until no more streams are to come and every connection has
-    /// ended. Returns the workers in their order.
+    /// Lets these workers of one log serve, each at the event loop of its index and in a thread of
+    /// its own if one can be made, until no more streams are to come and every connection has ended:
+    /// that is `Done`. Unless the log is the last one, serving also ends, as `Full`, once a worker
+    /// has replayed all places: no command after them is answered, those that wait are first on the
+    /// next log, and the connections and the streams that come stay with the front. Returns the
+    /// workers in their order.
     ///
-    /// Returns the error of the loop that failed, the fault of `begin`, and `Memory` if memory runs
-    /// out; the connections are closed then.
-    pub(crate) fn run<'a, R: Threads + Wait + Sync, G: Gate + Send + Drop, B: Begin<O>, O>(
+    /// When every worker's loop has begun, and before anything is accepted, `begin` is called, once,
+    /// with the state. Returns `Memory` if a loop doesn't begin within about ten seconds, for example
+    /// because the system refuses its thread, or if memory runs out outside a connection and the
+    /// queues. Returns `Input` if a poll or a waker fails, or a listener can't be registered, and the
+    /// fault of `begin` if that returns one. All loops have ended then, and every connection is
+    /// closed.
+    pub fn serve_generation<'a, R, G, B, O>(
         &mut self,
         rt: &R,
         alloc: Global,
         log: &'a Log,
         workers: Vec<Worker<'a>>,
         gates: Vec<G>,
+        is_last: bool,
         begin: &B,
         state: &mut O,
-    ) -> Result<Vec<Returned<'a>>, Fault>
-        requires { FitTogether log.now workers.items gates.items self.old.event_loops.items }
-        ensures served { IfOk result (λ back. HaveServedAt workers.entry.items
-            self.old.event_loops.items back.items self.new.event_loops.items) }
+    ) -> Result<(Vec<Worker<'a>>, Ended), Fault>
+    where
+        R: Threads + Wait + Sync,
+        G: Gate + Send + Drop,
+        B: Begin<O>,
+        requires logs { All (λ worker. worker.log.now ≡ log.now) workers.items }
+        requires tenants { self.old.tenants ≡ length log.now.settings.tenants }
+        requires loops { vec_len self.old.event_loops ≡ vec_len workers }
+        requires gates { vec_len gates ≡ vec_len workers }
+        // Each worker admitted arrivals and served the connections of its event loop, those that
+        // earlier workers have left among them.
+        ensures served { IfOk result (λ pair. HaveServedAt (not is_last) pair.1
+            workers.entry.items self.old.event_loops.items pair.0.items self.new.event_loops.items) }
+        // So whoever has served there before, now this log's workers have too.
+        ensures in_turn { IfOk result (λ pair. (past : List InTurn) →
+            AllZip HasBeenServedBy past self.old.event_loops.items →
+            AllZip HasBeenServedBy (each_followed_by past workers.entry.items pair.0.items)
+            self.new.event_loops.items) }
+        // If it is done no connection is left; and the last log is served until then.
+        ensures done { IfOk result
+            (λ pair. pair.1 ≡ Ended.Done → All IsEmptyLoop self.new.event_loops.items) }
+        ensures last { IfOk result (λ pair. is_last ≡ true → pair.1 ≡ Ended.Done) }
+        // Each worker that comes back is the same one, later on, and still of the log.
+        ensures back { IfOk result (λ pair. AllZip Continues workers.entry.items pair.0.items) }
+        ensures logs { IfOk result
+            (λ pair. All (λ worker. worker.log.now ≡ log.entry.now) pair.0.items) }
+        // The front is one for as many workers and tenants as before.
+        ensures loops { IfOk result
+            (λ _. vec_len self.new.event_loops ≡ vec_len self.old.event_loops) }
+        ensures tenants { self.new.tenants ≡ self.old.tenants }
+        // It began with the state; or the network failed before it began with the state, or
+        // afterwards; or a fault stopped that.
         ensures outcome { MatchResult result (λ _. B.done begin.now state.old state.new)
             (HaltsServing (B.done begin.now) (B.stopped begin.now) state.old state.new) }
     {
+        mc_connections::laws::work_adds_up();
         let Front {
             acceptor,
             mailboxes,
             event_loops,
+            tenants: _,
         } = self;
+        mailboxes.reset(rt);
         let lent = mem::replace(event_loops, Vec::new(alloc));
-        let mut worker_threads = threads_of(alloc, log, workers, gates, lent)?;
-        run_all(rt, mailboxes, acceptor, &mut worker_threads, begin, state)?;
-        first_failure(&worker_threads)?;
-        let (back, left) = parted(alloc, worker_threads)?;
+        let mut threads = threads_of(alloc, log, workers, gates, lent)?;
+        run_all(
+            rt,
+            !is_last,
+            mailboxes,
+            acceptor,
+            &mut threads,
+            begin,
+            state,
+        )?;
+        first_failure(&threads)?;
+        let (workers, left, ended) = parted(alloc, threads)?;
         *event_loops = left;
+        // No loop ends as full on the last log.
+        Ok((workers, if is_last { Ended::Done } else { ended }))
+    }
+
+    /// Returns these workers, each with the connections that have ended at the event loop of its
+    /// index.
+    ///
+    /// Returns an error if memory runs out.
+    pub(crate) fn into_returned<'a>(
+        self,
+        alloc: Global,
+        workers: Vec<Worker<'a>>,
+    ) -> Result<Vec<Returned<'a>>, AllocError>
+        requires { vec_len self.event_loops ≡ vec_len workers }
+        ensures { IfOk result
+            (λ back. back.items ≡ returned_of workers.entry.items self.event_loops.items) }
+    {
+        let mut back = Vec::with_capacity(alloc, workers.len())?;
+        let mut event_loops = self.event_loops.into_iter();
+        for worker in workers {
+            let Some(event_loop) = event_loops.next() else {
+                unreachable!();
+            };
+            let ended = event_loop.ready.connections.ended.again();
+            back.push(Returned { worker, ended })?;
+        }
         Ok(back)
     }
 }

@@ -1,6 +1,6 @@
 //! Why a loop ends early.
 ghost use Rattle.std.specs.Prelude.{◌≡◌};
-ghost use Rattle.mc_net.specs.Serving.{fault_of_halt};
+ghost use Rattle.mc_net.specs.Halting.{fault_of_halt};
 ghost use Rattle.mc_net.specs.declared.halt.Halt.TheVariants.{Memory};
 
 use mc_model::Fault;

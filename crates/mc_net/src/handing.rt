@@ -1,10 +1,11 @@
 //! Streams are handed to the workers round-robin.
 ghost use Rattle.std.specs.Prelude.{◌≡◌, ◌<◌, length, IfOk, OnErr, OnOk};
-ghost use Rattle.mc_net.specs.declared.listener.Arrival.{Arrival};
+ghost use Rattle.mc_connections.specs.declared.arrival.Arrival.{Arrival};
 ghost use Rattle.mc_net.specs.Handing.{IsHanded, IsPassed, count_after};
 
 use crate::halt::Halt;
-use crate::listener::{Arrival, Listen, RoleListener};
+use crate::listener::{Listen, RoleListener};
+use mc_connections::Arrival;
 use std::io::ErrorKind;
 use std::sync::Wait;
 

@@ -1,38 +1,32 @@
-//! The network: an acceptor takes the streams of the tenants' and the
-//! administrators' listeners and hands them to the
-//! workers round-robin; each worker serves its connections in a thread of its own until they end;
-//! and then the workers come back. Begin with `serve`.
+//! The network: an acceptor takes the streams of the tenants' and the administrators' listeners and
+//! hands them to the workers round-robin; each worker serves the connections of an event loop in a
+//! thread of its own, until they end or its log is full; and then the workers come back, while the
+//! connections stay with the front for the workers of the next log. Begin with `Front`, or for one
+//! log alone with `serve`.
 //!
-//! `specs/Handing.antt` says which stream goes where, `specs/Serving.antt` what becomes of a
-//! connection that is served, `specs/Working.antt` what a round leaves of a worker's connections,
-//! `specs/Life.antt` what a connection was sent from its first byte to its last,
-//! `specs/Asking.antt` for whom commands are announced, and `specs/Beginning.antt` what is left of
-//! the state with which serving begins.
+//! `specs/Handing.antt` says which stream goes where, `specs/Running.antt` what the loops leave,
+//! `specs/Returning.antt` what comes back of one log, and `specs/Beginning.antt` what is left of the
+//! state with which serving begins. What becomes of connections `mc_connections` says.
 #![tactic(auto)]
 
 pub use beginning::Begin;
 pub use ended::Ended;
+pub use front::Front;
 pub use halt::Halt;
 pub use handing::{Accepted, Receive, accept_one, hand_over};
-pub use listener::{Arrival, Listen, RoleListener};
+pub use listener::{Listen, RoleListener};
 pub use serving::{into_workers, serve};
 pub use worker_thread::Returned;
 
 mod accepting;
 pub mod beginning;
-mod closing;
-mod connecting;
-mod connections;
 pub mod ended;
 mod event_loop;
-mod front;
+pub mod front;
 pub mod halt;
 pub mod handing;
-pub mod laws;
 pub mod listener;
 mod mailbox;
-mod ready_queue;
 mod running;
 mod serving;
-mod socket;
 pub mod worker_thread;

@@ -3,6 +3,7 @@ ghost use Rattle.std.specs.Prelude.{⊤, IfOk};
 ghost use Rattle.mc_net.specs.Handing.{IsArrivalOf};
 
 use mc_conn::Role;
+use mc_connections::Arrival;
 use mio::net::{TcpListener, TcpStream};
 use std::io;
 use std::io::ErrorKind;
@@ -41,13 +42,6 @@ impl Listen for TcpListener {
 pub struct RoleListener<L> {
     pub role: Role,
     pub socket: L,
-}
-
-/// A stream, and the role of its client.
-#[derive(Drop)]
-pub struct Arrival<S> {
-    pub role: Role,
-    pub stream: S,
 }
 
 impl<L: Listen> RoleListener<L> {

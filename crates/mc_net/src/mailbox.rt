@@ -3,18 +3,15 @@ ghost use Rattle.std.specs.Prelude.{◌<◌, ⊤, OnOk, vec_len};
 
 use crate::halt::Halt;
 use crate::handing::Receive;
-use crate::listener::Arrival;
+use mc_connections::{Arrival, WAKER};
 use mio::net::TcpStream;
-use mio::{Registry, Token, Waker};
+use mio::{Registry, Waker};
 use std::alloc::Global;
 use std::collections::VecDeque;
 use std::io;
 use std::sync::{Mutex, Wait};
 
-/// The token of a poll's waker, which is no key and no listener's number.
-pub(crate) const WAKER: Token = Token(usize::MAX);
-
-/// What a loop is signalled. Signals come in this order, and none is taken back.
+/// What a loop is signalled while a log is served. Signals come in this order, and none is taken back.
 #[derive(Clone, Copy, Debug, PartialEq, Eq, PartialOrd, Ord)]
 pub(crate) enum Signal {
     /// The loop hasn't begun yet.
@@ -23,6 +20,8 @@ pub(crate) enum Signal {
     Open,
     /// No more streams come.
     Closed,
+    /// All places of the log are decided, and no more streams are accepted while it is served.
+    Full,
     /// Another loop has failed, and this one is to end.
     Halted,
 }
@@ -93,6 +92,11 @@ impl Mailbox {
         }
     }
 
+    /// Sets the signal back, for the next log. Arrivals stay in the queue.
+    fn reset<R: Wait>(&self, rt: &R) {
+        self.inbox.lock(rt).signal = Signal::Starting;
+    }
+
     /// Sets the signal as `raise` does, and wakes the loop.
     ///
     /// Returns `Poll` if the loop can't be woken.
@@ -146,6 +150,28 @@ impl Mailboxes {
                 // A worker that can't be woken catches up at its next event.
                 let _ = wake(&mailbox.waker);
             }
+        }
+    }
+
+    /// Signals the acceptor that the log is full, and wakes all workers but the one of this number,
+    /// which then replay all its places.
+    ///
+    /// Returns `Poll` if one of them can't be woken.
+    pub(crate) fn tell_full<R: Wait>(&self, rt: &R, number: usize) -> Result<(), Halt> {
+        self.of_acceptor.tell(rt, Signal::Full)?;
+        for (other, mailbox) in self.of_workers.iter().enumerate() {
+            if other != number {
+                wake(&mailbox.waker)?;
+            }
+        }
+        Ok(())
+    }
+
+    /// Sets all signals back, before the loops begin on the next log.
+    pub(crate) fn reset<R: Wait>(&self, rt: &R) {
+        self.of_acceptor.reset(rt);
+        for mailbox in &self.of_workers {
+            mailbox.reset(rt);
         }
     }
 

@@ -1,15 +1,15 @@
 //! The loops of the acceptor and of the workers, each in a thread of its own.
-ghost use Rattle.std.specs.List.{AllZip};
-ghost use Rattle.std.specs.Prelude.{◌≡◌, IfOk, MatchResult};
+ghost use Rattle.std.specs.Prelude.{◌≡◌, All, IfOk, MatchResult};
 ghost use Rattle.mc_net.specs.Beginning.{HaltsServing};
-ghost use Rattle.mc_net.specs.Running.{FitTogether, HasRun, HaveRun, IsReturned, event_loops_of, workers_of};
+ghost use Rattle.mc_net.specs.Running.{EndsWith, FitTogether, HasRun, HaveRun, event_loops_of, workers_of};
 
 use crate::accepting::Acceptor;
 use crate::beginning::Begin;
+use crate::ended::Ended;
 use crate::event_loop::EventLoop;
 use crate::halt::Halt;
 use crate::mailbox::Mailboxes;
-use crate::worker_thread::{Returned, WorkerThread};
+use crate::worker_thread::WorkerThread;
 use mc_model::Fault;
 use std::alloc::Global;
 use std::sync::Wait;
@@ -47,7 +47,7 @@ pub(crate) fn threads_of<'a, G: Gate + Drop>(
             worker,
             gate,
             event_loop,
-            outcome: Ok(()),
+            outcome: Ok(Ended::Done),
         })?;
     }
     Ok(worker_threads)
@@ -56,8 +56,8 @@ pub(crate) fn threads_of<'a, G: Gate + Drop>(
 impl<G: Gate> WorkerThread<'_, G> {
     /// Runs the event loop with the mailbox of this number. If it fails, all other loops are
     /// signalled to end.
-    fn run<R: Wait>(&mut self, rt: &R, mailboxes: &Mailboxes, number: usize)
-        ensures { HasRun self.old self.new }
+    fn run<R: Wait>(&mut self, rt: &R, until_done: bool, mailboxes: &Mailboxes, number: usize)
+        ensures { HasRun until_done self.old self.new }
     {
         let WorkerThread {
             worker,
@@ -65,7 +65,7 @@ impl<G: Gate> WorkerThread<'_, G> {
             event_loop,
             outcome,
         } = self;
-        *outcome = event_loop.run(rt, worker, gate, mailboxes, number);
+        *outcome = event_loop.run(rt, until_done, worker, gate, mailboxes, number);
         if outcome.is_err() {
             mailboxes.halt(rt);
         }
@@ -75,10 +75,11 @@ impl<G: Gate> WorkerThread<'_, G> {
 /// Runs each worker in a thread of its own, or one after another if no thread can be made.
 fn run_workers<'a, R: Threads + Wait + Sync, G: Gate + Send>(
     rt: &R,
+    until_done: bool,
     mailboxes: &Mailboxes,
     worker_threads: &mut [WorkerThread<'a, G>],
 )
-    ensures { HaveRun worker_threads.old worker_threads.new }
+    ensures { HaveRun until_done worker_threads.old worker_threads.new }
 {
     let threads = worker_threads.len().max(1);
     thread::for_each_mut(
@@ -86,8 +87,8 @@ fn run_workers<'a, R: Threads + Wait + Sync, G: Gate + Send>(
         worker_threads,
         threads,
         &|number: usize, worker_thread: &mut WorkerThread<'_, G>|
-            ensures { HasRun worker_thread.entry.now worker_thread.exit.now }
-        { worker_thread.run(rt, mailboxes, number) },
+            ensures { HasRun until_done worker_thread.entry.now worker_thread.exit.now }
+        { worker_thread.run(rt, until_done, mailboxes, number) },
     );
 }
 
@@ -97,19 +98,20 @@ fn run_workers<'a, R: Threads + Wait + Sync, G: Gate + Send>(
 /// Returns the acceptor's errors.
 pub(crate) fn run_all<'a, R: Threads + Wait + Sync, G: Gate + Send, B: Begin<O>, O>(
     rt: &R,
+    until_done: bool,
     mailboxes: &Mailboxes,
     acceptor: &mut Acceptor,
     worker_threads: &mut [WorkerThread<'a, G>],
     begin: &B,
     state: &mut O,
 ) -> Result<(), Fault>
-    ensures workers { HaveRun worker_threads.old worker_threads.new }
+    ensures workers { HaveRun until_done worker_threads.old worker_threads.new }
     ensures outcome { MatchResult result (λ _. B.done begin.now state.old state.new)
         (HaltsServing (B.done begin.now) (B.stopped begin.now) state.old state.new) }
 {
     let (_, outcome) = join_mut(
         rt,
-        &mut || run_workers(rt, mailboxes, worker_threads),
+        &mut || run_workers(rt, until_done, mailboxes, worker_threads),
         &mut || acceptor.run(rt, mailboxes, begin, state),
     );
     outcome
@@ -119,26 +121,30 @@ pub(crate) fn run_all<'a, R: Threads + Wait + Sync, G: Gate + Send, B: Begin<O>,
 pub(crate) fn first_failure<G>(worker_threads: &[WorkerThread<'_, G>]) -> Result<(), Halt> {
     for worker_thread in worker_threads {
         match worker_thread.outcome {
-            Err(Halt::Elsewhere) | Ok(()) => {}
+            Err(Halt::Elsewhere) | Ok(_) => {}
             Err(halt) => return Err(halt),
         }
     }
     Ok(())
 }
 
-/// Returns what came back from these threads, and their event loops, in order.
+/// Returns the workers of these threads and their event loops, in order, and how serving ended: as
+/// `Done` if all loops did.
 ///
 /// Returns the error of the first loop that ended early, and `Memory` if memory runs out.
 pub(crate) fn parted<'a, G: Drop>(
     alloc: Global,
     worker_threads: Vec<WorkerThread<'a, G>>,
-) -> Result<(Vec<Returned<'a>>, Vec<EventLoop>), Halt>
-    ensures back { IfOk result (λ pair. AllZip IsReturned worker_threads.entry.items pair.0.items) }
+) -> Result<(Vec<Worker<'a>>, Vec<EventLoop>, Ended), Halt>
+    ensures workers { IfOk result
+        (λ parts. parts.0.items ≡ workers_of worker_threads.entry.items) }
     ensures event_loops { IfOk result
-        (λ pair. pair.1.items ≡ event_loops_of worker_threads.entry.items) }
+        (λ parts. parts.1.items ≡ event_loops_of worker_threads.entry.items) }
+    ensures ended { IfOk result (λ parts. All (EndsWith parts.2) worker_threads.entry.items) }
 {
-    let mut back = Vec::with_capacity(alloc, worker_threads.len())?;
+    let mut workers = Vec::with_capacity(alloc, worker_threads.len())?;
     let mut event_loops = Vec::with_capacity(alloc, worker_threads.len())?;
+    let mut ended = Ended::Done;
     for worker_thread in worker_threads {
         let WorkerThread {
             worker,
@@ -146,10 +152,9 @@ pub(crate) fn parted<'a, G: Drop>(
             event_loop,
             outcome,
         } = worker_thread;
-        outcome?;
-        let ended = event_loop.ready.connections.ended.again();
-        back.push(Returned { worker, ended })?;
+        ended = ended.or_full(outcome?);
+        workers.push(worker)?;
         event_loops.push(event_loop)?;
     }
-    Ok((back, event_loops))
+    Ok((workers, event_loops, ended))
 }

@@ -3,11 +3,8 @@ ghost use Rattle.std.specs.List.{AllZip};
 ghost use Rattle.std.specs.Prelude.{◌≡◌, ◌<◌, All, IfErr, IfOk, length, map, vec_len};
 ghost use Rattle.uc_worker.specs.Going.{Continues};
 ghost use Rattle.mc_conn.specs.Owed.{IsAmong};
-ghost use Rattle.mc_net.specs.Asking.{HasBeenAsked};
 ghost use Rattle.mc_net.specs.Beginning.{HaltsServing};
-ghost use Rattle.mc_net.specs.Life.{HasAnswered};
-ghost use Rattle.mc_net.specs.Running.{returned_worker};
-ghost use Rattle.mc_net.specs.Working.{HasServed};
+ghost use Rattle.mc_net.specs.Returning.{HasAnswered, HasBeenAsked, HasServed, returned_worker};
 
 use crate::beginning::Begin;
 use crate::front::Front;
@@ -89,9 +86,11 @@ pub fn serve<'a, R: Threads + Wait + Net + Sync, G: Gate + Send + Drop, B: Begin
         (HaltsServing (B.done begin.now) (B.stopped begin.now) state.old state.new) }
 {
     // The laws from which the clauses on what was answered and asked follow.
-    mc_conn::laws::parts_add_up();
+    mc_connections::laws::work_adds_up();
+    mc_connections::laws::connections_are_answered_over_logs();
+    mc_connections::laws::commands_are_asked_for_over_logs();
     let tenants = log.settings().tenants().len();
     let mut front = Front::new(rt, alloc, listeners, connections, workers.len(), tenants)?;
-    let back = front.run(rt, alloc, log, workers, gates, begin, state)?;
-    Ok(back)
+    let (workers, _) = front.serve_generation(rt, alloc, log, workers, gates, true, begin, state)?;
+    Ok(front.into_returned(alloc, workers)?)
 }

@@ -5,6 +5,7 @@ ghost use Rattle.uc_worker.specs.Worker.{tenants_of};
 use crate::ended::Ended;
 use crate::event_loop::EventLoop;
 use crate::halt::Halt;
+use mc_connections::PastConnections;
 use uc_worker::Worker;
 
 /// A worker with its gate and its event loop, and how the loop ended.
@@ -13,7 +14,7 @@ pub(crate) struct WorkerThread<'a, G> {
     pub(crate) worker: Worker<'a>,
     pub(crate) gate: G,
     pub(crate) event_loop: EventLoop,
-    pub(crate) outcome: Result<(), Halt>,
+    pub(crate) outcome: Result<Ended, Halt>,
     ghost tenants: { event_loop.ready.connections.tenants ≡ length (tenants_of worker) },
 }
 
@@ -21,5 +22,5 @@ pub(crate) struct WorkerThread<'a, G> {
 #[derive(Drop)]
 pub struct Returned<'a> {
     pub worker: Worker<'a>,
-    pub ended: Ended,
+    pub ended: PastConnections,
 }

@@ -9,8 +9,8 @@ use std::time::Duration;
 /// How long a client waits for bytes before the test gives up on them, in seconds.
 const SECONDS: u64 = 20;
 
-/// How long a client waits until it is sure that nothing more is taken, in milliseconds.
-const TAKEN_MILLIS: u64 = 100;
+/// How long a client waits until it is sure that nothing more is taken or comes, in milliseconds.
+const SURE_MILLIS: u64 = 100;
 
 /// What a client does. Clients are numbered as they connect.
 #[derive(Clone, Copy)]
@@ -25,6 +25,8 @@ pub(crate) enum Act<'a> {
     Read(usize, &'a [u8]),
     /// The client reads this, and then the end.
     Finish(usize, &'a [u8]),
+    /// Nothing comes to the client for a while.
+    Silence(usize),
     /// The client leaves. If it hasn't read all that came, its connection is reset.
     Leave(usize),
     /// All wait until a worker is held.
@@ -52,7 +54,7 @@ fn fail_unless(holds: bool) -> io::Result<()> {
 
 /// Sends this again and again, until nothing more is taken.
 fn flood(client: &mut TcpStream, bytes: &[u8]) -> io::Result<()> {
-    client.set_write_timeout(Some(Duration::from_millis(TAKEN_MILLIS)))?;
+    client.set_write_timeout(Some(Duration::from_millis(SURE_MILLIS)))?;
     for _ in 0..u32::MAX {
         match client.write(bytes) {
             Ok(_) => {}
@@ -61,6 +63,18 @@ fn flood(client: &mut TcpStream, bytes: &[u8]) -> io::Result<()> {
         }
     }
     fail_unless(false)
+}
+
+/// Waits for a while, and fails if anything comes, the end too.
+fn hear_nothing(client: &mut TcpStream) -> io::Result<()> {
+    client.set_read_timeout(Some(Duration::from_millis(SURE_MILLIS)))?;
+    let mut byte = [0u8; 1];
+    let is_silent = match client.read(&mut byte) {
+        Ok(_) => false,
+        Err(error) => error.kind() == ErrorKind::WouldBlock,
+    };
+    client.set_read_timeout(Some(Duration::from_secs(SECONDS)))?;
+    fail_unless(is_silent)
 }
 
 impl Crowd<'_> {
@@ -119,6 +133,7 @@ impl Crowd<'_> {
             Act::Flood(number, bytes) => flood(self.client(number)?, bytes),
             Act::Read(number, want) => self.read(number, want),
             Act::Finish(number, want) => self.finish(number, want),
+            Act::Silence(number) => hear_nothing(self.client(number)?),
             Act::Leave(number) => self.leave(number),
             Act::AwaitHeld => fail_unless(self.signals.holds()),
             Act::Free => fail_unless(self.signals.free()),

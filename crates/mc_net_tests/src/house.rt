@@ -25,8 +25,8 @@ const PLACES: u64 = 1_024;
 /// The quotas of all tenants, the listeners of each that has any, and those of administrators.
 #[derive(Drop)]
 pub(crate) struct House {
-    quotas: Vec<Limits>,
-    listeners: Vec<(Role, TcpListener)>,
+    pub(crate) quotas: Vec<Limits>,
+    pub(crate) listeners: Vec<(Role, TcpListener)>,
     ghost known: { All (λ listener. IsAmong listener.0 (length quotas.items)) listeners.items } by { Prim.hlevel (props, IsAmong-prop) },
 }
 
@@ -72,7 +72,7 @@ impl House {
 }
 
 /// Opens a worker for each pass of the log.
-fn open_workers<'a>(
+pub(crate) fn open_workers<'a>(
     alloc: Global,
     log: &'a Log,
     passes: Vec<Pass>,
@@ -132,7 +132,7 @@ fn tenants_of_all<'a>(
 }
 
 /// Counts how often serving began.
-struct Counting;
+pub(crate) struct Counting;
 
 impl Begin<u32> for Counting {
     ghost done = { λ _ _ _. ⊤ };

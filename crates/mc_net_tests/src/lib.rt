@@ -16,6 +16,8 @@ mod house;
 #[cfg(test)]
 mod leaving;
 #[cfg(test)]
+mod logs;
+#[cfg(test)]
 mod pairing;
 #[cfg(test)]
 mod signals;

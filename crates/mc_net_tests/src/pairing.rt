@@ -2,8 +2,9 @@
 ghost use Rattle.std.specs.Prelude.{◌≡◌, ⊤, IfOk, OnOk};
 
 use mc_conn::Role;
+use mc_connections::Arrival;
 use mc_model::{Name, Names, TenantId};
-use mc_net::{Accepted, Arrival, Halt, Listen, Receive, RoleListener, accept_one};
+use mc_net::{Accepted, Halt, Listen, Receive, RoleListener, accept_one};
 use std::alloc::Global;
 use std::io;
 use std::io::ErrorKind;

@@ -38,7 +38,7 @@ pub(crate) struct Outcome {
 
 /// Returns gates of which the first holds its worker by these signals, if there are any, and all
 /// others hold nobody.
-fn gates_of<'a>(
+pub(crate) fn gates_of<'a>(
     alloc: Global,
     count: usize,
     signals: Option<&'a Signals>,
@@ -64,7 +64,11 @@ fn names(alloc: Global, count: usize) -> Result<Names, Fault> {
 }
 
 /// Returns the house of a visit, and the address of each listener.
-fn opened<R: Net>(rt: &R, alloc: Global, visit: Visit) -> io::Result<(House, Vec<SocketAddr>)> {
+pub(crate) fn opened<R: Net>(
+    rt: &R,
+    alloc: Global,
+    visit: Visit,
+) -> io::Result<(House, Vec<SocketAddr>)> {
     let mut house = House::new(alloc, visit.quotas)?;
     let mut addresses = Vec::new(alloc);
     for tenant in visit.listeners {
@@ -75,6 +79,16 @@ fn opened<R: Net>(rt: &R, alloc: Global, visit: Visit) -> io::Result<(House, Vec
     };
     addresses.push(house.listen_admin(rt, names)?)?;
     Ok((house, addresses))
+}
+
+/// Returns how many connections of tenants a visit has.
+pub(crate) fn connections_of(visit: Visit) -> u64 {
+    let connections = visit
+        .acts
+        .iter()
+        .filter(|act| matches!(act, Act::Connect(number) if *number < visit.listeners.len()))
+        .count();
+    connections as u64
 }
 
 /// Serves the clients while they act. The first worker is held by the signals if it is to be.
@@ -90,14 +104,10 @@ where
     let (house, addresses) = opened(rt, alloc, visit)?;
     let signals = Signals::new();
     let gates = gates_of(alloc, visit.workers, is_held.then_some(&signals))?;
-    let connections = visit
-        .acts
-        .iter()
-        .filter(|act| matches!(act, Act::Connect(number) if *number < visit.listeners.len()))
-        .count();
+    let connections = connections_of(visit);
     let (tenants, failed) = join(
         rt,
-        || served(rt, alloc, house, connections as u64, gates),
+        || served(rt, alloc, house, connections, gates),
         || first_failure(rt, alloc, &signals, &addresses, visit.acts),
     );
     Ok(Outcome { failed, tenants })

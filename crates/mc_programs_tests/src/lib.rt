@@ -1,6 +1,7 @@
-//! Tests of the reader, of the serving loop and of whole runs of mc_stdin and mc_schedule, through
-//! what their crates make public. They are in a crate of their own, since a crate with tests is
-//! proved twice.
+//! Tests of the reader, of the serving loop, of whole runs of mc_stdin and mc_schedule, and of runs
+//! of wfmc that end before it serves, through what their crates make public. They are in one crate
+//! of their own: a crate with tests is proved twice, and each crate of tests loads its libraries
+//! anew.
 #![tactic(auto)]
 
 #[cfg(test)]
@@ -17,3 +18,5 @@ mod schedule;
 mod serving;
 #[cfg(test)]
 mod stdin;
+#[cfg(test)]
+mod wfmc;

@@ -1,7 +1,7 @@
 //! The golden examples of one table, and what a fault leaves: each row is a command as a client
 //! writes it, and the reply as the client reads it.
 use crate::values::{
-    assert_text, command_of, copied, key_of, numbered_get, numbered_set, numbered_values,
+    assert_text, command_of, copied, key_of, limit_of, numbered_get, numbered_set, numbered_values,
 };
 use mc_items::Items;
 use mc_model::{Command, Fault, Item, Limits, Reply};
@@ -63,6 +63,20 @@ fn assert_alike(rt: &impl Abort, alloc: Global, items: &Items, other: &Items) ->
 
 /// Asserts that the command gets this reply, and that a table that is advanced stays like one that
 /// answers.
+fn assert_effect(
+    rt: &impl Abort,
+    alloc: Global,
+    twins: &mut Twins,
+    command: &Command,
+    want: &[u8],
+) -> Result<(), Fail> {
+    let reply = apply(rt, &mut twins.items, command)?;
+    assert_text(rt, alloc, &reply, want)?;
+    advance(rt, &mut twins.advanced, command)?;
+    assert_alike(rt, alloc, &twins.items, &twins.advanced)
+}
+
+/// Does as `assert_effect` for the command that a client writes as this text.
 fn assert_answer(
     rt: &impl Abort,
     alloc: Global,
@@ -71,10 +85,7 @@ fn assert_answer(
     want: &[u8],
 ) -> Result<(), Fail> {
     let command = command_of(alloc, text)?;
-    let reply = apply(rt, &mut twins.items, &command)?;
-    assert_text(rt, alloc, &reply, want)?;
-    advance(rt, &mut twins.advanced, &command)?;
-    assert_alike(rt, alloc, &twins.items, &twins.advanced)
+    assert_effect(rt, alloc, twins, &command, want)
 }
 
 fn twins_of(alloc: Global, quotas: Limits) -> Twins {
@@ -411,22 +422,17 @@ fn quota_of_bytes(rt: HostRuntime) -> Result<(), Fail> {
     Ok(())
 }
 
-/// Asserts that setting these quotas is answered, and that a table that is advanced stays like one
-/// that answers.
-fn assert_limits(
+/// Asserts that setting these quotas is answered, and then that each command gets its reply.
+fn assert_limited(
     rt: &impl Abort,
     alloc: Global,
     twins: &mut Twins,
-    items: u64,
-    bytes: u64,
+    quotas: (u64, u64),
+    rows: &[(&str, &str)],
 ) -> Result<(), Fail> {
-    let command = Command::Limit {
-        limits: Limits { items, bytes },
-    };
-    let reply = apply(rt, &mut twins.items, &command)?;
-    assert_text(rt, alloc, &reply, b"OK\r\n")?;
-    advance(rt, &mut twins.advanced, &command)?;
-    assert_alike(rt, alloc, &twins.items, &twins.advanced)
+    let command = limit_of(quotas.0, quotas.1);
+    assert_effect(rt, alloc, twins, &command, b"OK\r\n")?;
+    assert_next(rt, alloc, twins, rows)
 }
 
 const BOTH_SHOWN: &str = "VALUE a 0 1 1\r\nx\r\nVALUE b 0 1 2\r\ny\r\nEND\r\n";
@@ -455,21 +461,16 @@ fn quotas_that_change(rt: HostRuntime) -> Result<(), Fail> {
         ("set a 0 0 1\r\nx\r\n", FULL),
         ("flush_all\r\n", "OK\r\n"),
     ];
+    const QUOTAS: Limits = Limits {
+        items: 1,
+        bytes: 100,
+    };
     let alloc = rt.alloc();
-    let mut twins = twins_of(
-        alloc,
-        Limits {
-            items: 1,
-            bytes: 100,
-        },
-    );
+    let mut twins = twins_of(alloc, QUOTAS);
     assert_next(&rt, alloc, &mut twins, &FIRST)?;
-    assert_limits(&rt, alloc, &mut twins, 2, 4)?;
-    assert_next(&rt, alloc, &mut twins, &RAISED)?;
-    assert_limits(&rt, alloc, &mut twins, 1, 4)?;
-    assert_next(&rt, alloc, &mut twins, &LOWERED)?;
-    assert_limits(&rt, alloc, &mut twins, 1, 1)?;
-    assert_next(&rt, alloc, &mut twins, &TIGHT)
+    assert_limited(&rt, alloc, &mut twins, (2, 4), &RAISED)?;
+    assert_limited(&rt, alloc, &mut twins, (1, 4), &LOWERED)?;
+    assert_limited(&rt, alloc, &mut twins, (1, 1), &TIGHT)
 }
 
 /// Advances by a copy of the command.

@@ -1,8 +1,7 @@
 //! Each constructor at its bounds, and each call that needs memory, with ample memory.
-use crate::values::{Shown, block_of, copied, key_of, value_of};
+use crate::values::{Shown, block_of, copied, copy_of, key_of, limit_of, value_of};
 use mc_model::{
-    Command, Data, Fault, Key, KeyList, Limits, Settings, TenantId, ValueList, WorkerId,
-    read_number,
+    Data, Fault, Key, KeyList, Limits, Settings, TenantId, ValueList, WorkerId, read_number,
 };
 use std::alloc::Global;
 use std::process::Abort;
@@ -103,6 +102,21 @@ fn is_keys(alloc: Global, list: &KeyList, first: &str, second: &str) -> Result<b
     Ok(*list == keys)
 }
 
+/// Asserts that two keys make a list that is equal to this one, or another.
+fn assert_key_list(
+    rt: &impl Abort,
+    alloc: Global,
+    list: &KeyList,
+    row: (&str, &str, bool),
+) -> Result<(), Fail> {
+    let (first, second, alike) = row;
+    assert!(rt;
+        is_keys(alloc, list, first, second)? == alike,
+        "{first} {second}"
+    );
+    Ok(())
+}
+
 /// Lists of equally many keys are equal exactly if their keys are, in order.
 #[test]
 fn keys_compared(rt: HostRuntime) -> Result<(), Fail> {
@@ -114,11 +128,8 @@ fn keys_compared(rt: HostRuntime) -> Result<(), Fail> {
         ("a", "a", false),
     ];
     let list = keys_of(rt.alloc(), "a", "b")?;
-    for (first, second, alike) in CASES {
-        assert!(rt;
-            is_keys(rt.alloc(), &list, first, second)? == alike,
-            "{first} {second}"
-        );
+    for row in CASES {
+        assert_key_list(&rt, rt.alloc(), &list, row)?;
     }
     Ok(())
 }
@@ -143,6 +154,18 @@ fn is_values(alloc: Global, list: &ValueList, first: Shown, second: Shown) -> Re
     Ok(*list == values)
 }
 
+/// Asserts that two values make a list that is equal to this one, or another.
+fn assert_values(
+    rt: &impl Abort,
+    alloc: Global,
+    list: &ValueList,
+    row: (Shown, Shown, bool),
+) -> Result<(), Fail> {
+    let (first, second, alike) = row;
+    assert!(rt; is_values(alloc, list, first, second)? == alike);
+    Ok(())
+}
+
 const FIRST: Shown = ("a", 5, "x", Some(1));
 
 const SECOND: Shown = ("b", 6, "y", None);
@@ -161,9 +184,14 @@ fn values_compared(rt: HostRuntime) -> Result<(), Fail> {
         (FIRST, FIRST, false),
     ];
     let list = values_of(rt.alloc(), FIRST, SECOND)?;
-    for (first, second, alike) in CASES {
-        assert!(rt; is_values(rt.alloc(), &list, first, second)? == alike);
+    for row in CASES {
+        assert_values(&rt, rt.alloc(), &list, row)?;
     }
+    Ok(())
+}
+
+fn assert_copied(rt: &impl Abort, alloc: Global, text: &str) -> Result<(), Fail> {
+    let _ = copied(rt, alloc, text)?;
     Ok(())
 }
 
@@ -183,12 +211,9 @@ fn each_command_copied(rt: HostRuntime) -> Result<(), Fail> {
         "prepend a 5 0 1\r\nx\r\n",
     ];
     for text in TEXTS {
-        let _ = copied(&rt, rt.alloc(), text)?;
+        assert_copied(&rt, rt.alloc(), text)?;
     }
-    let limit = Command::Limit {
-        limits: Limits { items: 1, bytes: 2 },
-    };
-    assert!(rt; limit.try_clone()? == limit);
+    let _ = copy_of(&rt, &limit_of(1, 2))?;
     Ok(())
 }
 
@@ -220,6 +245,13 @@ fn numbers_in_a_line(rt: HostRuntime) {
     }
 }
 
+/// Asserts what quotas two words are read as.
+fn assert_quotas(rt: &impl Abort, items: &str, bytes: &str, want: Option<(u64, u64)>) {
+    let read = Limits::read(items.as_bytes(), bytes.as_bytes());
+    let pair = read.map(|limits| (limits.items, limits.bytes));
+    assert!(rt; pair == want, "{items} {bytes}");
+}
+
 #[test]
 fn quotas_in_words(rt: HostRuntime) {
     const CASES: [(&str, &str, Option<(u64, u64)>); 10] = [
@@ -235,9 +267,7 @@ fn quotas_in_words(rt: HostRuntime) {
         ("+1", "1", None),
     ];
     for (items, bytes, want) in CASES {
-        let read = Limits::read(items.as_bytes(), bytes.as_bytes());
-        let pair = read.map(|limits| (limits.items, limits.bytes));
-        assert!(rt; pair == want, "{items} {bytes}");
+        assert_quotas(&rt, items, bytes, want);
     }
 }
 

@@ -248,16 +248,26 @@ fn knows_tenant(replica: &Replica<'_>, tenant: u8) -> Result<bool, Fail> {
     Ok(replica.has_tenant(tenant))
 }
 
+/// Asserts that an absent cell, and an entry of a tenant that there isn't, change nothing.
+fn assert_nobodys<'a>(
+    rt: &impl Abort,
+    alloc: Global,
+    cells: &'a Cells,
+    replica: &mut Replica<'a>,
+) -> Result<(), Fail> {
+    const UNKNOWN: Row = (0, 2, "set a 0 0 1\r\ny\r\n", "");
+    assert_absent(rt, alloc, cells, replica, 1)?;
+    assert_row(rt, alloc, cells, replica, 2, UNKNOWN)?;
+    assert!(rt; !knows_tenant(replica, 2)?);
+    assert_stands(rt, replica, 3, (0, 1))
+}
+
 #[test]
 fn nobodys_entries_change_no_table(rt: HostRuntime) -> Result<(), Fail> {
     const KNOWN: [Row; 1] = [(0, 1, "set a 0 0 1\r\nx\r\n", "STORED\r\n")];
-    const UNKNOWN: Row = (0, 2, "set a 0 0 1\r\ny\r\n", "");
     let cells = cells_of(rt.alloc())?;
     let mut replica = replayed(&rt, rt.alloc(), &cells, 0, &[QUOTAS, QUOTAS], &KNOWN)?;
-    assert_absent(&rt, rt.alloc(), &cells, &mut replica, 1)?;
-    assert_row(&rt, rt.alloc(), &cells, &mut replica, 2, UNKNOWN)?;
-    assert!(rt; !knows_tenant(&replica, 2)?);
-    assert_stands(&rt, &replica, 3, (0, 1))
+    assert_nobodys(&rt, rt.alloc(), &cells, &mut replica)
 }
 
 /// The contents of the cells of the next ticket, and of another worker's ticket of the same number,
@@ -347,19 +357,39 @@ fn assert_places(rt: &impl Abort, replica: &Replica<'_>, places: u64, has_place:
     assert!(rt; replica.places() == places && replica.has_place() == has_place);
 }
 
-/// Asserts that both have seen the same at each place.
-fn assert_same(rt: &impl Abort, short: &Replica<'_>, long: &Replica<'_>) {
-    assert!(rt; short.history().len() == long.history().len());
-    for (one, other) in short.history().iter().zip(long.history()) {
-        assert!(rt; one.ticket() == other.ticket() && one.entry() == other.entry());
-    }
+fn is_same(one: &Seen<'_>, other: &Seen<'_>) -> bool {
+    one.ticket() == other.ticket() && one.entry() == other.entry()
+}
+
+/// Returns whether both histories are equal, place by place.
+fn are_same(ones: &[Seen<'_>], others: &[Seen<'_>]) -> bool {
+    ones.len() == others.len()
+        && ones
+            .iter()
+            .zip(others)
+            .all(|(one, other)| is_same(one, other))
 }
 
 /// Asserts that both have one history, in replicas of two places and of a thousand.
 fn assert_unequal(rt: &impl Abort, short: &Replica<'_>, long: &Replica<'_>) {
-    assert_same(rt, short, long);
+    assert!(rt; are_same(short.history(), long.history()));
     assert_places(rt, short, 2, false);
     assert_places(rt, long, 1000, true);
+}
+
+/// Has both replay a command of each of two tenants, and asserts that they agree.
+fn assert_agreed<'a>(
+    rt: &impl Abort,
+    alloc: Global,
+    cells: &'a Cells,
+    short: &mut Replica<'a>,
+    long: &mut Replica<'a>,
+) -> Result<(), Fail> {
+    for tenant in 0..2u8 {
+        assert_both(rt, alloc, cells, short, long, tenant)?;
+    }
+    assert_unequal(rt, short, long);
+    Ok(())
 }
 
 #[test]
@@ -367,10 +397,30 @@ fn replicas_of_unequal_places_agree(rt: HostRuntime) -> Result<(), Fail> {
     let cells = cells_of(rt.alloc())?;
     let mut short = opened(rt.alloc(), 0, &[QUOTAS, QUOTAS], 2)?;
     let mut long = opened(rt.alloc(), 1, &[QUOTAS, QUOTAS], 1000)?;
-    assert_both(&rt, rt.alloc(), &cells, &mut short, &mut long, 0)?;
-    assert_both(&rt, rt.alloc(), &cells, &mut short, &mut long, 1)?;
-    assert_unequal(&rt, &short, &long);
-    Ok(())
+    assert_agreed(&rt, rt.alloc(), &cells, &mut short, &mut long)
+}
+
+/// An owner, its ticket's number, a tenant, what is asked and what the owner is answered.
+type LogRow = (u8, u64, u8, &'static str, &'static str);
+
+/// Asserts how a worker's replica answers what is in the cell of a row's ticket: by the row's reply
+/// if the worker owns it, and otherwise by none.
+fn assert_learned<'a>(
+    rt: &impl Abort,
+    alloc: Global,
+    cells: &'a Cells,
+    replica: &mut Replica<'a>,
+    row: &LogRow,
+) -> Result<(), Fail> {
+    let (owner, number, _tenant, _text, want) = row;
+    let want = if *owner == replica.worker().number() {
+        *want
+    } else {
+        ""
+    };
+    let ticket = ticket_of(worker_of(*owner)?, *number);
+    let seen = see(rt, alloc, cells, ticket)?;
+    assert_reply(rt, alloc, replica, seen, want)
 }
 
 /// Asserts that a worker that has replayed as much of one log as it has learned answers its own
@@ -388,17 +438,11 @@ fn assert_worker(
     };
     let one_item = Limits { items: 1, bytes: 9 };
     let mut replica = opened(alloc, worker, &[two_items, one_item], 9)?;
-    for (owner, number, _tenant, _text, want) in learned {
-        let want = if *owner == worker { *want } else { "" };
-        let ticket = ticket_of(worker_of(*owner)?, *number);
-        let seen = see(rt, alloc, cells, ticket)?;
-        assert_reply(rt, alloc, &mut replica, seen, want)?;
+    for row in learned {
+        assert_learned(rt, alloc, cells, &mut replica, row)?;
     }
     assert_stands(rt, &replica, learned.len(), (1, 1))
 }
-
-/// An owner, its ticket's number, a tenant, what is asked and what the owner is answered.
-type LogRow = (u8, u64, u8, &'static str, &'static str);
 
 /// Puts each owner's entry into its cell.
 fn put_all(rt: &impl Abort, alloc: Global, cells: &Cells, log: &[LogRow]) -> Result<(), Fail> {

@@ -1,5 +1,5 @@
 //! What the tests share: values made of plain data, and replies as a client reads them.
-use mc_model::{Command, Data, Fault, Key, Reply, Request, Value};
+use mc_model::{Command, Data, Fault, Key, Limits, Reply, Request, Value};
 use mc_read::Reader;
 use mc_write::write_reply;
 use std::alloc::Global;
@@ -43,12 +43,24 @@ fn request_of(alloc: Global, text: &[u8]) -> Result<Option<Request>, Fault> {
     reader.next()
 }
 
+/// Returns the command that sets these quotas.
+pub(crate) fn limit_of(items: u64, bytes: u64) -> Command {
+    Command::Limit {
+        limits: Limits { items, bytes },
+    }
+}
+
+/// Returns a copy of the command, which is equal to it.
+pub(crate) fn copy_of(rt: &impl Abort, command: &Command) -> Result<Command, Fault> {
+    let copy = command.try_clone()?;
+    assert!(rt; copy == *command);
+    Ok(copy)
+}
+
 /// Returns a copy of the command that a client writes as this text, which is equal to it.
 pub(crate) fn copied(rt: &impl Abort, alloc: Global, text: &str) -> Result<Command, Fail> {
     let command = command_of(alloc, text.as_bytes())?;
-    let copy = command.try_clone()?;
-    assert!(rt; copy == command, "{text}");
-    Ok(copy)
+    Ok(copy_of(rt, &command)?)
 }
 
 /// Asserts that a client reads this text for the reply.

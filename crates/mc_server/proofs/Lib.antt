@@ -1,4 +1,5 @@
 pub mod Crews
+pub mod LogRuns
 pub mod Meetings
 pub mod NetworkRuns
 pub mod Numbered

@@ -12,7 +12,7 @@ use Rattle.lists.specs.Lists.{BeginsWith}
 use Rattle.mc_model.specs.Legal.{IsLegal, count}
 use Rattle.mc_model.specs.Settings.{Configuration}
 use Rattle.mc_server.specs.Listeners.{CountsFrom}
-use Rattle.mc_server.specs.Network.{AreOf, AreWorkersOf, HasMet, HaveMet, MeetsAnother, WasAnnounced, number_of, tickets_of}
+use Rattle.mc_server.specs.Crew.{AreOf, AreWorkersOf, HasMet, HaveMet, MeetsAnother, WasAnnounced, number_of, tickets_of}
 use Rattle.uc_worker.specs.Going.{CatchesUp}
 use Rattle.uc_worker.specs.Worker.{IsUpToDate, announced_of, history_of, seat_of}
 use Rattle.uc_worker.specs.Cited.{Sighting}

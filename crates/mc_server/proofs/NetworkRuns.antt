@@ -12,14 +12,14 @@ use Rattle.uc_worker.specs.Going.{Continues}
 use Rattle.mc_model.specs.declared.fault.Fault.{Fault}
 use Rattle.mc_model.specs.Settings.{Configuration}
 use Rattle.mc_net.specs.Beginning.{HaltsServing}
-use Rattle.mc_net.specs.Running.{returned_worker}
-use Rattle.mc_net.specs.declared.worker_thread.Returned.{Returned}
 use Rattle.mc_programs.specs.Waiting.{FailsToPush, PushesAll}
 use Rattle.mc_server.proofs.Waited.{all_more, fails_more}
 use Rattle.mc_server.proofs.Numbered.{asked_roles}
 use Rattle.mc_server.proofs.TenantLists.{mapped}
 use Rattle.mc_server.specs.Listeners.{AreAsked, AreBound, AreListenersOf, CountsFrom, IsListeningFor, StopsListening, asked_at, roles_asked}
-use Rattle.mc_server.specs.Network.{AreOf, AreWorkersOf, HaveMet, HaveServed, HasPrintedLength, IsReady, IsServed, WereServed, number_of, StopsFinishing, StopsRun, StopsServing, names_of}
+use Rattle.mc_server.specs.Crew.{AreOf, AreWorkersOf, number_of}
+use Rattle.mc_server.specs.Network.{IsReady, IsServed, StopsRun, StopsServing, names_of}
+use Rattle.mc_server.specs.Logs.{WereServed}
 use Rattle.mc_server.specs.NetworkTexts.{done_line, ready_text}
 use Rattle.mc_server.specs.NetworkWords.{Asks, WordsGive, AsksForNone, AsksForService, AsksInVain, IsChecked, NetworkAsked, NetworkGiven, given_in, served_by}
 use Rattle.mc_server.specs.declared.listeners.Listeners.{Listeners}
@@ -34,10 +34,10 @@ use Rattle.uc_log.specs.declared.log.Log.{Log}
 use Rattle.uc_worker.specs.declared.worker.Worker.{Worker}
 
 -- a fault ended the service before the tenants had been served
-pub serving_halts : {O : Type 0} (tells : O → Outflow) (settings : Configuration) (fault : Fault) (text : List ℕ) (listening : List Listening) (before after : O) → text ≡ ready_text listening
+pub serving_halts : {O : Type 0} (tells : O → Outflow) (settings : Configuration) (most : ℕ) (fault : Fault) (text : List ℕ) (listening : List Listening) (before after : O) → text ≡ ready_text listening
     → HaltsServing (λ (one other : O). PushesAll text (tells one) (tells other)) (λ (one other : O) (stop : Fault). FailsToPush text (tells one) (tells other) stop) before after fault
-    → StopsServing settings listening (tells before) (tells after) fault
-serving_halts tells settings fault text listening before after is halts =
+    → StopsServing settings most listening (tells before) (tells after) fault
+serving_halts tells settings most fault text listening before after is halts =
     ⊎_elim
     (λ failed. ⊎_elim
     (λ nothing. inl (failed.0, ap tells nothing))
@@ -46,25 +46,14 @@ serving_halts tells settings fault text listening before after is halts =
     (λ stopped. inr (inr (inl (subst (λ known. FailsToPush known (tells before) (tells after) fault) is stopped))))
     halts
 
--- the length of the log of workers that have served and come back was printed after them, or a
--- fault came
-module _ (settings : Configuration) (log : Log) (workers : List Worker) (back : List Returned) (come : workers ≡ map returned_worker back) (have : HaveServed settings log back) where
-  were_served : (number : ℕ) → HaveMet workers number → WereServed settings number
-  were_served number met = record { log = log; back = back; served = have; met = subst (λ known. HaveMet known number) come met }
-
-  pub finished : (result : Result (Unit {0}) Fault) (listening : List Listening) (before now after : Outflow) → IsReady listening before now
-      → MatchResult result (λ _. HasPrintedLength workers now after) (StopsFinishing workers now after)
-      → MatchResult result (λ _. IsServed settings listening before after) (StopsServing settings listening before after)
-  finished (Ok nothing) listening before now after ready done = (
-    done.0,
-    were_served done.0 done.1,
-    all_more (ready_text listening) (done_line done.0) before now after ready done.2,
-  )
-  finished (Err fault) listening before now after ready stops =
-      ⊎_elim
-      (λ starved. inr (inl (inl starved.0, subst (IsReady listening before) (sym starved.1) ready)))
-      (λ fails. inr (inr (inr (fails.0, were_served fails.0 fails.1, fails_more (ready_text listening) (done_line fails.0) before now after ready fault fails.2))))
-      stops
+-- how many places were used was printed after the listeners' lines, or a fault came
+pub finished : (settings : Configuration) (most number : ℕ) → WereServed settings most number → (result : Result (Unit {0}) Fault) (listening : List Listening) (before now after : Outflow) →
+    IsReady listening before now → MatchResult result (λ _. PushesAll (done_line number) now after) (FailsToPush (done_line number) now after) →
+    MatchResult result (λ _. IsServed settings most listening before after) (StopsServing settings most listening before after)
+finished settings most number were (Ok nothing) listening before now after ready done =
+    (number, were, all_more (ready_text listening) (done_line number) before now after ready done)
+finished settings most number were (Err fault) listening before now after ready fails =
+    inr (inr (inr (number, were, fails_more (ready_text listening) (done_line number) before now after ready fault fails)))
 
 -- the workers that come back are of the log, and as many
 back_of : (log : Log) (workers back : List Worker) → AllZip Continues workers back → AreOf log workers → AreOf log back

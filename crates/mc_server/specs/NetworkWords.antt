@@ -1,7 +1,7 @@
 -- What the words after the program's name ask for on wfmc's command line, by clap's own definitions
 -- of a command; this project's profile.
 use Rattle.std.specs.List.{AllZip, IsDistinct}
-use Rattle.std.specs.Prelude.{◌≡◌, ℕ, List, [], ◌∷◌, ◌++◌, All, IsTrue, Option, Some, None, codes, map, option_and_then, slice_get, true, unwrap_or}
+use Rattle.std.specs.Prelude.{◌≡◌, ◌≤◌, ℕ, List, [], ◌∷◌, ◌++◌, All, IsTrue, Option, Some, None, codes, map, option_and_then, slice_get, true, unwrap_or}
 use Rattle.std.specs.Net.Grammar.{IsSocketV4Text}
 use Rattle.std.specs.Option.{IsSomeAnd, option_map}
 use Rattle.std.specs.Str.{bytes_eq}
@@ -16,6 +16,7 @@ use Rattle.mc_server.specs.TenantWord.{Says, TenantAsked, asked_of}
 use Rattle.mc_programs.specs.Words.{bare_app, number_asked, number_rule}
 use Rattle.mc_server.specs.declared.network_words.NetworkWords.{NetworkWords}
 use Rattle.mc_server.specs.declared.network_words.Service.{Service}
+use Rattle.mc_server.specs.declared.network_words.TheConstants.{MAX_GENERATIONS}
 use Rattle.mc_server.specs.declared.tenant_word.Tenant.{Tenant}
 
 -- the positional words, one for each tenant, of which there has to be at least one
@@ -31,13 +32,18 @@ abbrev pub admin_rule : Rule
 admin_rule =
     record (new_rule (codes "admin")) { long = Some (codes "admin"); value_names = 1 }
 
--- the options that are numbers: `--workers`, `--places` and `--connections`
-abbrev pub numbers_app : App
-numbers_app =
+-- the options that say how many workers, places and logs there are: `--workers`, `--places` and
+-- `--generations`
+abbrev pub logs_app : App
+logs_app =
     with_rule
     (with_rule (with_rule (bare_app (codes "wfmc")) (number_rule (codes "workers")))
     (number_rule (codes "places")))
-    (number_rule (codes "connections"))
+    (number_rule (codes "generations"))
+
+-- the options that are numbers: these, and `--connections`
+abbrev pub numbers_app : App
+numbers_app = with_rule logs_app (number_rule (codes "connections"))
 
 -- the options: these, and `--admin`
 abbrev pub options_app : App
@@ -62,6 +68,7 @@ admin_word words =
 pub record NetworkGiven : Type 0 where
   pub workers : ℕ
   pub places : ℕ
+  pub generations : ℕ
   pub connections : ℕ
   pub admin : Option Text
   pub tenants : List Text
@@ -70,17 +77,19 @@ abbrev pub given_by_words : List Text → NetworkGiven
 given_by_words words = record {
   workers = number_asked network_app (codes "workers") 2 words;
   places = number_asked network_app (codes "places") 65536 words;
+  generations = number_asked network_app (codes "generations") 1 words;
   connections = number_asked network_app (codes "connections") 0 words;
   admin = admin_word words;
   tenants = tenant_words words;
 }
 
--- what is to be served: how many workers and places there are, after how many connections of tenants
--- it ends (0: never), at which address administrators connect, if at any, and the tenants by their
--- numbers
+-- what is to be served: how many workers there are, how many places a log has, how many logs there
+-- are at most, one after another (0: no end), after how many connections of tenants it ends (0:
+-- never), at which address administrators connect, if at any, and the tenants by their numbers
 pub record NetworkAsked : Type 0 where
   pub workers : ℕ
   pub places : ℕ
+  pub generations : ℕ
   pub connections : ℕ
   pub admin : Option SocketAddrV4
   pub tenants : List TenantAsked
@@ -105,6 +114,7 @@ IsNoAddress text = (address : Option SocketAddrV4) → ¬ (SpellsAddress text ad
 pub record Asks (given : NetworkGiven) (asked : NetworkAsked) : Type 0 where
   pub workers : asked.workers ≡ given.workers
   pub places : asked.places ≡ given.places
+  pub generations : asked.generations ≡ given.generations
   pub connections : asked.connections ≡ given.connections
   pub admin : SpellsAddress given.admin asked.admin
   pub tenants : AllZip Says given.tenants asked.tenants
@@ -128,6 +138,7 @@ reserved_names (Some address) = admin_name ∷ []
 -- each number is within its bounds, and no name is used twice
 pub record IsServable (asked : NetworkAsked) : Type 0 where
   pub lawful : IsLawful (settings_asked asked)
+  pub generations : asked.generations ≤ MAX_GENERATIONS
   pub names : IsDistinct bytes_eq
       (reserved_names asked.admin ++ map (λ tenant. tenant.name) asked.tenants)
 
@@ -150,6 +161,7 @@ abbrev pub given_in : NetworkWords → NetworkGiven
 given_in words = record {
   workers = words.workers;
   places = words.places;
+  generations = words.generations;
   connections = words.connections;
   admin = option_map (λ word. word.now) words.admin;
   tenants = map (λ word. word.now) words.tenants.items;
@@ -159,6 +171,7 @@ abbrev pub served_by : Service → NetworkAsked
 served_by service = record {
   workers = service.settings.workers;
   places = service.settings.places;
+  generations = service.generations;
   connections = service.connections;
   admin = service.admin;
   tenants = map asked_of service.tenants.items;

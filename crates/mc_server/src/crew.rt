@@ -1,40 +1,76 @@
 //! The workers of wfmc, before and after they serve.
 ghost use Rattle.std.specs.List.{AllZip};
-ghost use Rattle.std.specs.Prelude.{◌≡◌, All, MatchResult, length, slice_get, Some, ℕ};
+ghost use Rattle.std.specs.Prelude.{◌≡◌, [], IfOk, IsOkUnless, MatchResult, length, slice_get, Some, ℕ};
 ghost use Rattle.mc_model.specs.declared.fault.Fault.TheVariants as faults;
-ghost use Rattle.mc_server.specs.Network.{AreOf, AreWorkersOf, HasDoneNothing, HaveMet, IsCrew, MeetsAnother};
+ghost use Rattle.mc_server.specs.Crew.{AreOf, HaveMet, IsCrew, MeetsAnother};
+ghost use Rattle.mc_server.specs.Logs.{AreOpenedOver, FitsOver, tables_over};
 ghost use Rattle.uc_worker.specs.Going.{CatchesUp};
-ghost use Rattle.uc_worker.specs.Worker.{IsUpToDate};
-ghost use Rattle.uc_log.specs.Passes.{IsNew, IsUnusedPass};
+ghost use Rattle.uc_worker.specs.Worker.{IsUpToDate, history_of, openings_of, seat_of};
+ghost use Rattle.uc_log.specs.Passes.{IsNew, IsUnusedPass, seat};
 
 use mc_model::Fault;
 use std::alloc::Global;
 use uc_log::{Log, Pass};
-use uc_worker::{Open, Worker};
+use uc_worker::{Base, Open, Worker};
 
-/// Returns a worker for each pass of the log, in the passes' order.
+/// Opens a worker with this pass of the log: over the tables of the base if there is one, and with
+/// empty tables otherwise.
+///
+/// Returns `Memory` if memory runs out.
+fn open_worker<'a>(
+    alloc: Global,
+    log: &'a Log,
+    pass: Pass,
+    base: &'a Option<Base>,
+) -> Result<Worker<'a>, Fault>
+    requires unused { IsUnusedPass log.now pass }
+    requires base { FitsOver log.now base.now }
+    ensures log { IfOk result (λ worker. worker.log.now ≡ log.now) }
+    ensures seat { IfOk result (λ worker. seat_of worker ≡ seat pass) }
+    ensures history { IfOk result (λ worker. history_of worker ≡ []) }
+    ensures openings { IfOk result (λ worker. openings_of worker ≡ tables_over log.now base.now) }
+    ensures memory { IsOkUnless result faults.Memory }
+{
+    match base {
+        Some(base) => Worker::open_over(alloc, log, pass, base),
+        None => Worker::open(alloc, log, pass),
+    }
+}
+
+/// Returns a worker for each pass of the log, in the passes' order: over the tables of the base if
+/// there is one, and with empty tables otherwise.
 ///
 /// Returns `Memory` if memory runs out.
 pub(crate) fn open_workers<'a>(
     alloc: Global,
     log: &'a Log,
     passes: Vec<Pass>,
+    base: &'a Option<Base>,
 ) -> Result<Vec<Worker<'a>>, Fault>
     requires passes { (number : ℕ) (pass : _) → slice_get passes.items number ≡ Some pass
         → IsNew log.now number pass }
     requires unused { (number : ℕ) (pass : _) → slice_get passes.items number ≡ Some pass
         → IsUnusedPass log.now pass }
     requires count { length passes.items ≡ log.now.settings.workers }
+    requires base { FitsOver log.now base.now }
     ensures outcome { MatchResult result
-        (λ workers. AreWorkersOf log.now.settings log.now workers.items
-        × All HasDoneNothing workers.items)
+        (λ workers. AreOpenedOver log.now.settings log.now (tables_over log.now base.now) workers.items)
         (λ fault. fault ≡ faults.Memory) }
 {
     let mut workers = Vec::with_capacity(alloc, passes.len())?;
     for pass in passes {
-        workers.push(Worker::open(alloc, log, pass)?)?;
+        workers.push(open_worker(alloc, log, pass, base)?)?;
     }
     Ok(workers)
+}
+
+/// Lets each worker catch up. A worker to whom memory is refused then hasn't replayed all.
+pub(crate) fn catch_up_all(workers: &mut [Worker<'_>])
+    ensures { AllZip CatchesUp workers.old workers.new }
+{
+    for number in 0..workers.len() {
+        let _ = workers[number].catch_up(&mut Open);
+    }
 }
 
 /// Lets a worker meet the others, one after another, and returns those.

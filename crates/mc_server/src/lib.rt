@@ -10,6 +10,7 @@ pub use network::run_wfmc;
 
 mod announcement;
 mod crew;
+pub mod generations;
 mod listeners;
 mod network;
 mod network_texts;

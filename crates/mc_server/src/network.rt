@@ -1,18 +1,18 @@
 //! The program that serves several tenants.
 ghost use Rattle.std.specs.Prelude.{MatchResult, map, string_bytes};
 ghost use Rattle.mc_server.specs.Listeners.{AreListenersOf};
-ghost use Rattle.mc_server.specs.Network.{WfmcEnds, IsCrew, HasPrintedLength, IsServed, ServesTenants, StopsFinishing, StopsRun, StopsServing, stop_line};
+ghost use Rattle.mc_server.specs.Network.{WfmcEnds, IsServed, ServesTenants, StopsRun, StopsServing, stop_line};
 ghost use Rattle.mc_server.specs.NetworkWords.{IsChecked, served_by, settings_asked};
 ghost use Rattle.mc_stream.specs.Pushing.{PushesOrFails};
 
 use crate::announcement::Announcement;
-use crate::crew::{meet_all, open_workers};
+use crate::generations::serve_logs;
 use crate::listeners::{Listeners, Stop, bind_all};
 use crate::network_texts::{ready_text, tell_cannot_listen, tell_done};
 use crate::network_words::{Service, read_words, service_of};
 use crate::wanted::wanted_by;
 use mc_model::Fault;
-use mc_net::{into_workers, serve};
+use mc_net::Front;
 use mc_programs::{answer_words, fail, tell_fault};
 use mc_stream::Output;
 use std::alloc::{AllocError, Global};
@@ -20,32 +20,13 @@ use std::net::Net;
 use std::sync::Wait;
 use std::thread::Threads;
 use uc_log::Log;
-use uc_worker::{Open, Worker};
 
 /// The program's name, the prefix of its messages.
 const NAME: &[u8] = b"wfmc";
 
-/// Lets the workers meet, and prints the length of the log.
-///
-/// Returns `Memory` if memory runs out, and `Output` if the output fails.
-fn finish<R: Wait, O: Output>(
-    rt: &R,
-    alloc: Global,
-    workers: Vec<Worker<'_>>,
-    output: &mut O,
-) -> Result<(), Fault>
-    requires { IsCrew workers.items }
-    ensures outcome { MatchResult result
-        (λ _. HasPrintedLength workers.entry.items (O.tells output.old) (O.tells output.new))
-        (StopsFinishing workers.entry.items (O.tells output.old) (O.tells output.new)) }
-{
-    let count = meet_all(alloc, workers)?;
-    tell_done(rt, count as u64, output)
-}
-
 /// Serves the tenants and administrators at their listeners until all connections are served. Once
-/// every worker's loop has begun it prints which listener is at which address, and at the end the
-/// length of the log.
+/// every worker's loop has begun it prints which listener is at which address, and at the end how
+/// many places of all logs were used.
 ///
 /// Returns `Memory` if memory runs out or a worker's loop doesn't begin, `Input` if waiting for
 /// connections fails, and `Output` if the output fails.
@@ -60,28 +41,30 @@ fn serve_tenants<R: Threads + Wait + Net + Sync, O: Output>(
     requires bound { AreListenersOf (served_by service.now) bound }
     ensures outcome { let settings = settings_asked (served_by service.now) in
         MatchResult result
-        (λ _. IsServed settings bound.entry.told.items (O.tells output.old) (O.tells output.new))
-        (StopsServing settings bound.entry.told.items (O.tells output.old) (O.tells output.new)) }
+        (λ _. IsServed settings service.now.generations bound.entry.told.items
+        (O.tells output.old) (O.tells output.new))
+        (StopsServing settings service.now.generations bound.entry.told.items
+        (O.tells output.old) (O.tells output.new)) }
 {
     let Listeners { listeners, told } = bound;
     let (log, passes) = Log::open(alloc, &service.settings)?;
-    let workers = open_workers(alloc, &log, passes)?;
-    let gates = vec![in alloc; Open; workers.len()]?;
+    let tenants = log.settings().tenants().len();
+    let connections = service.connections;
+    let mut front = Front::new(rt, alloc, listeners, connections, passes.len(), tenants)?;
     let text = ready_text(alloc, &told)?;
     let announcement = Announcement { text };
-    let back = serve(
+    let most = service.generations;
+    let number = serve_logs(
         rt,
         alloc,
-        &log,
-        workers,
-        listeners,
-        service.connections,
-        gates,
+        &mut front,
+        log,
+        passes,
+        most,
         &announcement,
         output,
     )?;
-    let workers = into_workers(alloc, back)?;
-    finish(rt, alloc, workers, output)
+    tell_done(rt, number, output)
 }
 
 /// Binds a listener for each tenant, and one for administrators if it is asked for, and serves them
@@ -121,7 +104,7 @@ fn tell_stop<R: Wait, E: Output>(rt: &R, stop: Stop, errors: &mut E)
 /// order and with the port that its listener has, then `listening admin ADDR` for administrators,
 /// and then `ready`, all of it once every worker's loop has begun. With `--connections N` above 0 it
 /// ends once N connections of tenants were accepted and every connection has ended: then the workers
-/// meet, `done L` is printed, where L is the length of the log, and the status is 0. Otherwise it
+/// meet, `done L` is printed, where L is how many places of all logs were used, and the status is 0. Otherwise it
 /// doesn't end.
 ///
 /// A tenant's word or an address of another form, a number out of its range, or a name that is used

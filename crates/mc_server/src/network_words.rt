@@ -5,7 +5,7 @@ ghost use Rattle.std.specs.Option.{option_map};
 ghost use Rattle.std.specs.Str.{bytes_eq};
 ghost use Rattle.clap.specs.Words.{HasKind, app_of, fault_of, rule_of};
 ghost use Rattle.mc_model.specs.declared.fault.Fault.TheVariants as faults;
-ghost use Rattle.mc_server.specs.NetworkWords.{Asks, WordsGive, AsksInVain, IsChecked, IsNoAddress, IsOnlyAddress, admin_rule, given_in, network_app, numbers_app, options_app, reserved_names, served_by, tenants_rule};
+ghost use Rattle.mc_server.specs.NetworkWords.{Asks, WordsGive, AsksInVain, IsChecked, IsNoAddress, IsOnlyAddress, admin_rule, given_in, logs_app, network_app, numbers_app, options_app, reserved_names, served_by, tenants_rule};
 ghost use Rattle.mc_server.specs.TenantWord.{IsOnly, Says, TenantAsked, asked_of};
 
 use crate::network_texts::ADMIN;
@@ -21,6 +21,12 @@ const DEFAULT_WORKERS: u64 = 2;
 
 /// How many places the log has by default.
 const DEFAULT_PLACES: u64 = 65_536;
+
+/// How many logs there are by default, one after another.
+const DEFAULT_GENERATIONS: u64 = 1;
+
+/// How many logs may be asked for, one after another; 0 asks for logs without an end.
+pub(crate) const MAX_GENERATIONS: u64 = 65_536;
 
 /// After how many connections the server ends by default: never.
 const DEFAULT_CONNECTIONS: u64 = 0;
@@ -46,16 +52,20 @@ Example, two tenants apart from each other on two ports:
 pub(crate) struct NetworkWords<'a> {
     pub workers: u64,
     pub places: u64,
+    pub generations: u64,
     pub connections: u64,
     pub admin: Option<&'a str>,
     pub tenants: Vec<&'a str>,
 }
 
-/// What wfmc is to serve: settings, after how many connections of tenants it ends (0: never), at
-/// which address administrators connect, if at any, and the tenants by their numbers.
+/// What wfmc is to serve: settings, how many logs there are, after how many connections of tenants
+/// it ends (0: never), at which address administrators connect, if at any, and the tenants by their
+/// numbers.
 #[derive(Debug, Drop)]
 pub(crate) struct Service<'a> {
     pub settings: Settings,
+    /// At most this many logs, one after another; 0 for no end.
+    pub generations: u64,
     pub connections: u64,
     pub admin: Option<SocketAddrV4>,
     pub tenants: Vec<Tenant<'a>>,
@@ -84,15 +94,16 @@ fn admin_option<'a>(alloc: Global) -> Arg<'a>
         .help("At which IPv4 address and port administrators connect; without it there are none")
 }
 
-/// Returns wfmc's command line with the options only that are numbers.
+/// Returns wfmc's command line with the options only that say how many workers, places and logs
+/// there are.
 ///
 /// Returns an error if memory runs out.
-fn numbers_command<'a>(alloc: Global) -> Result<Command<'a>, AllocError>
-    ensures { IfOk result (λ command. app_of command ≡ numbers_app) }
+fn logs_command<'a>(alloc: Global) -> Result<Command<'a>, AllocError>
+    ensures { IfOk result (λ command. app_of command ≡ logs_app) }
 {
     let workers = "How many threads serve, from 1 to 16 [default: 2]";
-    let places = "How many commands of all tenants are applied, from 1 to 1048576 [default: 65536]";
-    let connections = "After how many connections of tenants it ends; 0 for never [default: 0]";
+    let places = "How many commands of all tenants a log takes, from 1 to 1048576 [default: 65536]";
+    let generations = "How many logs, one after another, up to 65536; 0 for no end [default: 1]";
     Command::new(alloc, "wfmc")
         .no_binary_name(true)
         .version("1.0.0")
@@ -100,7 +111,17 @@ fn numbers_command<'a>(alloc: Global) -> Result<Command<'a>, AllocError>
         .after_help(FORM)
         .arg(number_option(alloc, "workers", workers))?
         .arg(number_option(alloc, "places", places))?
-        .arg(number_option(alloc, "connections", connections))
+        .arg(number_option(alloc, "generations", generations))
+}
+
+/// Returns wfmc's command line with the options only that are numbers.
+///
+/// Returns an error if memory runs out.
+fn numbers_command<'a>(alloc: Global) -> Result<Command<'a>, AllocError>
+    ensures { IfOk result (λ command. app_of command ≡ numbers_app) }
+{
+    let connections = "After how many connections of tenants it ends; 0 for never [default: 0]";
+    logs_command(alloc)?.arg(number_option(alloc, "connections", connections))
 }
 
 /// Returns wfmc's command line with its options only.
@@ -134,6 +155,7 @@ pub(crate) fn read_words(alloc: Global, words: &[String]) -> Result<NetworkWords
     Ok(NetworkWords {
         workers: number(&matches, "workers").unwrap_or(DEFAULT_WORKERS),
         places: number(&matches, "places").unwrap_or(DEFAULT_PLACES),
+        generations: number(&matches, "generations").unwrap_or(DEFAULT_GENERATIONS),
         connections: number(&matches, "connections").unwrap_or(DEFAULT_CONNECTIONS),
         admin: matches.get_str("admin"),
         tenants,
@@ -228,12 +250,16 @@ pub(crate) fn service_of<'a>(alloc: Global, words: &NetworkWords<'a>) -> Result<
     let admin = read_admin(words.admin)?;
     let quotas = quotas_of(alloc, &tenants)?;
     let settings = Settings::check(words.workers, words.places, quotas)?;
+    if words.generations > MAX_GENERATIONS {
+        return Err(Fault::BadSettings);
+    }
     // `Settings::check` has bounded the number of names that are compared here.
     if !are_names_free(admin, &tenants) {
         return Err(Fault::BadSettings);
     }
     Ok(Service {
         settings,
+        generations: words.generations,
         connections: words.connections,
         admin,
         tenants,

@@ -8,6 +8,6 @@ returns g c = record {
   long = search rules;
   each = λ i d inside.
       let at = (c.for_each_mut.ensures i d inside).1 in
-      let began = subst (λ (worker_thread : WorkerThread _). HasRun worker_thread at.after_call.now) at.argument_is at.call in
-      subst (HasRun (slice_index_or c.args.worker_threads.now i d)) at.left began;
+      let began = subst (λ (worker_thread : WorkerThread _). HasRun c.args.until_done worker_thread at.after_call.now) at.argument_is at.call in
+      subst (HasRun c.args.until_done (slice_index_or c.args.worker_threads.now i d)) at.left began;
 }

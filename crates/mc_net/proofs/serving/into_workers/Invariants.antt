@@ -1,6 +1,6 @@
 -- The workers so far and those that are left are all the workers.
 use Rattle.std.proofs.Common.{◌≡◌, ◌++◌, map}
-use Rattle.mc_net.specs.Running.{returned_worker}
+use Rattle.mc_net.specs.Returning.{returned_worker}
 use Rattle.mc_net.proofs.serving.into_workers.Given as goal
 
 abbrev pub invariant-loop-worker : goal.invariant-loop-worker

@@ -4,7 +4,7 @@ use Rattle.std.proofs.lemmas.Slice.Zip.{all_zipped_more}
 use Rattle.uc_worker.specs.Cited.{Sighting}
 use Rattle.uc_worker.specs.declared.worker.Worker.{Worker}
 use Rattle.uc_worker.specs.Worker.{history_of}
-use Rattle.mc_server.specs.Network.{AreWorkersOf, HaveMet}
+use Rattle.mc_server.specs.Crew.{AreWorkersOf, HaveMet}
 use Rattle.mc_server.proofs.Meetings.{HasCome, all_have_come, all_later_on, all_later_self, all_of, catches_self, catches_through, have_met}
 use Rattle.mc_server.proofs.crew.meet_all.Goals as goal
 

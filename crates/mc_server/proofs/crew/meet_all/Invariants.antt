@@ -2,7 +2,7 @@
 -- learned.
 use Rattle.std.proofs.Common.{◌-◌, length}
 use Rattle.std.specs.List.{AllZip}
-use Rattle.mc_server.specs.Network.{AreOf}
+use Rattle.mc_server.specs.Crew.{AreOf}
 use Rattle.uc_worker.specs.Going.{CatchesUp}
 use Rattle.uc_worker.specs.Worker.{IsUpToDate, history_of, seat_of}
 use Rattle.mc_server.proofs.crew.meet_all.Given as goal

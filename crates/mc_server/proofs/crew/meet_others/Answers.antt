@@ -5,7 +5,7 @@ use Rattle.std.specs.List.{AllZip}
 use Rattle.uc_worker.specs.Cited.{Sighting}
 use Rattle.mc_model.specs.declared.id.Ticket.{Ticket}
 use Rattle.uc_worker.specs.declared.worker.Worker.{Worker}
-use Rattle.mc_server.specs.Network.{AreOf, MeetsAnother}
+use Rattle.mc_server.specs.Crew.{AreOf, MeetsAnother}
 use Rattle.uc_worker.specs.Worker.{IsUpToDate}
 use Rattle.mc_server.proofs.Meetings.{catches_self, catches_through, meets, one_more_met}
 use Rattle.mc_server.proofs.crew.meet_others.Goals as goal

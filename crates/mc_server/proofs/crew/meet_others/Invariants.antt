@@ -1,7 +1,7 @@
 -- The worker is up to date, the others before this one have met it, and the rest are of its log.
 use Rattle.std.proofs.Common.{◌≡◌, ◌++◌, List}
 use Rattle.std.specs.List.{AllZip}
-use Rattle.mc_server.specs.Network.{AreOf, MeetsAnother}
+use Rattle.mc_server.specs.Crew.{AreOf, MeetsAnother}
 use Rattle.uc_worker.specs.Going.{CatchesUp}
 use Rattle.uc_worker.specs.Worker.{IsUpToDate}
 use Rattle.uc_worker.specs.declared.worker.Worker.{Worker}

@@ -1,7 +1,8 @@
-use Rattle.std.proofs.Common.{ap, refl, sym, codes, true, map, string_bytes, ◌≡◌, ◌∙◌, ◌∷◌, List, [], Option, Some, None, Bor}
+use Rattle.std.proofs.Common.{ap, refl, subst, sym, codes, true, map, string_bytes, ◌≡◌, ◌∙◌, ◌∷◌, List, [], Option, Some, None, Bor}
+use Rattle.std.proofs.lemmas.Result.{err_from_is_err_and}
 use Rattle.std.specs.Option.{option_map}
 use Rattle.std.specs.Prelude.{option_and_then, slice_get, unwrap_or}
-use Rattle.clap.specs.Words.{Text, all_of, app_of, fault_of, found_of, is_simple, matched_of, raw_values, is_simple_and_free, matches_of, one_of}
+use Rattle.clap.specs.Words.{HasKind, Text, all_of, app_of, fault_of, found_of, is_simple, matched_of, raw_values, is_simple_and_free, matches_of, one_of}
 use Rattle.clap.specs.declared.parser.matches.MatchedArg.{MatchedArg}
 use Rattle.clap.proofs.OnLiterals.{clap_on_literals}
 use Rattle.clap.proofs.WalkLemmas.{one_text-rows, raw_values-rows}
@@ -31,6 +32,14 @@ first_of : (matched : Option MatchedArg) → option_and_then (λ (a : MatchedArg
 first_of None = refl
 first_of (Some a) = first_text a.vals.items
 
+pub returns-in_err-matches : goal.returns-in_err-matches
+returns-in_err-matches c =
+    let app_is : app_of c.in_ok-network_command.field-0 ≡ network_app = c.in_ok-network_command.ensures in
+    let words = map string_bytes c.args.words.now in
+    let kind = subst (λ app. HasKind (fault_of app words) c.in_err-matches.field-0.0) app_is (c.in_err-matches.ensures.kinds (ap is_simple_and_free app_is ∙ app_is_free)) in
+    let left = err_from_is_err_and c.from_residual-in_err-matches.result c.from_residual-in_err-matches.ensures.1 in
+    record { outcome = rw (left.1, left.2) kind }
+
 pub returns : goal.returns
 returns c =
     let app_is : app_of c.in_ok-network_command.field-0 ≡ network_app = c.in_ok-network_command.ensures in
@@ -39,9 +48,10 @@ returns c =
     let number_of = λ (name : Text). ap (option_and_then u64_of) (one_text-rows (found_of c.in_ok-matches.matches) name ∙ ap (one_of name) rows) in
     let workers = c.unwrap_or.ensures ∙ ap (λ o. unwrap_or o 2) (c.number.ensures ∙ number_of (codes "workers")) in
     let places = c.unwrap_or-2.ensures ∙ ap (λ o. unwrap_or o 65536) (c.number-2.ensures ∙ number_of (codes "places")) in
-    let connections = c.unwrap_or-3.ensures ∙ ap (λ o. unwrap_or o 0) (c.number-3.ensures ∙ number_of (codes "connections")) in
+    let generations = c.unwrap_or-3.ensures ∙ ap (λ o. unwrap_or o 1) (c.number-3.ensures ∙ number_of (codes "generations")) in
+    let connections = c.unwrap_or-4.ensures ∙ ap (λ o. unwrap_or o 0) (c.number-4.ensures ∙ number_of (codes "connections")) in
     let first = λ (name : Text). first_of (matched_of (found_of c.in_ok-matches.matches) name) ∙ ap (option_and_then (λ texts. slice_get texts 0)) (raw_values-rows (found_of c.in_ok-matches.matches) name ∙ ap (all_of name) rows) in
     let admin = c.get_str.ensures ∙ first (codes "admin") in
     let raw = c.get_raw.ensures ∙ raw_values-rows (found_of c.in_ok-matches.matches) (codes "tenants") ∙ ap (all_of (codes "tenants")) rows in
     let tenants = ap (map (λ word. word.now)) (c.in_ok-tenants.ensures.items ∙ ap (λ lent. lent.now) c.unwrap_or-tenants.ensures) ∙ lent_words c.get_raw.result _ refl ∙ ap (λ o. unwrap_or o []) raw in
-    record { outcome = record { taken = taken; given = λ i. record { workers = workers i; places = places i; connections = connections i; admin = admin i; tenants = tenants i } } }
+    record { outcome = record { taken = taken; given = λ i. record { workers = workers i; places = places i; generations = generations i; connections = connections i; admin = admin i; tenants = tenants i } } }

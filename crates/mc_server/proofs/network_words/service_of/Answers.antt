@@ -1,4 +1,4 @@
-use Rattle.std.proofs.Common.{◌≡◌, ◌∙◌, ◌⊎◌, ◌++◌, inl, inr, ⊎_elim, refl, List, ℕ, Bool, Bor, map, sym, ap, subst, true, false}
+use Rattle.std.proofs.Common.{◌≡◌, ◌∙◌, ◌⊎◌, ◌++◌, inl, inr, ⊎_elim, refl, List, ℕ, Bool, Bor, map, sym, ap, subst, true, false, arith}
 use Rattle.std.proofs.lemmas.Result.{err_from_is_err_and}
 use Rattle.std.specs.List.{AllZip, IsDistinct}
 use Rattle.std.specs.Str.{bytes_eq}
@@ -53,6 +53,12 @@ returns-in_err-admin c =
     let left = err_from_is_err_and c.from_residual-in_err-admin.result c.from_residual-in_err-admin.ensures.1 in
     record { outcome = rw (left.1, left.2) (inr (c.in_err-admin.ensures.0, vain)) }
 
+-- more logs are asked for than there may be
+pub returns-then-words-gt-MAX_GENERATIONS : goal.returns-then-words-gt-MAX_GENERATIONS
+returns-then-words-gt-MAX_GENERATIONS c =
+    let vain : AsksInVain (given_in c.args.words.now) = λ asked asks servable. omega (arith, servable.generations, asks.generations, c.if-words-gt-MAX_GENERATIONS.true) in
+    record { outcome = inr (refl, vain) }
+
 -- a name is used twice
 pub returns-then-not-are_names_free : goal.returns-then-not-are_names_free
 returns-then-not-are_names_free c =
@@ -82,6 +88,7 @@ returns c =
     let asked : NetworkAsked = record {
       workers = c.in_ok-settings.settings.workers;
       places = c.in_ok-settings.settings.places;
+      generations = c.args.words.now.generations;
       connections = c.args.words.now.connections;
       admin = c.in_ok-admin.admin;
       tenants = map asked_of tenants;
@@ -89,12 +96,14 @@ returns c =
     let asks : Asks (given_in c.args.words.now) asked = record {
       workers = ap (λ (s : Configuration). s.workers) checked;
       places = ap (λ (s : Configuration). s.places) checked;
+      generations = refl;
       connections = refl;
       admin = c.in_ok-admin.ensures.spells;
       tenants = subst P c.deref.ensures.value (all_say _ _ c.in_ok-tenants.ensures.outcome);
     } in
     let servable : IsServable asked = record {
       lawful = subst IsLawful (sym checked ∙ settings) (c.in_ok-settings.ensures.lawful.0 (λ i. true));
+      generations = c.if-words-gt-MAX_GENERATIONS.false;
       names = subst (IsDistinct bytes_eq) (ap (λ names. reserved_names c.in_ok-admin.admin ++ names) lent) (c.are_names_free.ensures.0 c.if-not-are_names_free.false);
     } in
     record { outcome = (asks, record { settings = settings; servable = servable; names = names_lawful _ tenants c.in_ok-tenants.ensures.outcome }) }

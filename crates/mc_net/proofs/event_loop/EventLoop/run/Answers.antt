@@ -1,30 +1,31 @@
 use Rattle.std.proofs.Common.{◌∙◌, ap}
-use Rattle.mc_net.specs.declared.connections.Connections.{Connections}
-use Rattle.mc_net.specs.Working.{begins}
-use Rattle.mc_net.proofs.Workings.{works_known, works_trans}
+use Rattle.mc_connections.specs.declared.connections.Connections.{Connections}
 use Rattle.mc_net.proofs.event_loop.EventLoop.run.Goals as goal
 
 pub loop-init : goal.loop-init
-loop-init g c = begins
+loop-init g c = c.work_adds_up.ensures.none c.args.until_done _
 
 pub returns-then-eq-clause-tenants : goal.returns-then-eq-clause-tenants
-returns-then-eq-clause-tenants g c = c.clear.ensures.tenants ∙ works_known _ _ c.loop.invariant c.requires
+returns-then-eq-clause-tenants g c = c.clear.ensures.tenants ∙ c.work_adds_up.ensures.known _ _ _ c.loop.invariant c.requires
 
 pub returns-then-is_empty-clause-tenants : goal.returns-then-is_empty-clause-tenants
-returns-then-is_empty-clause-tenants g c = ap (λ (connections : Connections). connections.tenants) c.linger.ensures ∙ works_known _ _ c.loop.invariant c.requires
+returns-then-is_empty-clause-tenants g c =
+    ap (λ (connections : Connections). connections.tenants) c.linger.ensures ∙ c.work_adds_up.ensures.known _ _ _ c.loop.invariant c.requires
 
 pub returns-in_err-poll_events-clause-tenants : goal.returns-in_err-poll_events-clause-tenants
-returns-in_err-poll_events-clause-tenants g c = works_known _ _ c.loop.invariant c.requires
+returns-in_err-poll_events-clause-tenants g c = c.work_adds_up.ensures.known _ _ _ c.loop.invariant c.requires
 
 pub make_round-requires : goal.make_round-requires
-make_round-requires g c = works_known _ _ c.loop.invariant c.requires
+make_round-requires g c = c.work_adds_up.ensures.known _ _ _ c.loop.invariant c.requires
 
 pub returns-in_err-is_woken-clause-tenants : goal.returns-in_err-is_woken-clause-tenants
-returns-in_err-is_woken-clause-tenants g c = works_known _ _ (works_trans _ _ _ c.loop.invariant c.make_round.ensures) c.requires
+returns-in_err-is_woken-clause-tenants g c =
+    c.work_adds_up.ensures.known _ _ _ (c.work_adds_up.ensures.through _ _ _ _ c.loop.invariant c.make_round.ensures) c.requires
 
 pub loop-preserved-in-loop : goal.loop-preserved-in-loop
 loop-preserved-in-loop g c =
-    works_trans _ _ _ c.loop.invariant (works_trans _ _ _ c.make_round.ensures (c.admit_arrivals-signal.ensures c.make_round.new.worker))
+    c.work_adds_up.ensures.through _ _ _ _ c.loop.invariant
+    (c.work_adds_up.ensures.through _ _ _ _ c.make_round.ensures (c.admit_arrivals-signal.ensures c.args.until_done c.make_round.new.worker))
 
 pub loop-preserved : goal.loop-preserved
-loop-preserved g c = works_trans _ _ _ c.loop.invariant c.make_round.ensures
+loop-preserved g c = c.work_adds_up.ensures.through _ _ _ _ c.loop.invariant c.make_round.ensures

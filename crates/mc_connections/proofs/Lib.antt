@@ -1,0 +1,6 @@
+pub mod Askings
+pub mod Counts
+pub mod Lives
+pub mod Numbers
+pub mod Servings
+pub mod Workings

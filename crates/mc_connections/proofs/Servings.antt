@@ -1,0 +1,175 @@
+-- What a turn leaves of its connection, turns after turns, and whether a connection stays.
+use Rattle.std.proofs.Common.{◌≡◌, ◌≢◌, ◌⊎◌, ℕ, ◌+◌, ◌≤◌, ◌∷◌, length, ap, arith, Bool, true, false, Option, Some, None, Result, Ok, Err, IsSome, ⊎_elim, inl, inr, refl, sym, subst, ◌∙◌}
+use Rattle.std.proofs.lemmas.Option.{same_Some}
+use Rattle.std.specs.Option.{option_map_or}
+use Rattle.slab.specs.Slab.{Updates, get, with_value}
+use Rattle.slab.proofs.SlabLemmas.{Updates-with_value}
+use Rattle.mc_conn.specs.declared.conn.Conn.{Conn}
+use Rattle.mc_conn.specs.declared.conn.State.{State}
+use Rattle.mc_conn.specs.declared.conn.State.TheVariants.{Closed, Idle, Busy, Full}
+use Rattle.mc_conn.specs.Ending.{AwaitsLog, IsDone, IsState, PullsOnce, Stops, logs_next}
+use Rattle.mc_conn.specs.Owed.{demand_of, is_logged}
+use Rattle.mc_conn.specs.Turn.{Scene, Takes, scene}
+use Rattle.mc_model.specs.declared.fault.Fault.{Fault}
+use Rattle.mc_model.specs.declared.request.Request.{Request}
+use Rattle.mc_stream.specs.Stream.{Inflow, Streams}
+use Rattle.uc_worker.specs.Going.{Continues}
+use Rattle.uc_worker.specs.declared.worker.Worker.{Worker}
+use Rattle.mc_connections.specs.declared.connections.Connection.{Connection}
+use Rattle.mc_connections.specs.declared.connections.Connections.{Connections}
+use Rattle.mc_connections.specs.Serving.{Becomes, ChangesAt, HasEnded, IsServedLater, Stands, Stays, TakesOrStops, TurnsOnce, connection_at}
+
+true_or_false : (is : Bool) → (is ≡ true) ⊎ (is ≡ false)
+true_or_false true = inl refl
+true_or_false false = inr refl
+
+-- the law of turns of which none is taken, and those of turns one after another
+abbrev pub TakesNothing : Type 0
+TakesNothing = (a : Scene) → Takes a a
+
+abbrev pub TakeOn : Type 0
+TakeOn = (a b c : Scene) → Takes a b → Takes b c → Takes a c
+
+abbrev pub StopLater : Type 0
+StopLater = (fault : Fault) (a b c : Scene) → Takes a b → Stops b c fault → Stops a c fault
+
+-- a closed connection stays as it is
+takes_same : TakesNothing → (a : Scene) (conn : Conn) (worker : Worker) (streams : Streams) → conn ≡ a.conn → worker ≡ a.worker → streams ≡ a.streams → Takes a (scene conn worker streams)
+takes_same takes_self a conn worker streams one two three =
+    subst (λ (conn : Conn). Takes a (scene conn worker streams)) (sym one)
+    (subst (λ (worker : Worker). Takes a (scene a.conn worker streams)) (sym two)
+    (subst (λ (streams : Streams). Takes a (scene a.conn a.worker streams)) (sym three) (takes_self a)))
+
+not_ended : (b : Scene) → b.conn.is_closed ≡ false → ¬ (IsDone b.conn) → ¬ (HasEnded b.conn)
+not_ended b opened going = ⊎_elim (λ (closed : b.conn.is_closed ≡ true). let no : true ≡ false = sym closed ∙ opened in cc) going
+
+-- a request that awaits the next log isn't taken
+unfinished : (conn : Conn) (worker : Worker) → AwaitsLog conn worker → ¬ (IsDone conn)
+unfinished conn worker awaits done =
+    let none : logs_next conn ≡ false = ap (λ waiting. option_map_or (λ (one : Request). is_logged (demand_of conn.role one)) waiting false) done.1.0 in
+    let no : true ≡ false = sym awaits.0 ∙ none in cc
+
+-- what the state that a turn returns means, whichever kind of turn it is
+turned : (until : Bool) (a b : Scene) (state : State) → TurnsOnce until a b state → (takes : Takes a b) × IsState takes state
+turned true a b state turns = (turns.takes, turns.state_is)
+turned false a b state turns = (turns.takes, turns.state_is)
+
+pub taken_by : (until : Bool) (a b : Scene) (state : State) → TurnsOnce until a b state → Takes a b
+taken_by until a b state turns = (turned until a b state turns).0
+
+stands_going : (until : Bool) → TakesNothing → (a b : Scene) (state : State) → (state ≡ Full → until ≡ true) → b.conn.is_closed ≡ false → PullsOnce a.streams.input b.streams.input → TurnsOnce until a b state → Stands until a b state
+stands_going until takes_self a b Closed full opened once turns = inr (turned until a b Closed turns).1
+stands_going until takes_self a b Idle full opened once turns = record { going = not_ended b opened (turned until a b Idle turns).1.0; between = a; earlier = takes_self a; once = once; last = turns }
+stands_going until takes_self a b Busy full opened once turns = record { going = not_ended b opened (turned until a b Busy turns).1.0; between = a; earlier = takes_self a; once = once; last = turns }
+stands_going until takes_self a b Full full opened once turns = (
+  full refl,
+  record { going = not_ended b opened (unfinished b.conn b.worker (turned until a b Full turns).1); between = a; earlier = takes_self a; once = once; last = turns },
+)
+
+-- the state that a turn returned
+abbrev pub state_answered : Result State Fault → State
+state_answered (Ok state) = state
+state_answered (Err fault) = Closed
+
+-- a turn that met a fault wasn't of a closed connection
+pub met_fault : (is : Bool) (result : Result State Fault) (fault : Fault) → result ≡ Err fault → (is ≡ true → result ≡ Ok Closed) → is ≡ false
+met_fault false result fault bad closed = refl
+met_fault true result fault bad closed = let good = closed refl in cc
+
+-- a turn without a fault
+module _ (until : Bool) (takes_self : TakesNothing) (a : Scene) (conn : Conn) (worker : Worker) (streams : Streams) (state : State) (full : state ≡ Full → until ≡ true)
+    (once : PullsOnce a.streams.input streams.input)
+    (opened : a.conn.is_closed ≡ false → TurnsOnce until a (scene conn worker streams) state)
+    (closed : a.conn.is_closed ≡ true → (state ≡ Closed) × (conn ≡ a.conn) × (worker ≡ a.worker) × (streams ≡ a.streams)) where
+  pub served_turn : TakesOrStops a (scene conn worker streams)
+  served_turn =
+      ⊎_elim
+      (λ (is : a.conn.is_closed ≡ true). let same = closed is in inl (takes_same takes_self a conn worker streams same.1 same.2 same.3))
+      (λ (is : a.conn.is_closed ≡ false). inl (taken_by until a (scene conn worker streams) state (opened is)))
+      (true_or_false a.conn.is_closed)
+
+  pub stands_turn : Stands until a (scene conn worker streams) state
+  stands_turn =
+      ⊎_elim
+      (λ (is : a.conn.is_closed ≡ true).
+      subst (Stands until a (scene conn worker streams)) (sym (closed is).0) (inl (ap (λ (conn : Conn). conn.is_closed) (closed is).1 ∙ is)))
+      (λ (is : a.conn.is_closed ≡ false). stands_going until takes_self a (scene conn worker streams) state full ((taken_by until a (scene conn worker streams) state (opened is)).shut ∙ is) once (opened is))
+      (true_or_false a.conn.is_closed)
+
+-- a connection that may have more to do met no fault
+pub still_going : (until : Bool) (a b : Scene) (state : State) → state ≡ Busy → Stands until a b state → TakesOrStops a b → Takes a b
+still_going until a b state busy stands served =
+    let going : ¬ (HasEnded b.conn) = (subst (Stands until a b) busy stands).going in
+    ⊎_elim
+    (λ (takes : Takes a b). takes)
+    (λ (stopped : (fault : Fault) × Stops a b fault). absurd (going (inl stopped.1.shut)))
+    served
+
+pub served_onward : (a b : Scene) → TakesOrStops a b → Continues a.worker b.worker
+served_onward a b =
+    ⊎_elim
+    (λ (takes : Takes a b). takes.taken.onward)
+    (λ (stopped : (fault : Fault) × Stops a b fault). stopped.1.breaks.taken.onward)
+
+-- turns after turns without a fault
+pub served_later : TakeOn → StopLater → (a b c : Scene) → Takes a b → TakesOrStops b c → TakesOrStops a c
+served_later takes_trans stops_later a b c one two =
+    ⊎_elim
+    (λ (takes : Takes b c). inl (takes_trans a b c one takes))
+    (λ (stopped : (fault : Fault) × Stops b c fault). inr (stopped.0, stops_later stopped.0 a b c one stopped.1))
+    two
+
+stays_later : (until : Bool) → TakeOn → (a b c : Scene) (state : State) → Takes a b → Stays until b c state → Stays until a c state
+stays_later until takes_trans a b c state takes stays = record {
+  going = stays.going;
+  between = stays.between;
+  earlier = takes_trans a b stays.between takes stays.earlier;
+  once = stays.once;
+  last = stays.last;
+}
+
+pub stands_later : (until : Bool) → TakeOn → (a b c : Scene) (state : State) → Takes a b → TakesOrStops b c → Stands until b c state → Stands until a c state
+stands_later until takes_trans a b c Closed one two stands = stands
+stands_later until takes_trans a b c Idle one two stands = stays_later until takes_trans a b c Idle one stands
+stands_later until takes_trans a b c Busy one two stands = stays_later until takes_trans a b c Busy one stands
+stands_later until takes_trans a b c Full one two stands = (stands.0, stays_later until takes_trans a b c Full one stands.1)
+
+-- a turn pulls once at most
+pub once_few : (before after : Inflow) → PullsOnce before after → length after.events ≤ 1 + length before.events
+once_few before after once =
+    ⊎_elim
+    (λ same. omega (arith, ap (λ (input : Inflow). length input.events) same))
+    (λ pull. omega (arith, ap length pull.1))
+    once
+
+-- a connection was served under its key, and stays there or goes
+module _ (until : Bool) (worker after_worker : Worker) (state : State) (before after : Connections) (key : ℕ) (old new : Connection) (there : connection_at before key ≡ Some old)
+    (later : IsServedLater until worker after_worker old new state) (tenants : after.tenants ≡ before.tenants) where
+  abbrev pub HasBecome : Option Connection → Option Connection → Type 0
+  HasBecome = Becomes (IsServedLater until worker after_worker) (after_worker ≡ worker) state before.ended.connections after.ended.connections
+
+  in_place : Updates before.by_key (with_value before.by_key key new) key (Some new)
+  in_place = Updates-with_value before.by_key key new (subst IsSome (sym there) refl)
+
+  pub stays_in_place : state ≢ Closed → after.by_key ≡ with_value before.by_key key new → after.ended.connections ≡ before.ended.connections → ChangesAt HasBecome before after key
+  stays_in_place isnt is ended =
+      let updates : Updates before.by_key after.by_key key (Some new) = subst (λ slab. Updates before.by_key slab key (Some new)) (sym is) in_place in
+      record {
+        becomes = subst (λ (slot : Option Connection). HasBecome slot (connection_at after key)) (sym there)
+            (subst (HasBecome (Some old)) (sym updates.changed) (later, isnt, ended));
+        others = updates.others;
+        tenants = tenants;
+      }
+
+  pub goes_closed : (last : Connection) → state ≡ Closed → Some last ≡ get (with_value before.by_key key new) key → Updates (with_value before.by_key key new) after.by_key key None →
+      after.ended.connections ≡ last ∷ before.ended.connections → ChangesAt HasBecome before after key
+  goes_closed last closed had gone ended =
+      let is : new ≡ last = sym (same_Some last new (had ∙ in_place.changed)) in
+      let ends : IsServedLater until worker after_worker old last Closed = subst (λ (one : Connection). IsServedLater until worker after_worker old one Closed) is
+      (subst (IsServedLater until worker after_worker old new) closed later) in
+      record {
+        becomes = subst (λ (slot : Option Connection). HasBecome slot (connection_at after key)) (sym there)
+            (subst (HasBecome (Some old)) (sym gone.changed) (last, ended, ends, closed));
+        others = λ other not. gone.others other not ∙ in_place.others other not;
+        tenants = tenants;
+      }

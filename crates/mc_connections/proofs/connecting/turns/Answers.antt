@@ -1,0 +1,54 @@
+use Rattle.std.proofs.Common.{◌≡◌, ap, arith, inl, inr, refl, subst, sym, true, ⊎_elim, ◌∙◌}
+use Rattle.mc_conn.specs.declared.conn.State.TheVariants.{Busy, Closed}
+use Rattle.mc_stream.specs.Stream.{both}
+use Rattle.mc_connections.proofs.Servings.{met_fault, once_few, served_later, served_turn, stands_later, stands_turn, state_answered, still_going}
+use Rattle.mc_connections.specs.Serving.{Stands, TakesOrStops}
+use Rattle.mc_conn.specs.Turn.{scene}
+use Rattle.mc_connections.proofs.connecting.turns.Goals as goal
+
+pub loop-init : goal.loop-init
+loop-init g c = record { going = c.turns_add_up.ensures.none _; stands = inl refl; few = omega arith; role = refl }
+
+-- if it was closed, nothing was done
+pub returns-in-Ok : goal.returns-in-Ok
+returns-in-Ok g c =
+    let before = scene c.loop.conn c.loop.worker (both (g.I.Input.tells c.loop.input) (g.O.Output.tells c.loop.output)) in
+    let after = scene c.turn_once.new.conn c.turn_once.new.worker (both (g.I.Input.tells c.turn_once.new.input) (g.O.Output.tells c.turn_once.new.output)) in
+    let same : c.loop.conn.is_closed ≡ true → (c.in-Ok.state ≡ Closed) × (after.conn ≡ before.conn) × (after.worker ≡ before.worker) × (after.streams ≡ before.streams) = λ is.
+    let all = c.turn_once.ensures.closed is in
+    (sym (ap state_answered c.in-Ok.is) ∙ ap state_answered all.0, all.1, all.2, λ i. both (g.I.Input.tells (all.3 i)) (g.O.Output.tells (all.4 i))) in
+    let served : TakesOrStops before after = served_turn c.args.until_done c.turns_add_up.ensures.none _ _ _ _ c.in-Ok.state c.in-Ok.ensures.full c.turn_once.ensures.pulls c.in-Ok.ensures.outcome same in
+    let stands : Stands c.args.until_done before after c.in-Ok.state = stands_turn c.args.until_done c.turns_add_up.ensures.none _ _ _ _ c.in-Ok.state c.in-Ok.ensures.full c.turn_once.ensures.pulls c.in-Ok.ensures.outcome same in
+    record {
+      served = served_later c.turns_add_up.ensures.through c.turns_add_up.ensures.stops _ _ _ c.loop.invariant.going served;
+      stands = stands_later c.args.until_done c.turns_add_up.ensures.through _ _ _ c.in-Ok.state c.loop.invariant.going served stands;
+      few = omega (arith, c.loop.invariant.few, c.loop-test.true, once_few _ _ c.turn_once.ensures.pulls);
+      role = c.turn_once.ensures.role ∙ c.loop.invariant.role;
+    }
+
+pub returns-in-Err-clause-served : goal.returns-in-Err-clause-served
+returns-in-Err-clause-served g c =
+    served_later c.turns_add_up.ensures.through c.turns_add_up.ensures.stops _ _ _ c.loop.invariant.going
+    (inr (c.in-Err.field-0, c.in-Err.ensures.outcome (met_fault _ c.turn_once.result c.in-Err.field-0 c.in-Err.is (λ is. (c.turn_once.ensures.closed is).0))))
+
+-- the turn of this round ended as busy, so that it met no fault
+pub loop-preserved : goal.loop-preserved
+loop-preserved g c =
+    let before = scene c.loop.conn c.loop.worker (both (g.I.Input.tells c.loop.input) (g.O.Output.tells c.loop.output)) in
+    let after = scene c.turn_once.new.conn c.turn_once.new.worker (both (g.I.Input.tells c.turn_once.new.input) (g.O.Output.tells c.turn_once.new.output)) in
+    let state = c.in-Ok-Busy.field-0 in
+    let same : c.loop.conn.is_closed ≡ true → (state ≡ Closed) × (after.conn ≡ before.conn) × (after.worker ≡ before.worker) × (after.streams ≡ before.streams) = λ is.
+    let all = c.turn_once.ensures.closed is in
+    (sym (ap state_answered c.in-Ok-Busy.is) ∙ ap state_answered all.0, all.1, all.2, λ i. both (g.I.Input.tells (all.3 i)) (g.O.Output.tells (all.4 i))) in
+    let served : TakesOrStops before after = served_turn c.args.until_done c.turns_add_up.ensures.none _ _ _ _ state c.in-Ok-Busy.ensures.full c.turn_once.ensures.pulls c.in-Ok-Busy.ensures.outcome same in
+    let stands : Stands c.args.until_done before after state = stands_turn c.args.until_done c.turns_add_up.ensures.none _ _ _ _ state c.in-Ok-Busy.ensures.full c.turn_once.ensures.pulls c.in-Ok-Busy.ensures.outcome same in
+    record {
+      going = c.turns_add_up.ensures.through _ _ _ c.loop.invariant.going (still_going c.args.until_done _ _ state c.in-Ok-Busy.field-0-is stands served);
+      stands = inr (stands_later c.args.until_done c.turns_add_up.ensures.through _ _ _ Busy c.loop.invariant.going served (subst (Stands c.args.until_done before after) c.in-Ok-Busy.field-0-is stands));
+      few = omega (arith, c.loop.invariant.few, once_few _ _ c.turn_once.ensures.pulls);
+      role = c.turn_once.ensures.role ∙ c.loop.invariant.role;
+    }
+
+pub returns-clause-stands : goal.returns-clause-stands
+returns-clause-stands g c =
+    ⊎_elim (λ (none : c.loop.counter ≡ 0). let no : ⊥ = omega (arith, none, c.loop-test.false) in absurd no) (λ stands. stands) c.loop.invariant.stands

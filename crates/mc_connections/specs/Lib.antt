@@ -1,0 +1,6 @@
+pub mod Asking
+pub mod Counting
+pub mod InTurn
+pub mod Life
+pub mod Serving
+pub mod Working

@@ -1,0 +1,113 @@
+-- What becomes of the connections of a worker; this project's profile.
+use Rattle.std.specs.Prelude.{◌≡◌, ◌≢◌, ◌⊎◌, ℕ, ◌+◌, ◌≤◌, Bool, true, false, List, [], ◌∷◌, length, Option, Some, None}
+use Rattle.slab.specs.Slab.{Updates, get}
+use Rattle.mc_conn.specs.declared.conn.Conn.{Conn}
+use Rattle.mc_conn.specs.declared.conn.State.{State}
+use Rattle.mc_conn.specs.declared.conn.State.TheVariants.{Closed, Idle, Busy, Full}
+use Rattle.mc_conn.specs.Ending.{IsDone, PullsOnce, Stops, Turns, TurnsUntil}
+use Rattle.mc_conn.specs.Held.{nothing_held}
+use Rattle.mc_conn.specs.Turn.{Scene, Takes, holding_of, queue_of, scene}
+use Rattle.mc_model.specs.declared.fault.Fault.{Fault}
+use Rattle.mc_connections.specs.declared.connecting.TheConstants.{TURNS}
+use Rattle.mc_connections.specs.declared.arrival.Arrival.{Arrival}
+use Rattle.mc_connections.specs.declared.connections.Connection.{Connection}
+use Rattle.mc_connections.specs.declared.connections.Connections.{Connections}
+use Rattle.mc_stream.specs.Event.{Event}
+use Rattle.mc_stream.specs.Stream.{both}
+use Rattle.uc_worker.specs.declared.worker.Worker.{Worker}
+
+-- the connection under a key
+abbrev pub connection_at : Connections → ℕ → Option Connection
+connection_at connections key = get connections.by_key key
+
+-- all that a turn sees of a connection; its tapes tell what the reads and the writes of its stream
+-- have done so far
+abbrev pub scene_of : Connection → Worker → Scene
+scene_of connection worker =
+    scene connection.conn worker
+    (both (record { events = connection.received.events; left = None })
+    (record { events = connection.sent.events }))
+
+-- the arrival's connection, on which nothing has come and nothing was sent
+pub record IsNewConnection (connection : Connection) (arrival : Arrival _) : Type 0 where
+  pub stream : connection.stream ≡ arrival.stream
+  pub role : connection.conn.role ≡ arrival.role
+  pub holding : holding_of connection.conn ≡ nothing_held connection.conn.role
+  pub queue : queue_of connection.conn ≡ []
+  pub going : (connection.conn.has_ended ≡ false) × (connection.conn.is_over ≡ false)
+      × (connection.conn.is_closed ≡ false)
+  pub tapes : (connection.received.events ≡ []) × (connection.sent.events ≡ [])
+
+-- the arrival's connection is under a key that was free, and every other key is unchanged
+pub record Admits (before after : Connections) (arrival : Arrival _) (key : ℕ) : Type 0 where
+  pub vacant : connection_at before key ≡ None
+  pub connection : Connection
+  pub fresh : IsNewConnection connection arrival
+  pub updates : Updates before.by_key after.by_key key (Some connection)
+  pub ended : after.ended ≡ before.ended
+  pub tenants : after.tenants ≡ before.tenants
+
+-- A connection was served over its streams: bytes came, the requests that they read as were taken,
+-- and what was sent followed by what is queued is what was queued before followed by what is owed
+-- for them; or a fault stopped this, and has closed the connection for good.
+abbrev pub TakesOrStops : Scene → Scene → Type 0
+TakesOrStops before after =
+    Takes before after ⊎ (fault : Fault) × Stops before after fault
+
+-- a fault has closed the connection, or nothing is left to be done
+abbrev pub HasEnded : Conn → Type 0
+HasEnded conn = (conn.is_closed ≡ true) ⊎ IsDone conn
+
+-- a turn, which leaves commands to the next log if the first argument is true
+abbrev pub TurnsOnce : Bool → Scene → Scene → State → Type 0
+TurnsOnce true = TurnsUntil
+TurnsOnce false = Turns
+
+-- turns without a fault that haven't ended the connection, the last of which returned this state
+pub record Stays (until : Bool) (before after : Scene) (state : State) : Type 0 where
+  pub going : ¬ (HasEnded after.conn)
+  pub between : Scene
+  pub earlier : Takes before between
+  pub once : PullsOnce between.streams.input after.streams.input
+  pub last : TurnsOnce until between after state
+
+-- What a connection's state after its turns means: it has ended; or it hasn't, and the last of them
+-- found nothing to do, or did something, or left a command to the next log.
+abbrev pub Stands : Bool → Scene → Scene → State → Type 0
+Stands until before after Closed = HasEnded after.conn
+Stands until before after Idle = Stays until before after Idle
+Stands until before after Busy = Stays until before after Busy
+Stands until before after Full = (until ≡ true) × Stays until before after Full
+
+-- there are at most this many more pulls or pushes
+abbrev pub HasAtMost : ℕ → List Event → List Event → Type 0
+HasAtMost most before after = length after ≤ most + length before
+
+-- The same connection later on: the worker served it, from what its tapes had to what they have,
+-- with few pulls, and it is in the state that the turns returned.
+pub record IsServedLater (until : Bool) (before after : Worker) (old new : Connection)
+    (state : State) : Type 0 where
+  pub stream : new.stream ≡ old.stream
+  pub role : new.conn.role ≡ old.conn.role
+  pub served : TakesOrStops (scene_of old before) (scene_of new after)
+  pub stands : Stands until (scene_of old before) (scene_of new after) state
+  pub few : HasAtMost TURNS old.received.events new.received.events
+
+-- A connection that was served stays, and is in this state; or it has ended, and is the latest of
+-- those that have; and if there was none, nothing was done. The lists are those that had ended
+-- before and those that have now, and the options the connection before and now.
+abbrev pub Becomes : {C : Type 0} → (C → C → State → Type 0) → Type 0 → State → List C → List C →
+    Option C → Option C → Type 0
+Becomes Later Still state before after None new =
+    (new ≡ None) × Still × (state ≡ Idle) × (after ≡ before)
+Becomes Later Still state before after (Some old) (Some new) =
+    Later old new state × (state ≢ Closed) × (after ≡ before)
+Becomes Later Still state before after (Some old) None =
+    (last : _) × (after ≡ last ∷ before) × Later old last Closed × (state ≡ Closed)
+
+-- this became of the connection under this key, and every other key is unchanged
+pub record ChangesAt (Step : Option Connection → Option Connection → Type 0)
+    (before after : Connections) (key : ℕ) : Type 0 where
+  pub becomes : Step (connection_at before key) (connection_at after key)
+  pub others : (other : ℕ) → other ≢ key → connection_at after other ≡ connection_at before other
+  pub tenants : after.tenants ≡ before.tenants

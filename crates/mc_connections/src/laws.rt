@@ -1,0 +1,73 @@
+//! What the definitions say of connections, log after log, and the numbers of this profile. A law is
+//! the contract of a function with an empty body, or with calls of the laws from which it follows.
+ghost use Rattle.std.specs.Prelude.{◌≡◌, ◌↔◌, [], ◌∷◌, All, Bool, IfNone, IfSome, ℕ, List, Option, length};
+ghost use Rattle.mc_conn.specs.Owed.{Mark};
+ghost use Rattle.mc_conn.specs.declared.conn.Role.{Role};
+ghost use Rattle.mc_connections.specs.Asking.{HaveBeenAsked};
+ghost use Rattle.mc_connections.specs.InTurn.{HaveServedInTurn, InTurn};
+ghost use Rattle.mc_connections.specs.Life.{OwesInLogs, OwesInParts, WasAnswered};
+ghost use Rattle.mc_connections.specs.Serving.{Admits};
+ghost use Rattle.mc_connections.specs.Working.{IsEmpty, Standing, Works, standing};
+ghost use Rattle.mc_connections.specs.declared.arrival.Arrival.{Arrival};
+ghost use Rattle.mc_connections.specs.declared.closing.TheConstants.{DROPPED_BYTES, MOST_CLOSING};
+ghost use Rattle.mc_connections.specs.declared.connections.Connections.{Connections};
+ghost use Rattle.mc_connections.specs.declared.connections.TheConstants.{MOST_ADMINS, MOST_CONNECTIONS};
+ghost use Rattle.mc_model.specs.declared.request.Request.{Request};
+ghost use Rattle.uc_worker.specs.Going.{CatchesUp, Continues};
+ghost use Rattle.uc_worker.specs.Worker.{tenants_of};
+ghost use Rattle.uc_worker.specs.declared.worker.Worker.{Worker};
+
+/// Over one log, a connection is owed exactly what the log's worker owes it in parts.
+pub fn one_log_is_owed_in_parts()
+    ensures { (worker : Worker) (role : Role) (requests : List Request) (owed : List ℕ) →
+        OwesInLogs role (worker ∷ []) requests owed ↔ (to : Mark)
+        × OwesInParts worker role requests owed to }
+{}
+
+/// An event loop has at most 1,024 connections of tenants, and 16 more of administrators. At most 64
+/// streams of connections that have ended close at the same time, and at most 65,536 bytes are
+/// dropped of each.
+pub fn numbers_of_the_network()
+    ensures connections { MOST_CONNECTIONS ≡ 1024 }
+    ensures admins { MOST_ADMINS ≡ 16 }
+    ensures closing { MOST_CLOSING ≡ 64 }
+    ensures dropped { DROPPED_BYTES ≡ 65536 }
+{}
+
+/// Work adds up: none, work after work, and an arrival or the worker's catching up after work. The
+/// worker is the same later on, and its connections are still of its log's roles.
+pub fn work_adds_up()
+    ensures none { (until : Bool) (a : Standing) → Works until a a }
+    ensures through { (until : Bool) (a b c : Standing) → Works until a b → Works until b c →
+        Works until a c }
+    ensures admits { (until : Bool) (a : Standing) (worker : Worker) (old new : Connections)
+        (arrival : Arrival _) (key : Option ℕ) → Works until a (standing worker old) →
+        IfSome key (Admits old new arrival) → IfNone key (new ≡ old) →
+        Works until a (standing worker new) }
+    ensures catches_up { (until : Bool) (a : Standing) (old new : Worker)
+        (connections : Connections) → Works until a (standing old connections) →
+        CatchesUp old new → Works until a (standing new connections) }
+    ensures goes_on { (until : Bool) (a b : Standing) → Works until a b →
+        Continues a.worker b.worker }
+    ensures known { (until : Bool) (a b : Standing) → Works until a b →
+        a.connections.tenants ≡ length (tenants_of a.worker) →
+        b.connections.tenants ≡ length (tenants_of b.worker) }
+{}
+
+/// Connections outlive logs: what a connection was sent from its first byte to its last is what it
+/// is owed by the workers that have served it, log after log.
+pub fn connections_are_answered_over_logs()
+    ensures { (who : InTurn) (connections : Connections) → HaveServedInTurn who connections →
+        All (WasAnswered who.served) connections.ended.connections }
+{
+    mc_conn::laws::parts_add_up();
+}
+
+/// Once no connection is left, each command that a worker has announced is one request of a
+/// connection that has ended, and none was announced twice: neither on one log nor on two.
+pub fn commands_are_asked_for_over_logs()
+    ensures { (who : InTurn) (connections : Connections) → HaveServedInTurn who connections →
+        IsEmpty connections → HaveBeenAsked who.begun who.served connections.ended.connections }
+{
+    mc_conn::laws::parts_add_up();
+}

@@ -1,0 +1,22 @@
+//! The connections of an event loop, from the first byte of each to its last: arrivals are admitted
+//! and served, and those that have ended are closed once their peers have what was sent to them.
+//! They outlive the workers that serve them, one after another, each on the next log.
+//!
+//! `specs/Serving.antt` says what becomes of a connection that is served, `specs/Working.antt` what
+//! a worker leaves of its connections, `specs/Life.antt` what a connection was sent from its first
+//! byte to its last, and `specs/Asking.antt` for whom commands are announced.
+#![tactic(auto)]
+
+pub use arrival::Arrival;
+pub use connections::{Connection, Connections, is_admin};
+pub use past_connections::PastConnections;
+pub use ready_queue::{ReadyQueue, WAKER};
+
+pub mod arrival;
+pub mod closing;
+mod connecting;
+pub mod connections;
+pub mod laws;
+pub mod past_connections;
+pub mod ready_queue;
+mod socket;

@@ -1,0 +1,228 @@
+//! Runs of wfmc that end before it serves: its command line, and addresses at which it can't
+//! listen.
+use crate::programs::{Wanted, words_of};
+use crate::runs::output_of;
+use mc_programs::OutputStep;
+use mc_server::run_wfmc;
+use std::alloc::AllocError;
+use std::net::Net;
+use std::process::Abort;
+use std::sync::Wait;
+use std::test::Fail;
+use std::thread::Threads;
+
+/// Asserts that a run with these words, whose outputs follow these steps, leaves what it must.
+fn check_steps<R: Threads + Wait + Net + Sync + AllocGlobal + Abort>(
+    rt: &R,
+    given: &str,
+    pushes: &[OutputStep],
+    tells: &[OutputStep],
+    wanted: Wanted,
+) -> Result<(), AllocError> {
+    let words = words_of(rt.alloc(), given)?;
+    let mut output = output_of(rt.alloc(), pushes)?;
+    let mut errors = output_of(rt.alloc(), tells)?;
+    let status = run_wfmc(rt, rt.alloc(), words, &mut output, &mut errors);
+    assert_eq!(rt; status, wanted.status, "the status at {given}");
+    assert!(rt;
+        output.as_bytes() == wanted.output,
+        "what is printed at {given}"
+    );
+    assert!(rt;
+        errors.as_bytes() == wanted.errors,
+        "what is reported at {given}"
+    );
+    Ok(())
+}
+
+/// Does as `check_steps` for a run that ends with this status and prints this error.
+fn check_told<R: Threads + Wait + Net + Sync + AllocGlobal + Abort>(
+    rt: &R,
+    given: &str,
+    status: u8,
+    told: &str,
+) -> Result<(), AllocError> {
+    let wanted = Wanted {
+        status,
+        output: b"",
+        errors: told.as_bytes(),
+    };
+    check_steps(rt, given, &[], &[], wanted)
+}
+
+const HELP: &str = "\
+A memcached server for several tenants
+
+Usage: wfmc [OPTIONS] <TENANT>...
+
+Arguments:
+  <TENANT>...  A tenant: NAME=ADDR,ITEMS,BYTES, as below; from 1 to 64 of them
+
+Options:
+      --workers <N>      How many threads serve, from 1 to 16 [default: 2]
+      --places <N>       How many commands of all tenants a log takes, from 1 to 1048576 [default: 65536]
+      --generations <N>  How many logs, one after another, up to 65536; 0 for no end [default: 1]
+      --connections <N>  After how many connections of tenants it ends; 0 for never [default: 0]
+      --admin <ADDR>     At which IPv4 address and port administrators connect; without it there are none
+  -h, --help             Print help
+  -V, --version          Print version
+
+Each TENANT is NAME=ADDR,ITEMS,BYTES:
+  NAME   1 to 32 of a to z, 0 to 9, - and _; no name twice, and with --admin none is admin
+  ADDR   an IPv4 address and a port, as numbers, at which the tenant's clients connect;
+         the port from 0 to 65535, where 0 takes a free one
+  ITEMS  how many items the tenant may hold, from 1 to 1048576
+  BYTES  how many bytes their keys and data may have, from 1 to 1073741824
+Where a word is of another form, a number out of its range, or a name used twice: wfmc: bad settings.
+
+With --admin, whoever connects at ADDR may set a tenant's quotas: limit NAME ITEMS BYTES.
+
+Example, two tenants apart from each other on two ports:
+  wfmc shop=127.0.0.1:11211,1000,1048576 blog=127.0.0.1:11212,1000,1048576
+";
+
+#[test]
+fn help_and_the_version_are_shown(rt: HostRuntime) -> Result<(), Fail> {
+    for (given, text) in [
+        ("--help", HELP),
+        ("a=b -h", HELP),
+        ("--version", "wfmc 1.0.0\n"),
+    ] {
+        let wanted = Wanted {
+            status: 0,
+            output: text.as_bytes(),
+            errors: b"",
+        };
+        check_steps(&rt, given, &[], &[], wanted)?;
+        let pushes = [OutputStep::Take(5), OutputStep::Fail];
+        let wanted = Wanted {
+            status: 1,
+            output: &text.as_bytes()[..5],
+            errors: b"wfmc: output failed\n",
+        };
+        check_steps(&rt, given, &pushes, &[OutputStep::Full], wanted)?;
+    }
+    Ok(())
+}
+
+#[test]
+fn mistakes_are_told_by_clap(rt: HostRuntime) -> Result<(), Fail> {
+    for (given, told) in [
+        (
+            "--workers 2",
+            "error: the following required arguments were not provided:\n  <TENANT>...\n\nUsage: wfmc --workers <N> <TENANT>...\n\nFor more information, try '--help'.\n",
+        ),
+        (
+            "--bogus a=b",
+            "error: unexpected argument '--bogus' found\n\n  tip: to pass '--bogus' as a value, use '-- --bogus'\n\nUsage: wfmc [OPTIONS] <TENANT>...\n\nFor more information, try '--help'.\n",
+        ),
+        (
+            "--places x a=b",
+            "error: invalid value 'x' for '--places <N>': invalid digit found in string\n\nFor more information, try '--help'.\n",
+        ),
+        (
+            "--generations x a=b",
+            "error: invalid value 'x' for '--generations <N>': invalid digit found in string\n\nFor more information, try '--help'.\n",
+        ),
+        (
+            "--generations=-1 a=b",
+            "error: invalid value '-1' for '--generations <N>': invalid digit found in string\n\nFor more information, try '--help'.\n",
+        ),
+        (
+            "--generations -1 a=b",
+            "error: unexpected argument '-1' found\n\n  tip: to pass '-1' as a value, use '-- -1'\n\nUsage: wfmc [OPTIONS] <TENANT>...\n\nFor more information, try '--help'.\n",
+        ),
+    ] {
+        check_told(&rt, given, 2, told)?;
+    }
+    Ok(())
+}
+
+#[test]
+fn what_cannot_be_served_is_refused(rt: HostRuntime) -> Result<(), Fail> {
+    for given in [
+        "a=127.0.0.1:0,0,1",
+        "a=127.0.0.1:0,1,0",
+        "a=127.0.0.1:0,1048577,1",
+        "a=127.0.0.1:0,1,1073741825",
+        "a=127.0.0.1:0,1,1 a=127.0.0.1:0,1,1",
+        "a=127.0.0.1:0,1,1 b=127.0.0.1:0,1,1 a=127.0.0.1:0,1,1",
+        "A=127.0.0.1:0,1,1",
+        "=127.0.0.1:0,1,1",
+        "abcdefghijklmnopqrstuvwxyz0123456=127.0.0.1:0,1,1",
+        "a=127.0.0.1,1,1",
+        "a=127.0.0.256:0,1,1",
+        "a=[::1]:0,1,1",
+        "a=localhost:0,1,1",
+        "a=127.0.0.1:65536,1,1",
+        "a=127.0.0.1:0,1",
+        "a=127.0.0.1:0,1,1,1",
+        "a=127.0.0.1:0,1,x",
+        "a=127.0.0.1:0,-1,1",
+        "a=127.0.0.1:0,18446744073709551616,1",
+        "a",
+        "--workers 0 a=127.0.0.1:0,1,1",
+        "--workers 17 a=127.0.0.1:0,1,1",
+        "--places 0 a=127.0.0.1:0,1,1",
+        "--places 1048577 a=127.0.0.1:0,1,1",
+        "--generations 65537 a=127.0.0.1:0,1,1",
+        "--generations=18446744073709551615 a=127.0.0.1:0,1,1",
+        "--admin 127.0.0.1:0 admin=127.0.0.1:0,1,1",
+        "--admin 127.0.0.1:0 a=127.0.0.1:0,1,1 admin=127.0.0.1:0,1,1",
+        "--admin 127.0.0.1 a=127.0.0.1:0,1,1",
+        "--admin localhost:1 a=127.0.0.1:0,1,1",
+        "--admin=127.0.0.1:65536 a=127.0.0.1:0,1,1",
+    ] {
+        check_told(&rt, given, 2, "wfmc: bad settings\n")?;
+    }
+    Ok(())
+}
+
+#[test]
+fn the_first_address_that_cannot_be_listened_at_is_told(rt: HostRuntime) -> Result<(), Fail> {
+    // Addresses for documents, which no machine has.
+    for (given, told) in [
+        (
+            "--places=1 a-1=192.0.2.1:0,1,1",
+            "wfmc: cannot listen a-1\n",
+        ),
+        (
+            "a=127.0.0.1:0,1,1 b_2=192.0.2.1:0,1,1 c=192.0.2.2:0,1,1",
+            "wfmc: cannot listen b_2\n",
+        ),
+        ("-- -a=192.0.2.1:0,+1,01", "wfmc: cannot listen -a\n"),
+        (
+            "--generations 0 a=192.0.2.1:0,1,1",
+            "wfmc: cannot listen a\n",
+        ),
+        (
+            "--generations=65536 a=192.0.2.1:0,1,1",
+            "wfmc: cannot listen a\n",
+        ),
+        (
+            "--admin 192.0.2.1:0 a=127.0.0.1:0,1,1",
+            "wfmc: cannot listen admin\n",
+        ),
+        (
+            "--admin 192.0.2.1:0 a=192.0.2.1:0,1,1",
+            "wfmc: cannot listen a\n",
+        ),
+        ("admin=192.0.2.1:0,1,1", "wfmc: cannot listen admin\n"),
+    ] {
+        check_told(&rt, given, 1, told)?;
+    }
+    Ok(())
+}
+
+#[test]
+fn sixty_four_tenants_are_the_most(rt: HostRuntime) -> Result<(), Fail> {
+    let mut given = String::new(rt.alloc());
+    for number in 0..64u8 {
+        let word = format!(in rt.alloc(); "t{number}=192.0.2.1:0,1,1 ")?;
+        given.push_str(&word)?;
+    }
+    check_told(&rt, &given, 1, "wfmc: cannot listen t0\n")?;
+    given.push_str("one-more=192.0.2.1:0,1,1")?;
+    check_told(&rt, &given, 2, "wfmc: bad settings\n")?;
+    Ok(())
+}

@@ -1,0 +1,1 @@
+use Rattle.mc_server.proofs.generations.serve_opened.Goals as goal

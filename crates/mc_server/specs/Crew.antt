@@ -1,0 +1,81 @@
+-- The workers of one log, and what they come to when they meet; this project's profile.
+use Rattle.std.specs.Prelude.{◌≡◌, ◌<◌, ◌≤◌, ℕ, ◌+◌, List, [], All, Contains, length, map}
+use Rattle.lists.specs.Lists.{BeginsWith}
+use Rattle.mc_model.specs.declared.id.Ticket.{Ticket}
+use Rattle.mc_model.specs.Legal.{IsLegal, count}
+use Rattle.mc_model.specs.Settings.{Configuration}
+use Rattle.mc_server.specs.Listeners.{CountsFrom}
+use Rattle.uc_log.specs.declared.log.Log.{Log}
+use Rattle.uc_worker.specs.Cited.{Sighting}
+use Rattle.uc_worker.specs.Going.{CatchesUp}
+use Rattle.uc_worker.specs.Worker.{IsUpToDate, announced_of, history_of, seat_of}
+use Rattle.uc_worker.specs.declared.worker.Worker.{Worker}
+
+-- the worker has announced nothing, and replayed nothing
+abbrev pub HasDoneNothing : Worker → Type 0
+HasDoneNothing worker = (announced_of worker ≡ []) × (history_of worker ≡ [])
+
+-- all workers are of the log
+abbrev pub AreOf : Log → List Worker → Type 0
+AreOf log workers = All (λ worker. worker.log.now ≡ log) workers
+
+-- a worker's number
+abbrev pub number_of : Worker → ℕ
+number_of worker = (seat_of worker).worker
+
+-- the tickets of the commands that a worker has replayed, in their order
+abbrev pub tickets_of : Worker → List Ticket
+tickets_of worker = map (λ (seen : Sighting). seen.ticket) (history_of worker)
+
+-- The workers of a log with these settings, one for each number.
+pub record AreWorkersOf (settings : Configuration) (log : Log)
+    (workers : List Worker) : Type 0 where
+  pub opened : log.settings ≡ settings
+  pub of : AreOf log workers
+  pub many : length workers ≡ settings.workers
+  pub numbers : CountsFrom 0 (map number_of workers)
+
+-- the workers of a log, at least one
+abbrev pub IsCrew : List Worker → Type 0
+IsCrew workers =
+    (settings : Configuration) × (log : Log) × AreWorkersOf settings log workers
+    × (0 < length workers)
+
+-- This worker has met the other: its history begins with the other's, and each command that the
+-- other has announced is in it, except for at most one, which is pending (Herlihy, Wait-Free
+-- Synchronization, TOPLAS 1991, the universal construction: all processes agree on one order of the
+-- decided cells, so each knows a prefix of one list).
+pub record HasMet (one other : Worker) : Type 0 where
+  pub log : other.log.now ≡ one.log.now
+  pub front : BeginsWith (history_of one) (history_of other)
+  pub commands : (seat_of other).state.announced ≤ count (number_of other) (tickets_of one) + 1
+
+-- While a worker went from `old` to `new`, another met it and went from `other` to `after`: then
+-- that one has replayed all that it has learned; its history begins with what the worker had
+-- replayed at first, and is a prefix of what the worker has replayed at last.
+pub record MeetsAnother (old new other after : Worker) : Type 0 where
+  pub later : CatchesUp other after
+  pub whole : IsUpToDate after
+  pub most : BeginsWith (history_of after) (history_of old)
+  pub front : BeginsWith (history_of new) (history_of after)
+
+-- one of these workers has announced the command of this ticket
+pub record WasAnnounced (workers : List Worker) (ticket : Ticket) : Type 0 where
+  pub worker : Worker
+  pub among : Contains workers worker
+  pub whose : number_of worker ≡ ticket.worker
+  pub announced : ticket.number < length (announced_of worker)
+
+-- The workers have met: one of them, later on, has met them all and has replayed all that it has
+-- learned. No command stands twice in its history, which has this length, and each was announced by
+-- one of these workers.
+pub record HaveMet (workers : List Worker) (number : ℕ) : Type 0 where
+  pub first : Worker
+  pub among : Contains workers first
+  pub one : Worker
+  pub later : CatchesUp first one
+  pub met : All (HasMet one) workers
+  pub whole : IsUpToDate one
+  pub once : IsLegal (tickets_of one)
+  pub announced : All (WasAnnounced workers) (tickets_of one)
+  pub long : length (history_of one) ≡ number

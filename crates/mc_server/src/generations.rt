@@ -1,0 +1,302 @@
+//! Serving logs one after another: a full log is closed, and the next one is opened over its tables.
+ghost use Rattle.std.specs.List.{AllZip};
+ghost use Rattle.std.specs.Prelude.{◌≡◌, ◌↔◌, ◌⊎◌, ◌<◌, ◌≤◌, ⊤, All, true, false, ℕ, IfErr, IfOk, IfSome, IsTrue, List, MatchResult, length, slice_get, Some};
+ghost use Rattle.mc_connections.specs.InTurn.{InTurn};
+ghost use Rattle.mc_model.specs.State.{TableState};
+ghost use Rattle.mc_net.specs.Beginning.{HaltsServing};
+ghost use Rattle.mc_net.specs.Halting.{IsNetworkFault};
+ghost use Rattle.mc_net.specs.Running.{IsEmptyLoop, IsNewLoop, each_followed_by};
+ghost use Rattle.mc_server.specs.Crew.{AreWorkersOf};
+ghost use Rattle.mc_server.specs.Logs.{AreOpenedOver, AreServedBy, CanBeFollowed, Closes, FitsOver, IsFrontOf, IsNextLog, LogsWere, ServesTo, WereServed, tables_over};
+ghost use Rattle.mc_server.specs.declared.generations.TheConstants.{MOST_PLACES};
+ghost use Rattle.uc_log.specs.Passes.{IsNew, IsUnusedPass};
+ghost use Rattle.uc_worker.specs.Going.{CatchesUp, Continues};
+
+use crate::crew::{catch_up_all, meet_all, open_workers};
+use mc_model::Fault;
+use mc_net::{Begin, Ended, Front};
+use std::alloc::Global;
+use std::sync::Wait;
+use std::thread::Threads;
+use uc_log::{Log, Pass};
+use uc_worker::{Base, Next, Open, Worker, turn_over};
+
+/// What serving a log has come to.
+#[derive(Drop)]
+pub(crate) enum Served {
+    /// Every connection has ended, and so many places of the log were used.
+    Done(usize),
+    /// The log is closed, and this one follows it.
+    Full(Next),
+}
+
+/// What a closed log leaves: itself, and the tables that it was opened over, unless they were empty.
+#[derive(Drop)]
+pub(crate) struct Closed {
+    pub log: Log,
+    pub base: Option<Base>,
+}
+
+/// Frees what a closed log has left, once the loops have begun on the next one: so nobody waits for
+/// that but clients who connect.
+struct FreeClosed;
+
+impl Begin<Option<Closed>> for FreeClosed {
+    ghost done = { λ _ _ _. ⊤ };
+
+    ghost stopped = { λ _ _ _ _. ⊥ };
+
+    fn begin<R: Wait>(&self, _rt: &R, closed: &mut Option<Closed>) -> Result<(), Fault> {
+        *closed = None;
+        Ok(())
+    }
+}
+
+/// Returns whether each worker has replayed all places of its log, and so many more changes can get
+/// uniques in its tables.
+fn can_be_followed(workers: &[Worker<'_>], places: u64) -> bool
+    ensures { IsTrue result ↔ All (CanBeFollowed places) workers.now }
+{
+    workers
+        .iter()
+        .all(|worker| worker.is_done() && worker.has_room(places))
+}
+
+/// Closes a log, if it is full, and opens the one that follows it.
+///
+/// Returns `None` if a worker hasn't replayed all its places, the changes of a whole log couldn't
+/// all get uniques, or memory runs out. The workers have caught up in either case.
+fn next_log(alloc: Global, log: &Log, workers: &mut [Worker<'_>]) -> Option<Next>
+    requires workers { AreWorkersOf log.now.settings log.now workers.old }
+    requires some { 0 < length workers.old }
+    ensures later { AllZip CatchesUp workers.old workers.new }
+    ensures fits { IfSome result (IsNextLog log.now.settings) }
+    ensures closes { IfSome result (λ next. Closes workers.old next.base.tables.items) }
+{
+    catch_up_all(workers);
+    if !can_be_followed(workers, log.settings().places()) {
+        return None;
+    }
+    match turn_over(alloc, workers, log.settings()) {
+        Ok(next) => Some(next),
+        Err(_) => None,
+    }
+}
+
+/// Lets the workers of a log serve at the front, as `Front::serve_generation` does.
+///
+/// Returns the errors of that, and `Memory` if memory runs out.
+fn serve_part<'a, R: Threads + Wait + Sync, B: Begin<S>, S>(
+    rt: &R,
+    alloc: Global,
+    front: &mut Front,
+    log: &'a Log,
+    workers: Vec<Worker<'a>>,
+    is_last: bool,
+    begin: &B,
+    state: &mut S,
+) -> Result<(Vec<Worker<'a>>, Ended), Fault>
+    requires workers { AreWorkersOf log.now.settings log.now workers.items }
+    requires front { IsFrontOf log.now.settings front.old }
+    ensures in_turn { IfOk result (λ pair. (who : List InTurn) → AreServedBy who front.old →
+        AreServedBy (each_followed_by who workers.entry.items pair.0.items) front.new) }
+    ensures done { IfOk result
+        (λ pair. pair.1 ≡ Ended.Done → All IsEmptyLoop front.new.event_loops.items) }
+    ensures last { IfOk result (λ pair. is_last ≡ true → pair.1 ≡ Ended.Done) }
+    ensures back { IfOk result (λ pair. AllZip Continues workers.entry.items pair.0.items) }
+    ensures workers { IfOk result
+        (λ pair. AreWorkersOf log.entry.now.settings log.entry.now pair.0.items) }
+    ensures front { IfOk result (λ _. IsFrontOf log.entry.now.settings front.new) }
+    ensures outcome { MatchResult result (λ _. B.done begin.now state.old state.new)
+        (HaltsServing (B.done begin.now) (B.stopped begin.now) state.old state.new) }
+{
+    let gates = vec![in alloc; Open; workers.len()]?;
+    front.serve_generation(rt, alloc, log, workers, gates, is_last, begin, state)
+}
+
+/// Serves a log with these workers until every connection has ended, or until it is full and the
+/// next one is opened. Where the last log is full, or none can follow, its workers go on to the end:
+/// commands after its last place are answered `SERVER_ERROR log full`.
+///
+/// Returns the errors of `serve_part`.
+fn serve_log<'a, R: Threads + Wait + Sync, B: Begin<S>, S>(
+    rt: &R,
+    alloc: Global,
+    front: &mut Front,
+    log: &'a Log,
+    workers: Vec<Worker<'a>>,
+    is_last: bool,
+    begin: &B,
+    state: &mut S,
+) -> Result<Served, Fault>
+    requires workers { AreWorkersOf log.now.settings log.now workers.items }
+    requires some { 0 < log.now.settings.workers }
+    requires front { IsFrontOf log.now.settings front.old }
+    ensures serves { IfOk result (λ served. (logs places : ℕ) (who : List InTurn)
+        (tables : List TableState) → LogsWere log.entry.now.settings logs places who tables →
+        AreServedBy who front.old →
+        AreOpenedOver log.entry.now.settings log.entry.now tables workers.entry.items →
+        ServesTo log.entry.now.settings is_last logs places front.new served) }
+    ensures front { IfOk result (λ _. IsFrontOf log.entry.now.settings front.new) }
+    ensures outcome { MatchResult result (λ _. B.done begin.now state.old state.new)
+        (HaltsServing (B.done begin.now) (B.stopped begin.now) state.old state.new) }
+{
+    let (workers, ended) = serve_part(rt, alloc, front, log, workers, is_last, begin, state)?;
+    match ended {
+        Ended::Done => return Ok(Served::Done(meet_all(alloc, workers)?)),
+        Ended::Full => {}
+    }
+    let mut workers = workers;
+    if let Some(next) = next_log(alloc, log, &mut workers) {
+        return Ok(Served::Full(next));
+    }
+    let mut nothing = None;
+    let (workers, _) = serve_part(
+        rt,
+        alloc,
+        front,
+        log,
+        workers,
+        true,
+        &FreeClosed,
+        &mut nothing,
+    )?;
+    Ok(Served::Done(meet_all(alloc, workers)?))
+}
+
+/// Opens the workers of a log, over the tables of the base if there is one, and serves it as
+/// `serve_log` does. Returns also what is left of it.
+///
+/// Returns the errors of `serve_log`, and `Memory` if memory runs out.
+fn serve_opened<R: Threads + Wait + Sync, B: Begin<S>, S>(
+    rt: &R,
+    alloc: Global,
+    front: &mut Front,
+    log: Log,
+    passes: Vec<Pass>,
+    base: Option<Base>,
+    is_last: bool,
+    begin: &B,
+    state: &mut S,
+) -> Result<(Served, Closed), Fault>
+    requires passes { (number : ℕ) (pass : _) → slice_get passes.items number ≡ Some pass
+        → IsNew log number pass }
+    requires unused { (number : ℕ) (pass : _) → slice_get passes.items number ≡ Some pass
+        → IsUnusedPass log pass }
+    requires count { length passes.items ≡ log.settings.workers }
+    requires some { 0 < log.settings.workers }
+    requires base { FitsOver log base }
+    requires front { IsFrontOf log.settings front.old }
+    ensures serves { IfOk result (λ pair. (logs places : ℕ) (who : List InTurn) →
+        LogsWere log.settings logs places who (tables_over log base) → AreServedBy who front.old →
+        ServesTo log.settings is_last logs places front.new pair.0) }
+    ensures front { IfOk result (λ _. IsFrontOf log.settings front.new) }
+    ensures outcome { MatchResult result (λ _. B.done begin.now state.old state.new)
+        (HaltsServing (B.done begin.now) (B.stopped begin.now) state.old state.new) }
+{
+    let workers = open_workers(alloc, &log, passes, &base)?;
+    let served = serve_log(rt, alloc, front, &log, workers, is_last, begin, state)?;
+    Ok((served, Closed { log, base }))
+}
+
+/// Serves the next log, as `serve_log` does, and frees what the one before it has left once all
+/// loops have begun.
+///
+/// Returns `Memory` if memory runs out or a worker's loop doesn't begin, and `Input` if waiting for
+/// connections fails.
+fn serve_next<R: Threads + Wait + Sync>(
+    rt: &R,
+    alloc: Global,
+    front: &mut Front,
+    next: Next,
+    is_last: bool,
+    closed: &mut Option<Closed>,
+) -> Result<Served, Fault>
+    requires next { IsNextLog next.log.settings next }
+    requires some { 0 < next.log.settings.workers }
+    requires front { IsFrontOf next.log.settings front.old }
+    ensures serves { IfOk result (λ served. (logs places : ℕ) (who : List InTurn) →
+        LogsWere next.log.settings logs places who next.base.tables.items →
+        AreServedBy who front.old →
+        ServesTo next.log.settings is_last logs places front.new served) }
+    ensures front { IfOk result (λ _. IsFrontOf next.log.settings front.new) }
+    ensures faults { IfErr result IsNetworkFault }
+{
+    let Next { log, passes, base } = next;
+    let (served, left) = serve_opened(
+        rt,
+        alloc,
+        front,
+        log,
+        passes,
+        Some(base),
+        is_last,
+        &FreeClosed,
+        closed,
+    )?;
+    *closed = Some(left);
+    Ok(served)
+}
+
+/// How many places earlier logs have in total at most before the last one begins, so that the number
+/// of all places that are used has 64 bits.
+const MOST_PLACES: u64 = u64::MAX - 4_194_304;
+
+/// Returns whether the log of this number, counted from 1, is the last one of `most` logs (0: no
+/// end), or of as many as may have places. The logs before it have `total` places.
+fn is_last_log(most: u64, number: u64, total: u64) -> bool
+    ensures more { result ≡ false → (most ≡ 0) ⊎ (number < most) }
+    ensures total { result ≡ false → total ≤ MOST_PLACES }
+{
+    (most > 0 && number >= most) || total > MOST_PLACES
+}
+
+/// Serves logs one after another at a front at which nobody has been served yet, `most` at most (0:
+/// without an end), the first of which is this one. Returns how many places were used in total.
+///
+/// Returns the errors of `serve_log`.
+pub(crate) fn serve_logs<R: Threads + Wait + Sync, B: Begin<S>, S>(
+    rt: &R,
+    alloc: Global,
+    front: &mut Front,
+    log: Log,
+    passes: Vec<Pass>,
+    most: u64,
+    begin: &B,
+    state: &mut S,
+) -> Result<u64, Fault>
+    requires passes { (number : ℕ) (pass : _) → slice_get passes.items number ≡ Some pass
+        → IsNew log number pass }
+    requires unused { (number : ℕ) (pass : _) → slice_get passes.items number ≡ Some pass
+        → IsUnusedPass log pass }
+    requires count { length passes.items ≡ log.settings.workers }
+    requires some { 0 < log.settings.workers }
+    requires places { log.settings.places ≤ 1048576 }
+    requires front { IsFrontOf log.settings front.old }
+    requires new { All (IsNewLoop (length log.settings.tenants)) front.old.event_loops.items }
+    ensures served { IfOk result (WereServed log.settings most) }
+    ensures outcome { MatchResult result (λ _. B.done begin.now state.old state.new)
+        (HaltsServing (B.done begin.now) (B.stopped begin.now) state.old state.new) }
+{
+    // The laws from which it follows that all were answered and asked for.
+    mc_connections::laws::connections_are_answered_over_logs();
+    mc_connections::laws::commands_are_asked_for_over_logs();
+    let places = log.settings().places();
+    let mut number = 1;
+    let mut total = 0;
+    let mut is_last = is_last_log(most, number, total);
+    let (first, left) = serve_opened(rt, alloc, front, log, passes, None, is_last, begin, state)?;
+    let mut served = first;
+    let mut closed = Some(left);
+    for _ in rt.forever() {
+        let next = match served {
+            Served::Done(last) => return Ok(total + last as u64),
+            Served::Full(next) => next,
+        };
+        number = number.saturating_add(1);
+        total += places;
+        is_last = is_last_log(most, number, total);
+        served = serve_next(rt, alloc, front, next, is_last, &mut closed)?;
+    }
+    unreachable!()
+}
