@@ -1,6 +1,7 @@
 -- Logs one after another, each with one worker: what each owes, and which commands it leaves to the next.
-use Rattle.std.proofs.Common.{◌≡◌, ◌⊎◌, ℕ, zero, suc, ◌+◌, ◌<◌, ◌≤◌, Bool, true, false, List, [], ◌∷◌, ◌++◌, length, take, slice_get, Some, sym, refl, ap, ◌∙◌, subst, inl, inr, ⊎_elim, arith, append_assoc, append-nil, length-append}
-use Rattle.std.specs.Bool.{nat_lt}
+use Rattle.std.proofs.Common.{◌≡◌, ◌⊎◌, ℕ, zero, suc, ◌+◌, ◌<◌, ◌≤◌, Bool, true, false, if◌then◌else◌, List, [], ◌∷◌, ◌++◌, length, take, slice_get, Some, sym, refl, ap, ◌∙◌, subst, inl, inr, ⊎_elim, arith, append_assoc, append-nil, length-append}
+use Rattle.std.specs.Bool.{nat_le, nat_lt}
+use Rattle.mc_model.specs.declared.shown.LogSize.{LogSize}
 use Rattle.std.proofs.lemmas.Bool.{ltb-false, ltb-true}
 use Rattle.std.proofs.lemmas.List.{take_all}
 use Rattle.mc_model.specs.declared.command.Command.{Command}
@@ -16,7 +17,7 @@ use Rattle.mc_write.specs.Text.{text}
 use Rattle.uc_worker.specs.Cited.{Sighting, entries}
 use Rattle.uc_worker.specs.declared.worker.Worker.{Worker}
 use Rattle.uc_worker.specs.Going.{Continues}
-use Rattle.uc_worker.specs.Worker.{HasReplayedAll, announced_of, history_of, seat_of}
+use Rattle.uc_worker.specs.Worker.{HasReplayedAll, IsClosing, announced_of, history_of, places_kept, seat_of}
 use Rattle.mc_conn.specs.declared.conn.Role.TheVariants.{Tenant}
 use Rattle.mc_conn.specs.Alone.{IsAloneOver, applied_with, commands_of, first_mark, logged_reply, owed_after}
 use Rattle.mc_conn.specs.Ending.{LogsInTime, LogsLast}
@@ -29,6 +30,14 @@ use Rattle.mc_conn.proofs.AloneOwed.{few, own_later, owes_in_order, with_room, w
 below_or_not : (n m : ℕ) (below : Bool) → nat_lt n m ≡ below → (n < m) ⊎ (m ≤ n)
 below_or_not n m true is = inl (ltb-true n m is)
 below_or_not n m false is = inr (ltb-false n m is)
+
+-- a worker alone keeps one place free: none, once it has replayed all
+kept_alone : (size : LogSize) → size.workers ≡ 1 → places_kept size ≡ 1
+kept_alone size alone = by_room (nat_le size.workers size.places)
+  where
+    by_room : (room : Bool) → (if room then size.workers else 1) ≡ 1
+    by_room true = alone
+    by_room false = refl
 
 -- a tenant's logged requests are its commands
 count_commands : (requests : List Request) → count_logged (Tenant 0) requests ≡ length (commands_of requests)
@@ -172,16 +181,12 @@ module _ (places : ℕ) (worker : Worker) (alone : (seat_of worker).size.workers
   all_placed (TooLong ∷ requests) from to bytes (rest, all, owes) even left = all_placed requests from to rest owes even left
 
   -- so it hasn't taken more commands than places
-  few_commands : (requests : List Request) (bytes : List ℕ) → Owes worker (Tenant 0) first_mark requests bytes (mark_of worker) → ¬ (HasReplayedAll worker) → length (commands_of requests) < places
+  few_commands : (requests : List Request) (bytes : List ℕ) → Owes worker (Tenant 0) first_mark requests bytes (mark_of worker) → ¬ (IsClosing worker) → length (commands_of requests) < places
   few_commands requests bytes owes undone =
-      let size : (seat_of worker).size.places ≡ worker.log.now.settings.places = ap (λ size. size.places) worker.of.1 in
-      let short = worker.short in
-      let law = worker.pass.desk.law.few in
+      let kept = kept_alone (seat_of worker).size alone in
       let left : length (history_of worker) < places =
       ⊎_elim (λ (below : length (history_of worker) < places). below)
-      (λ (rest : places ≤ length (history_of worker)).
-      let same : length (history_of worker) ≡ worker.log.now.settings.places = omega (arith, rest, short, law, long, size) in
-      absurd (undone same))
+      (λ (rest : places ≤ length (history_of worker)). absurd (undone (omega (arith, rest, long, kept))))
       (below_or_not (length (history_of worker)) places (nat_lt (length (history_of worker)) places) refl)
       in
       let placed = all_placed requests first_mark (mark_of worker) bytes owes (omega arith) left in

@@ -13,7 +13,7 @@ use Rattle.mc_stream.specs.Event.{ends, failures, has_ended, moved, waits}
 use Rattle.mc_stream.specs.Pushing.{IsUnfailed, Pushes}
 use Rattle.mc_stream.specs.Stream.{Inflow, Outflow, Streams, both}
 use Rattle.uc_worker.specs.declared.worker.Worker.{Worker}
-use Rattle.uc_worker.specs.Worker.{HasReplayedAll}
+use Rattle.uc_worker.specs.Worker.{IsClosing}
 use Rattle.mc_conn.specs.declared.conn.Conn.{Conn}
 use Rattle.mc_conn.specs.Held.{IsRead}
 use Rattle.uc_worker.specs.Going.{Continues}
@@ -293,8 +293,8 @@ module _ (old new : Conn) (worker later : Worker) (streams : Streams) (request :
     shut = shut;
   }
 
-  -- if it is logged, the worker wasn't done
-  responded_in_time : (logged : Bool) → is_logged (demand_of old.role request) ≡ logged → (logged ≡ true → ¬ (HasReplayedAll worker)) → LogsInTime takes_responded
+  -- if it is logged, its log wasn't closing
+  responded_in_time : (logged : Bool) → is_logged (demand_of old.role request) ≡ logged → (logged ≡ true → ¬ (IsClosing worker)) → LogsInTime takes_responded
   unfolding takes_responded takes_self taken_still taken_none
   responded_in_time true is room = inr (
     scene old worker streams,
@@ -302,7 +302,7 @@ module _ (old new : Conn) (worker later : Worker) (streams : Streams) (request :
   )
   responded_in_time false is room = inl (ap (λ logged. cond logged 1 0 + 0) is)
 
-  pub does_responded : (until : Bool) → (until ≡ true → is_logged (demand_of old.role request) ≡ true → ¬ (HasReplayedAll worker)) →
+  pub does_responded : (until : Bool) → (until ≡ true → is_logged (demand_of old.role request) ≡ true → ¬ (IsClosing worker)) →
       Does until (scene old worker streams) (scene new later streams) true
   unfolding takes_responded
   does_responded until room = record {

@@ -7,7 +7,7 @@ use Rattle.mc_stream.specs.Event.{Event, last_moved, waits}
 use Rattle.mc_stream.specs.Pushing.{Pushes}
 use Rattle.mc_stream.specs.Stream.{Inflow, Outflow, both}
 use Rattle.uc_worker.specs.declared.worker.Worker.{Worker}
-use Rattle.uc_worker.specs.Worker.{HasReplayedAll, announced_of}
+use Rattle.uc_worker.specs.Worker.{IsClosing, announced_of}
 use Rattle.mc_conn.specs.declared.conn.Conn.{Conn}
 use Rattle.mc_conn.specs.declared.conn.Role.{Role}
 use Rattle.mc_conn.specs.declared.conn.State.{State}
@@ -40,9 +40,9 @@ logs_next conn =
     option_map_or (λ (request : Request). is_logged (demand_of conn.role request)) conn.waiting
     false
 
--- the next request is to be logged, and the worker has replayed all places of its log
+-- the next request is to be logged, and the worker's log is closing
 abbrev pub AwaitsLog : Conn → Worker → Type 0
-AwaitsLog conn worker = (logs_next conn ≡ true) × HasReplayedAll worker
+AwaitsLog conn worker = (logs_next conn ≡ true) × IsClosing worker
 
 -- what the state that a turn returns means
 abbrev pub IsState : {before after : Scene} → Takes before after → State → Type 0
@@ -103,22 +103,22 @@ pub record Turns (before after : Scene) (state : State) : Type 0 where
   pub left : (queue_of after.conn ≡ [])
       ⊎ (waits before.streams.output.events < waits after.streams.output.events)
 
--- All requests that were logged but the last were taken before a moment at which the worker had a
--- place left to replay.
+-- All requests that were logged but the last were taken before a moment at which the worker's log
+-- wasn't closing yet.
 pub record LogsLast (before between after : Scene) (takes : Takes before after) : Type 0 where
   pub first : Takes before between
-  pub room : ¬ (HasReplayedAll between.worker)
+  pub room : ¬ (IsClosing between.worker)
   pub last : count_logged before.conn.role takes.taken.requests
       ≡ count_logged before.conn.role first.taken.requests + 1
 
--- no request was logged at a worker that had replayed all places of its log
+-- no request was logged at a worker whose log was closing
 abbrev pub LogsInTime : {before after : Scene} → Takes before after → Type 0
 LogsInTime {before} {after} takes =
     (count_logged before.conn.role takes.taken.requests ≡ 0)
     ⊎ (between : Scene) × LogsLast before between after takes
 
 -- A turn without a fault that leaves commands to the next log: one that is to be logged isn't taken
--- if the worker has replayed all places, and the state is then `Full`.
+-- if the worker's log is closing, and the state is then `Full`.
 pub record TurnsUntil (before after : Scene) (state : State) : Type 0 where
   pub takes : Takes before after
   pub state_is : IsState takes state

@@ -29,13 +29,12 @@ fn is_to_be_logged(role: &Role, request: &Request) -> bool
 }
 
 impl Conn {
-    /// Returns whether the next request is to be logged and the worker has replayed all places of
-    /// its log.
+    /// Returns whether the next request is to be logged and the worker's log is closing.
     fn awaits_log(&self, worker: &Worker<'_>) -> bool
         ensures { IsTrue result ↔ AwaitsLog self.now worker.now }
     {
         match &self.waiting {
-            Some(request) => is_to_be_logged(&self.role, request) && worker.is_done(),
+            Some(request) => is_to_be_logged(&self.role, request) && worker.is_closing(),
             None => false,
         }
     }

@@ -166,9 +166,8 @@ impl Conn {
     }
 
     /// Makes one turn as `turn` does, but leaves commands to the next log: where the next request is
-    /// to be logged and the worker has replayed all places of its log, the request isn't
-    /// taken. It stays first in line, and the state is `Full`, once what is queued is pushed as far
-    /// as the output takes it.
+    /// to be logged and the worker's log is closing, the request isn't taken. It stays first in
+    /// line, and the state is `Full`, once what is queued is pushed as far as the output takes it.
     ///
     /// Returns the errors of `turn`.
     pub fn turn_until<I: Input, O: Output, G: Gate>(
@@ -180,7 +179,7 @@ impl Conn {
         buffer: &mut [u8; PULL_BYTES],
     ) -> Result<State, Fault>
         requires role { FitsLog self.old.role worker.old }
-        // As for `turn`; and no request was logged once the worker had replayed all places.
+        // As for `turn`; and no request was logged once the worker's log was closing.
         ensures outcome { self.old.is_closed ≡ false → MatchResult result
             (TurnsUntil (scene self.old worker.old (both (I.tells input.old) (O.tells output.old)))
             (scene self.new worker.new (both (I.tells input.new) (O.tells output.new))))

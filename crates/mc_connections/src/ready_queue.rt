@@ -95,8 +95,8 @@ impl ReadyQueue {
 
     /// Makes a round: serves the connections that are to be served again, and then those for which
     /// there is an event, except those that are already queued for the next round. Drops what has
-    /// come on streams that close. If `until_done` is set, commands are left to the next log once the
-    /// worker has replayed all places, and whose they are is served again first. Returns whether the
+    /// come on streams that close. If `until_done` is set, commands are left to the next log once
+    /// this one is closing, and whose they are is served again first. Returns whether the
     /// worker was woken.
     ///
     /// Returns an error if memory runs out.

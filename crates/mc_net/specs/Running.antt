@@ -11,7 +11,6 @@ use Rattle.mc_net.specs.declared.event_loop.EventLoop.{EventLoop}
 use Rattle.mc_net.specs.declared.listener.RoleListener.{RoleListener}
 use Rattle.mc_net.specs.declared.worker_thread.WorkerThread.{WorkerThread}
 use Rattle.uc_log.specs.declared.log.Log.{Log}
-use Rattle.uc_worker.specs.Worker.{HasReplayedAll}
 use Rattle.uc_worker.specs.declared.worker.Worker.{Worker}
 
 -- the role and the listener of each
@@ -54,11 +53,10 @@ pub record FitTogether {G : Type 0} (log : Log) (workers : List Worker) (gates :
 abbrev pub standing_at : Worker → EventLoop → Standing
 standing_at worker event_loop = standing worker event_loop.ready.connections
 
--- how a loop ends without a fault: no connection is left; or the worker has replayed all places, if
--- commands are left to the next log then
+-- how a loop ends without a fault: no connection is left; or commands are left to the next log
 abbrev pub EndsAs : Bool → Ended → Standing → Type 0
 EndsAs until Done after = IsEmpty after.connections
-EndsAs until Full after = (until ≡ true) × HasReplayedAll after.worker
+EndsAs until Full after = until ≡ true
 
 -- a loop has worked to its end
 pub record HasWorked (until : Bool) (before after : Standing) (ended : Ended) : Type 0 where

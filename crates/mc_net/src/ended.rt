@@ -6,7 +6,7 @@ ghost use Rattle.std.specs.Prelude.{◌≡◌};
 pub enum Ended {
     /// No more streams come, and every connection has ended.
     Done,
-    /// Commands may be left to the next log, as all places of this one are decided.
+    /// Commands are left to the next log, as this one is to be closed.
     Full,
 }
 

@@ -48,6 +48,10 @@ pub(crate) struct EventLoop {
     is_behind: bool,
     // Memory was refused while the worker caught up, so that it may not have replayed all.
     is_starved: bool,
+    // How many bytes the commands of the log keep that the worker has replayed.
+    bytes: u64,
+    // A log is closed where its commands keep as many.
+    most_bytes: u64,
     alloc: Global,
 }
 
@@ -72,10 +76,16 @@ fn poll_events(
 }
 
 impl EventLoop {
-    /// Returns an event loop without connections, for a log of this many tenants.
+    /// Returns an event loop without connections, for logs of this many tenants, each of which is
+    /// closed once its commands keep this many bytes.
     ///
     /// Returns `Memory` if memory runs out.
-    pub(crate) fn new(alloc: Global, poll: Poll, tenants: usize) -> Result<EventLoop, Halt>
+    pub(crate) fn new(
+        alloc: Global,
+        poll: Poll,
+        tenants: usize,
+        most_bytes: u64,
+    ) -> Result<EventLoop, Halt>
         ensures { IfOk result (λ event_loop. IsNewFor tenants event_loop.ready.connections) }
     {
         let events = Events::with_capacity(alloc, EVENTS)?;
@@ -86,6 +96,8 @@ impl EventLoop {
             events,
             is_behind: false,
             is_starved: false,
+            bytes: 0,
+            most_bytes,
             alloc,
         })
     }
@@ -139,8 +151,8 @@ impl EventLoop {
 
     /// Serves the connections that are to be served, and then catches up with `STRIDE` places at
     /// most. Wakes the other workers if the log has grown a lot meanwhile. Returns whether this
-    /// worker was woken. If `until_done` is set, commands are left to the next log once the worker
-    /// has replayed all places.
+    /// worker was woken. If `until_done` is set, commands are left to the next log once this one is
+    /// closing.
     ///
     /// Returns `Memory` if memory runs out.
     fn make_round<G: Gate>(
@@ -167,6 +179,7 @@ impl EventLoop {
             mailboxes.wake_others(number);
         }
         self.catch_up(worker, gate);
+        self.bytes = self.bytes.saturating_add(worker.bytes_from(known));
         Ok(is_woken)
     }
 
@@ -181,10 +194,16 @@ impl EventLoop {
             .then_some(Duration::from_millis(RETRY_MILLIS))
     }
 
+    /// Returns whether the log is to be closed: another loop has signalled so, fewer places are left
+    /// than there are workers, or its commands keep as many bytes as a log's may.
+    fn is_to_close(&self, worker: &Worker<'_>, signal: Option<Signal>) -> bool {
+        signal == Some(Signal::Full) || worker.is_closing() || self.bytes >= self.most_bytes
+    }
+
     /// Serves the streams that the acceptor leaves in the mailbox of this number, until no more come
     /// and every connection has ended. Streams that close have about two seconds to end then. If
-    /// `until_done` is set it also ends, as `Full`, once the worker has replayed all places of the
-    /// log; all other loops are woken then, so that they end too.
+    /// `until_done` is set it also ends, as `Full`, once the log is to be closed; all other loops are
+    /// signalled then, so that they end too.
     ///
     /// Returns `Memory` if memory runs out, and `Poll` if a poll or a waker fails. Returns
     /// `Elsewhere` if another loop has failed; this loop's connections are closed then.
@@ -210,6 +229,7 @@ impl EventLoop {
         let mut buffer = [0u8; PULL_BYTES];
         // Arrivals may be left from when an earlier log was served.
         let mut signal = None;
+        self.bytes = worker.bytes_from(0);
         for _ in rt.forever() {
             if signal == Some(Signal::Halted) {
                 self.ready.connections.clear();
@@ -219,8 +239,8 @@ impl EventLoop {
                 self.linger(&mut buffer);
                 return Ok(Ended::Done);
             }
-            if until_done && worker.is_done() {
-                mailboxes.tell_full(rt, number)?;
+            if until_done && self.is_to_close(worker, signal) {
+                mailboxes.tell_full(rt)?;
                 return Ok(Ended::Full);
             }
             let timeout = self.timeout(signal.is_none());

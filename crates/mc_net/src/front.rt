@@ -60,7 +60,8 @@ fn new_poll<R: Net>(rt: &R, alloc: Global) -> Result<(Poll, Mailbox), Halt> {
     }
 }
 
-/// Returns `count` event loops for a log of this many tenants, and the mailbox of each.
+/// Returns `count` event loops for logs of this many tenants, each of which is closed once its
+/// commands keep `log_bytes` bytes, and the mailbox of each.
 ///
 /// Returns `Memory` if memory runs out, and `Poll` if a poll or a mailbox can't be made.
 fn new_event_loops<R: Net>(
@@ -68,6 +69,7 @@ fn new_event_loops<R: Net>(
     alloc: Global,
     count: usize,
     tenants: usize,
+    log_bytes: u64,
 ) -> Result<(Vec<Mailbox>, Vec<EventLoop>), Halt>
     ensures mailboxes { IfOk result (λ pair. vec_len pair.0 ≡ count) }
     ensures many { IfOk result (λ pair. vec_len pair.1 ≡ count) }
@@ -78,7 +80,7 @@ fn new_event_loops<R: Net>(
     for _ in 0..count {
         let (poll, mailbox) = new_poll(rt, alloc)?;
         mailboxes.push(mailbox)?;
-        event_loops.push(EventLoop::new(alloc, poll, tenants)?)?;
+        event_loops.push(EventLoop::new(alloc, poll, tenants, log_bytes)?)?;
     }
     Ok((mailboxes, event_loops))
 }
@@ -101,7 +103,8 @@ fn role_listeners(
 
 impl Front {
     /// Returns the front of these listeners, for this many workers of each log of this many tenants.
-    /// It is to accept `connections` streams of tenants; 0 for no end.
+    /// It is to accept `connections` streams of tenants; 0 for no end. A log that another may follow is
+    /// closed once its commands keep `log_bytes` bytes, before all its places are taken.
     ///
     /// Returns `Memory` if memory runs out, and `Input` if a poll or a mailbox can't be made.
     pub fn new<R: Net>(
@@ -111,6 +114,7 @@ impl Front {
         connections: u64,
         workers: usize,
         tenants: usize,
+        log_bytes: u64,
     ) -> Result<Front, Fault>
         requires some { (0 < workers) × (0 < vec_len listeners) }
         requires roles { All (λ listener. IsAmong listener.0 tenants) listeners.items }
@@ -122,7 +126,7 @@ impl Front {
             (λ front. listeners_of front.acceptor.listeners.items ≡ listeners.items) }
         ensures faults { MatchResult result (λ _. ⊤) IsNetworkFault }
     {
-        let (of_workers, event_loops) = new_event_loops(rt, alloc, workers, tenants)?;
+        let (of_workers, event_loops) = new_event_loops(rt, alloc, workers, tenants, log_bytes)?;
         let (poll, of_acceptor) = new_poll(rt, alloc)?;
         let listeners = role_listeners(alloc, listeners)?;
         let acceptor = Acceptor::new(alloc, poll, listeners, connections)?;
@@ -141,9 +145,10 @@ impl Front {
     /// Lets these workers of one log serve, each at the event loop of its index and in a thread of
     /// its own if one can be made, until no more streams are to come and every connection has ended:
     /// that is `Done`. Unless the log is the last one, serving also ends, as `Full`, once a worker
-    /// has replayed all places: no command after them is answered, those that wait are first on the
-    /// next log, and the connections and the streams that come stay with the front. Returns the
-    /// workers in their order.
+    /// finds that its log is closing, or that its commands keep as many bytes as a log's may: then
+    /// commands wait and are first on the next log, and the connections and the streams that come
+    /// stay with the front. Returns the workers in their order; places may be left, which
+    /// `Worker::fill` fills.
     ///
     /// When every worker's loop has begun, and before anything is accepted, `begin` is called, once,
     /// with the state. Returns `Memory` if a loop doesn't begin within about ten seconds, for example

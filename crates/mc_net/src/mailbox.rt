@@ -20,7 +20,8 @@ pub(crate) enum Signal {
     Open,
     /// No more streams come.
     Closed,
-    /// All places of the log are decided, and no more streams are accepted while it is served.
+    /// The log is to be closed: commands are left to the next one, and no more streams are accepted
+    /// while it is served.
     Full,
     /// Another loop has failed, and this one is to end.
     Halted,
@@ -83,13 +84,15 @@ impl Mailbox {
         }
     }
 
-    /// Sets the signal, unless it is already at a later one.
-    pub(crate) fn raise<R: Wait>(&self, rt: &R, signal: Signal) {
+    /// Sets the signal, unless it is already this one or a later one. Returns whether it did.
+    pub(crate) fn raise<R: Wait>(&self, rt: &R, signal: Signal) -> bool {
         let mut guard = self.inbox.lock(rt);
         let inbox = &mut *guard;
-        if inbox.signal < signal {
+        let rises = inbox.signal < signal;
+        if rises {
             inbox.signal = signal;
         }
+        rises
     }
 
     /// Sets the signal back, for the next log. Arrivals stay in the queue.
@@ -97,11 +100,13 @@ impl Mailbox {
         self.inbox.lock(rt).signal = Signal::Starting;
     }
 
-    /// Sets the signal as `raise` does, and wakes the loop.
+    /// Sets the signal as `raise` does, and wakes the loop if it did.
     ///
     /// Returns `Poll` if the loop can't be woken.
     pub(crate) fn tell<R: Wait>(&self, rt: &R, signal: Signal) -> Result<(), Halt> {
-        self.raise(rt, signal);
+        if !self.raise(rt, signal) {
+            return Ok(());
+        }
         wake(&self.waker)
     }
 }
@@ -153,18 +158,12 @@ impl Mailboxes {
         }
     }
 
-    /// Signals the acceptor that the log is full, and wakes all workers but the one of this number,
-    /// which then replay all its places.
+    /// Signals the acceptor and all workers that the log is to be closed.
     ///
-    /// Returns `Poll` if one of them can't be woken.
-    pub(crate) fn tell_full<R: Wait>(&self, rt: &R, number: usize) -> Result<(), Halt> {
+    /// Returns `Poll` if one of them can't be woken; those after it aren't signalled then.
+    pub(crate) fn tell_full<R: Wait>(&self, rt: &R) -> Result<(), Halt> {
         self.of_acceptor.tell(rt, Signal::Full)?;
-        for (other, mailbox) in self.of_workers.iter().enumerate() {
-            if other != number {
-                wake(&mailbox.waker)?;
-            }
-        }
-        Ok(())
+        self.tell_workers(rt, Signal::Full)
     }
 
     /// Sets all signals back, before the loops begin on the next log.

@@ -90,7 +90,17 @@ pub fn serve<'a, R: Threads + Wait + Net + Sync, G: Gate + Send + Drop, B: Begin
     mc_connections::laws::connections_are_answered_over_logs();
     mc_connections::laws::commands_are_asked_for_over_logs();
     let tenants = log.settings().tenants().len();
-    let mut front = Front::new(rt, alloc, listeners, connections, workers.len(), tenants)?;
+    // The only log isn't closed before its last place.
+    let bytes = u64::MAX;
+    let mut front = Front::new(
+        rt,
+        alloc,
+        listeners,
+        connections,
+        workers.len(),
+        tenants,
+        bytes,
+    )?;
     let (workers, _) = front.serve_generation(rt, alloc, log, workers, gates, true, begin, state)?;
     Ok(front.into_returned(alloc, workers)?)
 }

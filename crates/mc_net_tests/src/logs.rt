@@ -17,7 +17,7 @@ use std::sync::Wait;
 use std::test::Fail;
 use std::thread::{Threads, join};
 use uc_log::{Log, Pass};
-use uc_worker::{Base, Next, Open, Worker, turn_over};
+use uc_worker::{Base, Next, Open, Worker, fill_all, turn_over};
 
 /// Returns whether each worker has replayed all places of its log, and so many more changes can get
 /// uniques in its tables.
@@ -30,9 +30,8 @@ fn can_be_followed(workers: &[Worker<'_>], places: u64) -> bool
         .all(|worker| worker.is_done() && worker.has_room(places))
 }
 
-/// Closes a full log whose workers have come back, and opens the one that follows it.
-///
-/// Returns `BadEvent` if a worker hasn't replayed all places.
+/// Fills the places that are left in a log whose workers have come back, closes it, and opens the one
+/// that follows it.
 fn next_log(alloc: Global, log: &Log, workers: &mut [Worker<'_>]) -> Result<Next, Fault>
     requires { All (λ worker. worker.log.now ≡ log.now) workers.old }
     ensures settings { IfOk result (λ next. next.log.settings ≡ log.now.settings) }
@@ -46,6 +45,7 @@ fn next_log(alloc: Global, log: &Log, workers: &mut [Worker<'_>]) -> Result<Next
     if workers.is_empty() {
         return Err(Fault::BadEvent);
     }
+    fill_all(workers)?;
     if !can_be_followed(workers, log.settings().places()) {
         return Err(Fault::BadEvent);
     }
@@ -119,7 +119,8 @@ fn serve_two<R: Threads + Wait + Net + Sync>(
         return Err(Fault::BadSettings);
     }
     let tenants = log.settings().tenants().len();
-    let mut front = Front::new(rt, alloc, listeners, connections, count, tenants)?;
+    let bytes = u64::MAX;
+    let mut front = Front::new(rt, alloc, listeners, connections, count, tenants, bytes)?;
     let mut begun = 0;
     let (mut workers, first) = front.serve_generation(
         rt, alloc, &log, workers, gates, false, &Counting, &mut begun,
@@ -195,8 +196,8 @@ fn a_connection_outlives_its_log(rt: HostRuntime) -> Result<(), Fail> {
 }
 
 /// The first client's worker is held after it has announced the client's command, until the other
-/// has filled the log: with two sets, the command that it helps, and two of its client's own. The
-/// third of those is left to the next log.
+/// has left one place of six: after two sets, the command that it helps, and two of its client's own.
+/// The third of those is left to the next log, since the last place is kept for the held worker.
 ///
 /// The third place is the first worker's turn, so its command comes before those of the other. Each
 /// command counts once: four make `n` four, and one makes `m` one.
@@ -220,14 +221,14 @@ const HELD: [Act<'static>; 16] = [
 ];
 
 #[test]
-fn a_held_worker_finds_its_log_full(rt: HostRuntime) -> Result<(), Fail> {
+fn a_held_worker_finds_its_log_closing(rt: HostRuntime) -> Result<(), Fail> {
     let visit = Visit {
         quotas: &[QUOTAS],
         listeners: &[0],
         workers: 2,
         acts: &HELD,
     };
-    let Outcome { failed, ended } = outcome_of(&rt, rt.alloc(), visit, 5, true)?;
+    let Outcome { failed, ended } = outcome_of(&rt, rt.alloc(), visit, 6, true)?;
     assert_eq!(rt; failed, None);
     assert_eq!(rt; ended?, (Ended::Full, Ended::Done));
     Ok(())

@@ -1,4 +1,4 @@
--- Logs one after another: workers that catch up and close one, and what those come to that have
+-- Logs one after another: workers that fill and close one, and what those come to that have
 -- served on all of them.
 use Rattle.std.proofs.Common.{◌≡◌, ◌∙◌, ◌⊎◌, ◌<◌, ◌≤◌, ℕ, ◌+◌, ◌-◌, ◌^◌, min, zero, suc, Bool, true, false, List, [], ◌∷◌, ◌++◌, Err, IfOk, Ok, Result, take, Some, All, Contains, get_or, length, map, slice_get, slice_index_or, slice_set, ap, arith, refl, sym, subst, inl, inr, ⊎_elim}
 use Rattle.std.proofs.Math.Nat.{min-eq_left}
@@ -20,36 +20,32 @@ use Rattle.mc_net.specs.declared.ended.Ended.{Ended}
 use Rattle.mc_net.specs.declared.ended.Ended.TheVariants as Ended
 use Rattle.mc_net.specs.declared.event_loop.EventLoop.{EventLoop}
 use Rattle.mc_net.specs.declared.front.Front.{Front}
-use Rattle.mc_server.proofs.Meetings.{catches_through}
 use Rattle.mc_server.proofs.NetworkRuns.{are_workers}
 use Rattle.mc_server.specs.Crew.{AreWorkersOf, HaveMet}
 use Rattle.mc_server.specs.Logs.{AreServedBy, CanBeFollowed, Closes, EndsThere, IsAnsweredBy, ServesInTwo, ServesLast, WereServed}
 use Rattle.uc_worker.specs.Cited.{entries}
 use Rattle.uc_log.specs.declared.log.Log.{Log}
 use Rattle.uc_worker.specs.Cited.{Sighting}
-use Rattle.uc_worker.specs.Going.{CatchesUp, Continues}
+use Rattle.uc_worker.specs.Going.{CatchesUp, Continues, FillsUp}
 use Rattle.uc_worker.specs.TurningOver.{CanTurnOver, HaveOneHistory, IsAsBefore}
 use Rattle.uc_worker.specs.Worker.{HasReplayedAll, history_of, openings_of, seat_of, tables_of}
 use Rattle.uc_worker.specs.declared.worker.Worker.{Worker}
 
--- one more worker of a list has caught up
-pub one_caught_up : (old now : List Worker) (number : ℕ) (worker new : Worker) → AllZip CatchesUp old now → worker ≡ get_or now number worker → CatchesUp (get_or now number worker) new → number < length now →
-    AllZip CatchesUp old (slice_set now number new)
-one_caught_up [] [] number worker new all is on inside = let no : ⊥ = omega (arith, inside) in absurd no
-one_caught_up [] (y ∷ ys) number worker new all is on inside = absurd all
-one_caught_up (x ∷ xs) [] number worker new all is on inside = absurd all
-one_caught_up (x ∷ xs) (y ∷ ys) zero worker new all is on inside =
-    (catches_through x y new all.0 on, all.1)
-one_caught_up (x ∷ xs) (y ∷ ys) (suc number) worker new all is on inside = (all.0, one_caught_up xs ys number worker new all.1 is on (omega (arith, inside)))
+-- the laws of filling places
+abbrev pub FillsQuietly : Type 0
+FillsQuietly = (old new : Worker) → CatchesUp old new → FillsUp old new
 
--- workers that are as they were before have caught up
-pub all_caught_up : (old now new : List Worker) → AllZip CatchesUp old now → AllZip IsAsBefore now new → AllZip CatchesUp old new
-all_caught_up [] [] [] one two = tt
-all_caught_up [] [] (z ∷ zs) one two = absurd two
-all_caught_up [] (y ∷ ys) new one two = absurd one
-all_caught_up (x ∷ xs) [] new one two = absurd one
-all_caught_up (x ∷ xs) (y ∷ ys) [] one two = absurd two
-all_caught_up (x ∷ xs) (y ∷ ys) (z ∷ zs) one two = (catches_through x y z one.0 two.0.caught_up, all_caught_up xs ys zs one.1 two.1)
+abbrev pub FillsOn : Type 0
+FillsOn = (first second third : Worker) → FillsUp first second → FillsUp second third → FillsUp first third
+
+-- workers that are as they were before have filled nothing more
+pub all_filled : FillsQuietly → FillsOn → (old now new : List Worker) → AllZip FillsUp old now → AllZip IsAsBefore now new → AllZip FillsUp old new
+all_filled quietly fills [] [] [] one two = tt
+all_filled quietly fills [] [] (z ∷ zs) one two = absurd two
+all_filled quietly fills [] (y ∷ ys) new one two = absurd one
+all_filled quietly fills (x ∷ xs) [] new one two = absurd one
+all_filled quietly fills (x ∷ xs) (y ∷ ys) [] one two = absurd two
+all_filled quietly fills (x ∷ xs) (y ∷ ys) (z ∷ zs) one two = (fills x y z one.0 (quietly y z two.0.caught_up), all_filled quietly fills xs ys zs one.1 two.1)
 
 all_done : (log : Log) (settings : Configuration) (now new : List Worker) → All (CanTurnOver log settings) now → AllZip IsAsBefore now new → All HasReplayedAll new
 all_done log settings [] [] can same = All-nil HasReplayedAll
@@ -72,12 +68,12 @@ first_stands (y ∷ ys) (z ∷ zs) tables same stands first at =
     (subst (λ openings. EachStands openings (entries (history_of z)) tables) (sym same.0.openings)
     (subst (λ (history : List Sighting). EachStands (openings_of y) (entries history) tables) (sym same.0.history) (stands y refl)))
 
--- workers that have caught up and turned over have closed their log
-pub closes : (log : Log) (settings : Configuration) (old now new : List Worker) (tables : List TableState) → AllZip CatchesUp old now → All (CanTurnOver log settings) now → AllZip IsAsBefore now new →
+-- workers that have filled all places and turned over have closed their log
+pub closes : FillsQuietly → FillsOn → (log : Log) (settings : Configuration) (old now new : List Worker) (tables : List TableState) → AllZip FillsUp old now → All (CanTurnOver log settings) now → AllZip IsAsBefore now new →
     HaveOneHistory new → ((first : Worker) → slice_get now 0 ≡ Some first → EachStands (openings_of first) (entries (history_of first)) tables) → Closes old tables
-closes log settings old now new tables later can same one stands = record {
+closes quietly fills log settings old now new tables later can same one stands = record {
   closed = new;
-  later = all_caught_up old now new later same;
+  later = all_filled quietly fills old now new later same;
   done = all_done log settings now new can same;
   same = one;
   stands = first_stands now new tables same stands;
@@ -92,8 +88,8 @@ can_all log settings workers places is of can = λ i d inside. record {
   room = subst (HaveRoom (tables_of (slice_index_or workers i d))) is (can i d inside).1;
 }
 
--- workers that have caught up have gone on
-pub all_gone_on : (old new : List Worker) → AllZip CatchesUp old new → AllZip Continues old new
+-- workers that have filled places have gone on
+pub all_gone_on : (old new : List Worker) → AllZip FillsUp old new → AllZip Continues old new
 all_gone_on [] [] all = tt
 all_gone_on [] (y ∷ ys) all = absurd all
 all_gone_on (x ∷ xs) [] all = absurd all

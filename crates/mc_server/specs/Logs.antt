@@ -19,7 +19,7 @@ use Rattle.uc_worker.specs.Cited.{entries}
 use Rattle.uc_log.specs.declared.log.Log.{Log}
 use Rattle.uc_log.specs.declared.pass.Pass.{Pass}
 use Rattle.uc_log.specs.Passes.{IsNew, IsUnusedPass}
-use Rattle.uc_worker.specs.Going.{CatchesUp, Continues}
+use Rattle.uc_worker.specs.Going.{Continues, FillsUp}
 use Rattle.uc_worker.specs.TurningOver.{HaveOneHistory}
 use Rattle.uc_worker.specs.Worker.{HasReplayedAll, history_of, openings_of, tables_of}
 use Rattle.uc_worker.specs.declared.turning_over.Base.{Base}
@@ -44,12 +44,13 @@ FitsOver log None = ⊤
 FitsOver log (Some base) = (length base.tables.items ≡ length log.settings.tenants)
     × HaveRoom base.tables.items log.settings.places
 
--- A log is closed: its workers, later on, have replayed all its places and have one history. So each
--- command that one of them has answered stands in it; and these tables are the ones that the log was
--- opened over, each after its tenant's own commands of that whole log.
+-- A log is closed: its workers, later on, have replayed all its places and have one history. All that
+-- they have announced meanwhile are no-ops, which fill the places that were left. So each command that
+-- one of them has answered stands in it; and these tables are the ones that the log was opened over,
+-- each after its tenant's own commands of that whole log.
 pub record Closes (workers : List Worker) (tables : List TableState) : Type 0 where
   pub closed : List Worker
-  pub later : AllZip CatchesUp workers closed
+  pub later : AllZip FillsUp workers closed
   pub done : All HasReplayedAll closed
   pub same : HaveOneHistory closed
   pub stands : (first : Worker) → slice_get closed 0 ≡ Some first →
@@ -70,14 +71,14 @@ pub data LogsWere (settings : Configuration) : ℕ → ℕ → List InTurn → L
       LogsWere settings (logs + 1) (places + settings.places)
       (each_followed_by who begun served) after
 
--- Workers served on one log in two parts: its first part ended at its last place, and as no log
--- could follow, they went on with it.
+-- Workers served on one log in two parts: after its first part they filled places that were left, and
+-- as no log could follow, they went on with it.
 pub record ServesInTwo (who : List InTurn) (begun served : List Worker)
     (all : List InTurn) : Type 0 where
   pub full : List Worker
   pub again : List Worker
   pub first : AllZip Continues begun full
-  pub between : AllZip CatchesUp full again
+  pub between : AllZip FillsUp full again
   pub second : AllZip Continues again served
   pub in_turn : all ≡ each_followed_by (each_followed_by who begun full) again served
 

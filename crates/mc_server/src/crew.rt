@@ -64,15 +64,6 @@ pub(crate) fn open_workers<'a>(
     Ok(workers)
 }
 
-/// Lets each worker catch up. A worker to whom memory is refused then hasn't replayed all.
-pub(crate) fn catch_up_all(workers: &mut [Worker<'_>])
-    ensures { AllZip CatchesUp workers.old workers.new }
-{
-    for number in 0..workers.len() {
-        let _ = workers[number].catch_up(&mut Open);
-    }
-}
-
 /// Lets a worker meet the others, one after another, and returns those.
 ///
 /// Returns `Memory` if memory runs out; some of them may not have met it then.

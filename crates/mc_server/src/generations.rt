@@ -10,16 +10,16 @@ ghost use Rattle.mc_server.specs.Crew.{AreWorkersOf};
 ghost use Rattle.mc_server.specs.Logs.{AreOpenedOver, AreServedBy, CanBeFollowed, Closes, FitsOver, IsFrontOf, IsNextLog, LogsWere, ServesTo, WereServed, tables_over};
 ghost use Rattle.mc_server.specs.declared.generations.TheConstants.{MOST_PLACES};
 ghost use Rattle.uc_log.specs.Passes.{IsNew, IsUnusedPass};
-ghost use Rattle.uc_worker.specs.Going.{CatchesUp, Continues};
+ghost use Rattle.uc_worker.specs.Going.{Continues, FillsUp};
 
-use crate::crew::{catch_up_all, meet_all, open_workers};
+use crate::crew::{meet_all, open_workers};
 use mc_model::Fault;
 use mc_net::{Begin, Ended, Front};
 use std::alloc::Global;
 use std::sync::Wait;
 use std::thread::Threads;
 use uc_log::{Log, Pass};
-use uc_worker::{Base, Next, Open, Worker, turn_over};
+use uc_worker::{Base, Next, Open, Worker, fill_all, turn_over};
 
 /// What serving a log has come to.
 #[derive(Drop)]
@@ -62,18 +62,20 @@ fn can_be_followed(workers: &[Worker<'_>], places: u64) -> bool
         .all(|worker| worker.is_done() && worker.has_room(places))
 }
 
-/// Closes a log, if it is full, and opens the one that follows it.
+/// Fills the places that are left in a log, closes it, and opens the one that follows it.
 ///
-/// Returns `None` if a worker hasn't replayed all its places, the changes of a whole log couldn't
-/// all get uniques, or memory runs out. The workers have caught up in either case.
+/// Returns `None` if the changes of a whole log couldn't all get uniques, or memory runs out. Places
+/// may be filled in either case.
 fn next_log(alloc: Global, log: &Log, workers: &mut [Worker<'_>]) -> Option<Next>
     requires workers { AreWorkersOf log.now.settings log.now workers.old }
     requires some { 0 < length workers.old }
-    ensures later { AllZip CatchesUp workers.old workers.new }
+    ensures later { AllZip FillsUp workers.old workers.new }
     ensures fits { IfSome result (IsNextLog log.now.settings) }
     ensures closes { IfSome result (λ next. Closes workers.old next.base.tables.items) }
 {
-    catch_up_all(workers);
+    uc_worker::laws::workers_go_on();
+    // A worker to whom memory is refused hasn't replayed all.
+    let _ = fill_all(workers);
     if !can_be_followed(workers, log.settings().places()) {
         return None;
     }
@@ -114,8 +116,8 @@ fn serve_part<'a, R: Threads + Wait + Sync, B: Begin<S>, S>(
     front.serve_generation(rt, alloc, log, workers, gates, is_last, begin, state)
 }
 
-/// Serves a log with these workers until every connection has ended, or until it is full and the
-/// next one is opened. Where the last log is full, or none can follow, its workers go on to the end:
+/// Serves a log with these workers until every connection has ended, or until it is closed and the
+/// next one is opened. Where none can follow, its workers go on to the end:
 /// commands after its last place are answered `SERVER_ERROR log full`.
 ///
 /// Returns the errors of `serve_part`.

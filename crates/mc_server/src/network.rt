@@ -50,7 +50,16 @@ fn serve_tenants<R: Threads + Wait + Net + Sync, O: Output>(
     let (log, passes) = Log::open(alloc, &service.settings)?;
     let tenants = log.settings().tenants().len();
     let connections = service.connections;
-    let mut front = Front::new(rt, alloc, listeners, connections, passes.len(), tenants)?;
+    let log_bytes = 1 << 30;
+    let mut front = Front::new(
+        rt,
+        alloc,
+        listeners,
+        connections,
+        passes.len(),
+        tenants,
+        log_bytes,
+    )?;
     let text = ready_text(alloc, &told)?;
     let announcement = Announcement { text };
     let most = service.generations;

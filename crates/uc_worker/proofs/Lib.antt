@@ -6,4 +6,5 @@ pub mod Telling
 pub mod Replies
 pub mod Counting
 pub mod Lacking
+pub mod NoOps
 pub mod TurningOver

@@ -90,7 +90,7 @@ module _ {X : Type 0} (R : X → X → Type 0) where
   zip_set (z ∷ xs) (y ∷ ys) (suc i) x all here = (all.0, zip_set xs ys i x all.1 here)
 
 -- inside a list no other value is read
-get_or_any : {X : Type 0} (xs : List X) (i : ℕ) (d e : X) → i < length xs → get_or xs i d ≡ get_or xs i e
+pub get_or_any : {X : Type 0} (xs : List X) (i : ℕ) (d e : X) → i < length xs → get_or xs i d ≡ get_or xs i e
 get_or_any [] i d e inside = absurd (omega (arith, inside))
 get_or_any (x ∷ xs) zero d e inside = refl
 get_or_any (x ∷ xs) (suc i) d e inside = get_or_any xs i d e (omega (arith, inside))

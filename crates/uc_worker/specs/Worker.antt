@@ -1,8 +1,9 @@
 -- What contracts say of a worker.
 use Rattle.std.specs.Option.{unwrap_or}
-use Rattle.std.specs.Prelude.{◌≡◌, ◌⊎◌, ℕ, ◌-◌, List, length, Option, Some, None, slice_get}
+use Rattle.std.specs.Prelude.{◌≡◌, ◌⊎◌, ℕ, ◌+◌, ◌-◌, ◌<◌, nat_le, if◌then◌else◌, List, length, Option, Some, None, slice_get}
 use Rattle.mc_model.specs.declared.command.Command.{Command}
 use Rattle.mc_model.specs.declared.command.Command.TheVariants.{Flush}
+use Rattle.mc_model.specs.declared.shown.LogSize.{LogSize}
 use Rattle.mc_model.specs.declared.shown.Phase.TheVariants.{Pending}
 use Rattle.mc_model.specs.declared.request.Entry.{Entry}
 use Rattle.mc_model.specs.declared.settings.Limits.{Limits}
@@ -55,6 +56,17 @@ IsFull worker = length (seat_of worker).state.learned ≡ (seat_of worker).size.
 -- it has replayed all places of its log
 abbrev pub HasReplayedAll : Worker → Type 0
 HasReplayedAll worker = length (history_of worker) ≡ worker.log.now.settings.places
+
+-- How many places are kept free at the end of a log that another is to follow: one for each worker,
+-- since each may announce one more command after the others have filled all places before. A log
+-- with fewer places than workers is used up to its last place.
+abbrev pub places_kept : LogSize → ℕ
+places_kept size = if nat_le size.workers size.places then size.workers else 1
+
+-- Its log is closing: after what it has replayed, fewer places are left than are kept free.
+abbrev pub IsClosing : Worker → Type 0
+IsClosing worker =
+    (seat_of worker).size.places < length (history_of worker) + places_kept (seat_of worker).size
 
 -- it has replayed all that it has learned
 abbrev pub IsUpToDate : Worker → Type 0

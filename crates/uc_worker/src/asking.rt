@@ -7,7 +7,7 @@ ghost use Rattle.mc_model.specs.Log.{own};
 ghost use Rattle.mc_model.specs.Replay.{HaveRoom};
 ghost use Rattle.uc_cells.specs.Sighting.{entries};
 ghost use Rattle.uc_worker.specs.Histories.{AreDecided, Follows, LacksAtMostOne};
-ghost use Rattle.uc_worker.specs.Worker.{HasReplayedAll, history_of, openings_of, seat_of, tables_of, tenants_of};
+ghost use Rattle.uc_worker.specs.Worker.{HasReplayedAll, IsClosing, history_of, openings_of, seat_of, tables_of, tenants_of};
 ghost use Rattle.uc_places.specs.Reached.{LastIsReached};
 ghost use Rattle.uc_places.specs.SeatLaw.{SeatLaw};
 
@@ -60,6 +60,21 @@ impl<'a> Worker<'a> {
         ensures { IsTrue result ↔ HasReplayedAll self.now }
     {
         !self.replica.has_place()
+    }
+
+    /// Returns whether its log is closing: fewer places are left, after those that the worker has
+    /// replayed, than there are workers. In a log with fewer places than workers, whether none is.
+    ///
+    /// If each worker of a log leaves its commands to the next log from then on, each command that
+    /// was announced before finds its place: a worker announces at most one once the others have
+    /// come that far.
+    pub fn is_closing(&self) -> bool
+        ensures { IsTrue result ↔ IsClosing self.now }
+    {
+        let settings = self.log.settings();
+        let (workers, places) = (settings.workers(), settings.places());
+        let kept = if workers <= places { workers } else { 1 };
+        self.replica.len() as u64 + kept > places
     }
 
     /// Returns whether in each of its tables this many more changes can get uniques of 64 bits.

@@ -10,9 +10,9 @@ ghost use Rattle.uc_places.specs.declared.view.View.{View};
 ghost use Rattle.uc_places.specs.Reached.{LastIsReached};
 ghost use Rattle.uc_places.specs.SeatLaw.{SeatLaw};
 ghost use Rattle.uc_worker.specs.Counting.{TakesFew};
-ghost use Rattle.uc_worker.specs.Going.{CatchesUp, Continues};
+ghost use Rattle.uc_worker.specs.Going.{CatchesUp, Continues, FillsUp};
 ghost use Rattle.uc_worker.specs.Steps.{HasReadOn, Leaves};
-ghost use Rattle.uc_worker.specs.Worker.{announced_of, history_of, seat_of};
+ghost use Rattle.uc_worker.specs.Worker.{HasReplayedAll, IsClosing, announced_of, history_of, seat_of};
 ghost use Rattle.uc_worker.specs.declared.worker.Worker.{Worker};
 
 use crate::worker::Worker;
@@ -48,7 +48,8 @@ impl<'a> GoesOn for Worker<'a> {
     } };
 }
 
-/// `Continues` and `CatchesUp` are reflexive and transitive.
+/// `Continues`, `CatchesUp` and `FillsUp` are reflexive and transitive, and a worker that catches up
+/// has filled nothing.
 pub fn workers_go_on()
     ensures same { (worker : Worker) → Continues worker worker }
     ensures through { (first second third : Worker) → Continues first second →
@@ -56,6 +57,16 @@ pub fn workers_go_on()
     ensures quietly { (worker : Worker) → CatchesUp worker worker }
     ensures quietly_through { (first second third : Worker) → CatchesUp first second →
         CatchesUp second third → CatchesUp first third }
+    ensures fills { (old new : Worker) → CatchesUp old new → FillsUp old new }
+    ensures fills_through { (first second third : Worker) → FillsUp first second →
+        FillsUp second third → FillsUp first third }
+{}
+
+/// A log of one worker is closing exactly once it has replayed all its places: it keeps none free for
+/// others.
+pub fn a_log_of_one_worker_closes_at_its_end()
+    ensures { (worker : Worker) → (seat_of worker).size.workers ≡ 1 →
+        IsClosing worker → HasReplayedAll worker }
 {}
 
 /// What a worker takes in one call after another adds up.

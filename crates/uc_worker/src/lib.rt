@@ -4,6 +4,7 @@
 //! worker.
 #![tactic(auto)]
 
+pub use filling::fill_all;
 pub use gate::{Gate, Open, Step};
 pub use turning_over::{Base, Next, turn_over, turn_over_alone};
 pub use worker::{Answer, Worker};
@@ -12,11 +13,13 @@ mod announcing;
 mod asking;
 mod catching_up;
 mod deciding;
+pub mod filling;
 pub mod gate;
 pub mod laws;
 mod meeting;
 mod opening;
 mod replaying;
+mod sizes;
 mod submitting;
 pub mod turning_over;
 pub mod worker;
