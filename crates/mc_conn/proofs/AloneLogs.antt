@@ -31,7 +31,7 @@ below_or_not : (n m : ℕ) (below : Bool) → nat_lt n m ≡ below → (n < m) �
 below_or_not n m true is = inl (ltb-true n m is)
 below_or_not n m false is = inr (ltb-false n m is)
 
--- a worker alone keeps one place free: none, once it has replayed all
+-- a worker alone keeps one place free: its own
 kept_alone : (size : LogSize) → size.workers ≡ 1 → places_kept size ≡ 1
 kept_alone size alone = by_room (nat_le size.workers size.places)
   where
@@ -184,9 +184,10 @@ module _ (places : ℕ) (worker : Worker) (alone : (seat_of worker).size.workers
   few_commands : (requests : List Request) (bytes : List ℕ) → Owes worker (Tenant 0) first_mark requests bytes (mark_of worker) → ¬ (IsClosing worker) → length (commands_of requests) < places
   few_commands requests bytes owes undone =
       let kept = kept_alone (seat_of worker).size alone in
+      let short = worker.short in
       let left : length (history_of worker) < places =
       ⊎_elim (λ (below : length (history_of worker) < places). below)
-      (λ (rest : places ≤ length (history_of worker)). absurd (undone (omega (arith, rest, long, kept))))
+      (λ (rest : places ≤ length (history_of worker)). absurd (undone (omega (arith, rest, long, kept, short))))
       (below_or_not (length (history_of worker)) places (nat_lt (length (history_of worker)) places) refl)
       in
       let placed = all_placed requests first_mark (mark_of worker) bytes owes (omega arith) left in

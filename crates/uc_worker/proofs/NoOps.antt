@@ -16,7 +16,7 @@ use Rattle.uc_worker.specs.contracts.laws.WorkerGoesOn.TheImpl.{continues_self-v
 use Rattle.uc_worker.specs.Going.{CatchesUp, Continues, FillsUp}
 use Rattle.uc_worker.specs.Steps.{IsSame}
 use Rattle.uc_worker.specs.Waiting.{AnnouncesNoOp, LearnsOn}
-use Rattle.uc_worker.specs.Worker.{HasReplayedAll, IsClosing, announced_of, history_of, openings_of, places_kept, seat_of}
+use Rattle.uc_worker.specs.Worker.{HasReplayedAll, IsClosing, IsUpToDate, announced_of, history_of, openings_of, places_kept, seat_of}
 use Rattle.std.proofs.lemmas.List.Elements.{AllZip-get_or}
 use Rattle.std.specs.List.{AllZip}
 use Rattle.uc_worker.proofs.TurningOver.{get_or_any, zip_same, zip_set}
@@ -96,7 +96,7 @@ module _ (old new : Worker) (pass : Pass) (log : new.log ≡ old.log) (openings 
         (subst (λ (p : Pass). slice_get (own_sightings p) number ≡ Some seen) pass_is at);
   }
 
--- a worker alone keeps one place free: none, once it has replayed all
+-- a worker alone keeps one place free: its own
 kept_alone : (size : LogSize) → size.workers ≡ 1 → places_kept size ≡ 1
 kept_alone size alone = by_room (nat_le size.workers size.places)
   where
@@ -104,11 +104,11 @@ kept_alone size alone = by_room (nat_le size.workers size.places)
     by_room true = alone
     by_room false = refl
 
-pub closes_alone : (worker : Worker) → (seat_of worker).size.workers ≡ 1 → IsClosing worker → HasReplayedAll worker
-closes_alone worker alone closing =
+pub closes_alone : (worker : Worker) → (seat_of worker).size.workers ≡ 1 → IsClosing worker → IsUpToDate worker → HasReplayedAll worker
+closes_alone worker alone closing whole =
     let kept = kept_alone (seat_of worker).size alone in
     let places : (seat_of worker).size.places ≡ worker.log.now.settings.places = ap (λ (size : LogSize). size.places) worker.of.1 in
-    let short = worker.short in let few = worker.pass.desk.law.few in omega (arith, kept, places, short, few, closing)
+    let few = worker.pass.desk.law.few in omega (arith, kept, places, few, closing, whole)
 
 -- workers one after another
 pub one_more_done : (workers : List Worker) (number : ℕ) (new : Worker) → ((k : ℕ) (d : Worker) → k < number → HasReplayedAll (get_or workers k d)) → HasReplayedAll new → number < length workers →

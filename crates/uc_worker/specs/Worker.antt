@@ -63,10 +63,11 @@ HasReplayedAll worker = length (history_of worker) ≡ worker.log.now.settings.p
 abbrev pub places_kept : LogSize → ℕ
 places_kept size = if nat_le size.workers size.places then size.workers else 1
 
--- Its log is closing: after what it has replayed, fewer places are left than are kept free.
+-- Its log is closing: after what it has learned, fewer places are left than are kept free.
 abbrev pub IsClosing : Worker → Type 0
 IsClosing worker =
-    (seat_of worker).size.places < length (history_of worker) + places_kept (seat_of worker).size
+    (seat_of worker).size.places
+    < length (seat_of worker).state.learned + places_kept (seat_of worker).size
 
 -- it has replayed all that it has learned
 abbrev pub IsUpToDate : Worker → Type 0

@@ -63,7 +63,7 @@ impl<'a> Worker<'a> {
     }
 
     /// Returns whether its log is closing: fewer places are left, after those that the worker has
-    /// replayed, than there are workers. In a log with fewer places than workers, whether none is.
+    /// learned, than there are workers. In a log with fewer places than workers, whether none is.
     ///
     /// If each worker of a log leaves its commands to the next log from then on, each command that
     /// was announced before finds its place: a worker announces at most one once the others have
@@ -74,7 +74,7 @@ impl<'a> Worker<'a> {
         let settings = self.log.settings();
         let (workers, places) = (settings.workers(), settings.places());
         let kept = if workers <= places { workers } else { 1 };
-        self.replica.len() as u64 + kept > places
+        self.pass.learned() as u64 + kept > places
     }
 
     /// Returns whether in each of its tables this many more changes can get uniques of 64 bits.

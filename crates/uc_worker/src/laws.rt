@@ -12,7 +12,7 @@ ghost use Rattle.uc_places.specs.SeatLaw.{SeatLaw};
 ghost use Rattle.uc_worker.specs.Counting.{TakesFew};
 ghost use Rattle.uc_worker.specs.Going.{CatchesUp, Continues, FillsUp};
 ghost use Rattle.uc_worker.specs.Steps.{HasReadOn, Leaves};
-ghost use Rattle.uc_worker.specs.Worker.{HasReplayedAll, IsClosing, announced_of, history_of, seat_of};
+ghost use Rattle.uc_worker.specs.Worker.{HasReplayedAll, IsClosing, IsUpToDate, announced_of, history_of, seat_of};
 ghost use Rattle.uc_worker.specs.declared.worker.Worker.{Worker};
 
 use crate::worker::Worker;
@@ -62,11 +62,10 @@ pub fn workers_go_on()
         FillsUp second third → FillsUp first third }
 {}
 
-/// A log of one worker is closing exactly once it has replayed all its places: it keeps none free for
-/// others.
+/// A log of one worker closes with its last place: none is kept free for others.
 pub fn a_log_of_one_worker_closes_at_its_end()
     ensures { (worker : Worker) → (seat_of worker).size.workers ≡ 1 →
-        IsClosing worker → HasReplayedAll worker }
+        IsClosing worker → IsUpToDate worker → HasReplayedAll worker }
 {}
 
 /// What a worker takes in one call after another adds up.
