@@ -36,12 +36,16 @@ count_through tickets place ticket legal at =
     ap (count ticket.worker) (take_more tickets place ticket at)
     ∙ (count_own ticket.worker (take place tickets) ticket refl ∙ ap (λ (some : ℕ). some + 1) (legal place ticket at))
 
--- how many commands each worker has announced after an event: the others as many as before, and all
--- of them where the event announces none
+-- how many commands a worker has announced, once it is known what is shown of it
+abbrev announced_in : Option WorkerState → ℕ
+announced_in found = option_map_or (λ (worker : WorkerState). worker.announced) found 0
+
+-- after an event, the other workers have announced as many as before, and all of them have where
+-- the event announces none
 others_announced : (state : ShownState) (decided : List Ticket) (number : ℕ) (new : WorkerState) (other : ℕ) → other ≢ number →
     announced_by (after state decided number new) other ≡ announced_by state other
 others_announced state decided number new other apart =
-    ap (λ (found : Option WorkerState). option_map_or (λ (worker : WorkerState). worker.announced) found 0) (set_elsewhere state.workers number other new apart)
+    ap announced_in (set_elsewhere state.workers number other new apart)
 
 all_announced : (state : ShownState) (decided : List Ticket) (number : ℕ) (old new : WorkerState) → IsWorker state number old → new.announced ≡ old.announced →
     (other : ℕ) → announced_by (after state decided number new) other ≡ announced_by state other
@@ -69,7 +73,7 @@ module _ (size : LogSize) where
   }
     where
       by_found : (number : ℕ) (found : Option WorkerState) → slice_get (replicate size.workers new_worker) number ≡ found →
-          option_map_or (λ (worker : WorkerState). worker.announced) found 0 ≡ 0
+          announced_in found ≡ 0
       by_found number None is = refl
       by_found number (Some worker) is = ap (λ (some : WorkerState). some.announced) (sym (at_replicated size.workers number new_worker worker is))
 
@@ -233,6 +237,7 @@ module _ (size : LogSize) (state : ShownState) (sound : IsSound size state) (spa
             ∙ ap (λ (some : Ticket). some.worker) (get_or-drop from state.decided k (ticket_of 0 0)),
       )
 
+  -- so that worker and the last ones are distinct numbers below the number of workers
   apart : AllPairs (λ x y. x ≢ y) (number ∷ last_workers size state.decided)
   apart = AllPairs-cons (λ x y. x ≢ y) number (last_workers size state.decided)
       (λ k d inside own. let there = at_last k d inside in let fits = enough in
@@ -244,8 +249,7 @@ module _ (size : LogSize) (state : ShownState) (sound : IsSound size state) (spa
 
   -- who has announced a command is a worker
   is_worker : (found : Option WorkerState) → slice_get state.workers number ≡ found → number < size.workers
-  is_worker None is = let none : announced_by state number ≡ 0 = ap (λ (some : Option WorkerState). option_map_or (λ (worker : WorkerState). worker.announced) some 0) is in
-      absurd (omega arith)
+  is_worker None is = let none : announced_by state number ≡ 0 = ap announced_in is in absurd (omega arith)
   is_worker (Some worker) is = let inside = slice_get_within state.workers number worker is in let many = sound.many in omega arith
 
   workers : All (λ x. x < size.workers) (number ∷ last_workers size state.decided)
@@ -254,6 +258,7 @@ module _ (size : LogSize) (state : ShownState) (sound : IsSound size state) (spa
       let there = at_last k d (omega arith) in let some = decided_worker size state (size.places - size.workers + k) there.0 sound there.1 in
       let within = slice_get_within state.workers there.0.worker some.0 some.1 in let many = sound.many in let own = there.2 in omega arith
 
+  -- which in a full log would be too many
   place_left : length state.decided < size.places
   place_left = by_size (dec_le (suc (length state.decided)) size.places)
     where
