@@ -9,4 +9,7 @@ mod OneKey
 mod Counting
 mod Equalities
 mod Entries
+mod Pigeons
+mod LastPlaces
+mod PlaceRows
 mod Rows

@@ -4,5 +4,6 @@
 #![tactic(auto)]
 
 pub mod logs;
+pub mod places;
 pub mod tables;
 pub mod values;
