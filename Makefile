@@ -53,17 +53,20 @@ proxy: kit ## tests twemproxy over three instances of wfmc; installs what it nee
 	@tools/prove.sh wfmc >&2
 	@tools/proxy.sh
 
-# How many minutes the fuzzer takes, and as many the histories, each time.
+# How many minutes the fuzzer takes, and as many the histories, each time; and after how many bytes of commands a log is closed at the third.
 MINUTES = 2
-fuzz: linearizability ## fuzzes wfmc over sockets for twice MINUTES (2), over one log and over one after another, after make linearizability
+LOG_BYTES = 4000
+fuzz: linearizability ## fuzzes wfmc over sockets for three times MINUTES (2), over one log and over logs closed by places and by bytes, after make linearizability
 	@python3 tests/fuzz.py $$(($(MINUTES) * 60))
 	@python3 tests/fuzz.py $$(($(MINUTES) * 60)) --generations
+	@python3 tests/fuzz.py $$(($(MINUTES) * 60)) --generations --log-bytes $(LOG_BYTES)
 
-linearizability: kit ## tests for twice MINUTES (2) that the histories of wfmc's clients are linearizable, over one log and over one after another
+linearizability: kit ## tests for three times MINUTES (2) that the histories of wfmc's clients are linearizable, over one log and over logs closed by places and by bytes
 	@tools/prove.sh wfmc >&2
 	@python3 tests/linearizability.py --self-test
 	@python3 tests/linearizability.py $$(($(MINUTES) * 60))
 	@python3 tests/linearizability.py $$(($(MINUTES) * 60)) --generations
+	@python3 tests/linearizability.py $$(($(MINUTES) * 60)) --generations --log-bytes $(LOG_BYTES)
 
 allocation-failures: kit ## runs the programs, and the tests of the cells and of a turn over, with each allocation refused in turn, and mc_stdin with less and less memory
 	@tools/prove.sh wfmc mc_stdin mc_schedule >&2

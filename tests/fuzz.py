@@ -1,5 +1,6 @@
 #!/usr/bin/env python3
-"""Fuzzes wfmc, as built, over sockets on loopback: fuzz.py [SECONDS] [BINARY] [--seed N] [--round N] [--generations].
+"""Fuzzes wfmc, as built, over sockets on loopback:
+fuzz.py [SECONDS] [BINARY] [--seed N] [--round N] [--generations [--workers W] [--log-bytes B]].
 
 For this many seconds (60) it runs rounds, each with a server and tenants of its own, and all of these at once:
 - tenants with one connection after another, random and mutated streams in random pieces: the replies byte for byte as the oracle has them;
@@ -13,8 +14,10 @@ where it was; more connections than there may be descriptors are served one afte
 and those that come and go without end keep no other waiting; a quiet connection keeps nothing of its large replies; where the system refuses
 threads the server ends; and gets whose replies no memory holds end their own connections alone, under a limit (RLIMIT_AS).
 
-With `--generations` the logs have 64 places and follow one another without an end, below one worker; there are four tenants,
-one of each of the first four kinds, and no reply is that the log is full. Before the rounds it is the memory under a load that is repeated.
+With `--generations` the logs have 64 places and follow one another without an end, below 1, 2 and 4 workers by turns, or always as many as
+`--workers` says; there are four tenants, one of each of the first four kinds, and no reply is that the log is full. With `--log-bytes` the logs
+have 4,096 places, and are closed after this many bytes of commands, 4,000 for example. Before the rounds it is the memory under a load that is
+repeated, and with `--log-bytes` whether logs are closed by their bytes, and what they keep.
 
 Replay a round with --seed N --round M. Prints a line for each failure; the last line is 'N passed, M failed'.
 """
@@ -35,7 +38,7 @@ from generators import StreamGenerator, limit_lines, mutated, pieces
 from harness import repository
 from harness.client import Exchange, connect, exchange, reset
 from harness.results import Results
-from harness.servers import ADMIN, Server
+from harness.servers import ADMIN, ENDLESS_WORKERS, PLACES_ABOVE, Server, endless
 from oracle import protocol
 from oracle.replies import NEVER_FULL, Replies
 from oracle.table import Table
@@ -46,10 +49,6 @@ LARGE = (1_000_000, 1_000_000_000)
 QUOTAS = ((1, 60), (3, 300), (4, 70_000), (1_000, 2_000_000), LARGE)
 VERSION = b"VERSION 1.0.0\r\n"
 LIMITED = ("first-of-four", "another", "third_in_order", "last")
-# Options for logs that follow one another, and the numbers of workers over them.
-ENDLESS = ("--places", "64", "--generations", "0")
-# A worker whose command loses the last place of a log to another's says that the log is full; one that is alone loses none.
-ENDLESS_WORKERS = (1,)
 # Whether the log is full at first, as far as it is known.
 full_at_first = False
 
@@ -331,10 +330,10 @@ class EndlessRound(Round):
 
     noise = calm = "shared"
 
-    def __init__(self, program, seed, workers):
+    def __init__(self, program, seed, workers, log_bytes):
         self.program, self.workers = program, workers
         chance = random.Random(seed)
-        self.options = [*ADMIN, "--workers", str(workers), *ENDLESS]
+        self.options = [*ADMIN, "--workers", str(workers), *endless(log_bytes)]
         self.tenants = {name: chance.choice(QUOTAS) for name in ("solo0", LIMITED[0])} | dict.fromkeys(("shared", "killed"), LARGE)
         self.seeds = chance
 
@@ -384,16 +383,17 @@ def check_flat(program):
         yield "memory after it", f"it grew by {grown} KB" if grown > 4_096 else None
 
 
-def check_flat_over_logs(program):
+def check_flat_over_logs(program, log_bytes):
     """The memory after as many logs as for the sixth time is that after the second."""
-    with Server(program, ["--workers", "2", *ENDLESS], {"a": LARGE}) as server:
+    with Server(program, ["--workers", "2", *endless(log_bytes)], {"a": LARGE}) as server:
         base = at_rest(server, 2)
         asked = b"set k%d 0 0 1000\r\n%s\r\nget k%d\r\n"
-        stream = b"".join(asked % (number % 200, b"%04d" % number * 250, number % 100) for number in range(10_000))
+        count = 10_000 if log_bytes is None else 2_000
+        stream = b"".join(asked % (number % 200, b"%04d" % number * 250, number % 100) for number in range(count))
         sizes = []
         for _ in range(6):
             received, ending = exchange(server.ports["a"], [stream])
-            all_stored = ending == "end" and received.count(protocol.STORED) == 10_000
+            all_stored = ending == "end" and received.count(protocol.STORED) == count
             yield "a load over many logs", None if all_stored else f"{ending}, {received[-100:]!r}"
             wrong = settled(server, base)
             sizes.append(server.resident() >> 10)
@@ -401,6 +401,35 @@ def check_flat_over_logs(program):
         print(f"memory under a load over many logs that comes again: {', '.join(map(str, sizes))} KB", flush=True)
         yield "descriptors and threads after many logs", wrong
         yield "memory after many logs", f"it grew by {grown} KB" if grown > 4_096 else None
+
+
+def check_closed_by_bytes(program, log_bytes):
+    """Logs whose commands have more bytes than they may keep are closed before their places are taken: the places that were used are those of
+    many logs. The client sets an item of 1,000 bytes again and again, 20 times as many bytes as a log keeps."""
+    count = 20 * (log_bytes // 1_000 + 1)
+    for workers in ENDLESS_WORKERS:
+        options = ["--workers", str(workers), *endless(log_bytes), "--connections", "1"]
+        with Server(program, options, {"a": LARGE}) as server:
+            received, ending = exchange(server.ports["a"], [b"set k 0 0 1000\r\n%s\r\n" % (b"k" * 1_000) * count])
+            all_stored = ending == "end" and received == protocol.STORED * count
+            yield f"{workers} workers, sets over logs closed by bytes", None if all_stored else f"{ending}, {received[-100:]!r}"
+            status, output, errors = server.wait()
+            places = int(output.split()[1]) if output.startswith(b"done ") else 0
+            is_closed = status == 0 and not errors and places > 10 * PLACES_ABOVE
+            yield f"{workers} workers, logs closed by bytes", None if is_closed else f"{status}, {output}, {errors}, after {count} sets"
+
+
+def check_bytes_are_bounded(program):
+    """Logs that keep 16 MiB are closed by blocks of a mebibyte, of which 400 would have places in one: they are never all kept."""
+    options = endless(log_bytes=16 << 20)
+    with Server(program, options, {"a": LARGE}) as server:
+        block = b"set k 0 0 1048576\r\n" + b"k" * 1_048_576 + b"\r\n"
+        received, ending = exchange(server.ports["a"], [block] * 400)
+        yield "blocks of a mebibyte", None if (received, ending) == (protocol.STORED * 400, "end") else f"{ending}, {received[-100:]!r}"
+        peak = server.peak() >> 20
+        print(f"at most {peak} MB resident, where logs that keep 16 MB took 400 MB", flush=True)
+        # The log and the one before it, items in all tables, and what is on its way.
+        yield "memory of logs closed by bytes", f"{peak} MB at most" if peak > 150 else None
 
 
 def check_few_descriptors(program):
@@ -578,21 +607,28 @@ def words():
     parser.add_argument("--seed", type=int, default=int.from_bytes(os.urandom(3), "big"))
     parser.add_argument("--round", type=int, help="this round alone")
     parser.add_argument("--generations", action="store_true", help="over logs of 64 places, one after another")
-    return parser.parse_intermixed_args()
+    parser.add_argument("--workers", type=int, help="with --generations: always this many")
+    parser.add_argument("--log-bytes", type=int, help="with --generations: over logs that are closed after this many bytes of commands")
+    asked = parser.parse_intermixed_args()
+    if not asked.generations and (asked.workers or asked.log_bytes):
+        parser.error("--workers and --log-bytes go with --generations")
+    return asked
 
 
 def round_of(asked, number):
     """The round of this number."""
     seed = f"{asked.seed}/{number}"
     if asked.generations:
-        return EndlessRound(asked.program, seed, ENDLESS_WORKERS[number % len(ENDLESS_WORKERS)])
+        workers = asked.workers or ENDLESS_WORKERS[number % len(ENDLESS_WORKERS)]
+        return EndlessRound(asked.program, seed, workers, asked.log_bytes)
     return Round(asked.program, seed)
 
 
 def first_checks(asked, pool):
     """The checks before the rounds."""
     if asked.generations:
-        return [check_flat_over_logs(asked.program)]
+        by_bytes = [check_closed_by_bytes(asked.program, asked.log_bytes), check_bytes_are_bounded(asked.program)]
+        return [check_flat_over_logs(asked.program, asked.log_bytes), *(by_bytes if asked.log_bytes else [])]
     alone = (check_flat, check_few_descriptors, check_dead_arrivals, check_quiet_connections, check_refused_threads)
     others = [check_rush(asked.program, pool), *(check_starved(asked.program, pool, workers) for workers in (1, 3))]
     return [*(part(asked.program) for part in alone), *others]

@@ -37,9 +37,11 @@ echo "the histories of wfmc's clients are linearizable"
 count python3 tests/linearizability.py --self-test
 count python3 tests/linearizability.py 20
 count python3 tests/linearizability.py 5 --generations
+count python3 tests/linearizability.py 5 --generations --workers 2 --log-bytes 4000
 echo "a round of the fuzzer on wfmc"
 count python3 tests/fuzz.py --seed 77 --round 3
 count python3 tests/fuzz.py --seed 77 --round 2 --generations
+count python3 tests/fuzz.py --seed 77 --round 1 --generations --log-bytes 4000
 echo "names, layers, the picture of the crates, and the generated documents"
 count passes python3 tools/layers.py
 count passes tools/picture.py --check

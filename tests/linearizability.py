@@ -1,14 +1,16 @@
 #!/usr/bin/env python3
-"""Tests that each tenant's history is linearizable: linearizability.py [SECONDS] [BINARY] [--seed N] [--generations] | --self-test.
+"""Tests that each tenant's history is linearizable:
+linearizability.py [SECONDS] [BINARY] [--seed N] [--generations [--workers W] [--log-bytes B]] | --self-test.
 
 For this many seconds (60) it starts wfmc with 1 to 4 workers, or 16, and for each of several tenants clients at once, each a process with a
 connection of its own. They send commands over the same few keys, some ahead of replies, and note when each was sent and answered. Next to the
 clients of some tenants an administrator lowers and raises that tenant's quotas. Then linearizability_checker.py looks for one order of a tenant's commands that explains all replies and puts no command before another that was
 answered when it was sent, so a client reads its own writes too.
 
-With `--generations` the logs have 64 places and follow one another without an end, below 1, 2 and 4 workers by turns; there are four tenants,
-each with an administrator and with a client whose connections are killed at any byte. One order explains the replies over all logs, and none
-is that the log is full.
+With `--generations` the logs have 64 places and follow one another without an end, below 1, 2 and 4 workers by turns, or always as many as
+`--workers` says; there are four tenants, each with an administrator and with a client whose connections are killed at any byte. One order
+explains the replies over all logs, and none is that the log is full. With `--log-bytes` the logs have 4,096 places, and are closed after this
+many bytes of commands, 4,000 for example; the number of places that the server has used at its end shows that they were.
 
 `--self-test` tests the checker instead: histories made wrong on purpose must be refused, and right ones accepted. The last line is
 'N passed, M failed'.
@@ -16,10 +18,12 @@ is that the log is full.
 
 import argparse
 import dataclasses
+import functools
 import math
 import multiprocessing
 import os
 import random
+import subprocess
 import threading
 import time
 
@@ -28,7 +32,7 @@ from harness import repository
 from harness.client import connect, peer_socket, reset
 from harness.processes import SECONDS, sockets
 from harness.results import Results
-from harness.servers import ADMIN, Server
+from harness.servers import ADMIN, ENDLESS_WORKERS, PLACES_ABOVE, Server, endless
 from linearizability_checker import Call
 from oracle import protocol
 from oracle.table import Table
@@ -36,10 +40,6 @@ from oracle.table import Table
 EPOCHS = 40
 # By how much a client's number rises with each connection of its own.
 MOST_CLIENTS = 100
-# Options for logs that follow one another, and the numbers of workers over them.
-ENDLESS = ("--places", "64", "--generations", "0")
-# A worker whose command loses the last place of a log to another's says that the log is full; one that is alone loses none.
-ENDLESS_WORKERS = (1,)
 KEYS = (b"a", b"b", b"c", b"n")
 QUOTAS = ((1_000, 1_000_000), (1_000, 1_000_000), (3, 1_000_000), (1_000, 60))
 # Quotas that an administrator sets; the first refuse most that grows.
@@ -251,19 +251,40 @@ def run_one_log(program, seed, _number):
             yield f"{workers} workers, {places} places, tenant {name}, {count} clients", Table(*tenants[name]), places, history
 
 
-def run_endless(program, seed, number):
-    """As `run_one_log`, over logs that follow one another, next to clients whose connections are killed."""
+def run_endless(program, seed, number, workers, log_bytes):
+    """As `run_one_log`, over logs that follow one another, next to clients whose connections are killed. The numbers of workers take turns."""
     chance = random.Random(seed)
-    workers = ENDLESS_WORKERS[number % len(ENDLESS_WORKERS)]
+    workers = workers[number % len(workers)]
     tenants = tenants_of(chance, 4)
-    with Server(program, [*ADMIN, "--workers", str(workers), *ENDLESS], tenants) as server:
+    alike = {name: chance.choice((2, 3, 4)) for name in tenants}
+    # All connections of tenants, of which a killed client has one for each epoch and one before.
+    connections = sum(count + 1 + EPOCHS for count in alike.values())
+    commands = 0
+    options = [*ADMIN, "--workers", str(workers), *endless(log_bytes), "--connections", str(connections)]
+    with Server(program, options, tenants) as server:
         kinds = {
-            name: [(Client, (server.ports[name],))] * chance.choice((2, 3, 4))
+            name: [(Client, (server.ports[name],))] * alike[name]
             + [(Administrator, (server.ports["admin"], name)), (KilledClient, (server.ports[name], server.pid))]
             for name in tenants
         }
         for name, count, history in histories(kinds, seed):
+            commands += len(history)
             yield f"{workers} workers, one log after another, tenant {name}, {count} clients", Table(*tenants[name]), math.inf, history
+        check_end(server, f"run {seed}, {workers} workers", commands if log_bytes else None)
+
+
+def check_end(server, what, commands):
+    """The server ends by itself once all clients are gone. Where it was to close logs by their bytes, the places that it has used are more
+    than the commands, by what was left of a log."""
+    try:
+        ended = server.wait(SECONDS)
+    except subprocess.TimeoutExpired:
+        ended = "not at all"
+    is_done = ended[0] == 0 and ended[1].startswith(b"done ") and not ended[2]
+    check(f"{what}: the end", is_done, ended)
+    if is_done and commands is not None:
+        places = int(ended[1].split()[1])
+        check(f"{what}: no log was closed by its bytes: {commands} commands, {places} places", places - commands > PLACES_ABOVE // 2)
 
 
 def histories(kinds, seed):
@@ -441,8 +462,13 @@ def words():
     parser.add_argument("program", nargs="?", default=repository.program("wfmc"))
     parser.add_argument("--seed", type=int, default=int.from_bytes(os.urandom(3), "big"))
     parser.add_argument("--generations", action="store_true", help="over logs of 64 places, one after another")
+    parser.add_argument("--workers", type=int, help="with --generations: always this many")
+    parser.add_argument("--log-bytes", type=int, help="with --generations: over logs that are closed after this many bytes of commands")
     parser.add_argument("--self-test", action="store_true", help="tests the checker itself")
-    return parser.parse_intermixed_args()
+    asked = parser.parse_intermixed_args()
+    if not asked.generations and (asked.workers or asked.log_bytes):
+        parser.error("--workers and --log-bytes go with --generations")
+    return asked
 
 
 def main():
@@ -452,7 +478,9 @@ def main():
     else:
         repository.enter(asked.program)
         print(f"--seed {asked.seed}", flush=True)
-        run, runs = (run_endless, len(ENDLESS_WORKERS)) if asked.generations else (run_one_log, 1)
+        workers = (asked.workers,) if asked.workers else ENDLESS_WORKERS
+        run_logs = functools.partial(run_endless, workers=workers, log_bytes=asked.log_bytes)
+        run, runs = (run_logs, len(workers)) if asked.generations else (run_one_log, 1)
         check_histories(run, runs, asked.program, asked.seconds, asked.seed)
     results.finish()
 

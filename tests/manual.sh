@@ -42,8 +42,8 @@ has_sections() {
 }
 
 # The options, long and short, in the page's list of options; and those of the program's help.
-options_of_page() { sed -n '/^\.SH OPTIONS/,/^\.SH OUTPUT/p' "$1" | grep -A1 '^\.TP' | sed 's/\\-/-/g' | grep -oE -- '(^|[ "])--?[a-zA-Z]+' | tr -d ' "' | sort -u; }
-options_of_help() { "$1" --help | sed -n '/^Options:/,/^$/p' | grep -oE -- '(^|[ ,])--?[a-zA-Z]+' | tr -d ' ,' | sort -u; }
+options_of_page() { sed -n '/^\.SH OPTIONS/,/^\.SH OUTPUT/p' "$1" | grep -A1 '^\.TP' | sed 's/\\-/-/g' | grep -oE -- '(^|[ "])--?[a-zA-Z][a-zA-Z-]*' | tr -d ' "' | sort -u; }
+options_of_help() { "$1" --help | sed -n '/^Options:/,/^$/p' | grep -oE -- '(^|[ ,])--?[a-zA-Z][a-zA-Z-]*' | tr -d ' ,' | sort -u; }
 has_the_options() {
     options_of_page "$1" >"$folder/page"
     options_of_help "$2" >"$folder/help"
@@ -52,19 +52,19 @@ has_the_options() {
 
 # Every option with its dashes in the page is one of the help, be it in the running text.
 has_no_other_option() {
-    ! sed 's/\\-/-/g' "$1" | grep -oE -- '--[a-z]+' | sort -u | grep -vxF -f <(options_of_help "$2"; echo --now; echo --as)
+    ! sed 's/\\-/-/g' "$1" | grep -oE -- '--[a-z][a-z-]*' | sort -u | grep -vxF -f <(options_of_help "$2"; echo --now; echo --as)
 }
 
 # The page has under each option the numbers that the help says of it.
 has_the_bounds() {
     local line option number said
     while IFS= read -r line; do
-        option=$(grep -oE -- '--[a-z]+' <<<"$line" | head -n 1)
+        option=$(grep -oE -- '--[a-z][a-z-]*' <<<"$line" | head -n 1)
         said=$(sed 's/\\-/-/g' "$1" | awk -v option="$option" '/^\.TP/ { inside = 0 } inside; index($0, ".BI " option) == 1 { inside = 1 }')
         for number in $(sed "s/.*$option//" <<<"$line" | grep -oE '[0-9]+'); do
             grep -qwF -- "$number" <<<"$said" || { echo "$option: $number" >&2; return 1; }
         done
-    done < <("$2" --help | grep -E -- '--[a-z]+ <?N>?')
+    done < <("$2" --help | grep -E -- '--[a-z][a-z-]* <?N>?')
 }
 
 has_the_version() { grep -qF "\"wfmc ${2#* }\"" <<<"$(grep '^\.TH ' "$1")"; }

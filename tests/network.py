@@ -4,11 +4,11 @@
 Every golden test of mc_stdin that a server can answer (tests/rows/mc_stdin): its input over one connection, whole and, where it is short, a
 byte at a time, by 1 and by 4 workers; the bytes that come back must be the same. Then clients that others must not notice: one that closes
 in the middle of a block, one that resets, one that never reads, more connections than a worker takes, two tenants with the same key, 500
-commands of 8 clients at once, all places of the longest log. An administrator, whose quotas are in force at every worker, and whom no tenant
-locks out. And clients that nobody may forget: the process is stopped until many have
-connected, asked or left, and then goes on, while a worker is busy, or descriptors are scarce. Where no client is left, everything is given
-back, and no thread wakes. Clients that send more behind their last request, and read late, get all their replies; and where a wait for
-events fails (tests/fail_wait.c, which needs gcc), everything ends.
+commands of 8 clients at once, all places of the longest log, and logs that follow one another once their places are taken, or their bytes.
+An administrator, whose quotas are in force at every worker, and whom no tenant locks out. And clients that nobody may forget: the process
+is stopped until many have connected, asked or left, and then goes on, while a worker is busy, or descriptors are scarce. Where no client is
+left, everything is given back, and no thread wakes. Clients that send more behind their last request, and read late, get all their replies;
+and where a wait for events fails (tests/fail_wait.c, which needs gcc), everything ends.
 Prints a line for each failure; the last line is 'N passed, M failed'.
 """
 
@@ -77,7 +77,8 @@ def golden_tests():
 
 def check_golden_tests():
     for name, options, quotas, sent, wanted in golden_tests():
-        for workers in ("1", "4"):
+        # Several workers leave the last places of a log to no command where another follows.
+        for workers in ("1",) if "--generations" in options else ("1", "4"):
             for step in [None, 1] if len(sent) <= SHORT else [None]:
                 with Server(PROGRAM, ["--workers", workers, *options], {"a": quotas}) as server:
                     what = f"{name}, {workers} workers, {'whole' if step is None else 'by bytes'}"
@@ -539,17 +540,40 @@ def check_whole_log():
         check("the last command finds the log full", [line for it in lines for line in it if not line.isdigit()] == [b"SERVER_ERROR log full"])
 
 
-def check_logs_in_turn():
-    """A client that asks nothing keeps its connection while another fills several logs, and the length at the end is that of all logs."""
-    with Server(PROGRAM, ["--places", "10", "--generations", "4", "--connections", "2"], {"a": LARGE, "b": LARGE}) as server:
+def check_logs_in_turn(workers, commands):
+    """A client that asks nothing keeps its connection while another fills several logs, which take this many commands. The length at the end is
+    that of all logs."""
+    options = ["--workers", str(workers), "--places", "10", "--generations", "4", "--connections", "2"]
+    with Server(PROGRAM, options, {"a": LARGE, "b": LARGE}) as server:
         idle = ask(server, "b")
         check("a client before the first log is full", is_answered(idle))
         replies = answer(server, "a", b"set n 0 0 1\r\n0\r\n" + b"incr n 1\r\n" * 44 + b"quit\r\n")
-        numbers = b"".join(b"%d\r\n" % number for number in range(1, 40))
-        check("four logs, and no more", replies == b"STORED\r\n" + numbers + b"SERVER_ERROR log full\r\n" * 5)
+        numbers = b"".join(b"%d\r\n" % number for number in range(1, commands))
+        check(f"four logs, and no more, {workers} workers", replies == b"STORED\r\n" + numbers + b"SERVER_ERROR log full\r\n" * (45 - commands))
         check("the same client after the last log is full", is_answered_again(idle))
         idle.close()
         check("the length of all logs", server.wait() == (0, b"done 40\n", b""))
+
+
+def check_logs_closed_by_bytes():
+    """100 items of 1,000 bytes over logs that keep 4,000: two logs of three are closed by them, and the only log isn't."""
+    stream = b"".join(b"set k%02d 0 0 1000\r\n%s\r\n" % (number, b"k" * 1_000) for number in range(100))
+    for generations, least, most in (("3", 2_001, 2_098), ("1", 100, 100)):
+        for workers in ("1", "4"):
+            options = ["--workers", workers, "--places", "1000", "--generations", generations, "--log-bytes", "4000", "--connections", "1"]
+            with Server(PROGRAM, options, {"a": LARGE}) as server:
+                what = f"{generations} logs that keep 4,000 bytes, {workers} workers"
+                check(f"{what}: all is stored", answer(server, "a", stream) == b"STORED\r\n" * 100)
+                status, output, errors = server.wait()
+                length = int(output.split()[1]) if output.startswith(b"done ") else 0
+                check(f"{what}: their length", status == 0 and not errors and least <= length <= most, output)
+
+
+def check_workers_and_places():
+    """No more workers serve than a log has places, where another may follow."""
+    for generations, threads in (("0", 3), ("2", 3), ("1", 5)):
+        with Server(PROGRAM, ["--workers", "4", "--places", "2", "--generations", generations], {"a": LARGE}) as server:
+            check(f"threads of 4 workers, 2 places and {generations} logs", server.threads() == threads, server.threads())
 
 
 def check_late_readers():
@@ -641,7 +665,11 @@ def main():
     check_no_delay()
     check_together()
     check_whole_log()
-    check_logs_in_turn()
+    # The last place of a log but the last is left to no command of one worker while there is another.
+    check_logs_in_turn(workers=1, commands=40)
+    check_logs_in_turn(workers=2, commands=37)
+    check_logs_closed_by_bytes()
+    check_workers_and_places()
     check_late_readers()
     check_kept_streams()
     check_failing_waits()

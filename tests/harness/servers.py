@@ -19,6 +19,17 @@ LARGE = (1_048_576, 1_073_741_824)
 # The options for an administrators' listener, whose port goes by the name "admin" then, as if it were a tenant's.
 ADMIN = ("--admin", "127.0.0.1:0")
 
+# The numbers of workers over logs that follow one another.
+ENDLESS_WORKERS = (1, 2, 4)
+# How many places each of these logs has where it is closed by its bytes: more than its commands take until then.
+PLACES_ABOVE = 4_096
+
+
+def endless(log_bytes=None):
+    """Options for logs that follow one another without an end: of 64 places each, or closed after this many bytes of commands."""
+    size = ("--places", "64") if log_bytes is None else ("--places", str(PLACES_ABOVE), "--log-bytes", str(log_bytes))
+    return (*size, "--generations", "0")
+
 
 class Server(Process):
     """wfmc with these options, for tenants of these quotas; under limits on its address space or descriptors where given."""

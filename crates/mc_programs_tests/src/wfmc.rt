@@ -62,6 +62,7 @@ Options:
       --workers <N>      How many threads serve, from 1 to 16 [default: 2]
       --places <N>       How many commands of all tenants a log takes, from 1 to 1048576 [default: 65536]
       --generations <N>  How many logs, one after another, up to 65536; 0 for no end [default: 1]
+      --log-bytes <N>    After how many bytes of commands the next log follows, up to 1099511627776 [default: 1073741824]
       --connections <N>  After how many connections of tenants it ends; 0 for never [default: 0]
       --admin <ADDR>     At which IPv4 address and port administrators connect; without it there are none
   -h, --help             Print help
@@ -129,6 +130,14 @@ fn mistakes_are_told_by_clap(rt: HostRuntime) -> Result<(), Fail> {
             "error: invalid value '-1' for '--generations <N>': invalid digit found in string\n\nFor more information, try '--help'.\n",
         ),
         (
+            "--log-bytes 1GiB a=b",
+            "error: invalid value '1GiB' for '--log-bytes <N>': invalid digit found in string\n\nFor more information, try '--help'.\n",
+        ),
+        (
+            "--log-bytes 4000 --log-bytes 4000 a=b",
+            "error: the argument '--log-bytes <N>' cannot be used multiple times\n\nUsage: wfmc [OPTIONS] <TENANT>...\n\nFor more information, try '--help'.\n",
+        ),
+        (
             "--generations -1 a=b",
             "error: unexpected argument '-1' found\n\n  tip: to pass '-1' as a value, use '-- -1'\n\nUsage: wfmc [OPTIONS] <TENANT>...\n\nFor more information, try '--help'.\n",
         ),
@@ -167,6 +176,13 @@ fn what_cannot_be_served_is_refused(rt: HostRuntime) -> Result<(), Fail> {
         "--places 1048577 a=127.0.0.1:0,1,1",
         "--generations 65537 a=127.0.0.1:0,1,1",
         "--generations=18446744073709551615 a=127.0.0.1:0,1,1",
+        "--log-bytes 0 a=127.0.0.1:0,1,1",
+        "--log-bytes=1099511627777 a=127.0.0.1:0,1,1",
+        "--generations 0 --log-bytes 0 a=127.0.0.1:0,1,1",
+        // Fewer workers serve than are asked for, but no more may be asked for.
+        "--generations 0 --places 2 --workers 17 a=127.0.0.1:0,1,1",
+        "--generations 0 --places 0 --workers 2 a=127.0.0.1:0,1,1",
+        "--generations 0 --places 2 --workers 0 a=127.0.0.1:0,1,1",
         "--admin 127.0.0.1:0 admin=127.0.0.1:0,1,1",
         "--admin 127.0.0.1:0 a=127.0.0.1:0,1,1 admin=127.0.0.1:0,1,1",
         "--admin 127.0.0.1 a=127.0.0.1:0,1,1",
@@ -197,6 +213,15 @@ fn the_first_address_that_cannot_be_listened_at_is_told(rt: HostRuntime) -> Resu
         ),
         (
             "--generations=65536 a=192.0.2.1:0,1,1",
+            "wfmc: cannot listen a\n",
+        ),
+        ("--log-bytes 1 a=192.0.2.1:0,1,1", "wfmc: cannot listen a\n"),
+        (
+            "--generations 2 --log-bytes=1099511627776 a=192.0.2.1:0,1,1",
+            "wfmc: cannot listen a\n",
+        ),
+        (
+            "--generations 0 --places 1 --workers 16 a=192.0.2.1:0,1,1",
             "wfmc: cannot listen a\n",
         ),
         (

@@ -1,5 +1,7 @@
 -- Lists of tenants, each the only one that its word says.
-use Rattle.std.proofs.Common.{◌≡◌, ℕ, All, IsTrue, List, [], ◌∷◌, ◌++◌, map, Option, Some, None, ap, sym, ◌∙◌, refl}
+use Rattle.std.proofs.Common.{◌≡◌, ◌≢◌, ◌≤◌, ℕ, All, Bool, IsTrue, List, [], ◌∷◌, ◌++◌, if◌then◌else◌, map, min, Option, Some, None, ap, subst, sym, ◌∙◌, refl}
+use Rattle.std.proofs.Math.Nat.{min-le_right}
+use Rattle.std.proofs.lemmas.Bool.{ne_eqb}
 use Rattle.std.proofs.lemmas.List.Elements.{All-cons, All-nil}
 use Rattle.std.proofs.lemmas.Slice.Zip.{AllZip-left, all_zipped_more}
 use Rattle.std.specs.List.{AllZip, slice_get}
@@ -7,7 +9,7 @@ use Rattle.std.specs.Option.{IsSomeAnd, MatchOption}
 use Rattle.clap.specs.Walk.{Text}
 use Rattle.mc_model.specs.Name.{is_lawful_name}
 use Rattle.mc_model.specs.declared.settings.Limits.{Limits}
-use Rattle.mc_server.specs.NetworkWords.{Asks, NetworkAsked, NetworkGiven, settings_asked}
+use Rattle.mc_server.specs.NetworkWords.{Asks, NetworkAsked, NetworkGiven, settings_asked, workers_for}
 use Rattle.mc_server.specs.TenantWord.{IsOnly, Says, TenantAsked, asked_of}
 use Rattle.mc_server.specs.declared.tenant_word.Tenant.{Tenant}
 
@@ -68,8 +70,15 @@ names_lawful (w ∷ ws) (t ∷ ts) h = All-cons (λ (tenant : Tenant). IsTrue (i
 pub names_are : (asked : NetworkAsked) (tenants : List Tenant) → asked.tenants ≡ map asked_of tenants → map (λ tenant. tenant.name) asked.tenants ≡ map (λ tenant. tenant.name.now) tenants
 names_are asked tenants e = ap (map (λ tenant. tenant.name)) e ∙ names_are_read tenants
 
-pub settings_are : (given : NetworkGiven) (asked : NetworkAsked) (tenants : List Tenant) (quotas : List Limits) → Asks given asked → asked.tenants ≡ map asked_of tenants
-    → quotas ≡ map (λ tenant. tenant.limits) tenants → settings_asked asked ≡ record { workers = given.workers; places = given.places; tenants = quotas }
-settings_are given asked tenants quotas asks e q =
+pub settings_are : (given : NetworkGiven) (asked : NetworkAsked) (tenants : List Tenant) (workers : ℕ) (quotas : List Limits) → Asks given asked → asked.tenants ≡ map asked_of tenants
+    → workers ≡ workers_for given → quotas ≡ map (λ tenant. tenant.limits) tenants → settings_asked asked ≡ record { workers = workers; places = given.places; tenants = quotas }
+settings_are given asked tenants workers quotas asks e w q =
     let limits : map (λ tenant. tenant.limits) asked.tenants ≡ quotas = ap (map (λ tenant. tenant.limits)) e ∙ limits_are tenants ∙ sym q in
-    λ i. record { workers = asks.workers i; places = asks.places i; tenants = limits i }
+    let serve : asked.workers ≡ workers = asks.workers ∙ sym w in
+    λ i. record { workers = serve i; places = asks.places i; tenants = limits i }
+
+-- where a log may follow another, no more workers serve than a log has places
+pub each_has_a_place : (given : NetworkGiven) → given.generations ≢ 1 → workers_for given ≤ given.places
+each_has_a_place given many =
+    let P : Bool → Type 0 = λ one. (if one then given.workers else (min given.workers given.places)) ≤ given.places in
+    subst P (sym (ne_eqb given.generations 1 many)) (min-le_right given.workers given.places)

@@ -1,7 +1,7 @@
 -- What the words after the program's name ask for on wfmc's command line, by clap's own definitions
 -- of a command; this project's profile.
 use Rattle.std.specs.List.{AllZip, IsDistinct}
-use Rattle.std.specs.Prelude.{◌≡◌, ◌≤◌, ℕ, List, [], ◌∷◌, ◌++◌, All, IsTrue, Option, Some, None, codes, map, option_and_then, slice_get, true, unwrap_or}
+use Rattle.std.specs.Prelude.{◌≡◌, ◌≢◌, ◌==◌, ◌≤◌, ℕ, List, [], ◌∷◌, ◌++◌, All, IsTrue, Option, Some, None, codes, if◌then◌else◌, map, min, option_and_then, slice_get, true, unwrap_or}
 use Rattle.std.specs.Net.Grammar.{IsSocketV4Text}
 use Rattle.std.specs.Option.{IsSomeAnd, option_map}
 use Rattle.std.specs.Str.{bytes_eq}
@@ -11,12 +11,13 @@ use Rattle.clap.specs.Lexer.{usize_max}
 use Rattle.clap.specs.Simple.{App, matches_of, new_rule, with_rule}
 use Rattle.clap.specs.Walk.{Rule, Text, all_of}
 use Rattle.mc_model.specs.Name.{is_lawful_name}
-use Rattle.mc_model.specs.Settings.{Configuration, IsLawful}
+use Rattle.mc_model.specs.Settings.{Configuration, IsBetween, IsLawful}
+use Rattle.mc_model.specs.declared.id.TheConstants.{WORKERS}
 use Rattle.mc_server.specs.TenantWord.{Says, TenantAsked, asked_of}
 use Rattle.mc_programs.specs.Words.{bare_app, number_asked, number_rule}
 use Rattle.mc_server.specs.declared.network_words.NetworkWords.{NetworkWords}
 use Rattle.mc_server.specs.declared.network_words.Service.{Service}
-use Rattle.mc_server.specs.declared.network_words.TheConstants.{MAX_GENERATIONS}
+use Rattle.mc_server.specs.declared.network_words.TheConstants.{MAX_GENERATIONS, MAX_LOG_BYTES}
 use Rattle.mc_server.specs.declared.tenant_word.Tenant.{Tenant}
 
 -- the positional words, one for each tenant, of which there has to be at least one
@@ -41,9 +42,11 @@ logs_app =
     (number_rule (codes "places")))
     (number_rule (codes "generations"))
 
--- the options that are numbers: these, and `--connections`
+-- the options that are numbers: these, `--log-bytes` and `--connections`
 abbrev pub numbers_app : App
-numbers_app = with_rule logs_app (number_rule (codes "connections"))
+numbers_app =
+    with_rule (with_rule logs_app (number_rule (codes "log-bytes")))
+    (number_rule (codes "connections"))
 
 -- the options: these, and `--admin`
 abbrev pub options_app : App
@@ -69,6 +72,7 @@ pub record NetworkGiven : Type 0 where
   pub workers : ℕ
   pub places : ℕ
   pub generations : ℕ
+  pub log_bytes : ℕ
   pub connections : ℕ
   pub admin : Option Text
   pub tenants : List Text
@@ -78,18 +82,27 @@ given_by_words words = record {
   workers = number_asked network_app (codes "workers") 2 words;
   places = number_asked network_app (codes "places") 65536 words;
   generations = number_asked network_app (codes "generations") 1 words;
+  log_bytes = number_asked network_app (codes "log-bytes") 1073741824 words;
   connections = number_asked network_app (codes "connections") 0 words;
   admin = admin_word words;
   tenants = tenant_words words;
 }
 
+-- how many workers serve: as many as are asked for, but where a log may follow another no more than a
+-- log has places, so that each of them can take a command of each log
+abbrev pub workers_for : NetworkGiven → ℕ
+workers_for given =
+    if given.generations == 1 then given.workers else (min given.workers given.places)
+
 -- what is to be served: how many workers there are, how many places a log has, how many logs there
--- are at most, one after another (0: no end), after how many connections of tenants it ends (0:
--- never), at which address administrators connect, if at any, and the tenants by their numbers
+-- are at most, one after another (0: no end), how many bytes the commands of a log may keep where
+-- another may follow, after how many connections of tenants it ends (0: never), at which address
+-- administrators connect, if at any, and the tenants by their numbers
 pub record NetworkAsked : Type 0 where
   pub workers : ℕ
   pub places : ℕ
   pub generations : ℕ
+  pub log_bytes : ℕ
   pub connections : ℕ
   pub admin : Option SocketAddrV4
   pub tenants : List TenantAsked
@@ -109,12 +122,14 @@ pub record IsOnlyAddress (text : Option Text) (address : Option SocketAddrV4) : 
 abbrev pub IsNoAddress : Option Text → Type 0
 IsNoAddress text = (address : Option SocketAddrV4) → ¬ (SpellsAddress text address)
 
--- What is given asks for this; each tenant's word is of the form, and the administrators' address
--- is one.
+-- What is given asks for this; no more workers are given than there may be, each tenant's word is of
+-- the form, and the administrators' address is one.
 pub record Asks (given : NetworkGiven) (asked : NetworkAsked) : Type 0 where
-  pub workers : asked.workers ≡ given.workers
+  pub few : given.workers ≤ WORKERS
+  pub workers : asked.workers ≡ workers_for given
   pub places : asked.places ≡ given.places
   pub generations : asked.generations ≡ given.generations
+  pub log_bytes : asked.log_bytes ≡ given.log_bytes
   pub connections : asked.connections ≡ given.connections
   pub admin : SpellsAddress given.admin asked.admin
   pub tenants : AllZip Says given.tenants asked.tenants
@@ -139,6 +154,7 @@ reserved_names (Some address) = admin_name ∷ []
 pub record IsServable (asked : NetworkAsked) : Type 0 where
   pub lawful : IsLawful (settings_asked asked)
   pub generations : asked.generations ≤ MAX_GENERATIONS
+  pub log_bytes : IsBetween 1 MAX_LOG_BYTES asked.log_bytes
   pub names : IsDistinct bytes_eq
       (reserved_names asked.admin ++ map (λ tenant. tenant.name) asked.tenants)
 
@@ -162,6 +178,7 @@ given_in words = record {
   workers = words.workers;
   places = words.places;
   generations = words.generations;
+  log_bytes = words.log_bytes;
   connections = words.connections;
   admin = option_map (λ word. word.now) words.admin;
   tenants = map (λ word. word.now) words.tenants.items;
@@ -172,6 +189,7 @@ served_by service = record {
   workers = service.settings.workers;
   places = service.settings.places;
   generations = service.generations;
+  log_bytes = service.log_bytes;
   connections = service.connections;
   admin = service.admin;
   tenants = map asked_of service.tenants.items;
@@ -182,8 +200,10 @@ pub record WordsGive (words : List Text) (read : NetworkWords) : Type 0 where
   pub taken : fault_of network_app words ≡ []
   pub given : given_in read ≡ given_by_words words
 
--- The settings are those of what is to be served, and it can be served; the tenants have valid names.
+-- The settings are those of what is to be served, and it can be served; where a log may follow
+-- another, each worker can take a command of each log; the tenants have valid names.
 pub record IsChecked (service : Service) : Type 0 where
   pub settings : service.settings ≡ settings_asked (served_by service)
   pub servable : IsServable (served_by service)
+  pub each : service.generations ≢ 1 → service.settings.workers ≤ service.settings.places
   pub names : All (λ (tenant : Tenant). IsTrue (is_lawful_name tenant.name.now)) service.tenants.items

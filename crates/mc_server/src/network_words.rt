@@ -1,16 +1,18 @@
 //! The options and tenants of wfmc's command line.
 ghost use Rattle.std.specs.List.{AllZip, IsDistinct, list_any};
-ghost use Rattle.std.specs.Prelude.{◌≡◌, ◌++◌, ◌↔◌, ◌⊎◌, List, IfOk, IsTrue, MatchResult, false, map, string_bytes};
+ghost use Rattle.std.specs.Prelude.{◌≡◌, ◌≤◌, ◌++◌, ◌↔◌, ◌⊎◌, List, IfOk, IsTrue, MatchResult, false, map, string_bytes};
 ghost use Rattle.std.specs.Option.{option_map};
 ghost use Rattle.std.specs.Str.{bytes_eq};
 ghost use Rattle.clap.specs.Words.{HasKind, app_of, fault_of, rule_of};
+ghost use Rattle.mc_model.specs.Settings.{IsBetween};
 ghost use Rattle.mc_model.specs.declared.fault.Fault.TheVariants as faults;
-ghost use Rattle.mc_server.specs.NetworkWords.{Asks, WordsGive, AsksInVain, IsChecked, IsNoAddress, IsOnlyAddress, admin_rule, given_in, logs_app, network_app, numbers_app, options_app, reserved_names, served_by, tenants_rule};
+ghost use Rattle.mc_server.specs.NetworkWords.{Asks, WordsGive, AsksInVain, IsChecked, IsNoAddress, IsOnlyAddress, admin_rule, given_in, logs_app, network_app, numbers_app, options_app, reserved_names, served_by, tenants_rule, workers_for};
 ghost use Rattle.mc_server.specs.TenantWord.{IsOnly, Says, TenantAsked, asked_of};
 
 use crate::network_texts::ADMIN;
 use crate::tenant_word::{Tenant, read_tenant};
 use clap::{Arg, Command, Error};
+use mc_model::id::WORKERS;
 use mc_model::{Fault, Limits, Settings};
 use mc_programs::{number, number_option};
 use std::alloc::{AllocError, Global};
@@ -27,6 +29,13 @@ const DEFAULT_GENERATIONS: u64 = 1;
 
 /// How many logs may be asked for, one after another; 0 asks for logs without an end.
 pub(crate) const MAX_GENERATIONS: u64 = 65_536;
+
+/// How many bytes the commands of a log may keep by default: 1 GiB.
+const DEFAULT_LOG_BYTES: u64 = 1_073_741_824;
+
+/// How many bytes of a log's commands may be asked for: as many as the data of 1,048,576 commands
+/// have at most, 1,048,576 bytes each. No log has more places, and no command has more data.
+pub(crate) const MAX_LOG_BYTES: u64 = 1_099_511_627_776;
 
 /// After how many connections the server ends by default: never.
 const DEFAULT_CONNECTIONS: u64 = 0;
@@ -53,19 +62,22 @@ pub(crate) struct NetworkWords<'a> {
     pub workers: u64,
     pub places: u64,
     pub generations: u64,
+    pub log_bytes: u64,
     pub connections: u64,
     pub admin: Option<&'a str>,
     pub tenants: Vec<&'a str>,
 }
 
-/// What wfmc is to serve: settings, how many logs there are, after how many connections of tenants
-/// it ends (0: never), at which address administrators connect, if at any, and the tenants by their
-/// numbers.
+/// What wfmc is to serve: settings, how many logs there are, how many bytes a log keeps, after how
+/// many connections of tenants it ends (0: never), at which address administrators connect, if at
+/// any, and the tenants by their numbers.
 #[derive(Debug, Drop)]
 pub(crate) struct Service<'a> {
     pub settings: Settings,
     /// At most this many logs, one after another; 0 for no end.
     pub generations: u64,
+    /// A log is closed once its commands keep more bytes than this, if another log may follow.
+    pub log_bytes: u64,
     pub connections: u64,
     pub admin: Option<SocketAddrV4>,
     pub tenants: Vec<Tenant<'a>>,
@@ -120,8 +132,13 @@ fn logs_command<'a>(alloc: Global) -> Result<Command<'a>, AllocError>
 fn numbers_command<'a>(alloc: Global) -> Result<Command<'a>, AllocError>
     ensures { IfOk result (λ command. app_of command ≡ numbers_app) }
 {
+    let log_bytes = "\
+        After how many bytes of commands the next log follows, up to 1099511627776 \
+        [default: 1073741824]";
     let connections = "After how many connections of tenants it ends; 0 for never [default: 0]";
-    logs_command(alloc)?.arg(number_option(alloc, "connections", connections))
+    logs_command(alloc)?
+        .arg(number_option(alloc, "log-bytes", log_bytes))?
+        .arg(number_option(alloc, "connections", connections))
 }
 
 /// Returns wfmc's command line with its options only.
@@ -156,6 +173,7 @@ pub(crate) fn read_words(alloc: Global, words: &[String]) -> Result<NetworkWords
         workers: number(&matches, "workers").unwrap_or(DEFAULT_WORKERS),
         places: number(&matches, "places").unwrap_or(DEFAULT_PLACES),
         generations: number(&matches, "generations").unwrap_or(DEFAULT_GENERATIONS),
+        log_bytes: number(&matches, "log-bytes").unwrap_or(DEFAULT_LOG_BYTES),
         connections: number(&matches, "connections").unwrap_or(DEFAULT_CONNECTIONS),
         admin: matches.get_str("admin"),
         tenants,
@@ -236,6 +254,30 @@ fn quotas_of(alloc: Global, tenants: &[Tenant]) -> Result<Vec<Limits>, AllocErro
     tenants.iter().map(|tenant| tenant.limits).collect(alloc)
 }
 
+/// Returns whether no more workers and logs are given than there may be, and as many bytes of a log
+/// as may be asked for. What else a number must be, `Settings::check` says.
+fn are_in_bounds(words: &NetworkWords) -> bool
+    ensures { IsTrue result ↔ (words.now.workers ≤ WORKERS)
+        × (words.now.generations ≤ MAX_GENERATIONS)
+        × IsBetween 1 MAX_LOG_BYTES words.now.log_bytes }
+{
+    words.workers <= u64::from(WORKERS)
+        && words.generations <= MAX_GENERATIONS
+        && (1..=MAX_LOG_BYTES).contains(&words.log_bytes)
+}
+
+/// Returns how many workers serve: as many as are given, but where a log may follow another no more
+/// than a log has places, so that each of them can take a command of each log.
+fn workers_for(words: &NetworkWords) -> u64
+    ensures { result ≡ workers_for (given_in words.now) }
+{
+    if words.generations == 1 {
+        words.workers
+    } else {
+        words.workers.min(words.places)
+    }
+}
+
 /// Returns what the words ask to be served.
 ///
 /// Returns `BadSettings` if that can't be served: a tenant's word or an address is of another form, a
@@ -248,11 +290,11 @@ pub(crate) fn service_of<'a>(alloc: Global, words: &NetworkWords<'a>) -> Result<
 {
     let tenants = read_tenants(alloc, &words.tenants)?;
     let admin = read_admin(words.admin)?;
-    let quotas = quotas_of(alloc, &tenants)?;
-    let settings = Settings::check(words.workers, words.places, quotas)?;
-    if words.generations > MAX_GENERATIONS {
+    if !are_in_bounds(words) {
         return Err(Fault::BadSettings);
     }
+    let quotas = quotas_of(alloc, &tenants)?;
+    let settings = Settings::check(workers_for(words), words.places, quotas)?;
     // `Settings::check` has bounded the number of names that are compared here.
     if !are_names_free(admin, &tenants) {
         return Err(Fault::BadSettings);
@@ -260,6 +302,7 @@ pub(crate) fn service_of<'a>(alloc: Global, words: &NetworkWords<'a>) -> Result<
     Ok(Service {
         settings,
         generations: words.generations,
+        log_bytes: words.log_bytes,
         connections: words.connections,
         admin,
         tenants,

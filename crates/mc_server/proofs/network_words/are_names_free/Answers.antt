@@ -1,4 +1,4 @@
-use Rattle.std.proofs.Common.{Bool, IsTrue, Option, map, not, subst, sym, ◌↔◌, ◌++◌}
+use Rattle.std.proofs.Common.{IsTrue, Option, map, not, subst, sym, ◌↔◌, ◌++◌}
 use Rattle.std.specs.List.{IsDistinct}
 use Rattle.std.specs.Str.{bytes_eq}
 use Rattle.std.specs.declared.net.socket_addr.SocketAddrV4.{SocketAddrV4}

@@ -1,15 +1,16 @@
-use Rattle.std.proofs.Common.{◌≡◌, ◌∙◌, ◌⊎◌, ◌++◌, inl, inr, ⊎_elim, refl, List, ℕ, Bool, Bor, map, sym, ap, subst, true, false, arith}
+use Rattle.std.proofs.Common.{◌≡◌, ◌≢◌, ◌≤◌, ◌∙◌, ◌⊎◌, ◌++◌, inl, inr, ⊎_elim, refl, List, ℕ, Bool, Bor, map, sym, ap, subst, true, false, arith}
 use Rattle.std.proofs.lemmas.Result.{err_from_is_err_and}
 use Rattle.std.specs.List.{AllZip, IsDistinct}
 use Rattle.std.specs.Str.{bytes_eq}
 use Rattle.mc_model.specs.declared.fault.Fault.TheVariants.{Memory, BadSettings}
-use Rattle.mc_model.specs.Settings.{Configuration, IsLawful}
+use Rattle.mc_model.specs.Settings.{Configuration, IsBetween, IsLawful}
 use Rattle.mc_model.specs.declared.settings.Limits.{Limits}
-use Rattle.mc_server.specs.NetworkWords.{Asks, AsksInVain, IsServable, NetworkAsked, given_in, reserved_names}
+use Rattle.mc_server.specs.NetworkWords.{Asks, AsksInVain, IsServable, NetworkAsked, given_in, reserved_names, workers_for}
 use Rattle.mc_server.specs.TenantWord.{IsOnly, Says, TenantAsked, asked_of}
 use Rattle.mc_server.specs.declared.network_words.NetworkWords.{NetworkWords}
 use Rattle.mc_server.specs.declared.tenant_word.Tenant.{Tenant}
-use Rattle.mc_server.proofs.TenantLists.{all_only, all_say, limits_are, names_are, names_lawful, names_are_read, settings_are}
+use Rattle.mc_server.specs.declared.network_words.TheConstants.{MAX_GENERATIONS, MAX_LOG_BYTES}
+use Rattle.mc_server.proofs.TenantLists.{all_only, all_say, each_has_a_place, limits_are, names_are, names_lawful, names_are_read, settings_are}
 use Rattle.mc_server.proofs.network_words.service_of.Goals as goal
 
 -- the tenants that were read are those that are asked for
@@ -40,7 +41,7 @@ returns-in_err-settings c =
     let vain : AsksInVain (given_in c.args.words.now) = λ asked asks servable.
     let tenants = read_are_asked c.args.words.now _ c.in_ok-tenants.tenants.items asked c.in_ok-tenants.ensures.outcome c.deref.ensures.value asks in
     let quotas = c.in_ok-quotas.ensures ∙ ap (map (λ tenant. tenant.limits)) c.deref-2.ensures.value in
-    let same = settings_are _ asked c.in_ok-tenants.tenants.items _ asks tenants quotas in
+    let same = settings_are _ asked c.in_ok-tenants.tenants.items _ _ asks tenants c.workers_for.ensures quotas in
     apart _ (c.in_err-settings.ensures.lawful.1 (subst IsLawful same servable.lawful)) (λ i. false)
     in
     let left = err_from_is_err_and c.from_residual-in_err-settings.result c.from_residual-in_err-settings.ensures.1 in
@@ -53,10 +54,14 @@ returns-in_err-admin c =
     let left = err_from_is_err_and c.from_residual-in_err-admin.result c.from_residual-in_err-admin.ensures.1 in
     record { outcome = rw (left.1, left.2) (inr (c.in_err-admin.ensures.0, vain)) }
 
--- more logs are asked for than there may be
-pub returns-then-words-gt-MAX_GENERATIONS : goal.returns-then-words-gt-MAX_GENERATIONS
-returns-then-words-gt-MAX_GENERATIONS c =
-    let vain : AsksInVain (given_in c.args.words.now) = λ asked asks servable. omega (arith, servable.generations, asks.generations, c.if-words-gt-MAX_GENERATIONS.true) in
+-- more workers, logs or bytes of a log are asked for than there may be
+pub returns-then-not-are_in_bounds : goal.returns-then-not-are_in_bounds
+returns-then-not-are_in_bounds c =
+    let vain : AsksInVain (given_in c.args.words.now) = λ asked asks servable.
+    let generations = subst (λ count. count ≤ MAX_GENERATIONS) asks.generations servable.generations in
+    let log_bytes = subst (IsBetween 1 MAX_LOG_BYTES) asks.log_bytes servable.log_bytes in
+    apart _ (c.are_in_bounds.ensures.1 (asks.few, generations, log_bytes)) c.if-not-are_in_bounds.true
+    in
     record { outcome = inr (refl, vain) }
 
 -- a name is used twice
@@ -89,21 +94,29 @@ returns c =
       workers = c.in_ok-settings.settings.workers;
       places = c.in_ok-settings.settings.places;
       generations = c.args.words.now.generations;
+      log_bytes = c.args.words.now.log_bytes;
       connections = c.args.words.now.connections;
       admin = c.in_ok-admin.admin;
       tenants = map asked_of tenants;
     } in
+    let bounds = c.are_in_bounds.ensures.0 c.if-not-are_in_bounds.false in
+    let serve : c.in_ok-settings.settings.workers ≡ workers_for (given_in c.args.words.now) = ap (λ (s : Configuration). s.workers) checked ∙ c.workers_for.ensures in
+    let places : c.in_ok-settings.settings.places ≡ c.args.words.now.places = ap (λ (s : Configuration). s.places) checked in
     let asks : Asks (given_in c.args.words.now) asked = record {
-      workers = ap (λ (s : Configuration). s.workers) checked;
-      places = ap (λ (s : Configuration). s.places) checked;
+      few = bounds.0;
+      workers = serve;
+      places = places;
       generations = refl;
+      log_bytes = refl;
       connections = refl;
       admin = c.in_ok-admin.ensures.spells;
       tenants = subst P c.deref.ensures.value (all_say _ _ c.in_ok-tenants.ensures.outcome);
     } in
     let servable : IsServable asked = record {
       lawful = subst IsLawful (sym checked ∙ settings) (c.in_ok-settings.ensures.lawful.0 (λ i. true));
-      generations = c.if-words-gt-MAX_GENERATIONS.false;
+      generations = bounds.1;
+      log_bytes = bounds.2;
       names = subst (IsDistinct bytes_eq) (ap (λ names. reserved_names c.in_ok-admin.admin ++ names) lent) (c.are_names_free.ensures.0 c.if-not-are_names_free.false);
     } in
-    record { outcome = (asks, record { settings = settings; servable = servable; names = names_lawful _ tenants c.in_ok-tenants.ensures.outcome }) }
+    let each : c.args.words.now.generations ≢ 1 → c.in_ok-settings.settings.workers ≤ c.in_ok-settings.settings.places = λ many. omega (arith, each_has_a_place (given_in c.args.words.now) many, serve, places) in
+    record { outcome = (asks, record { settings = settings; servable = servable; each = each; names = names_lawful _ tenants c.in_ok-tenants.ensures.outcome }) }
