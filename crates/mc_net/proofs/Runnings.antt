@@ -58,7 +58,7 @@ served_at {G} until ended old new run well =
     record { works = it.works; over = inl it.over })
     (λ full.
     let it : worked Full = subst (λ (outcome : Result Ended Halt). IfOk outcome worked) full.0 run in
-    record { works = it.works; over = inr (it.over.0, full.1) })
+    record { works = it.works; over = inr (it.over, full.1) })
     well
 
 all_served_at : {G : Type 0} (until : Bool) (ended : Ended) (old new : List (WorkerThread G)) → length new ≡ length old →

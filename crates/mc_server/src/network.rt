@@ -50,7 +50,7 @@ fn serve_tenants<R: Threads + Wait + Net + Sync, O: Output>(
     let (log, passes) = Log::open(alloc, &service.settings)?;
     let tenants = log.settings().tenants().len();
     let connections = service.connections;
-    let log_bytes = 1 << 30;
+    let log_bytes = service.log_bytes;
     let mut front = Front::new(
         rt,
         alloc,
