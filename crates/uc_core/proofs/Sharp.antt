@@ -1,6 +1,6 @@
 -- As many places as there are workers aren't enough: of two workers, one looks for a command to
 -- help before the other announces its own, which is then decided at the third place.
-use Rattle.std.proofs.Common.{◌≡◌, ℕ, zero, suc, ◌+◌, List, [], ◌∷◌, length, Some, None, inr, refl, ap, arith}
+use Rattle.std.proofs.Common.{◌≡◌, ℕ, zero, suc, List, [], ◌∷◌, length, None, inr, refl, ap, arith}
 use Rattle.std.proofs.lemmas.Option.{same_Some}
 use Rattle.mc_model.specs.declared.command.Command.TheVariants.{Flush}
 use Rattle.mc_model.specs.declared.id.Ticket.{Ticket}
