@@ -63,12 +63,12 @@ HelpingLaw size state =
     IsHelped size state (ticket_of number (worker.announced - 1)) mark
     × (worker.proposals + mark ≤ length worker.learned))
 
--- a command that is announced while d places of a log of n workers are decided stands among the
--- first d + n + 1 places once that many are decided, whatever happens in between and whichever
--- workers stop
-abbrev pub IsSoonDecided : LogSize → Type 0
-IsSoonDecided size = (old announced new : ShownState) (number : ℕ) (events : List ShownEvent) →
+-- a command that is announced while d places are decided stands among the first d + `more` places
+-- once that many are decided, whatever happens in between and whichever workers stop
+abbrev pub IsSoonDecided : ℕ → LogSize → Type 0
+IsSoonDecided more size =
+    (old announced new : ShownState) (number : ℕ) (events : List ShownEvent) →
     IsReached size old → Step size old (announces number) announced →
-    LeadOn size announced events new → length old.decided + size.workers + 1 ≤ length new.decided →
-    StandsBefore (length old.decided + size.workers + 1)
-    (ticket_of number (announced_by old number)) new.decided
+    LeadOn size announced events new → length old.decided + more ≤ length new.decided →
+    StandsBefore (length old.decided + more) (ticket_of number (announced_by old number))
+    new.decided

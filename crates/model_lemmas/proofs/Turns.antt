@@ -81,14 +81,14 @@ helps_on size (event ∷ events) old new number command from sound run helps =
 -- what is helped after a place stands among the next places, one more than there are workers, once
 -- these are decided
 stands_soon : (size : LogSize) (state : ShownState) (number command from : ℕ) → IsSound size state → number < size.workers →
-    Helps size state number command from → from + size.workers + 1 ≤ length state.decided →
-    StandsBefore (from + size.workers + 1) (ticket_of number command) state.decided
+    Helps size state number command from → from + (size.workers + 1) ≤ length state.decided →
+    StandsBefore (from + (size.workers + 1)) (ticket_of number command) state.decided
 stands_soon size state number command from sound below helps far =
     let turn = turn_after from size.workers number below in let above = turn.1 in let near = turn.2 in
     let decided = helps.decided turn.0 turn.1 (omega arith) turn.3 in
     let found = stands state.decided number command (turn.0 + 1) sound.legal decided in let before = found.1 in (found.0, omega arith, found.2)
 
-pub is_soon_decided : (size : LogSize) → IsSoonDecided size
+pub is_soon_decided : (size : LogSize) → IsSoonDecided (size.workers + 1) size
 is_soon_decided size old announced new number events reached step run far =
     let sound = is_sound size reached.0 old reached.1 in let worker = step.0 in let is = step.1 in
     let first : Helps size announced number worker.announced (length old.decided) =
@@ -97,6 +97,6 @@ is_soon_decided size old announced new number events reached step run far =
     let sound_then = keeps size old announced (announces number) sound step in
     let last = helps_on size events announced new number worker.announced (length old.decided) sound_then run first in
     let many = sound.many in let inside = slice_get_within old.workers number worker is in
-    subst (λ (command : ℕ). StandsBefore (length old.decided + size.workers + 1) (ticket_of number command) new.decided)
+    subst (λ (command : ℕ). StandsBefore (length old.decided + (size.workers + 1)) (ticket_of number command) new.decided)
     (sym (announced_is old number worker is))
     (stands_soon size new number worker.announced (length old.decided) last.0 (omega arith) last.1 far)

@@ -12,6 +12,7 @@ mod Agreement
 mod Worlds
 pub mod OneWay
 mod Soon
+mod Sharp
 mod Later
 mod Each
 pub mod Workers

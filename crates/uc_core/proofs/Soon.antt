@@ -1,6 +1,6 @@
 -- A run of the core is a run of what the log shows, so what is decided soon there is decided soon
 -- here.
-use Rattle.std.proofs.Common.{◌≡◌, ◌∙◌, List, [], ◌∷◌, length, length-set, Option, None, ap, subst}
+use Rattle.std.proofs.Common.{◌≡◌, ◌+◌, ◌∙◌, List, [], ◌∷◌, length, length-set, Option, None, ap, subst}
 use Rattle.mc_model.specs.declared.reply.Reply.{Reply}
 use Rattle.mc_model.specs.declared.shown.LogSize.{LogSize}
 use Rattle.mc_model.specs.declared.shown.ShownState.{ShownState}
@@ -15,7 +15,7 @@ use Rattle.uc_core.proofs.CoreLaws.{CoreLaw}
 use Rattle.model_lemmas.proofs.Turns.{is_soon_decided}
 
 -- some events of the shown log lead from one state to another
-abbrev LeadsOn : LogSize → ShownState → ShownState → Type 0
+abbrev pub LeadsOn : LogSize → ShownState → ShownState → Type 0
 LeadsOn size old new = (events : List ShownEvent) × LeadOn size old events new
 
 -- no event makes or takes away a worker
@@ -49,13 +49,13 @@ shows_step old new (Replay number) reply step = record {
 }
 
 -- a run, so
-shows_run : (old new : CoreState) (events : List Event) (given : List Given) → Runs old events new given → LeadsOn (core_size old) old.shown new.shown
+pub shows_run : (old new : CoreState) (events : List Event) (given : List Given) → Runs old events new given → LeadsOn (core_size old) old.shown new.shown
 shows_run old new [] given runs = ([], ap (λ (it : CoreState). it.shown) runs.0)
 shows_run old new (event ∷ events) given runs =
     let step = shows_step old runs.0 event runs.1 runs.3 in
     step.before new.shown (subst (λ (size : LogSize). LeadsOn size runs.0.shown new.shown) step.size (shows_run runs.0 new events runs.2 runs.4))
 
-pub decided_soon : (core : CoreState) → CoreLaw core → IsDecidedSoon core
+pub decided_soon : (core : CoreState) → CoreLaw core → IsDecidedSoon (length core.shown.workers + 1) core
 decided_soon core law number tenant command announced new events given step runs far =
     let same = (shows_step core announced (Announce number tenant command) None step).size in
     let on = subst (λ (size : LogSize). LeadsOn size announced.shown new.shown) same (shows_run announced new events given runs) in

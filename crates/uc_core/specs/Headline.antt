@@ -113,16 +113,15 @@ AnsweredOnce given =
     slice_get given one ≡ Some (worker, place, reply) →
     slice_get given other ≡ Some (other_worker, place, other_reply) → one ≡ other
 
--- a command that is announced while d places of a log of n workers are decided stands among the
--- first d + n + 1 places once that many are decided, whatever happens in between and whichever
--- workers stop
-abbrev pub IsDecidedSoon : CoreState → Type 0
-IsDecidedSoon old =
+-- a command that is announced while d places are decided stands among the first d + `more` places
+-- once that many are decided, whatever happens in between and whichever workers stop
+abbrev pub IsDecidedSoon : ℕ → CoreState → Type 0
+IsDecidedSoon more old =
     (number tenant : ℕ) (command : Command) (announced new : CoreState)
     (events : List Event) (given : List Given) →
     CoreStep old (Announce number tenant command) announced None → Runs announced events new given →
-    length old.shown.decided + length old.shown.workers + 1 ≤ length new.shown.decided →
-    StandsBefore (length old.shown.decided + length old.shown.workers + 1)
+    length old.shown.decided + more ≤ length new.shown.decided →
+    StandsBefore (length old.shown.decided + more)
     (ticket_of number (announced_by old.shown number)) new.shown.decided
 
 -- a command is announced in this state, and stands at this place in a later one

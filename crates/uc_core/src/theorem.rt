@@ -6,7 +6,7 @@
 //! a table holding only its tenant's commands in log order, so runs whose logs agree for a tenant
 //! give equal replies. Each command is answered at most once, and one that was answered before
 //! another was announced stands before it.
-ghost use Rattle.std.specs.Prelude.{◌≡◌, ◌⊎◌, ◌↔◌, ℕ, ◌<◌, [], ◌∷◌, length, true, Some, None};
+ghost use Rattle.std.specs.Prelude.{◌≡◌, ◌⊎◌, ◌↔◌, ℕ, ◌+◌, ◌<◌, [], ◌∷◌, length, true, Some, None};
 ghost use Rattle.mc_model.specs.declared.reply.Reply.{Reply};
 ghost use Rattle.mc_model.specs.Helping.{HelpingLaw, IsSoonDecided, LogLaw};
 ghost use Rattle.mc_model.specs.Lawful.{IsReached, turn};
@@ -41,8 +41,12 @@ pub fn laws()
     // Each table stands for its tenant's commands that its worker has replayed.
     ensures tables { OfEveryRun (λ core given. TablesStand core) }
 
-    // An announced command stands in the log soon, whether or not its worker has stopped.
-    ensures helped { OfEveryRun (λ core given. IsDecidedSoon core) }
+    // An announced command stands in the log soon, whether or not its worker has stopped: among the
+    // next places, of which there are one more than workers.
+    ensures helped { OfEveryRun
+        (λ core given. IsDecidedSoon (length core.shown.workers + 1) core) }
+    // As many as there are workers aren't enough.
+    ensures sharp { ¬ OfEveryRun (λ core given. IsDecidedSoon (length core.shown.workers) core) }
 
     // A command stands after all places that were decided when it was announced.
     ensures after { OfEveryRun (λ core given. StandsAfterDecided core) }
@@ -128,7 +132,9 @@ pub fn replies_are_given_once()
 pub fn shown_states()
     ensures lawful { (n : size.LogSize) (s : state.ShownState) → IsReached n s → LogLaw n s }
     ensures helping { (n : size.LogSize) (s : state.ShownState) → IsReached n s → HelpingLaw n s }
-    ensures soon { (n : size.LogSize) → IsSoonDecided n }
+    ensures soon { (n : size.LogSize) → IsSoonDecided (n.workers + 1) n }
+    // As many places as there are workers aren't soon enough.
+    ensures sharp { ¬ ((n : size.LogSize) → IsSoonDecided n.workers n) }
     // At each of the first places it is the turn of the worker with the place's number.
     ensures turns { (n : size.LogSize) (w : worker.WorkerState) → length w.learned < n.workers →
         turn n w ≡ length w.learned }

@@ -60,15 +60,16 @@ AnnouncesAtMost old new tenant command =
     ⊎ (announced_of new ≡ announced_of old ++ next_of old tenant command ∷ [])
 
 -- The tenant's command was announced under the next number, and nothing else was. It stands last in
--- the history, at a place that wasn't replayed before, and the reply is the answer after that
--- tenant's own commands before that place. At most one more proposal was made for it than there are
--- workers.
+-- the history, at a place that wasn't replayed before, and no later place is learned. The reply is
+-- the answer after that tenant's own commands before that place. At most one more proposal was made
+-- for it than there are workers.
 pub record Submits (old new : Worker) (tenant : ℕ) (command : Command)
     (answer : Answer) : Type 0 where
   pub announced : announced_of new ≡ announced_of old ++ next_of old tenant command ∷ []
   pub count : (seat_of new).state.announced ≡ (seat_of old).state.announced + 1
   pub place : length (history_of old) ≤ answer.place
   pub last : length (history_of new) ≡ answer.place + 1
+  pub learned : length (seat_of new).state.learned ≡ answer.place + 1
   pub own : slice_get (history_of new) answer.place ≡ Some (next_of old tenant command)
   pub reply : Some answer.reply
       ≡ reply_to (openings_of old) (entries (take answer.place (history_of new)))

@@ -5,6 +5,7 @@ use Rattle.uc_core.proofs.Answered.{own_answered}
 use Rattle.uc_core.proofs.Later.{keeps_real_time, stands_after}
 use Rattle.uc_core.proofs.Once.{answered_once}
 use Rattle.uc_core.proofs.Runs.{answers_of, law_of}
+use Rattle.uc_core.proofs.Sharp.{sharp_of_runs}
 use Rattle.uc_core.proofs.Soon.{decided_soon}
 use Rattle.uc_core.proofs.theorem.laws.Goals as goal
 
@@ -40,3 +41,6 @@ returns-clause-helped c = λ settings events core given run. decided_soon core (
 
 pub returns-clause-stopped : goal.returns-clause-stopped
 returns-clause-stopped c = λ settings events core given run. stops_for_good core
+
+pub returns-clause-sharp : goal.returns-clause-sharp
+returns-clause-sharp c = sharp_of_runs

@@ -2,6 +2,7 @@
 use Rattle.std.proofs.Math.Nat.{mod-eq_of_lt}
 use Rattle.model_lemmas.proofs.Turns.{is_soon_decided}
 use Rattle.model_lemmas.proofs.Waiting.{is_helping, is_lawful}
+use Rattle.uc_core.proofs.Sharp.{sharp_of_events}
 use Rattle.uc_core.proofs.theorem.shown_states.Goals as goal
 
 pub returns-clause-lawful : goal.returns-clause-lawful
@@ -12,6 +13,9 @@ returns-clause-helping c = is_helping
 
 pub returns-clause-soon : goal.returns-clause-soon
 returns-clause-soon c = is_soon_decided
+
+pub returns-clause-sharp : goal.returns-clause-sharp
+returns-clause-sharp c = sharp_of_events
 
 pub returns-clause-turns : goal.returns-clause-turns
 returns-clause-turns c = λ n w first. mod-eq_of_lt first

@@ -34,6 +34,7 @@ returns-clause-submits g c =
       count = ap (λ (p : Pass). (state p).announced) same_pass ∙ c.in_ok-decide_new.ensures.outcome.announced;
       place = omega (arith, short, more, long);
       last = omega (arith, more, long, all);
+      learned = ap (λ (p : Pass). length (learned p)) same_pass ∙ omega (arith, more, long);
       own = ap (λ (n : ℕ). slice_get (history_of new) n) place ∙ c.in_ok-reply.ensures.stands
           ∙ ap (λ (entry : Entry). Some (sighting_of worker.log.now entry)) same;
       reply = c.in_ok-reply.ensures.reply ∙ (λ i. reply_to (openings_of worker) (entries (take (long i - 1) (history_of new))) (Some (same i)));
