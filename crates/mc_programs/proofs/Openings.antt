@@ -136,7 +136,7 @@ module _ (limits : Limits) (places logs : ℕ) (first : Streams) (conn : Conn) (
         ),
       )
 
--- what stops a service over so many logs stops it over more
+-- what stops a service over some logs stops it over more
 pub stops_within : (limits : Limits) (places most more : ℕ) (before after : Streams) (fault : Fault) → most ≤ more → StopsByLogs limits places most before after fault → StopsByLogs limits places more before after fault
 stops_within limits places most more before after fault few (cause, is, (logs, among, ends)) = (cause, is, (logs, (among.0, omega (arith, among.1, few)), ends))
 

@@ -49,7 +49,7 @@ use Rattle.mc_conn.specs.declared.conn.Conn.{Conn}
 use Rattle.mc_programs.specs.Opening.{IsOpened, RefusesToOpen}
 
 -- a list's prefix taken off both sides
-same_behind : {X : Type 0} (front one two : List X) → front ++ one ≡ front ++ two → one ≡ two
+pub same_behind : {X : Type 0} (front one two : List X) → front ++ one ≡ front ++ two → one ≡ two
 same_behind [] one two same = same
 same_behind (x ∷ front) one two same = same_behind front one two (ap rest_of same)
   where
@@ -141,13 +141,13 @@ module _ (limits : Limits) (places logs : ℕ) (first : Streams) (start : Scene)
   abbrev so_far : LogsHaveServed limits places logs first start.conn start.streams
   so_far = begins.served
 
-  all_places : (logs + 1) * places ≡ logs * places + places
+  pub all_places : (logs + 1) * places ≡ logs * places + places
   all_places = add-mul logs 1 places ∙ ap (λ n. logs * places + n) (one-mul places)
 
   -- what is owed by all logs for what the earlier ones and this one took
   module _ (worker : Worker) (requests : List Request) (bytes : List ℕ) (mark : Mark) (on : Continues start.worker worker)
       (owes : Owes worker start.conn.role (mark_of start.worker) requests bytes mark) where
-    alone_now : IsAloneOver limits (commands_of so_far.requests) places worker
+    pub alone_now : IsAloneOver limits (commands_of so_far.requests) places worker
     alone_now = record {
       workers = ap (λ size. size.workers) on.same.0 ∙ begins.fresh.alone.workers;
       long = ap (λ size. size.places) on.same.0 ∙ begins.fresh.alone.long;
@@ -216,6 +216,10 @@ module _ (limits : Limits) (places logs : ℕ) (first : Streams) (start : Scene)
             all.done.0;
         unfailed = (takes.unfailed.0 ∙ so_far.unfailed.0, takes.unfailed.1 ∙ so_far.unfailed.1);
       }
+
+  pub serves_with : (after : Scene) (all : ServesAll start after) → (serves : ServesClient limits places (logs + 1) first after.streams) × (serves.comes.requests ≡ so_far.requests ++ all.takes.taken.requests)
+  unfolding serves
+  serves_with after all = (serves after all, refl)
 
   -- what came before the last pull
   module _ (after : Scene) (came sent : List ℕ) (pulled : moved after.streams.input.events ≡ moved start.streams.input.events ++ came)
