@@ -1,12 +1,12 @@
 -- A client before its first byte, and the service as a whole.
-use Rattle.std.proofs.Common.{◌≡◌, ◌⊎◌, ℕ, ◌+◌, ◌≤◌, Bool, true, false, Result, Ok, Err, Option, Some, None, slice_get, List, [], ◌∷◌, ◌++◌, length, sym, refl, ap, ◌∙◌, subst, inl, inr, ⊎_elim, arith, append-nil, length-append}
+use Rattle.std.proofs.Common.{◌≡◌, ℕ, ◌+◌, ◌≤◌, Bool, true, false, Result, Ok, Err, Option, Some, None, slice_get, List, [], ◌∷◌, ◌++◌, length, sym, refl, ap, ◌∙◌, subst, inl, inr, ⊎_elim, arith, append-nil, length-append}
 use Rattle.std.specs.Prelude.{MatchResult}
 use Rattle.std.proofs.KnownBytes.{Consumes-nil}
 use Rattle.mc_model.specs.declared.fault.Fault.{Fault}
 use Rattle.mc_model.specs.declared.settings.Limits.{Limits}
 use Rattle.mc_conn.specs.declared.conn.Conn.{Conn}
 use Rattle.mc_conn.specs.declared.conn.Role.TheVariants.{Tenant}
-use Rattle.mc_conn.specs.Held.{Holding, IsRead, nothing_held}
+use Rattle.mc_conn.specs.Held.{IsRead, nothing_held}
 use Rattle.mc_conn.specs.Turn.{holding_of, queue_of}
 use Rattle.mc_programs.specs.Generations.{IsForOne, LogsHaveServed, ServesLog}
 use Rattle.mc_programs.specs.Opening.{IsOpened}

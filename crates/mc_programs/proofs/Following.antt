@@ -1,9 +1,7 @@
 -- How a log that is full is followed by the next one.
-use Rattle.std.proofs.Common.{◌≡◌, ℕ, ◌⊎◌, ◌+◌, ◌*◌, ◌≤◌, ◌||◌, Bool, true, false, List, [], ◌∷◌, ◌++◌, length, Option, Some, slice_get, sym, refl, ap, ◌∙◌, subst, inl, arith, append_assoc, append-nil, length-append}
-use Rattle.std.specs.Bool.{MatchBool}
-use Rattle.std.specs.Io.KnownBytes.{IsAtEnd}
+use Rattle.std.proofs.Common.{◌≡◌, ℕ, ◌+◌, ◌*◌, ◌≤◌, List, [], ◌∷◌, ◌++◌, length, Option, Some, slice_get, sym, refl, ap, ◌∙◌, subst, arith, append_assoc, length-append}
 use Rattle.std.specs.Prelude.{option_map}
-use Rattle.std.proofs.KnownBytes.{Consumes-nil, Consumes-trans}
+use Rattle.std.proofs.KnownBytes.{Consumes-trans}
 use Rattle.std.proofs.Math.Nat.{add-mul, one-mul}
 use Rattle.std.proofs.lemmas.Option.{same_Some}
 use Rattle.lists.proofs.Public.{appended_twice}
@@ -19,7 +17,7 @@ use Rattle.mc_model.specs.Replay.{EachStands}
 use Rattle.mc_model.specs.State.{TableState, empty_table}
 use Rattle.model_lemmas.proofs.Histories.{state_from-more}
 use Rattle.model_lemmas.proofs.Replays.{EachStands-length}
-use Rattle.mc_conn.specs.Alone.{IsAloneOver, commands_of, first_mark, owed, owed_after}
+use Rattle.mc_conn.specs.Alone.{IsAloneOver, commands_of, first_mark, owed_after}
 use Rattle.mc_conn.specs.declared.conn.Conn.{Conn}
 use Rattle.mc_conn.specs.declared.conn.Role.TheVariants.{Tenant}
 use Rattle.mc_read.specs.Line.{asked}
@@ -27,18 +25,16 @@ use Rattle.mc_read.specs.Reading.{ReadsAs}
 use Rattle.mc_conn.specs.Ending.{AwaitsLog, LogsInTime, PullsLate, Serves, Stops}
 use Rattle.mc_conn.specs.Held.{Holding, HoldsOn, IsRead}
 use Rattle.mc_conn.specs.Owed.{mark_of}
-use Rattle.mc_conn.specs.Turn.{Scene, Takes, holding_of, queue_of, scene}
+use Rattle.mc_conn.specs.Turn.{Scene, Takes, holding_of, queue_of}
 use Rattle.mc_programs.specs.Generations.{LogsHaveServed}
 use Rattle.mc_programs.specs.Serving.{Comes, FillsLast}
 use Rattle.mc_programs.proofs.Served.{Begins, all_answered, all_places, alone_now, bytes_so_far, caught_up, over_is, reads_so_far, remembered, same_behind}
-use Rattle.mc_stream.specs.Event.{ends, has_ended, moved, waits}
+use Rattle.mc_stream.specs.Event.{moved, waits}
 use Rattle.mc_stream.specs.Pushing.{Pushes}
-use Rattle.mc_stream.specs.Stream.{Inflow, Streams}
+use Rattle.mc_stream.specs.Stream.{Streams}
 use Rattle.uc_cells.specs.Sighting.{entries}
 use Rattle.uc_worker.specs.declared.worker.Worker.{Worker}
-use Rattle.uc_worker.specs.Going.{Continues}
-use Rattle.uc_worker.specs.TurningOver.{IsAsBefore}
-use Rattle.uc_worker.specs.Worker.{HasReplayedAll, announced_of, history_of, openings_of}
+use Rattle.uc_worker.specs.Worker.{HasReplayedAll, history_of, openings_of}
 
 commands-append : (first second : List Request) → commands_of (first ++ second) ≡ commands_of first ++ commands_of second
 commands-append [] second = refl

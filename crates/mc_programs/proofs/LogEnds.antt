@@ -1,19 +1,18 @@
 -- How a log ends for a client: the client has ended, a fault came, or the next log goes on.
-use Rattle.std.proofs.Common.{◌≡◌, ◌⊎◌, ℕ, ◌+◌, ◌*◌, ◌≤◌, Bool, false, Option, Some, None, Result, Ok, Err, List, [], ◌∷◌, length, slice_get, true, sym, refl, ap, ◌∙◌, subst, inl, inr, ⊎_elim, arith}
+use Rattle.std.proofs.Common.{◌≡◌, ◌⊎◌, ℕ, ◌+◌, ◌*◌, ◌≤◌, Bool, false, Option, Some, None, Result, Ok, Err, length, true, sym, refl, subst, inl, inr, ⊎_elim}
 use Rattle.std.specs.Prelude.{MatchResult}
 use Rattle.mc_model.specs.declared.fault.Fault.{Fault}
 use Rattle.mc_model.specs.declared.settings.Limits.{Limits}
 use Rattle.mc_model.specs.Replay.{EachStands, HaveRoom}
 use Rattle.mc_conn.specs.Alone.{commands_of}
 use Rattle.mc_conn.specs.declared.conn.Conn.{Conn}
-use Rattle.mc_conn.specs.declared.conn.State.{State}
-use Rattle.mc_conn.specs.declared.conn.State.TheVariants.{Closed, Idle, Busy, Full as FullState}
+use Rattle.mc_conn.specs.declared.conn.State.TheVariants.{Closed, Full as FullState}
 use Rattle.mc_conn.specs.Ending.{AwaitsLog, IsDone, PullsLate, Serves, ServesUntil, Stops}
 use Rattle.mc_conn.specs.Turn.{Scene, scene}
-use Rattle.mc_programs.specs.Generations.{FollowsOn, ServesLog}
+use Rattle.mc_programs.specs.Generations.{ServesLog}
 use Rattle.mc_programs.specs.Serving.{IsNotFollowed, ServesClient, StopsByLogs, no_room, not_needed, out_of_memory, settings_alone}
 use Rattle.mc_programs.proofs.Served.{Begins, serves, serves_with, stops}
-use Rattle.mc_programs.proofs.Following.{Full, InTime, LateThrough, StopsSend, StopsThrough, TakesThrough, awaits_done, few_taken, filled, served_more, serves_on, serves_on_late, stops_on, stops_on_late, tables_more}
+use Rattle.mc_programs.proofs.Following.{Full, InTime, LateThrough, StopsSend, StopsThrough, TakesThrough, awaits_done, few_taken, filled, served_more, serves_on, stops_on, stops_on_late, tables_more}
 use Rattle.mc_stream.specs.Stream.{Streams}
 use Rattle.uc_cells.specs.Sighting.{entries}
 use Rattle.uc_worker.specs.declared.turning_over.Next.{Next}

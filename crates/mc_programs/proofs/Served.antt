@@ -1,27 +1,24 @@
 -- What a connection does with the one worker of a log, in bytes that came and bytes that went.
-use Rattle.std.proofs.Common.{◌≡◌, ◌⊎◌, ℕ, ◌+◌, ◌*◌, ◌≤◌, ◌<◌, ◌||◌, Bool, true, false, Result, Ok, Err, List, [], ◌∷◌, ◌++◌, length, Some, slice_get, sym, refl, ap, ◌∙◌, subst, inl, inr, ⊎_elim, arith, append_assoc, append-nil, length-append}
+use Rattle.std.proofs.Common.{◌≡◌, ◌⊎◌, ℕ, ◌+◌, ◌*◌, ◌≤◌, ◌<◌, ◌||◌, Bool, true, false, List, [], ◌∷◌, ◌++◌, length, Some, slice_get, sym, refl, ap, ◌∙◌, subst, inl, inr, ⊎_elim, arith, append_assoc, append-nil, length-append}
 use Rattle.std.specs.Bool.{MatchBool}
-use Rattle.std.specs.Io.KnownBytes.{Consumes, IsAtEnd}
+use Rattle.std.specs.Io.KnownBytes.{IsAtEnd}
 use Rattle.std.proofs.KnownBytes.{Consumes-trans}
 use Rattle.std.proofs.Math.Nat.{add-mul, one-mul}
 use Rattle.std.proofs.lemmas.List.Folds.{list_any-append}
 use Rattle.lists.proofs.Public.{appended_twice, joined}
 use Rattle.mc_model.specs.declared.command.Command.{Command}
 use Rattle.std.specs.List.{list_any}
-use Rattle.std.specs.Prelude.{MatchResult}
 use Rattle.mc_model.specs.declared.fault.Fault.{Fault}
 use Rattle.mc_model.specs.declared.fault.Fault.TheVariants.{Memory, BadSettings}
 use Rattle.mc_model.specs.declared.reply.Reply.TheVariants.{Refused}
 use Rattle.mc_model.specs.declared.reply.TheConstants.WireNo.{OUT_OF_MEMORY}
 use Rattle.mc_model.specs.declared.request.Request.{Request}
 use Rattle.mc_model.specs.declared.settings.Limits.{Limits}
-use Rattle.model_lemmas.proofs.Histories.{state_after-none}
-use Rattle.mc_model.specs.Replay.{empty_tables}
 use Rattle.mc_model.specs.Settings.{Configuration, IsLawful}
 use Rattle.mc_read.specs.Line.{asked}
 use Rattle.mc_read.specs.Reading.{HasReading, ReadsAs, ends_stream}
 use Rattle.mc_read.specs.Text.{IsRequestText}
-use Rattle.mc_conn.specs.Alone.{IsAloneOver, commands_of, first_mark, owed, owed_after}
+use Rattle.mc_conn.specs.Alone.{IsAloneOver, commands_of, first_mark, owed_after}
 use Rattle.mc_conn.specs.ConnFault.{CellTaken, ConnFault, CountsFailures, InputFailed, IsTold, OutOfMemory, OutputFailed}
 use Rattle.mc_conn.specs.Ending.{Breaks, PullsAfter, PullsLate, Serves as ServesAll, Stops as StopsSo}
 use Rattle.mc_conn.specs.Held.{Holding, HoldsNone, HoldsOn, IsRead, nothing_held}
@@ -38,14 +35,9 @@ use Rattle.stream_lemmas.proofs.Pushed.{same_stop}
 use Rattle.mc_stream.specs.Stream.{Inflow, Outflow, Streams, both}
 use Rattle.mc_write.specs.Text.{text}
 use Rattle.uc_worker.specs.declared.worker.Worker.{Worker}
-use Rattle.uc_worker.specs.Worker.{announced_of, history_of, openings_of, seat_of}
-use Rattle.uc_cells.specs.Sighting.{Sighting}
 use Rattle.uc_log.specs.declared.log.Log.{Log}
 use Rattle.uc_log.specs.declared.pass.Pass.{Pass}
-use Rattle.uc_log.specs.Passes.{IsNew, seat, size_of}
-use Rattle.uc_places.specs.Told.{new_seat}
-use Rattle.uc_places.specs.declared.view.View.{View}
-use Rattle.mc_conn.specs.declared.conn.Conn.{Conn}
+use Rattle.uc_log.specs.Passes.{IsNew}
 use Rattle.mc_programs.specs.Opening.{IsOpened, RefusesToOpen}
 
 -- a list's prefix taken off both sides

@@ -1,4 +1,4 @@
-use Rattle.std.proofs.Common.{◌≡◌, ◌∙◌, inl, sym, ap, subst}
+use Rattle.std.proofs.Common.{◌∙◌, inl, sym, ap, subst}
 use Rattle.mc_model.specs.Replay.{HaveRoom}
 use Rattle.mc_model.specs.Settings.{Configuration}
 use Rattle.uc_worker.specs.Worker.{tables_of}

@@ -1,14 +1,12 @@
-use Rattle.std.proofs.Common.{◌≡◌, ◌⊎◌, ◌∙◌, ℕ, refl, ap, subst}
+use Rattle.std.proofs.Common.{◌⊎◌, ◌∙◌, refl, ap, subst}
 use Rattle.std.proofs.lemmas.Result.{err_from_is_err_and}
-use Rattle.mc_model.specs.declared.settings.Limits.{Limits}
 use Rattle.mc_model.specs.Replay.{HaveRoom}
 use Rattle.mc_model.specs.Settings.{Configuration}
 use Rattle.mc_conn.specs.Turn.{scene}
-use Rattle.mc_programs.specs.Generations.{LogsHaveServed, IsFreshOver}
 use Rattle.mc_programs.proofs.LogEnds.{ends_closed, ends_last, ends_on, goes_on, until_full}
 use Rattle.mc_programs.proofs.Openings.{fits}
 use Rattle.mc_programs.proofs.Served.{Begins, stops}
-use Rattle.mc_stream.specs.Stream.{Streams, both}
+use Rattle.mc_stream.specs.Stream.{both}
 use Rattle.uc_worker.specs.Worker.{tables_of}
 use Rattle.mc_programs.proofs.generations.serve_log.Goals as goal
 

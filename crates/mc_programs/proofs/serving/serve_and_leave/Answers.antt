@@ -1,7 +1,7 @@
 use Rattle.std.proofs.Common.{◌∙◌, ap}
 use Rattle.mc_conn.specs.declared.conn.Role.TheVariants.{Tenant}
 use Rattle.mc_conn.specs.Held.{nothing_held}
-use Rattle.mc_programs.proofs.Beginnings.{by_logs, for_one, not_yet}
+use Rattle.mc_programs.proofs.Beginnings.{by_logs, not_yet}
 use Rattle.mc_programs.proofs.Served.{refused}
 use Rattle.mc_programs.proofs.serving.serve_and_leave.Goals as goal
 

@@ -1,4 +1,4 @@
-use Rattle.std.proofs.Common.{◌≡◌, IfSome, Option, sym, ap, subst}
+use Rattle.std.proofs.Common.{IfSome, Option, sym, ap, subst}
 use Rattle.mc_model.specs.Replay.{HaveRoom}
 use Rattle.mc_model.specs.Settings.{Configuration}
 use Rattle.uc_worker.specs.declared.turning_over.Next.{Next}
