@@ -4,7 +4,7 @@ use Rattle.clap.specs.Simple.{App}
 use Rattle.clap.specs.Walk.{Text}
 use Rattle.clap.specs.declared.error.kind.ErrorKind.{ErrorKind}
 use Rattle.clap.specs.declared.error.kind.ErrorKind.TheVariants.{OutOfMemory}
-use Rattle.mc_programs.specs.Words.{AnswersWords, AsksToShow, EndsUnserved, FailsToAnswer, FailsToShow, ClapReturns, IsShown, ShowsHelp, TellsMistake}
+use Rattle.mc_programs.specs.Words.{AnswersWords, AsksToShow, EndsUnserved, FailsToAnswer, FailsToShow, ClapReturns, IsShown}
 use Rattle.mc_stream.specs.Stream.{Inflow, Outflow, both}
 
 shown_there : (kind : ErrorKind) → IsShown kind → kind ≢ OutOfMemory

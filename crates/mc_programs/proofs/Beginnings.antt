@@ -1,12 +1,12 @@
 -- A client before its first byte, and the service as a whole.
-use Rattle.std.proofs.Common.{◌≡◌, ◌⊎◌, ℕ, ◌+◌, ◌≤◌, Bool, true, false, Result, Ok, Err, Option, Some, None, slice_get, List, [], ◌∷◌, ◌++◌, length, sym, refl, ap, ◌∙◌, subst, inl, inr, arith, append-nil, length-append}
+use Rattle.std.proofs.Common.{◌≡◌, ℕ, ◌+◌, ◌≤◌, Bool, true, false, Result, Ok, Err, Option, Some, None, slice_get, List, [], ◌∷◌, ◌++◌, length, sym, refl, ap, ◌∙◌, subst, inl, inr, ⊎_elim, arith, append-nil, length-append}
 use Rattle.std.specs.Prelude.{MatchResult}
 use Rattle.std.proofs.KnownBytes.{Consumes-nil}
 use Rattle.mc_model.specs.declared.fault.Fault.{Fault}
 use Rattle.mc_model.specs.declared.settings.Limits.{Limits}
 use Rattle.mc_conn.specs.declared.conn.Conn.{Conn}
 use Rattle.mc_conn.specs.declared.conn.Role.TheVariants.{Tenant}
-use Rattle.mc_conn.specs.Held.{Holding, IsRead, nothing_held}
+use Rattle.mc_conn.specs.Held.{IsRead, nothing_held}
 use Rattle.mc_conn.specs.Turn.{holding_of, queue_of}
 use Rattle.mc_programs.specs.Generations.{IsForOne, LogsHaveServed, ServesLog}
 use Rattle.mc_programs.specs.Opening.{IsOpened}
@@ -18,6 +18,7 @@ use Rattle.mc_stream.specs.Stream.{Streams}
 use Rattle.uc_log.specs.declared.log.Log.{Log}
 use Rattle.uc_log.specs.declared.pass.Pass.{Pass}
 use Rattle.uc_worker.specs.declared.turning_over.Next.{Next}
+use Rattle.uc_worker.specs.declared.worker.Worker.{Worker}
 
 -- no log has served the client yet
 pub not_yet : (limits : Limits) (places : ℕ) (conn : Conn) (streams : Streams) → conn.role ≡ Tenant 0 → holding_of conn ≡ nothing_held (Tenant 0) → queue_of conn ≡ [] →
@@ -61,11 +62,11 @@ pub for_one : (limits : Limits) (places : ℕ) (log : Log) (pass : Pass) → IsO
 for_one limits places log pass opened = (ap (λ settings. settings.workers) opened.0, ap (λ settings. length settings.tenants) opened.0)
 
 -- what becomes of the logs becomes of the service
-pub by_logs : (limits : Limits) (places most : ℕ) (before after : Streams) (result : Result (Unit {0}) Fault) →
-    MatchResult result (λ _. ServesByLogs limits places most before after) (StopsByLogs limits places most before after) →
-    MatchResult result (λ _. ServesByLogs limits places most before after) (StopsService limits places most before after)
-by_logs limits places most before after (Ok done) is = is
-by_logs limits places most before after (Err fault) is = inl is
+pub by_logs : (refused : Worker → Type 0) (limits : Limits) (places most : ℕ) (before after : Streams) (result : Result (Unit {0}) Fault) →
+    MatchResult result (λ _. ServesByLogs refused limits places most before after) (StopsByLogs limits places most before after) →
+    MatchResult result (λ _. ServesByLogs refused limits places most before after) (StopsService limits places most before after)
+by_logs refused limits places most before after (Ok done) is = is
+by_logs refused limits places most before after (Err fault) is = inl is
 
 -- the one pass of a log for one
 pub only_pass : (passes rest : List Pass) (pass : Pass) → passes ≡ rest ++ pass ∷ [] → length passes ≡ 1 → slice_get passes 0 ≡ Some pass
@@ -74,7 +75,9 @@ only_pass passes rest pass popped one =
     ap (λ list. slice_get list 0) (popped ∙ ap (λ list. list ++ pass ∷ []) none)
 
 -- a log that isn't followed by another served the client to its end
-pub ended_by : (limits : Limits) (places logs most : ℕ) (is_last : Bool) (first : Streams) (conn : Conn) (now : Streams) (after : Option Next) → logs + 1 ≤ most →
-    ((next : Next) → after ≡ Some next → ⊥) → ServesLog limits places logs is_last first conn now after → ServesByLogs limits places most first now
-ended_by limits places logs most is_last first conn now None few none serves = (logs + 1, (omega arith, few), serves)
-ended_by limits places logs most is_last first conn now (Some next) few none serves = absurd (none next refl)
+pub ended_by : (refused : Worker → Type 0) (limits : Limits) (places logs most : ℕ) (is_last : Bool) (first : Streams) (conn : Conn) (now : Streams) (after : Option Next) → logs + 1 ≤ most →
+    (is_last ≡ true → logs + 1 ≡ most) → ((next : Next) → after ≡ Some next → ⊥) → ServesLog refused limits places logs is_last first conn now after →
+    ServesByLogs refused limits places most first now
+ended_by refused limits places logs most is_last first conn now None few last none serves =
+    (logs + 1, (omega arith, few), serves.0, ⊎_elim (λ (yes : is_last ≡ true). inl (last yes)) (λ why. inr why) serves.1)
+ended_by refused limits places logs most is_last first conn now (Some next) few last none serves = absurd (none next refl)

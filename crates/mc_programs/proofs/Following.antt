@@ -1,9 +1,7 @@
 -- How a log that is full is followed by the next one.
-use Rattle.std.proofs.Common.{◌≡◌, ℕ, ◌⊎◌, ◌+◌, ◌*◌, ◌≤◌, ◌||◌, Bool, true, false, List, [], ◌∷◌, ◌++◌, length, Option, Some, slice_get, sym, refl, ap, ◌∙◌, subst, inl, arith, append-nil, length-append}
-use Rattle.std.specs.Bool.{MatchBool}
-use Rattle.std.specs.Io.KnownBytes.{IsAtEnd}
+use Rattle.std.proofs.Common.{◌≡◌, ℕ, ◌+◌, ◌*◌, ◌≤◌, List, [], ◌∷◌, ◌++◌, length, Option, Some, slice_get, sym, refl, ap, ◌∙◌, subst, arith, append_assoc, length-append}
 use Rattle.std.specs.Prelude.{option_map}
-use Rattle.std.proofs.KnownBytes.{Consumes-nil, Consumes-trans}
+use Rattle.std.proofs.KnownBytes.{Consumes-trans}
 use Rattle.std.proofs.Math.Nat.{add-mul, one-mul}
 use Rattle.std.proofs.lemmas.Option.{same_Some}
 use Rattle.lists.proofs.Public.{appended_twice}
@@ -19,23 +17,24 @@ use Rattle.mc_model.specs.Replay.{EachStands}
 use Rattle.mc_model.specs.State.{TableState, empty_table}
 use Rattle.model_lemmas.proofs.Histories.{state_from-more}
 use Rattle.model_lemmas.proofs.Replays.{EachStands-length}
-use Rattle.mc_conn.specs.Alone.{IsAloneOver, commands_of, first_mark, owed, owed_after}
+use Rattle.mc_conn.specs.Alone.{IsAloneOver, commands_of, first_mark, owed_after}
 use Rattle.mc_conn.specs.declared.conn.Conn.{Conn}
 use Rattle.mc_conn.specs.declared.conn.Role.TheVariants.{Tenant}
+use Rattle.mc_read.specs.Line.{asked}
+use Rattle.mc_read.specs.Reading.{ReadsAs}
 use Rattle.mc_conn.specs.Ending.{LogsInTime, PullsLate, Serves, Stops}
 use Rattle.mc_conn.specs.Held.{Holding, HoldsOn, IsRead}
 use Rattle.mc_conn.specs.Owed.{mark_of}
-use Rattle.mc_conn.specs.Turn.{Scene, Takes, holding_of, queue_of, scene}
+use Rattle.mc_conn.specs.Turn.{Scene, Takes, holding_of, queue_of}
 use Rattle.mc_programs.specs.Generations.{LogsHaveServed}
-use Rattle.mc_programs.proofs.Served.{Begins, all_answered, bytes_so_far, caught_up, over_is, reads_so_far, remembered}
-use Rattle.mc_stream.specs.Event.{ends, has_ended, moved, waits}
+use Rattle.mc_programs.specs.Serving.{Comes, FillsLast}
+use Rattle.mc_programs.proofs.Served.{Begins, all_answered, all_places, alone_now, bytes_so_far, caught_up, over_is, reads_so_far, remembered, same_behind}
+use Rattle.mc_stream.specs.Event.{moved, waits}
 use Rattle.mc_stream.specs.Pushing.{Pushes}
-use Rattle.mc_stream.specs.Stream.{Inflow, Streams}
+use Rattle.mc_stream.specs.Stream.{Streams}
 use Rattle.uc_cells.specs.Sighting.{entries}
 use Rattle.uc_worker.specs.declared.worker.Worker.{Worker}
-use Rattle.uc_worker.specs.Going.{Continues}
-use Rattle.uc_worker.specs.TurningOver.{IsAsBefore}
-use Rattle.uc_worker.specs.Worker.{HasReplayedAll, announced_of, history_of, openings_of}
+use Rattle.uc_worker.specs.Worker.{HasReplayedAll, history_of, openings_of}
 
 commands-append : (first second : List Request) → commands_of (first ++ second) ≡ commands_of first ++ commands_of second
 commands-append [] second = refl
@@ -56,17 +55,25 @@ Full = (limits : Limits) (base : List Command) (places : ℕ) (before after : Sc
     before.conn.role ≡ Tenant 0 → mark_of before.worker ≡ first_mark → LogsInTime takes → HasReplayedAll after.worker →
     (own 0 (entries (history_of after.worker)) ≡ commands_of takes.taken.requests) × (length (commands_of takes.taken.requests) ≡ places)
 
+-- a log whose commands are left to the next one
+module _ (limits : Limits) (places logs : ℕ) (first : Streams) (start : Scene) (begins : Begins limits places logs first start) (after : Scene) (takes : Takes start after) where
+  pub alone_on : IsAloneOver limits (commands_of begins.served.requests) places after.worker
+  alone_on = alone_now limits places logs first start begins after.worker takes.taken.requests takes.taken.owed (mark_of after.worker) takes.taken.onward takes.taken.owes
+
+  -- there was a place for each command
+  pub few_taken : LogsInTime takes → InTime → length (commands_of (begins.served.requests ++ takes.taken.requests)) ≤ (logs + 1) * places
+  few_taken in_time law =
+      let here = (law limits (commands_of begins.served.requests) places start after takes alone_on begins.served.role begins.fresh.mark in_time).0 in
+      let commands = ap length (commands-append begins.served.requests takes.taken.requests) in
+      omega (arith, here, commands, length-append (commands_of begins.served.requests) (commands_of takes.taken.requests), begins.served.full, all_places limits places logs first start begins)
+
 module _ (limits : Limits) (places logs : ℕ) (first : Streams) (start : Scene) (begins : Begins limits places logs first start) (after : Scene) (takes : Takes start after)
     (in_time : LogsInTime takes) (done : HasReplayedAll after.worker) (in_time_law : InTime) (full_law : Full) (late : PullsLate start after) where
   abbrev earlier : LogsHaveServed limits places logs first start.conn start.streams
   earlier = begins.served
 
   alone_after : IsAloneOver limits (commands_of earlier.requests) places after.worker
-  alone_after = record {
-    workers = ap (λ size. size.workers) takes.taken.onward.same.0 ∙ begins.fresh.alone.workers;
-    long = ap (λ size. size.places) takes.taken.onward.same.0 ∙ begins.fresh.alone.long;
-    openings = takes.taken.onward.openings ∙ begins.fresh.alone.openings;
-  }
+  alone_after = alone_on limits places logs first start begins after takes
 
   owed_here : (total : ℕ) → length (commands_of earlier.requests) + places ≤ total → takes.taken.owed ≡ owed_after limits [] total (commands_of earlier.requests) takes.taken.requests
   owed_here = (in_time_law limits (commands_of earlier.requests) places start after takes alone_after earlier.role begins.fresh.mark in_time).1
@@ -109,6 +116,27 @@ module _ (limits : Limits) (places logs : ℕ) (first : Streams) (start : Scene)
   pub requests_more : served_more.requests ≡ earlier.requests ++ takes.taken.requests
   unfolding served_more
   requests_more = refl
+
+  -- it is full of the last of the requests that were taken by then, of all that came in the end
+  pub filled : (last : Streams) (comes : Comes first last) (later : List ℕ) → moved last.input.events ≡ moved after.streams.input.events ++ later → FillsLast limits places (logs + 1) comes.requests after.worker
+  unfolding served_more
+  filled last comes later pulled =
+      let bytes : comes.bytes ≡ served_more.came ++ later =
+      same_behind (moved first.input.events) comes.bytes (served_more.came ++ later)
+      (sym comes.came
+      ∙ (pulled ∙ (ap (λ known. known ++ later) served_more.pulled ∙ append_assoc (moved first.input.events) served_more.came later)))
+      in
+      let follows = (served_more.read later comes.requests).0 (subst (λ known. ReadsAs asked known comes.requests) bytes (comes.rest, comes.reads)) in
+      record {
+        earlier = earlier.requests;
+        last = takes.taken.requests;
+        others = follows.0;
+        split = follows.1;
+        alone = alone_after;
+        replayed = is_full.0;
+        long = is_full.1;
+        full = served_more.full;
+      }
 
   -- the table that stands for the full log
   tables_one : (openings tables : List TableState) (log : List (Option Entry)) (opening : TableState) → openings ≡ opening ∷ [] → EachStands openings log tables → tables ≡ state_from opening (own 0 log) ∷ []

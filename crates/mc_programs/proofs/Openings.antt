@@ -1,7 +1,6 @@
 -- A log as it is opened for a client, over the table after the commands of earlier logs.
-use Rattle.std.proofs.Common.{◌≡◌, ◌⊎◌, ℕ, Result, Ok, Err, IfOk, IfSome, ◌+◌, ◌*◌, ◌≤◌, ◌<◌, zero, suc, All, Option, Some, None, List, [], ◌∷◌, ◌++◌, length, slice_get, sym, refl, ap, ◌∙◌, subst, inl, inr, ⊎_elim, arith, append_assoc, append-nil}
+use Rattle.std.proofs.Common.{◌≡◌, ℕ, Result, Ok, Err, IfOk, IfSome, ◌+◌, ◌*◌, ◌≤◌, zero, suc, All, Some, List, [], ◌∷◌, ◌++◌, length, slice_get, sym, ap, ◌∙◌, subst, inl, arith, append_assoc, append-nil}
 use Rattle.std.specs.Result.{result_ok}
-use Rattle.mc_model.specs.declared.command.Command.{Command}
 use Rattle.mc_model.specs.declared.fault.Fault.{Fault}
 use Rattle.mc_model.specs.declared.fault.Fault.TheVariants.{Memory}
 use Rattle.mc_model.specs.declared.reply.Reply.TheVariants.{Refused}
@@ -25,7 +24,7 @@ use Rattle.mc_conn.specs.Turn.{queue_of}
 use Rattle.mc_programs.specs.Generations.{IsForOne, IsFreshOver, IsNextForOne, LogsHaveServed}
 use Rattle.mc_programs.specs.Serving.{AnswersRequests, IsCaughtUp, NeverWaits, ServesInPart, StopsByLogs, owed_by_logs, settings_alone}
 use Rattle.mc_programs.proofs.Served.{nothing_in, told_counts}
-use Rattle.mc_stream.specs.Event.{failures, last_moved, waits}
+use Rattle.mc_stream.specs.Event.{last_moved}
 use Rattle.stream_lemmas.proofs.Pushed.{same_stop}
 use Rattle.mc_stream.specs.Stream.{Outflow, Streams, both}
 use Rattle.mc_write.specs.Text.{text}
@@ -136,7 +135,7 @@ module _ (limits : Limits) (places logs : ℕ) (first : Streams) (conn : Conn) (
         ),
       )
 
--- what stops a service over so many logs stops it over more
+-- what stops a service over some logs stops it over more
 pub stops_within : (limits : Limits) (places most more : ℕ) (before after : Streams) (fault : Fault) → most ≤ more → StopsByLogs limits places most before after fault → StopsByLogs limits places more before after fault
 stops_within limits places most more before after fault few (cause, is, (logs, among, ends)) = (cause, is, (logs, (among.0, omega (arith, among.1, few)), ends))
 

@@ -1,27 +1,24 @@
 -- What a connection does with the one worker of a log, in bytes that came and bytes that went.
-use Rattle.std.proofs.Common.{◌≡◌, ◌⊎◌, ℕ, ◌+◌, ◌*◌, ◌≤◌, ◌<◌, ◌||◌, Bool, true, false, Result, Ok, Err, List, [], ◌∷◌, ◌++◌, length, Some, slice_get, sym, refl, ap, ◌∙◌, subst, inl, inr, ⊎_elim, arith, append_assoc, append-nil, length-append}
+use Rattle.std.proofs.Common.{◌≡◌, ◌⊎◌, ℕ, ◌+◌, ◌*◌, ◌≤◌, ◌<◌, ◌||◌, Bool, true, false, List, [], ◌∷◌, ◌++◌, length, Some, slice_get, sym, refl, ap, ◌∙◌, subst, inl, inr, ⊎_elim, arith, append_assoc, append-nil, length-append}
 use Rattle.std.specs.Bool.{MatchBool}
-use Rattle.std.specs.Io.KnownBytes.{Consumes, IsAtEnd}
+use Rattle.std.specs.Io.KnownBytes.{IsAtEnd}
 use Rattle.std.proofs.KnownBytes.{Consumes-trans}
 use Rattle.std.proofs.Math.Nat.{add-mul, one-mul}
 use Rattle.std.proofs.lemmas.List.Folds.{list_any-append}
 use Rattle.lists.proofs.Public.{appended_twice, joined}
 use Rattle.mc_model.specs.declared.command.Command.{Command}
 use Rattle.std.specs.List.{list_any}
-use Rattle.std.specs.Prelude.{MatchResult}
 use Rattle.mc_model.specs.declared.fault.Fault.{Fault}
 use Rattle.mc_model.specs.declared.fault.Fault.TheVariants.{Memory, BadSettings}
 use Rattle.mc_model.specs.declared.reply.Reply.TheVariants.{Refused}
 use Rattle.mc_model.specs.declared.reply.TheConstants.WireNo.{OUT_OF_MEMORY}
 use Rattle.mc_model.specs.declared.request.Request.{Request}
 use Rattle.mc_model.specs.declared.settings.Limits.{Limits}
-use Rattle.model_lemmas.proofs.Histories.{state_after-none}
-use Rattle.mc_model.specs.Replay.{empty_tables}
 use Rattle.mc_model.specs.Settings.{Configuration, IsLawful}
 use Rattle.mc_read.specs.Line.{asked}
 use Rattle.mc_read.specs.Reading.{HasReading, ReadsAs, ends_stream}
 use Rattle.mc_read.specs.Text.{IsRequestText}
-use Rattle.mc_conn.specs.Alone.{IsAloneOver, commands_of, first_mark, owed, owed_after}
+use Rattle.mc_conn.specs.Alone.{IsAloneOver, commands_of, first_mark, owed_after}
 use Rattle.mc_conn.specs.ConnFault.{CellTaken, ConnFault, CountsFailures, InputFailed, IsTold, OutOfMemory, OutputFailed}
 use Rattle.mc_conn.specs.Ending.{Breaks, PullsAfter, PullsLate, Serves as ServesAll, Stops as StopsSo}
 use Rattle.mc_conn.specs.Held.{Holding, HoldsNone, HoldsOn, IsRead, nothing_held}
@@ -38,18 +35,13 @@ use Rattle.stream_lemmas.proofs.Pushed.{same_stop}
 use Rattle.mc_stream.specs.Stream.{Inflow, Outflow, Streams, both}
 use Rattle.mc_write.specs.Text.{text}
 use Rattle.uc_worker.specs.declared.worker.Worker.{Worker}
-use Rattle.uc_worker.specs.Worker.{announced_of, history_of, openings_of, seat_of}
-use Rattle.uc_cells.specs.Sighting.{Sighting}
 use Rattle.uc_log.specs.declared.log.Log.{Log}
 use Rattle.uc_log.specs.declared.pass.Pass.{Pass}
-use Rattle.uc_log.specs.Passes.{IsNew, seat, size_of}
-use Rattle.uc_places.specs.Told.{new_seat}
-use Rattle.uc_places.specs.declared.view.View.{View}
-use Rattle.mc_conn.specs.declared.conn.Conn.{Conn}
+use Rattle.uc_log.specs.Passes.{IsNew}
 use Rattle.mc_programs.specs.Opening.{IsOpened, RefusesToOpen}
 
 -- a list's prefix taken off both sides
-same_behind : {X : Type 0} (front one two : List X) → front ++ one ≡ front ++ two → one ≡ two
+pub same_behind : {X : Type 0} (front one two : List X) → front ++ one ≡ front ++ two → one ≡ two
 same_behind [] one two same = same
 same_behind (x ∷ front) one two same = same_behind front one two (ap rest_of same)
   where
@@ -141,13 +133,13 @@ module _ (limits : Limits) (places logs : ℕ) (first : Streams) (start : Scene)
   abbrev so_far : LogsHaveServed limits places logs first start.conn start.streams
   so_far = begins.served
 
-  all_places : (logs + 1) * places ≡ logs * places + places
+  pub all_places : (logs + 1) * places ≡ logs * places + places
   all_places = add-mul logs 1 places ∙ ap (λ n. logs * places + n) (one-mul places)
 
   -- what is owed by all logs for what the earlier ones and this one took
   module _ (worker : Worker) (requests : List Request) (bytes : List ℕ) (mark : Mark) (on : Continues start.worker worker)
       (owes : Owes worker start.conn.role (mark_of start.worker) requests bytes mark) where
-    alone_now : IsAloneOver limits (commands_of so_far.requests) places worker
+    pub alone_now : IsAloneOver limits (commands_of so_far.requests) places worker
     alone_now = record {
       workers = ap (λ size. size.workers) on.same.0 ∙ begins.fresh.alone.workers;
       long = ap (λ size. size.places) on.same.0 ∙ begins.fresh.alone.long;
@@ -216,6 +208,10 @@ module _ (limits : Limits) (places logs : ℕ) (first : Streams) (start : Scene)
             all.done.0;
         unfailed = (takes.unfailed.0 ∙ so_far.unfailed.0, takes.unfailed.1 ∙ so_far.unfailed.1);
       }
+
+  pub serves_with : (after : Scene) (all : ServesAll start after) → (serves : ServesClient limits places (logs + 1) first after.streams) × (serves.comes.requests ≡ so_far.requests ++ all.takes.taken.requests)
+  unfolding serves
+  serves_with after all = (serves after all, refl)
 
   -- what came before the last pull
   module _ (after : Scene) (came sent : List ℕ) (pulled : moved after.streams.input.events ≡ moved start.streams.input.events ++ came)

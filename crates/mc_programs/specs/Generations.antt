@@ -1,7 +1,7 @@
 -- What logs that are closed leave of a client's service to the next log; this project's profile.
 use Rattle.std.specs.Io.KnownBytes.{Consumes, IsAtEnd}
 use Rattle.std.specs.List.{list_any}
-use Rattle.std.specs.Prelude.{◌≡◌, ℕ, Bool, true, false, ◌+◌, ◌*◌, ◌≤◌, List, [], ◌∷◌, ◌++◌, length, Option, Some, None, slice_get}
+use Rattle.std.specs.Prelude.{◌≡◌, ◌⊎◌, ℕ, Bool, true, false, ◌+◌, ◌*◌, ◌≤◌, List, [], ◌∷◌, ◌++◌, length, Option, Some, None, slice_get}
 use Rattle.mc_model.specs.declared.request.Request.{Request}
 use Rattle.mc_model.specs.declared.settings.Limits.{Limits}
 use Rattle.mc_model.specs.History.{state_after}
@@ -13,7 +13,7 @@ use Rattle.mc_conn.specs.Alone.{IsAloneOver, commands_of, first_mark, owed}
 use Rattle.mc_conn.specs.Held.{IsRead, nothing_held}
 use Rattle.mc_conn.specs.Owed.{mark_of}
 use Rattle.mc_conn.specs.Turn.{NeitherFails, holding_of, queue_of}
-use Rattle.mc_programs.specs.Serving.{AnswersRequests, IsCaughtUp, NeverWaits, ServesClient, settings_alone}
+use Rattle.mc_programs.specs.Serving.{AnswersRequests, IsCaughtUp, IsNotFollowed, NeverWaits, ServesClient, settings_alone}
 use Rattle.mc_stream.specs.Event.{has_ended, last_moved, moved, waits}
 use Rattle.mc_stream.specs.Pushing.{Pushes}
 use Rattle.mc_stream.specs.Stream.{Streams}
@@ -23,9 +23,9 @@ use Rattle.uc_log.specs.Passes.{IsNew}
 use Rattle.uc_worker.specs.declared.turning_over.Next.{Next}
 use Rattle.uc_worker.specs.declared.worker.Worker.{Worker}
 
--- What so many logs did, all places of which are taken, from the client's first byte on: these
--- bytes came, these requests were taken, and what was sent followed by what is queued is owed for
--- them, whatever number of places follows. All that came before the last pull was answered and sent
+-- What N logs did, all places of which are taken, from the client's first byte on: these bytes
+-- came, these requests were taken, and what was sent followed by what is queued is owed for them,
+-- whatever number of places follows. All that came before the last pull was answered and sent
 -- first, if the output never waited.
 pub record LogsHaveServed (limits : Limits) (places logs : ℕ) (first : Streams) (conn : Conn)
     (now : Streams) : Type 0 where
@@ -78,12 +78,15 @@ pub record FollowsOn (limits : Limits) (places : ℕ) (requests : List Request)
   pub settings : next.log.settings ≡ settings_alone limits places
   pub tables : next.base.tables.items ≡ state_after limits (commands_of requests) ∷ []
 
--- one more log served the client to its end; or it is full, isn't the last one, and the next one
--- goes on from it
-abbrev pub ServesLog : Limits → ℕ → ℕ → Bool → Streams → Conn → Streams → Option Next → Type 0
-ServesLog limits places logs is_last first conn now None =
-    ServesClient limits places (logs + 1) first now
-ServesLog limits places logs is_last first conn now (Some next) =
+-- one more log served the client to its end, and is the last one or isn't followed for a reason;
+-- or it is full, isn't the last one, and the next one goes on from it
+abbrev pub ServesLog : (Worker → Type 0) → Limits → ℕ → ℕ → Bool → Streams → Conn → Streams →
+    Option Next → Type 0
+ServesLog refused limits places logs is_last first conn now None =
+    (serves : ServesClient limits places (logs + 1) first now)
+    × ((is_last ≡ true)
+    ⊎ IsNotFollowed refused limits places (logs + 1) serves.comes.requests)
+ServesLog refused limits places logs is_last first conn now (Some next) =
     (is_last ≡ false)
     × ((served : LogsHaveServed limits places (logs + 1) first conn now)
     × FollowsOn limits places served.requests next)

@@ -16,6 +16,7 @@ use Rattle.mc_programs.specs.Serving.{ServesByLogs, StopsService}
 use Rattle.mc_programs.specs.Words.{FailsToShow, ShowsHelp, TellsMistake, bare_app, number_asked, number_rule}
 use Rattle.mc_stream.specs.Pushing.{PushesOrFails}
 use Rattle.mc_stream.specs.Stream.{Outflow, Streams}
+use Rattle.uc_worker.specs.declared.worker.Worker.{Worker}
 
 -- the command's options on its logs: `--places` and `--generations`
 abbrev pub log_app : App
@@ -71,10 +72,11 @@ pub record Fails (limits : Limits) (places generations : ℕ) (before after : St
   pub told : PushesOrFails (fault_line (codes "mc_stdin") fault) errors_before errors
 
 -- a client was served by the numbers that the words ask for, or help or the version was shown
-abbrev pub StdinEndsWell : List Text → Streams → Streams → Type 0
-StdinEndsWell words before after =
+abbrev pub StdinEndsWell : (Worker → Type 0) → List Text → Streams → Streams → Type 0
+StdinEndsWell refused words before after =
     AsksInRange words
-    × ServesByLogs (limits_asked words) (places_asked words) (generations_asked words) before after
+    × ServesByLogs refused (limits_asked words) (places_asked words) (generations_asked words)
+    before after
     ⊎ ShowsHelp stdin_app words before after
 
 -- a fault ended the service, or kept the words from being read or answered, and was reported
@@ -93,8 +95,9 @@ StdinRefuses words errors_before errors =
     ⊎ TellsMistake stdin_app words errors_before errors
 
 -- how a run of mc_stdin ends, by its status
-abbrev pub StdinEnds : List Text → ℕ → Streams → Streams → Outflow → Outflow → Type 0
-StdinEnds words status before after errors_before errors =
-    (status ≡ 0) × StdinEndsWell words before after × (errors ≡ errors_before)
+abbrev pub StdinEnds : (Worker → Type 0) → List Text → ℕ → Streams → Streams → Outflow → Outflow →
+    Type 0
+StdinEnds refused words status before after errors_before errors =
+    (status ≡ 0) × StdinEndsWell refused words before after × (errors ≡ errors_before)
     ⊎ (status ≡ 1) × StdinEndsInFault words before after errors_before errors
     ⊎ (status ≡ 2) × StdinRefuses words errors_before errors × (after ≡ before)

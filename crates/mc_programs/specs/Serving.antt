@@ -11,6 +11,8 @@ use Rattle.mc_model.specs.declared.reply.Reply.TheVariants.{Refused}
 use Rattle.mc_model.specs.declared.reply.TheConstants.WireNo.{OUT_OF_MEMORY}
 use Rattle.mc_model.specs.declared.request.Request.{Request}
 use Rattle.mc_model.specs.declared.settings.Limits.{Limits}
+use Rattle.mc_model.specs.Log.{own}
+use Rattle.mc_model.specs.Replay.{HaveRoom}
 use Rattle.mc_model.specs.Settings.{Configuration, IsBetween, IsLawful}
 use Rattle.mc_read.specs.Line.{asked}
 use Rattle.mc_read.specs.Reading.{Reads, ReadsAs, ends_stream}
@@ -24,7 +26,9 @@ use Rattle.mc_stream.specs.Event.{failures, has_ended, last_moved, moved, waits}
 use Rattle.mc_stream.specs.Pushing.{IsAllOrStopped, Pushes, PushesAtOnce}
 use Rattle.mc_stream.specs.Stream.{Inflow, Streams}
 use Rattle.mc_write.specs.Text.{text}
+use Rattle.uc_cells.specs.Sighting.{entries}
 use Rattle.uc_worker.specs.declared.worker.Worker.{Worker}
+use Rattle.uc_worker.specs.Worker.{HasReplayedAll, IsClosing, history_of, tables_of}
 
 -- the settings of a log with one worker, for one tenant
 abbrev pub settings_alone : Limits → ℕ → Configuration
@@ -52,12 +56,12 @@ pub data AnswersRequests (limits : Limits) (places : ℕ) : ℕ → List Request
       Owes worker (Tenant 0) first_mark requests bytes mark →
       AnswersRequests limits places (logs + 1) (earlier ++ requests) (before ++ bytes)
 
--- what is owed by so many logs: what one log with as many places as all of them owes
+-- what N logs owe: what one log with as many places as all of them owes
 abbrev pub owed_by_logs : Limits → ℕ → ℕ → List Request → List ℕ
 owed_by_logs limits places logs requests = owed limits (logs * places) requests
 
 -- All that came, up to the end of the input or a request that ends the stream, was answered under
--- these quotas by so many logs with this many places.
+-- these quotas by this number of logs with this many places.
 pub record ServesClient (limits : Limits) (places logs : ℕ) (before after : Streams) : Type 0 where
   pub comes : Comes before after
   pub answers : AnswersRequests limits places logs comes.requests
@@ -142,11 +146,40 @@ EndsBy limits places logs InputFailed before after =
 EndsBy limits places logs OutputFailed before after =
     ServesInPart limits places logs before after [] × CountsFailures OutputFailed before after
 
--- A client was served by logs one after another, by no more of them than this: by fewer only if the
--- client had ended, or the next log couldn't be opened.
-abbrev pub ServesByLogs : Limits → ℕ → ℕ → Streams → Streams → Type 0
-ServesByLogs limits places most before after =
-    (logs : ℕ) × IsBetween 1 most logs × ServesClient limits places logs before after
+-- The worker of the last of these logs has replayed all its places: they have the commands of the
+-- last of the requests up to there, and the log was opened over the table after the earlier ones.
+pub record FillsLast (limits : Limits) (places logs : ℕ) (requests : List Request)
+    (worker : Worker) : Type 0 where
+  pub earlier : List Request
+  pub last : List Request
+  pub others : List Request
+  pub split : requests ≡ (earlier ++ last) ++ others
+  pub alone : IsAloneOver limits (commands_of earlier) places worker
+  pub replayed : own 0 (entries (history_of worker)) ≡ commands_of last
+  pub long : length (commands_of last) ≡ places
+  pub full : length (commands_of (earlier ++ last)) ≡ logs * places
+
+-- Why these logs weren't followed by another: there was a place for each command; or once all
+-- places were taken, as many changes as another log has places couldn't all get uniques; or what
+-- turns the log over was asked, and memory was refused; or the worker of the last of them has learned
+-- all its places, and hasn't replayed them all.
+pub data IsNotFollowed (refused : Worker → Type 0) (limits : Limits) (places logs : ℕ)
+    (requests : List Request) : Type 0 where
+  not_needed : length (commands_of requests) ≤ logs * places →
+      IsNotFollowed refused limits places logs requests
+  no_room : (worker : Worker) → FillsLast limits places logs requests worker →
+      ¬ (HaveRoom (tables_of worker) places) → IsNotFollowed refused limits places logs requests
+  out_of_memory : (worker : Worker) → FillsLast limits places logs requests worker →
+      refused worker → IsNotFollowed refused limits places logs requests
+  not_replayed : (worker : Worker) (earlier : List Request) →
+      IsAloneOver limits (commands_of earlier) places worker → IsClosing worker →
+      ¬ (HasReplayedAll worker) → IsNotFollowed refused limits places logs requests
+
+-- A client was served to its end by logs one after another: by this many, or by fewer for a reason.
+abbrev pub ServesByLogs : (Worker → Type 0) → Limits → ℕ → ℕ → Streams → Streams → Type 0
+ServesByLogs refused limits places most before after =
+    (logs : ℕ) × IsBetween 1 most logs × (serves : ServesClient limits places logs before after)
+    × ((logs ≡ most) ⊎ IsNotFollowed refused limits places logs serves.comes.requests)
 
 -- A fault of the connection ended the service, over no more logs than this.
 abbrev pub StopsByLogs : Limits → ℕ → ℕ → Streams → Streams → Fault → Type 0

@@ -1,5 +1,5 @@
 //! Serving one client over logs one after another, each with one worker.
-ghost use Rattle.std.specs.Prelude.{◌≡◌, ◌+◌, ◌≤◌, ◌∷◌, ℕ, [], length, false, true, None, IfOk, IfSome, MatchResult};
+ghost use Rattle.std.specs.Prelude.{◌≡◌, ◌⊎◌, ◌+◌, ◌≤◌, ◌∷◌, ℕ, [], length, false, true, None, IfOk, IfSome, MatchResult};
 ghost use Rattle.mc_model.specs.declared.settings.Limits.{Limits};
 ghost use Rattle.mc_conn.specs.declared.conn.Role.TheVariants.{Tenant};
 ghost use Rattle.mc_conn.specs.Ending.{PullsLate, Serves, Stops};
@@ -13,9 +13,10 @@ ghost use Rattle.mc_model.specs.History.{state_after};
 ghost use Rattle.mc_model.specs.Replay.{EachStands, HaveRoom};
 ghost use Rattle.mc_conn.specs.Alone.{commands_of};
 ghost use Rattle.uc_log.specs.Passes.{IsNew};
-ghost use Rattle.uc_worker.specs.Worker.{HasReplayedAll, history_of, openings_of};
+ghost use Rattle.uc_worker.specs.Worker.{HasReplayedAll, history_of, openings_of, tables_of};
 
 use crate::serving::{Memory, refuse_to_open};
+use crate::turning_over::TurnOver;
 use mc_conn::{Conn, State, pump, pump_until};
 use mc_model::Fault;
 use mc_stream::{Input, Output};
@@ -23,25 +24,31 @@ use std::alloc::Global;
 use std::mem;
 use std::sync::Wait;
 use uc_log::{Log, Pass};
-use uc_worker::{Base, Next, Worker, turn_over_alone};
+use uc_worker::{Base, Next, Worker};
 
-/// Opens the log that follows this one, all of whose places its one worker has replayed.
+/// Opens the log that follows this one, all of whose places its one worker has learned.
 ///
-/// Returns `None` if the changes of a whole log couldn't all get uniques, or memory runs out.
-fn next_log(alloc: Global, log: &Log, worker: &Worker<'_>) -> Option<Next>
+/// Returns `None` if the worker hasn't replayed them all, since memory was refused to it, if the
+/// changes of a whole log couldn't all get uniques, or if memory runs out.
+fn next_log<T: TurnOver>(alloc: Global, over: &T, log: &Log, worker: &Worker<'_>) -> Option<Next>
     requires alone { IsForOne log.now }
     requires log { worker.now.log.now ≡ log.now }
-    requires done { HasReplayedAll worker.now }
+    ensures done { IfSome result (λ _. HasReplayedAll worker.now) }
     ensures ready { IfSome result IsNextForOne }
     ensures settings { IfSome result (λ next. next.log.settings ≡ log.now.settings) }
     ensures stands { IfSome result (λ next.
         EachStands (openings_of worker.now) (entries (history_of worker.now))
         next.base.tables.items) }
+    ensures none { result ≡ None → ¬ (HasReplayedAll worker.now) ⊎ HasReplayedAll worker.now
+        × (¬ (HaveRoom (tables_of worker.now) log.now.settings.places) ⊎ T.refused worker.now) }
 {
+    if !worker.is_done() {
+        return None;
+    }
     if !worker.has_room(log.settings().places()) {
         return None;
     }
-    turn_over_alone(alloc, worker, log.settings()).ok()
+    over.turn_over(alloc, log, worker)
 }
 
 /// Serves the client with this worker to the client's end. A command after the log's last place is
@@ -76,9 +83,10 @@ fn serve_to_end<R: Wait, I: Input, O: Output>(
 /// is one that can't be: it serves the client to the end.
 ///
 /// Returns the errors of `pump`.
-fn serve_log<R: Wait, I: Input, O: Output>(
+fn serve_log<R: Wait, T: TurnOver, I: Input, O: Output>(
     rt: &R,
     alloc: Global,
+    over: &T,
     log: &Log,
     worker: &mut Worker<'_>,
     is_last: bool,
@@ -96,7 +104,7 @@ fn serve_log<R: Wait, I: Input, O: Output>(
         log.now.settings ≡ settings_alone limits places →
         IsFreshOver limits places served.requests worker.old →
         MatchResult result
-        (ServesLog limits places logs is_last first conn.new
+        (ServesLog T.refused limits places logs is_last first conn.new
         (both (I.tells input.new) (O.tells output.new)))
         (StopsByLogs limits places (logs + 1) first
         (both (I.tells input.new) (O.tells output.new))) }
@@ -115,7 +123,7 @@ fn serve_log<R: Wait, I: Input, O: Output>(
     }
     match pump_until(rt, conn, worker, input, output)? {
         State::Closed => Ok(None),
-        State::Full => match next_log(alloc, log, worker) {
+        State::Full => match next_log(alloc, over, log, worker) {
             Some(next) => Ok(Some(next)),
             None => serve_to_end(rt, worker, conn, input, output),
         },
@@ -126,9 +134,10 @@ fn serve_log<R: Wait, I: Input, O: Output>(
 /// Opens the worker of the first log, and serves the client as `serve_log` does.
 ///
 /// Returns `Memory` if memory runs out at the opening, which is reported to the client.
-fn open_first<R: Wait, I: Input, O: Output>(
+fn open_first<R: Wait, T: TurnOver, I: Input, O: Output>(
     rt: &R,
     alloc: Global,
+    over: &T,
     log: &Log,
     pass: Pass,
     is_last: bool,
@@ -145,7 +154,8 @@ fn open_first<R: Wait, I: Input, O: Output>(
         (both (I.tells input.old) (O.tells output.old)) →
         log.now.settings ≡ settings_alone limits places →
         MatchResult result
-        (ServesLog limits places 0 is_last (both (I.tells input.old) (O.tells output.old)) conn.new
+        (ServesLog T.refused limits places 0 is_last
+        (both (I.tells input.old) (O.tells output.old)) conn.new
         (both (I.tells input.new) (O.tells output.new)))
         (StopsByLogs limits places 1 (both (I.tells input.old) (O.tells output.old))
         (both (I.tells input.new) (O.tells output.new))) }
@@ -158,15 +168,26 @@ fn open_first<R: Wait, I: Input, O: Output>(
         Ok(worker) => worker,
         Err(fault) => return Err(refuse_to_open(fault, output)),
     };
-    serve_log(rt, alloc, log, &mut worker, is_last, conn, input, output)
+    serve_log(
+        rt,
+        alloc,
+        over,
+        log,
+        &mut worker,
+        is_last,
+        conn,
+        input,
+        output,
+    )
 }
 
 /// Serves the client over its first log, as `serve_log` does.
 ///
 /// Returns `Memory` if memory runs out at the opening, which is reported to the client.
-fn serve_first<R: Wait, I: Input, O: Output>(
+fn serve_first<R: Wait, T: TurnOver, I: Input, O: Output>(
     rt: &R,
     alloc: Global,
+    over: &T,
     log: Log,
     pass: Pass,
     is_last: bool,
@@ -184,7 +205,8 @@ fn serve_first<R: Wait, I: Input, O: Output>(
         (both (I.tells input.old) (O.tells output.old)) →
         log.settings ≡ settings_alone limits places →
         MatchResult result
-        (ServesLog limits places 0 is_last (both (I.tells input.old) (O.tells output.old)) conn.new
+        (ServesLog T.refused limits places 0 is_last
+        (both (I.tells input.old) (O.tells output.old)) conn.new
         (both (I.tells input.new) (O.tells output.new)))
         (StopsByLogs limits places 1 (both (I.tells input.old) (O.tells output.old))
         (both (I.tells input.new) (O.tells output.new))) }
@@ -193,7 +215,7 @@ fn serve_first<R: Wait, I: Input, O: Output>(
     ensures going { IfOk result (λ after. IfSome after (λ _. (conn.new.role ≡ Tenant 0)
         × (conn.new.is_closed ≡ false))) }
 {
-    let served = open_first(rt, alloc, &log, pass, is_last, conn, input, output);
+    let served = open_first(rt, alloc, over, &log, pass, is_last, conn, input, output);
     if memory.is_left(&served) {
         mem::forget(log);
     }
@@ -204,9 +226,10 @@ fn serve_first<R: Wait, I: Input, O: Output>(
 /// `serve_log` does.
 ///
 /// Returns `Memory` if memory runs out at the opening, which is reported to the client.
-fn open_next<R: Wait, I: Input, O: Output>(
+fn open_next<R: Wait, T: TurnOver, I: Input, O: Output>(
     rt: &R,
     alloc: Global,
+    over: &T,
     log: &Log,
     pass: Pass,
     base: &Base,
@@ -227,7 +250,7 @@ fn open_next<R: Wait, I: Input, O: Output>(
         log.now.settings ≡ settings_alone limits places →
         base.now.tables.items ≡ state_after limits (commands_of served.requests) ∷ [] → 1 ≤ logs →
         MatchResult result
-        (ServesLog limits places logs is_last first conn.new
+        (ServesLog T.refused limits places logs is_last first conn.new
         (both (I.tells input.new) (O.tells output.new)))
         (StopsByLogs limits places (logs + 1) first
         (both (I.tells input.new) (O.tells output.new))) }
@@ -245,15 +268,26 @@ fn open_next<R: Wait, I: Input, O: Output>(
             return Err(fault);
         }
     };
-    serve_log(rt, alloc, log, &mut worker, is_last, conn, input, output)
+    serve_log(
+        rt,
+        alloc,
+        over,
+        log,
+        &mut worker,
+        is_last,
+        conn,
+        input,
+        output,
+    )
 }
 
 /// Serves the client over a later log, as `serve_log` does.
 ///
 /// Returns `Memory` if memory runs out at the opening, which is reported to the client.
-fn serve_next<R: Wait, I: Input, O: Output>(
+fn serve_next<R: Wait, T: TurnOver, I: Input, O: Output>(
     rt: &R,
     alloc: Global,
+    over: &T,
     next: Next,
     is_last: bool,
     memory: Memory,
@@ -269,7 +303,7 @@ fn serve_next<R: Wait, I: Input, O: Output>(
         (both (I.tells input.old) (O.tells output.old))) →
         FollowsOn limits places served.requests next → 1 ≤ logs →
         MatchResult result
-        (ServesLog limits places logs is_last first conn.new
+        (ServesLog T.refused limits places logs is_last first conn.new
         (both (I.tells input.new) (O.tells output.new)))
         (StopsByLogs limits places (logs + 1) first
         (both (I.tells input.new) (O.tells output.new))) }
@@ -286,7 +320,9 @@ fn serve_next<R: Wait, I: Input, O: Output>(
     let Some(pass) = passes.pop() else {
         unreachable!()
     };
-    let served = open_next(rt, alloc, &log, pass, &base, is_last, conn, input, output);
+    let served = open_next(
+        rt, alloc, over, &log, pass, &base, is_last, conn, input, output,
+    );
     if memory.is_left(&served) {
         mem::forget(log);
         mem::forget(base);
@@ -297,9 +333,10 @@ fn serve_next<R: Wait, I: Input, O: Output>(
 /// Serves the client over a log, and over up to `generations` logs in all, one after another.
 ///
 /// Returns the errors of `pump`.
-pub(crate) fn serve_logs<R: Wait, I: Input, O: Output>(
+pub(crate) fn serve_logs<R: Wait, T: TurnOver, I: Input, O: Output>(
     rt: &R,
     alloc: Global,
+    over: &T,
     log: Log,
     pass: Pass,
     generations: u64,
@@ -318,20 +355,22 @@ pub(crate) fn serve_logs<R: Wait, I: Input, O: Output>(
         (both (I.tells input.old) (O.tells output.old)) →
         log.settings ≡ settings_alone limits places →
         MatchResult result
-        (λ _. ServesByLogs limits places generations
+        (λ _. ServesByLogs T.refused limits places generations
         (both (I.tells input.old) (O.tells output.old))
         (both (I.tells input.new) (O.tells output.new)))
         (StopsByLogs limits places generations (both (I.tells input.old) (O.tells output.old))
         (both (I.tells input.new) (O.tells output.new))) }
 {
     let is_last = generations == 1;
-    let first = serve_first(rt, alloc, log, pass, is_last, memory, conn, input, output)?;
+    let first = serve_first(
+        rt, alloc, over, log, pass, is_last, memory, conn, input, output,
+    )?;
     let Some(mut next) = first else {
         return Ok(());
     };
     for earlier in 1..generations {
         let is_last = earlier + 1 == generations;
-        match serve_next(rt, alloc, next, is_last, memory, conn, input, output)? {
+        match serve_next(rt, alloc, over, next, is_last, memory, conn, input, output)? {
             Some(after) => next = after,
             None => return Ok(()),
         }

@@ -15,6 +15,7 @@ pub use mc_write::fault_text;
 pub use schedule::run_schedule;
 pub use serving::serve_client;
 pub use stdin::run_stdin;
+pub use turning_over::{TurnOver, TurnOverAlone};
 pub use waiting::push_all;
 pub use words::{answer_words, number, number_option, refuse_words, words_after_name};
 
@@ -25,5 +26,6 @@ mod schedule;
 mod schedule_words;
 mod serving;
 mod stdin;
+mod turning_over;
 mod waiting;
 mod words;

@@ -7,6 +7,7 @@ ghost use Rattle.mc_programs.specs.Opening.{IsOpened, RefusesToOpen};
 ghost use Rattle.mc_stream.specs.Stream.{both};
 
 use crate::generations::serve_logs;
+use crate::turning_over::TurnOver;
 use mc_conn::Conn;
 use mc_model::{Fault, Limits, Settings, TenantId, WireNo};
 use mc_stream::{Input, Output, push_while_taken};
@@ -75,9 +76,10 @@ impl Memory {
 
 /// Serves one client as `serve_client` does, but may leave the memory of the last log's commands to
 /// the operating system.
-pub(crate) fn serve_and_leave<R: Wait, I: Input, O: Output>(
+pub(crate) fn serve_and_leave<R: Wait, T: TurnOver, I: Input, O: Output>(
     rt: &R,
     alloc: Global,
+    over: &T,
     limits: Limits,
     places: u64,
     generations: u64,
@@ -87,7 +89,8 @@ pub(crate) fn serve_and_leave<R: Wait, I: Input, O: Output>(
 ) -> Result<(), Fault>
     requires generations { 1 ≤ generations }
     ensures outcome { MatchResult result
-        (λ _. ServesByLogs limits places generations (both (I.tells input.old) (O.tells output.old))
+        (λ _. ServesByLogs T.refused limits places generations
+        (both (I.tells input.old) (O.tells output.old))
         (both (I.tells input.new) (O.tells output.new)))
         (StopsService limits places generations (both (I.tells input.old) (O.tells output.old))
         (both (I.tells input.new) (O.tells output.new))) }
@@ -100,6 +103,7 @@ pub(crate) fn serve_and_leave<R: Wait, I: Input, O: Output>(
     let served = serve_logs(
         rt,
         alloc,
+        over,
         log,
         pass,
         generations,
@@ -120,17 +124,19 @@ pub(crate) fn serve_and_leave<R: Wait, I: Input, O: Output>(
 /// requests from the input, submits their commands, and pushes the replies. When all places are
 /// taken and another command comes, the next log is opened over the table, up to `generations` of
 /// them; a command after the last place of the last one is answered `SERVER_ERROR log full`. That
-/// is so too where the next log can't be opened: memory runs out, or the changes of a whole log
-/// couldn't all get uniques. An input that has nothing and an output that is full are asked again.
+/// is so too where the next log can't be opened: `over`, which turns a full log over, runs out of
+/// memory, or the changes of a whole log couldn't all get uniques. An input that has nothing and an
+/// output that is full are asked again.
 ///
 /// Returns `Memory` if memory runs out: the queued replies and then `SERVER_ERROR out of memory`
 /// are pushed, as far as the output takes them at once. Returns `Input` or `Output` if the input or
 /// the output fails, and `Taken` if a command's cell holds another value: nothing more is pushed
 /// then. Returns `BadSettings` if the quotas or the number of places are out of range: nothing is
 /// done then.
-pub fn serve_client<R: Wait, I: Input, O: Output>(
+pub fn serve_client<R: Wait, T: TurnOver, I: Input, O: Output>(
     rt: &R,
     alloc: Global,
+    over: &T,
     limits: Limits,
     places: u64,
     generations: u64,
@@ -139,9 +145,10 @@ pub fn serve_client<R: Wait, I: Input, O: Output>(
 ) -> Result<(), Fault>
     requires generations { 1 ≤ generations }
     // How the service ends, from the bytes that came in to the bytes that went out, and which fault
-    // comes when.
+    // comes when; and why fewer logs served the client to its end, if fewer did.
     ensures outcome { MatchResult result
-        (λ _. ServesByLogs limits places generations (both (I.tells input.old) (O.tells output.old))
+        (λ _. ServesByLogs T.refused limits places generations
+        (both (I.tells input.old) (O.tells output.old))
         (both (I.tells input.new) (O.tells output.new)))
         (StopsService limits places generations (both (I.tells input.old) (O.tells output.old))
         (both (I.tells input.new) (O.tells output.new))) }
@@ -149,6 +156,7 @@ pub fn serve_client<R: Wait, I: Input, O: Output>(
     serve_and_leave(
         rt,
         alloc,
+        over,
         limits,
         places,
         generations,

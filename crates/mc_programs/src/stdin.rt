@@ -6,6 +6,7 @@ ghost use Rattle.mc_stream.specs.Stream.{both};
 use crate::faults::{fail, tell_fault};
 use crate::options::read_words;
 use crate::serving::{Memory, serve_and_leave};
+use crate::turning_over::TurnOver;
 use crate::words::answer_words;
 use mc_model::Fault;
 use mc_stream::{Input, Output};
@@ -30,9 +31,10 @@ const NAME: &[u8] = b"mc_stdin";
 ///
 /// The program is expected to end afterwards: the memory of the last log's commands is left to the
 /// operating system.
-pub fn run_stdin<R: Wait, I: Input, O: Output, E: Output>(
+pub fn run_stdin<R: Wait, T: TurnOver, I: Input, O: Output, E: Output>(
     rt: &R,
     alloc: Global,
+    over: &T,
     words: Vec<String>,
     input: &mut I,
     output: &mut O,
@@ -40,7 +42,7 @@ pub fn run_stdin<R: Wait, I: Input, O: Output, E: Output>(
 ) -> u8
     // How the run ends, from the bytes that came in to the bytes that went out, by the quotas and
     // the number of places that the words ask for.
-    ensures { StdinEnds (map string_bytes words.items) result
+    ensures { StdinEnds T.refused (map string_bytes words.items) result
         (both (I.tells input.old) (O.tells output.old))
         (both (I.tells input.new) (O.tells output.new))
         (E.tells errors.old) (E.tells errors.new) }
@@ -56,6 +58,7 @@ pub fn run_stdin<R: Wait, I: Input, O: Output, E: Output>(
     let served = serve_and_leave(
         rt,
         alloc,
+        over,
         options.limits,
         options.places,
         options.generations,

@@ -1,6 +1,6 @@
 //! Golden streams through the serving loop, whole and in the smallest pieces, and what it does if
 //! the input, the output or memory fails.
-ghost use Rattle.std.specs.Prelude.{◌≤◌, length};
+ghost use Rattle.std.specs.Prelude.{◌≤◌, ⊤, length};
 
 use crate::runs::{
     demand, input_of, joined, output_of, single_pulls, single_pushes, thousand_keys,
@@ -8,12 +8,15 @@ use crate::runs::{
 };
 use mc_model::{Fault, Limits};
 use mc_programs::{
-    Input, InputStep, MemoryInput, MemoryOutput, Output, OutputStep, Pull, Push, serve_client,
+    Input, InputStep, MemoryInput, MemoryOutput, Output, OutputStep, Pull, Push, TurnOver,
+    TurnOverAlone, serve_client,
 };
-use std::alloc::AllocError;
+use std::alloc::{AllocError, Global};
 use std::process::Abort;
 use std::sync::Wait;
 use std::test::Fail;
+use uc_log::Log;
+use uc_worker::{Next, Worker};
 
 /// How many commands are applied at most.
 const PLACES: u64 = 65_536;
@@ -106,19 +109,33 @@ fn open(
     })
 }
 
-/// Serves a client on up to so many logs of this many places.
-fn serve_logs(rt: &(impl Wait + AllocGlobal), places: u64, generations: u64, served: &mut Served)
+/// Serves a client on up to N logs of this many places, each but the first opened by `over`.
+fn serve_turned(
+    rt: &(impl Wait + AllocGlobal),
+    over: &impl TurnOver,
+    places: u64,
+    generations: u64,
+    served: &mut Served,
+)
     requires { 1 ≤ generations }
 {
     served.result = serve_client(
         rt,
         rt.alloc(),
+        over,
         LIMITS,
         places,
         generations,
         &mut served.input,
         &mut served.output,
     );
+}
+
+/// Serves a client on up to N logs of this many places.
+fn serve_logs(rt: &(impl Wait + AllocGlobal), places: u64, generations: u64, served: &mut Served)
+    requires { 1 ≤ generations }
+{
+    serve_turned(rt, &TurnOverAlone, places, generations, served);
 }
 
 /// Serves a client on one log of this many places.
@@ -574,6 +591,26 @@ fn a_full_log_is_followed_by_the_next_one(rt: HostRuntime) -> Result<(), Fail> {
     // With one log it is refused.
     let mut served = open(&rt, sent.as_bytes(), &[], &[])?;
     serve_logs(&rt, 2, 1, &mut served);
+    check_end(&rt, &served, Ok(()), &bytes_of(&rt, replies)?)?;
+    Ok(())
+}
+
+/// Turns no log over, as if there were never memory for it.
+struct NeverTurnsOver;
+
+impl TurnOver for NeverTurnsOver {
+    ghost refused = { λ _. ⊤ };
+
+    fn turn_over(&self, _alloc: Global, _log: &Log, _worker: &Worker<'_>) -> Option<Next> {
+        None
+    }
+}
+
+#[test]
+fn a_log_that_cannot_be_turned_over_is_the_last(rt: HostRuntime) -> Result<(), Fail> {
+    let (sent, replies) = FULL_LOG;
+    let mut served = open(&rt, sent.as_bytes(), &[], &[])?;
+    serve_turned(&rt, &NeverTurnsOver, 2, 3, &mut served);
     check_end(&rt, &served, Ok(()), &bytes_of(&rt, replies)?)?;
     Ok(())
 }

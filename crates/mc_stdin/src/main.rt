@@ -1,7 +1,9 @@
 //! A memcached server for one client, from standard input to standard output.
 #![tactic(auto)]
 
-use mc_programs::{ReadInput, WriteOutput, refuse_words, run_stdin, words_after_name};
+use mc_programs::{
+    ReadInput, TurnOverAlone, WriteOutput, refuse_words, run_stdin, words_after_name,
+};
 use std::process::ExitCode;
 
 fn main(rt: HostRuntime) -> ExitCode {
@@ -12,6 +14,14 @@ fn main(rt: HostRuntime) -> ExitCode {
     };
     let mut input = ReadInput::new(rt.stdin());
     let mut output = WriteOutput::new(rt.stdout());
-    let status = run_stdin(&rt, rt.alloc(), words, &mut input, &mut output, &mut errors);
+    let status = run_stdin(
+        &rt,
+        rt.alloc(),
+        &TurnOverAlone,
+        words,
+        &mut input,
+        &mut output,
+        &mut errors,
+    );
     ExitCode::from(status)
 }

@@ -1,20 +1,24 @@
-use Rattle.std.proofs.Common.{◌≡◌, ◌∙◌, IfSome, Option, sym, ap, subst}
+use Rattle.std.proofs.Common.{◌∙◌, inl, inr, sym, ap, subst}
 use Rattle.mc_model.specs.Replay.{HaveRoom}
 use Rattle.mc_model.specs.Settings.{Configuration}
-use Rattle.uc_worker.specs.declared.turning_over.Next.{Next}
 use Rattle.uc_worker.specs.Worker.{tables_of}
-use Rattle.mc_programs.specs.Generations.{IsNextForOne}
-use Rattle.mc_programs.proofs.Openings.{can_turn_over, next_for_one}
 use Rattle.mc_programs.proofs.generations.next_log.Goals as goal
 
-pub turn_over_alone-requires-clause-ready : goal.turn_over_alone-requires-clause-ready
-turn_over_alone-requires-clause-ready c =
-    let room : HaveRoom (tables_of c.args.worker.now) c.places.result = c.has_room.ensures.0 c.if-not-has_room.false in
-    let places = c.places.ensures.value ∙ ap (λ (settings : Configuration). settings.places) (c.settings.ensures ∙ sym c.settings-2.ensures) in
-    can_turn_over c.args.log.now c.settings-2.result.now c.args.worker.now c.settings-2.ensures c.requires.log c.requires.done (subst (HaveRoom (tables_of c.args.worker.now)) places room)
+pub returns-then-not-is_done-clause-none : goal.returns-then-not-is_done-clause-none
+returns-then-not-is_done-clause-none g c none = inl (λ done. let yes = c.is_done.ensures.1 done in let no = c.if-not-is_done.true in cc)
 
-pub returns-clause-ready : goal.returns-clause-ready
-returns-clause-ready c =
-    let ends = c.turn_over_alone.ensures in
-    let next = next_for_one c.args.log.now c.settings-2.result.now c.turn_over_alone.result c.settings-2.ensures c.requires.alone ends.settings ends.count ends.passes ends.tenants ends.room in
-    subst (λ (it : Option Next). IfSome it IsNextForOne) (sym c.ok.ensures.value) next
+pub turn_over-requires-clause-room : goal.turn_over-requires-clause-room
+turn_over-requires-clause-room g c =
+    let places = c.places.ensures.value ∙ ap (λ (settings : Configuration). settings.places) c.settings.ensures in
+    subst (HaveRoom (tables_of c.args.worker.now)) places (c.has_room.ensures.0 c.if-not-has_room.false)
+
+pub returns-then-not-has_room-clause-none : goal.returns-then-not-has_room-clause-none
+returns-then-not-has_room-clause-none g c none =
+    let places = c.places.ensures.value ∙ ap (λ (settings : Configuration). settings.places) c.settings.ensures in
+    inr (
+      c.is_done.ensures.0 c.if-not-is_done.false,
+      inl (λ room. let yes = c.has_room.ensures.1 (subst (HaveRoom (tables_of c.args.worker.now)) (sym places) room) in let no = c.if-not-has_room.true in cc),
+    )
+
+pub returns-clause-none : goal.returns-clause-none
+returns-clause-none g c none = inr (c.is_done.ensures.0 c.if-not-is_done.false, inr (c.turn_over.ensures.refused none))

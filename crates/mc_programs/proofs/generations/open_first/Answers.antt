@@ -1,4 +1,3 @@
-use Rattle.std.proofs.Common.{◌≡◌, ℕ, sym, ap, ◌∙◌}
 use Rattle.mc_programs.proofs.Openings.{fresh_over, opens_empty}
 use Rattle.mc_programs.proofs.Served.{unopened}
 use Rattle.mc_programs.proofs.generations.open_first.Goals as goal

@@ -1,4 +1,4 @@
-use Rattle.std.proofs.Common.{◌≡◌, ℕ, sym, ap, ◌∙◌}
+use Rattle.std.proofs.Common.{◌∙◌}
 use Rattle.mc_programs.proofs.Openings.{fresh_over, unopened_next}
 use Rattle.mc_programs.proofs.generations.open_next.Goals as goal
 

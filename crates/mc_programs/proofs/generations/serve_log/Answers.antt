@@ -1,12 +1,13 @@
-use Rattle.std.proofs.Common.{◌≡◌, ◌∙◌, ℕ, refl}
+use Rattle.std.proofs.Common.{◌⊎◌, ◌∙◌, refl, ap, subst}
 use Rattle.std.proofs.lemmas.Result.{err_from_is_err_and}
-use Rattle.mc_model.specs.declared.settings.Limits.{Limits}
+use Rattle.mc_model.specs.Replay.{HaveRoom}
+use Rattle.mc_model.specs.Settings.{Configuration}
 use Rattle.mc_conn.specs.Turn.{scene}
-use Rattle.mc_programs.specs.Generations.{LogsHaveServed, IsFreshOver}
-use Rattle.mc_programs.proofs.LogEnds.{ends_last, ends_on, goes_on, until_closed}
+use Rattle.mc_programs.proofs.LogEnds.{ends_closed, ends_last, ends_on, goes_on}
 use Rattle.mc_programs.proofs.Openings.{fits}
-use Rattle.mc_programs.proofs.Served.{Begins, serves, stops}
-use Rattle.mc_stream.specs.Stream.{Streams, both}
+use Rattle.mc_programs.proofs.Served.{Begins, stops}
+use Rattle.mc_stream.specs.Stream.{both}
+use Rattle.uc_worker.specs.Worker.{HasReplayedAll, tables_of}
 use Rattle.mc_programs.proofs.generations.serve_log.Goals as goal
 
 pub serve_to_end-requires-clause-role : goal.serve_to_end-requires-clause-role
@@ -25,7 +26,7 @@ returns-then-is_last-clause-served g c limits places logs first served settings 
       through = c.logs_of_a_worker_alone_add_up.ensures.through;
       reads = c.parts_add_up.ensures.read;
     } in
-    ends_last limits places logs first _ begins c.serve_to_end.result c.args.is_last _ c.serve_to_end.ensures.outcome c.serve_to_end.ensures.late
+    ends_last g.T.TurnOver.refused limits places logs first _ begins c.serve_to_end.result c.args.is_last _ c.if-is_last.true c.serve_to_end.ensures.outcome c.serve_to_end.ensures.late
 
 pub returns-in_err-pump_until-clause-served : goal.returns-in_err-pump_until-clause-served
 returns-in_err-pump_until-clause-served g c =
@@ -53,7 +54,7 @@ returns-in-Closed-clause-served g c limits places logs first served settings fre
       reads = c.parts_add_up.ensures.read;
     } in
     let until = rw c.in-Closed.is at (c.in_ok-pump_until.ensures.outcome c.requires.going) in
-    serves limits places logs first _ begins _ (until_closed _ _ until)
+    ends_closed g.T.TurnOver.refused limits places logs first _ begins c.args.is_last _ until c.logs_of_a_worker_alone_add_up.ensures.in_time
 
 pub returns-in-Some-clause-served : goal.returns-in-Some-clause-served
 returns-in-Some-clause-served g c limits places logs first served settings fresh =
@@ -67,8 +68,8 @@ returns-in-Some-clause-served g c limits places logs first served settings fresh
     } in
     let until = rw c.in-Full.is at (c.in_ok-pump_until.ensures.outcome c.requires.going) in
     rw c.if-is_last.false
-    (goes_on limits places logs first _ begins _ c.pump_until.new.worker _ until c.pump_until.ensures.late c.logs_of_a_worker_alone_add_up.ensures.in_time
-    c.logs_of_a_worker_alone_add_up.ensures.full c.in-Some.next (c.in-Some.ensures.settings ∙ settings) c.in-Some.ensures.stands)
+    (goes_on g.T.TurnOver.refused limits places logs first _ begins _ c.pump_until.new.worker _ until c.pump_until.ensures.late c.logs_of_a_worker_alone_add_up.ensures.in_time
+    c.logs_of_a_worker_alone_add_up.ensures.full c.in-Some.ensures.done c.in-Some.next (c.in-Some.ensures.settings ∙ settings) c.in-Some.ensures.stands)
 
 pub returns-in-None-clause-served : goal.returns-in-None-clause-served
 returns-in-None-clause-served g c limits places logs first served settings fresh =
@@ -81,6 +82,7 @@ returns-in-None-clause-served g c limits places logs first served settings fresh
       reads = c.parts_add_up.ensures.read;
     } in
     let until = rw c.in-Full.is at (c.in_ok-pump_until.ensures.outcome c.requires.going) in
-    ends_on limits places logs first _ begins _ c.pump_until.new.worker _ until c.pump_until.ensures.late c.turns_add_up.ensures.through c.turns_add_up.ensures.late
-    c.turns_add_up.ensures.stops c.turns_add_up.ensures.sends c.serve_to_end-in-None.result c.args.is_last _ c.serve_to_end-in-None.ensures.outcome
-    c.serve_to_end-in-None.ensures.late
+    let none = subst (λ n. ¬ (HasReplayedAll c.pump_until.new.worker) ⊎ HasReplayedAll c.pump_until.new.worker × (¬ (HaveRoom (tables_of c.pump_until.new.worker) n) ⊎ g.T.TurnOver.refused c.pump_until.new.worker)) (ap (λ (it : Configuration). it.places) settings) (c.in-None.ensures.none refl) in
+    ends_on g.T.TurnOver.refused limits places logs first _ begins _ c.pump_until.new.worker _ until c.pump_until.ensures.late c.logs_of_a_worker_alone_add_up.ensures.in_time
+    c.logs_of_a_worker_alone_add_up.ensures.full none c.turns_add_up.ensures.through c.turns_add_up.ensures.late c.turns_add_up.ensures.stops c.turns_add_up.ensures.sends
+    c.serve_to_end-in-None.result c.args.is_last _ c.serve_to_end-in-None.ensures.outcome c.serve_to_end-in-None.ensures.late

@@ -1,5 +1,5 @@
-use Rattle.std.proofs.Common.{◌+◌, ◌≤◌, arith}
-use Rattle.std.proofs.lemmas.Bool.{eqb-false}
+use Rattle.std.proofs.Common.{◌+◌, ◌≤◌, inl, inr, ⊎_elim, sym, arith}
+use Rattle.std.proofs.lemmas.Bool.{eqb-false, eqb-true}
 use Rattle.std.proofs.lemmas.Result.{err_from_is_err_and}
 use Rattle.mc_programs.proofs.Beginnings.{ended_by}
 use Rattle.mc_programs.proofs.Openings.{stops_within}
@@ -16,7 +16,7 @@ returns-in_err-first g c =
 pub returns-in_default : goal.returns-in_default
 returns-in_default g c = record {
   served = λ limits places begun settings.
-      ended_by limits places 0 c.args.generations _ _ _ _ c.in_ok-first.first c.requires.generations c.in_default.not-Some (c.in_ok-first.ensures.served limits places begun settings);
+      ended_by g.T.TurnOver.refused limits places 0 c.args.generations _ _ _ _ c.in_ok-first.first c.requires.generations (λ last. sym (eqb-true c.args.generations 1 last)) c.in_default.not-Some (c.in_ok-first.ensures.served limits places begun settings);
 }
 
 pub loop-earlier-init : goal.loop-earlier-init
@@ -50,8 +50,12 @@ returns-in-None g c =
     record {
       served = λ limits places begun settings.
           let before = so_far.served limits places begun settings in
-          let serves = rw c.in-None.is at c.in_ok-after.ensures.served limits places c.loop-earlier.earlier _ before.0 before.1 so_far.some in
-          (c.loop-earlier.earlier + 1, (omega arith, omega (arith, so_far.below)), serves);
+          let serves = rw c.in-None.is at c.in_ok-after.ensures.served limits places c.loop-earlier.earlier _ before.0 before.1 so_far.some in (
+            c.loop-earlier.earlier + 1,
+            (omega arith, omega (arith, so_far.below)),
+            serves.0,
+            ⊎_elim (λ last. inl (eqb-true (c.loop-earlier.earlier + 1) c.args.generations last)) (λ why. inr why) serves.1,
+          );
     }
 
 pub loop-earlier-preserved : goal.loop-earlier-preserved

@@ -6,7 +6,7 @@ use Rattle.mc_programs.specs.Serving.{settings_alone}
 use Rattle.mc_stream.specs.Stream.{both}
 use Rattle.mc_programs.proofs.generations.serve_logs.Given as goal
 
--- so many logs are full, and another one may follow
+-- the logs so far are full, and another one may follow
 abbrev pub invariant-loop-earlier : goal.invariant-loop-earlier
 invariant-loop-earlier g l = record {
   some : 1 ≤ l.earlier;

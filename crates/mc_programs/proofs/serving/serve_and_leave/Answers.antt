@@ -1,7 +1,7 @@
 use Rattle.std.proofs.Common.{◌∙◌, ap}
 use Rattle.mc_conn.specs.declared.conn.Role.TheVariants.{Tenant}
 use Rattle.mc_conn.specs.Held.{nothing_held}
-use Rattle.mc_programs.proofs.Beginnings.{by_logs, for_one, not_yet}
+use Rattle.mc_programs.proofs.Beginnings.{by_logs, not_yet}
 use Rattle.mc_programs.proofs.Served.{refused}
 use Rattle.mc_programs.proofs.serving.serve_and_leave.Goals as goal
 
@@ -9,13 +9,13 @@ pub returns-in-Left : goal.returns-in-Left
 returns-in-Left g c =
     let role = c.new-conn.ensures.role ∙ ap Tenant c.first_tenant.ensures in
     let begun = not_yet c.args.limits c.args.places c.new-conn.result _ role (c.new-conn.ensures.holding ∙ ap nothing_held role) c.new-conn.ensures.queue c.new-conn.ensures.open in
-    record { outcome = by_logs c.args.limits c.args.places c.args.generations _ _ c.serve_logs-served.result (c.serve_logs-served.ensures.served c.args.limits c.args.places begun c.in-Ok.ensures.opened.0) }
+    record { outcome = by_logs g.T.TurnOver.refused c.args.limits c.args.places c.args.generations _ _ c.serve_logs-served.result (c.serve_logs-served.ensures.served c.args.limits c.args.places begun c.in-Ok.ensures.opened.0) }
 
 pub returns-in_default : goal.returns-in_default
 returns-in_default g c =
     let role = c.new-conn.ensures.role ∙ ap Tenant c.first_tenant.ensures in
     let begun = not_yet c.args.limits c.args.places c.new-conn.result _ role (c.new-conn.ensures.holding ∙ ap nothing_held role) c.new-conn.ensures.queue c.new-conn.ensures.open in
-    record { outcome = by_logs c.args.limits c.args.places c.args.generations _ _ c.serve_logs-served.result (c.serve_logs-served.ensures.served c.args.limits c.args.places begun c.in-Ok.ensures.opened.0) }
+    record { outcome = by_logs g.T.TurnOver.refused c.args.limits c.args.places c.args.generations _ _ c.serve_logs-served.result (c.serve_logs-served.ensures.served c.args.limits c.args.places begun c.in-Ok.ensures.opened.0) }
 
 pub returns-in-Err : goal.returns-in-Err
 returns-in-Err g c =
