@@ -404,15 +404,16 @@ def check_flat_over_logs(program, log_bytes):
 
 
 def check_closed_by_bytes(program, log_bytes):
-    """Logs whose commands have more bytes than they may keep are closed before their places are taken: the places that were used are those of
-    many logs. The client sets an item of 1,000 bytes again and again, 20 times as many bytes as a log keeps."""
+    """Logs are closed by their bytes before their places are taken: the places that were used are those of many logs. The client sets an item of
+    1,000 bytes again and again, 20 times as many bytes as a log keeps, and waits for each reply: a worker looks at the bytes once it has taken
+    what was there."""
     count = 20 * (log_bytes // 1_000 + 1)
     for workers in ENDLESS_WORKERS:
         options = ["--workers", str(workers), *endless(log_bytes), "--connections", "1"]
         with Server(program, options, {"a": LARGE}) as server:
-            received, ending = exchange(server.ports["a"], [b"set k 0 0 1000\r\n%s\r\n" % (b"k" * 1_000) * count])
-            all_stored = ending == "end" and received == protocol.STORED * count
-            yield f"{workers} workers, sets over logs closed by bytes", None if all_stored else f"{ending}, {received[-100:]!r}"
+            with server.client() as client:
+                replies = {client.line(b"set k 0 0 1000\r\n%s\r\n" % (b"k" * 1_000)) for _ in range(count)}
+            yield f"{workers} workers, sets over logs closed by bytes", None if replies == {"STORED"} else f"{replies}"
             status, output, errors = server.wait()
             places = int(output.split()[1]) if output.startswith(b"done ") else 0
             is_closed = status == 0 and not errors and places > 10 * PLACES_ABOVE

@@ -556,14 +556,15 @@ def check_logs_in_turn(workers, commands):
 
 
 def check_logs_closed_by_bytes():
-    """100 items of 1,000 bytes over logs that keep 4,000: two logs of three are closed by them, and the only log isn't."""
-    stream = b"".join(b"set k%02d 0 0 1000\r\n%s\r\n" % (number, b"k" * 1_000) for number in range(100))
+    """100 items of 1,000 bytes, set one after another, over logs that keep 4,000: two logs of three are closed by them, and the only log isn't."""
     for generations, least, most in (("3", 2_001, 2_098), ("1", 100, 100)):
         for workers in ("1", "4"):
             options = ["--workers", workers, "--places", "1000", "--generations", generations, "--log-bytes", "4000", "--connections", "1"]
             with Server(PROGRAM, options, {"a": LARGE}) as server:
                 what = f"{generations} logs that keep 4,000 bytes, {workers} workers"
-                check(f"{what}: all is stored", answer(server, "a", stream) == b"STORED\r\n" * 100)
+                with server.client() as client:
+                    replies = {client.line(b"set k%02d 0 0 1000\r\n%s\r\n" % (number, b"k" * 1_000)) for number in range(100)}
+                check(f"{what}: all is stored", replies == {"STORED"}, replies)
                 status, output, errors = server.wait()
                 length = int(output.split()[1]) if output.startswith(b"done ") else 0
                 check(f"{what}: their length", status == 0 and not errors and least <= length <= most, output)

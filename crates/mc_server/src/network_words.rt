@@ -76,7 +76,7 @@ pub(crate) struct Service<'a> {
     pub settings: Settings,
     /// At most this many logs, one after another; 0 for no end.
     pub generations: u64,
-    /// A log is closed once its commands keep more bytes than this, if another log may follow.
+    /// A log is closed once its commands keep this many bytes, if another log may follow.
     pub log_bytes: u64,
     pub connections: u64,
     pub admin: Option<SocketAddrV4>,
