@@ -177,6 +177,12 @@ impl<'a> Line<'a> {
     }
 }
 
+/// Returns the settings of two workers, this many places and tenants with these quotas.
+fn settings(alloc: Global, places: u64, quotas: &[Limits]) -> Result<Settings, Fault> {
+    let quotas = Vec::from_slice(alloc, quotas)?;
+    Settings::check(2, places, quotas)
+}
+
 /// Opens a log of two workers, this many places and tenants with these quotas, and returns the
 /// workers' passes too.
 pub(crate) fn opened(
@@ -188,10 +194,8 @@ pub(crate) fn opened(
         (λ opened. (number : ℕ) (pass : _) → slice_get opened.1.items number ≡ Some pass →
         IsUnusedPass opened.0 pass) }
 {
-    let quotas = Vec::from_slice(alloc, quotas)?;
-    let settings = Settings::check(2, places, quotas)?;
-    let (log, passes) = Log::open(alloc, &settings)?;
-    Ok((log, passes))
+    let settings = settings(alloc, places, quotas)?;
+    Log::open(alloc, &settings)
 }
 
 /// Returns the passes of worker 0 and worker 1.
@@ -205,6 +209,14 @@ pub(crate) fn both_passes(log: &Log, mut passes: Vec<Pass>) -> Option<(Pass, Pas
     Some((first, second))
 }
 
+/// Returns the worker with this pass.
+pub(crate) fn worker_of<'a>(alloc: Global, log: &'a Log, pass: Pass) -> Result<Worker<'a>, Fault>
+    requires { IsUnusedPass log.now pass }
+    ensures { IfOk result (λ worker. worker.log.now ≡ log.now) }
+{
+    Worker::open(alloc, log, pass)
+}
+
 /// Returns worker 0. The other worker does nothing.
 fn one_worker<'a>(alloc: Global, log: &'a Log, passes: Vec<Pass>) -> Result<Worker<'a>, Fault>
     requires { (number : ℕ) (pass : _) → slice_get passes.items number ≡ Some pass →
@@ -212,7 +224,7 @@ fn one_worker<'a>(alloc: Global, log: &'a Log, passes: Vec<Pass>) -> Result<Work
     ensures { IfOk result (λ worker. worker.log.now ≡ log.now) }
 {
     match both_passes(log, passes) {
-        Some((first, _idle)) => Worker::open(alloc, log, first),
+        Some((first, _idle)) => worker_of(alloc, log, first),
         None => Err(Fault::BadEvent),
     }
 }

@@ -3,7 +3,7 @@ ghost use Rattle.std.specs.Prelude.{◌≡◌, ℕ, Some, slice_get, IfOk};
 ghost use Rattle.uc_log.specs.Passes.{IsUnusedPass};
 
 use crate::acts::Act;
-use crate::lines::{Line, QUOTAS, Wire, both_passes, opened};
+use crate::lines::{Line, QUOTAS, Wire, both_passes, opened, worker_of};
 use mc_model::Fault;
 use std::alloc::Global;
 use uc_log::{Log, Pass};
@@ -26,9 +26,9 @@ fn both_workers<'a>(
     let Some((first, second)) = both_passes(log, passes) else {
         return Err(Fault::BadEvent);
     };
-    let first = Worker::open(alloc, log, first)?;
-    let second = Worker::open(alloc, log, second)?;
-    Ok((first, second))
+    let first = worker_of(alloc, log, first);
+    let second = worker_of(alloc, log, second);
+    Ok((first?, second?))
 }
 
 /// Does these acts. Returns whether the lines do and show what each says.

@@ -7,19 +7,19 @@ use mc_model::Fault;
 use mc_stream::InputStep;
 use std::alloc::Global;
 
-/// What each tenant's client sends, a request a pull.
-const CLIENTS: [Client<'static>; 2] = [
-    Client {
-        sent: "set a 1 0 1\r\nx\r\nappend a 0 0 1\r\ny\r\ngets a\r\n",
-        pulls: &[InputStep::Give(16), InputStep::Give(19), InputStep::Give(8)],
-        pushes: &[],
-    },
-    Client {
-        sent: "set a 2 0 1\r\n5\r\nincr a 3\r\ngets a\r\n",
-        pulls: &[InputStep::Give(16), InputStep::Give(10), InputStep::Give(8)],
-        pushes: &[],
-    },
-];
+/// What the first tenant's client sends, a request a pull.
+const FIRST: Client<'static> = Client {
+    sent: "set a 1 0 1\r\nx\r\nappend a 0 0 1\r\ny\r\ngets a\r\n",
+    pulls: &[InputStep::Give(16), InputStep::Give(19), InputStep::Give(8)],
+    pushes: &[],
+};
+
+/// What the second tenant's client sends.
+const SECOND: Client<'static> = Client {
+    sent: "set a 2 0 1\r\n5\r\nincr a 3\r\ngets a\r\n",
+    pulls: &[InputStep::Give(16), InputStep::Give(10), InputStep::Give(8)],
+    pushes: &[],
+};
 
 /// What each reads, whatever the other does.
 const REPLIES: [&str; 2] = [
@@ -57,8 +57,8 @@ const ORDERS: [[bool; 6]; 20] = [
 
 /// Returns the wires of both tenants.
 fn both_wires(alloc: Global) -> Result<(Wire, Wire), Fault> {
-    let first = Wire::of_tenant(alloc, 0, CLIENTS[0])?;
-    Ok((first, Wire::of_tenant(alloc, 1, CLIENTS[1])?))
+    let first = Wire::of_tenant(alloc, 0, FIRST)?;
+    Ok((first, Wire::of_tenant(alloc, 1, SECOND)?))
 }
 
 /// Returns whether each turn, in this order, does something, each tenant is served as if it were
