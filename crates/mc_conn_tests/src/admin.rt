@@ -1,12 +1,10 @@
 //! An administrator's connection beside a tenant's, over two workers of one log.
-ghost use Rattle.std.specs.Prelude.{◌≡◌, ℕ, Some, slice_get};
-ghost use Rattle.uc_log.specs.Passes.{IsUnusedPass};
-
-use crate::lines::{Line, QUOTAS, both_passes, ends_of, opened};
+use crate::acts::Act;
+use crate::lines::{Client, Wire};
+use crate::pairs::both_play;
+use mc_conn::{Conn, State};
 use mc_model::{Fault, Name, Names};
 use std::alloc::Global;
-use std::test::Fail;
-use uc_log::{Log, Pass};
 
 /// A run: what the administrator sends and reads, and what tenant `a`'s client sends after that and
 /// reads.
@@ -49,36 +47,36 @@ fn two_names(alloc: Global) -> Result<Names, Fault> {
     Names::new(names)
 }
 
-/// Returns the lines of an administrator and worker 0, and of tenant `a` and worker 1.
-fn both_lines<'a>(
-    alloc: Global,
-    log: &'a Log,
-    passes: Vec<Pass>,
-    run: &Run,
-) -> Result<(Line<'a>, Line<'a>), Fault>
-    requires { (number : ℕ) (pass : _) → slice_get passes.items number ≡ Some pass →
-        IsUnusedPass log.now pass }
-{
-    let Some((first, second)) = both_passes(log, passes) else {
-        return Err(Fault::BadEvent);
-    };
-    let names = two_names(alloc)?;
-    let ends = ends_of(alloc, run[0].as_bytes(), &[], &[])?;
-    let admin = Line::admin(alloc, log, first, names, ends)?;
-    let ends = ends_of(alloc, run[2].as_bytes(), &[], &[])?;
-    let client = Line::open(alloc, log, second, 0, ends)?;
-    Ok((admin, client))
+/// Returns a client that sends this, whole, and takes all at once.
+fn client(sent: &str) -> Client<'_> {
+    Client {
+        sent,
+        pulls: &[],
+        pushes: &[],
+    }
+}
+
+/// Returns the wires of an administrator and of tenant `a`.
+fn both_wires(alloc: Global, run: &Run) -> Result<(Wire, Wire), Fault> {
+    let conn = Conn::admin(alloc, two_names(alloc)?);
+    let admin = Wire::open(alloc, conn, client(run[0]))?;
+    Ok((admin, Wire::of_tenant(alloc, 0, client(run[2]))?))
 }
 
 /// Returns whether both read what they are owed, first the administrator.
 fn are_answered(alloc: Global, run: &Run) -> Result<bool, Fault> {
-    let (log, passes) = opened(alloc, 64, &[QUOTAS, QUOTAS])?;
-    let (mut admin, mut client) = both_lines(alloc, &log, passes, run)?;
-    Ok(admin.closes_with(run[1].as_bytes())? && client.closes_with(run[3].as_bytes())?)
+    let wires = both_wires(alloc, run)?;
+    let acts = [
+        (false, Act::Turns(State::Closed)),
+        (false, Act::Pushed(run[1])),
+        (true, Act::Turns(State::Closed)),
+        (true, Act::Pushed(run[3])),
+    ];
+    both_play(alloc, wires, &acts)
 }
 
 #[test]
-fn quotas_by_name(rt: HostRuntime) -> Result<(), Fail> {
+fn quotas_by_name(rt: HostRuntime) -> Result<(), Fault> {
     for run in [LOWERED, UNANSWERED, APART] {
         assert!(rt; are_answered(rt.alloc(), &run)?, "{:?}", run[0]);
     }

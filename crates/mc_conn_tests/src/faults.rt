@@ -1,10 +1,9 @@
 //! A pull or a push that fails closes the connection for good.
-use crate::lines::{Line, QUOTAS, ends_of, one_line, opened};
-use mc_conn::State;
+use crate::acts::Act;
+use crate::lines::{Client, play};
 use mc_model::Fault;
 use mc_stream::{InputStep, OutputStep, Pull, Push};
-use std::alloc::Global;
-use std::test::Fail;
+use std::alloc::{AllocError, Global};
 
 /// What a client sends, and what it reads.
 const STREAM: (&str, &str) = (
@@ -16,74 +15,47 @@ const STREAM: (&str, &str) = (
 const LATER: u32 = 3;
 
 /// Returns steps that pull `good` single bytes, and then a failure and an empty pull.
-fn failing_pulls(alloc: Global, good: usize) -> Result<Vec<InputStep>, Fault> {
-    let mut steps = Vec::new(alloc);
-    for _ in 0..good {
-        steps.push(InputStep::Give(1))?;
-    }
+fn failing_pulls(alloc: Global, good: usize) -> Result<Vec<InputStep>, AllocError> {
+    let mut steps = vec![in alloc; InputStep::Give(1); good]?;
     steps.extend_from_slice(&[InputStep::Fail, InputStep::Empty])?;
     Ok(steps)
 }
 
 /// Returns steps that push `good` single bytes, and then a failure and a full push.
-fn failing_pushes(alloc: Global, good: usize) -> Result<Vec<OutputStep>, Fault> {
-    let mut steps = Vec::new(alloc);
-    for _ in 0..good {
-        steps.push(OutputStep::Take(1))?;
-    }
+fn failing_pushes(alloc: Global, good: usize) -> Result<Vec<OutputStep>, AllocError> {
+    let mut steps = vec![in alloc; OutputStep::Take(1); good]?;
     steps.extend_from_slice(&[OutputStep::Fail, OutputStep::Full])?;
     Ok(steps)
 }
 
-/// Returns whether the turns end with this fault.
-fn breaks(line: &mut Line<'_>, fault: Fault) -> bool {
-    line.comes_to(State::Closed) == Err(fault)
-}
-
-/// Returns whether later turns return `Closed`, and neither push nor replay more.
-fn stays_closed(line: &mut Line<'_>) -> Result<bool, Fault> {
-    let (pushed, replayed) = (line.pushed().len(), line.replayed());
-    let is_closed = line.stays(State::Closed, LATER)?;
-    Ok(is_closed && line.pushed().len() == pushed && line.replayed() == replayed)
-}
-
-/// Returns whether this fault closes the connection for good, and what was pushed before it is the
-/// front of what is owed.
-fn closes_by(line: &mut Line<'_>, fault: Fault) -> Result<bool, Fault> {
-    let is_broken = breaks(line, fault);
-    Ok(is_broken && stays_closed(line)? && STREAM.1.as_bytes().starts_with(line.pushed()))
-}
-
-/// Returns whether this fault closes the line for good, and the steps after the fault are these.
-fn closes_before(mut line: Line<'_>, fault: Fault, next: (Pull, Push)) -> Result<bool, Fault> {
-    let is_closed = closes_by(&mut line, fault)?;
-    Ok(is_closed && line.next_pull() == next.0 && line.next_push() == next.1)
-}
-
-/// Returns whether this fault closes the line that sends the stream by these steps for good, and
-/// the steps after the fault are `next`.
-fn closes(
+/// Returns whether this fault closes the line that sends the stream by these steps for good, what
+/// was pushed before it is the front of what is owed, and the steps after the fault are `next`.
+fn closes<'a>(
     alloc: Global,
-    pulls: &[InputStep],
-    pushes: &[OutputStep],
+    pulls: &'a [InputStep],
+    pushes: &'a [OutputStep],
     fault: Fault,
     next: (Pull, Push),
 ) -> Result<bool, Fault> {
-    let ends = ends_of(alloc, STREAM.0.as_bytes(), pulls, pushes)?;
-    let (log, passes) = opened(alloc, 64, &[QUOTAS])?;
-    closes_before(one_line(alloc, &log, passes, ends)?, fault, next)
+    let client = Client {
+        sent: STREAM.0,
+        pulls,
+        pushes,
+    };
+    let acts = [
+        Act::Breaks(fault),
+        Act::Rests(LATER),
+        Act::PushedOf(STREAM.1),
+        Act::Next(next.0, next.1),
+    ];
+    play(alloc, 64, client, &acts)
 }
 
 /// Returns whether a pull that fails after `good` bytes closes the connection for good.
 fn closes_at_pull(alloc: Global, good: usize) -> Result<bool, Fault> {
     let pulls = failing_pulls(alloc, good)?;
-    closes(
-        alloc,
-        &pulls,
-        &[],
-        Fault::Input,
-        (Pull::Empty, Push::Taken(1)),
-    )
+    let next = (Pull::Empty, Push::Taken(1));
+    closes(alloc, &pulls, &[], Fault::Input, next)
 }
 
 /// Returns whether a push that fails after `good` bytes closes the connection for good. The whole
@@ -91,17 +63,12 @@ fn closes_at_pull(alloc: Global, good: usize) -> Result<bool, Fault> {
 fn closes_at_push(alloc: Global, good: usize) -> Result<bool, Fault> {
     let pulls = [InputStep::Give(100), InputStep::Fail];
     let pushes = failing_pushes(alloc, good)?;
-    closes(
-        alloc,
-        &pulls,
-        &pushes,
-        Fault::Output,
-        (Pull::Failed, Push::Full),
-    )
+    let next = (Pull::Failed, Push::Full);
+    closes(alloc, &pulls, &pushes, Fault::Output, next)
 }
 
 #[test]
-fn a_fault_closes_for_good(rt: HostRuntime) -> Result<(), Fail> {
+fn a_fault_closes_for_good(rt: HostRuntime) -> Result<(), Fault> {
     for good in 0..=STREAM.0.len() {
         assert!(rt; closes_at_pull(rt.alloc(), good)?, "pull {good}");
     }

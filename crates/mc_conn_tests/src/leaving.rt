@@ -1,10 +1,10 @@
 //! A connection whose worker has replayed the whole log: its next command is left to another log.
-use crate::lines::{Line, QUOTAS, ends_of, one_line, opened};
-use mc_conn::{PULL_BYTES, State};
+use crate::acts::Act;
+use crate::lines::{Client, play};
+use mc_conn::State;
 use mc_model::Fault;
 use mc_stream::OutputStep;
 use std::alloc::Global;
-use std::test::Fail;
 
 /// What a client sends to a log of two places.
 const SENT: &str =
@@ -17,62 +17,65 @@ const REPLIES: &str =
 /// What it reads after them, if the third command is taken.
 const REFUSED: &str = "SERVER_ERROR log full\r\nVERSION 1.0.0\r\n";
 
-/// Returns whether a turn that leaves commands ends in this state, and then this was pushed.
-fn ends_in(line: &mut Line<'_>, state: State, pushed: &[u8]) -> Result<bool, Fault> {
-    let mut buffer = [0u8; PULL_BYTES];
-    Ok(line.turn_until(&mut buffer)? == state && line.pushed() == pushed)
-}
+/// The third command is left twice, and then taken by turns that leave none.
+const LEAVES_THE_THIRD: [Act<'static>; 6] = [
+    Act::Until(State::Full),
+    Act::Pushed(REPLIES),
+    Act::Until(State::Full),
+    Act::Pushed(REPLIES),
+    Act::Turns(State::Closed),
+    Act::PushedLast(REFUSED),
+];
 
-/// Returns whether the third command is left twice, and then taken by turns that leave none.
-fn leaves_the_third(line: &mut Line<'_>) -> Result<bool, Fault> {
-    let is_left = ends_in(line, State::Full, REPLIES.as_bytes())?
-        && ends_in(line, State::Full, REPLIES.as_bytes())?;
-    Ok(is_left && line.comes_to(State::Closed)? && line.pushed().ends_with(REFUSED.as_bytes()))
-}
-
-/// Returns whether that is so with an output that takes these steps first.
-fn is_left(alloc: Global, pushes: &[OutputStep]) -> Result<bool, Fault> {
-    let ends = ends_of(alloc, SENT.as_bytes(), &[], pushes)?;
-    let (log, passes) = opened(alloc, 2, &[QUOTAS])?;
-    let mut line = one_line(alloc, &log, passes, ends)?;
-    leaves_the_third(&mut line)
+/// Returns whether a log of two places serves a client whose output follows these steps by these
+/// acts.
+fn is_left(alloc: Global, pushes: &[OutputStep], acts: &[Act]) -> Result<bool, Fault> {
+    let client = Client {
+        sent: SENT,
+        pulls: &[],
+        pushes,
+    };
+    play(alloc, 2, client, acts)
 }
 
 #[test]
-fn a_command_is_left_to_the_next_log(rt: HostRuntime) -> Result<(), Fail> {
-    assert!(rt; is_left(rt.alloc(), &[])?);
-    assert!(rt; is_left(rt.alloc(), &[OutputStep::Take(3), OutputStep::Take(1)])?);
+fn a_command_is_left_to_the_next_log(rt: HostRuntime) -> Result<(), Fault> {
+    let pieces = [OutputStep::Take(3), OutputStep::Take(1)];
+    assert!(rt; is_left(rt.alloc(), &[], &LEAVES_THE_THIRD)?);
+    assert!(rt; is_left(rt.alloc(), &pieces, &LEAVES_THE_THIRD)?);
     Ok(())
 }
 
-/// Returns whether a full output is pushed to once by a turn that leaves a command.
-fn is_full_beside_a_full_output(alloc: Global) -> Result<bool, Fault> {
+/// A full output is pushed to once by a turn that leaves a command.
+const BESIDE_A_FULL_OUTPUT: [Act<'static>; 8] = [
+    Act::Until(State::Full),
+    Act::Pushed("VE"),
+    Act::Until(State::Full),
+    Act::Pushed(REPLIES),
+    Act::Until(State::Full),
+    Act::Pushed(REPLIES),
+    Act::Turns(State::Closed),
+    Act::PushedLast(REFUSED),
+];
+
+#[test]
+fn what_the_output_takes_is_pushed_first(rt: HostRuntime) -> Result<(), Fault> {
     let pushes = [OutputStep::Take(2), OutputStep::Full, OutputStep::Full];
-    let ends = ends_of(alloc, SENT.as_bytes(), &[], &pushes)?;
-    let (log, passes) = opened(alloc, 2, &[QUOTAS])?;
-    let mut line = one_line(alloc, &log, passes, ends)?;
-    Ok(ends_in(&mut line, State::Full, b"VE")? && leaves_the_third(&mut line)?)
-}
-
-#[test]
-fn what_the_output_takes_is_pushed_first(rt: HostRuntime) -> Result<(), Fail> {
-    assert!(rt; is_full_beside_a_full_output(rt.alloc())?);
+    assert!(rt; is_left(rt.alloc(), &pushes, &BESIDE_A_FULL_OUTPUT)?);
     Ok(())
 }
 
-/// Returns whether a connection that is closed as if memory had run out says so, and stays closed.
-fn reports_its_end(alloc: Global) -> Result<bool, Fault> {
-    let ends = ends_of(alloc, SENT.as_bytes(), &[], &[])?;
-    let (log, passes) = opened(alloc, 2, &[QUOTAS])?;
-    let mut line = one_line(alloc, &log, passes, ends)?;
-    let is_left = ends_in(&mut line, State::Full, REPLIES.as_bytes())?;
-    line.close(Fault::Memory);
-    let said = line.pushed().ends_with(b"SERVER_ERROR out of memory\r\n");
-    Ok(is_left && said && line.stays(State::Closed, 2)?)
-}
+/// A connection that is closed as if memory had run out says so, and stays closed.
+const REPORTS_ITS_END: [Act<'static>; 5] = [
+    Act::Until(State::Full),
+    Act::Pushed(REPLIES),
+    Act::Close(Fault::Memory),
+    Act::PushedLast("SERVER_ERROR out of memory\r\n"),
+    Act::Stays(State::Closed, 2),
+];
 
 #[test]
-fn a_connection_is_closed_without_a_log(rt: HostRuntime) -> Result<(), Fail> {
-    assert!(rt; reports_its_end(rt.alloc())?);
+fn a_connection_is_closed_without_a_log(rt: HostRuntime) -> Result<(), Fault> {
+    assert!(rt; is_left(rt.alloc(), &[], &REPORTS_ITS_END)?);
     Ok(())
 }

@@ -5,6 +5,8 @@
 #![tactic(auto)]
 
 #[cfg(test)]
+mod acts;
+#[cfg(test)]
 mod admin;
 #[cfg(test)]
 mod faults;
@@ -12,6 +14,8 @@ mod faults;
 mod leaving;
 #[cfg(test)]
 mod lines;
+#[cfg(test)]
+mod pairs;
 #[cfg(test)]
 mod pieces;
 #[cfg(test)]

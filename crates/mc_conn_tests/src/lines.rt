@@ -3,10 +3,11 @@ ghost use Rattle.std.specs.Prelude.{◌≡◌, ℕ, Some, slice_get, IfOk, IfSom
 ghost use Rattle.mc_conn.specs.Owed.{FitsLog, IsAmong};
 ghost use Rattle.uc_log.specs.Passes.{IsUnusedPass};
 
+use crate::acts::Act;
 use mc_conn::{Conn, PULL_BYTES, Role, State};
-use mc_model::{Fault, Limits, Names, Settings, TenantId};
+use mc_model::{Fault, Limits, Settings, TenantId};
 use mc_stream::{Input, InputStep, MemoryInput, MemoryOutput, Output, OutputStep, Pull, Push};
-use std::alloc::Global;
+use std::alloc::{AllocError, Global};
 use uc_log::{Log, Pass};
 use uc_worker::{Open, Worker};
 
@@ -16,20 +17,62 @@ pub(crate) const QUOTAS: Limits = Limits {
     bytes: 2_000_000,
 };
 
-/// More turns than a test needs.
-const TURNS: u32 = 100_000;
+/// What a client sends, and the steps that its input and its output follow first.
+#[derive(Clone, Copy)]
+pub(crate) struct Client<'a> {
+    pub(crate) sent: &'a str,
+    pub(crate) pulls: &'a [InputStep],
+    pub(crate) pushes: &'a [OutputStep],
+}
 
-/// A connection, its worker and the log that both work on.
+impl Client<'_> {
+    fn input(&self, alloc: Global) -> Result<MemoryInput, AllocError> {
+        let bytes = Vec::from_slice(alloc, self.sent.as_bytes())?;
+        Ok(MemoryInput::new(bytes, Vec::from_slice(alloc, self.pulls)?))
+    }
+
+    fn output(&self, alloc: Global) -> Result<MemoryOutput, AllocError> {
+        let pushes = Vec::from_slice(alloc, self.pushes)?;
+        Ok(MemoryOutput::new(alloc, pushes))
+    }
+}
+
+/// A connection, its input and its output.
+#[derive(Drop)]
+pub(crate) struct Wire {
+    conn: Conn,
+    input: MemoryInput,
+    output: MemoryOutput,
+}
+
+impl Wire {
+    /// Returns a wire of this client, on which nothing has come yet.
+    pub(crate) fn open(alloc: Global, conn: Conn, client: Client) -> Result<Wire, AllocError> {
+        let input = client.input(alloc)?;
+        let output = client.output(alloc)?;
+        Ok(Wire {
+            conn,
+            input,
+            output,
+        })
+    }
+
+    /// Returns a wire of this tenant's client, on which nothing has come yet.
+    pub(crate) fn of_tenant(alloc: Global, tenant: u8, client: Client) -> Result<Wire, Fault> {
+        match TenantId::new(tenant) {
+            Some(tenant) => Ok(Wire::open(alloc, Conn::new(alloc, tenant), client)?),
+            None => Err(Fault::BadEvent),
+        }
+    }
+}
+
+/// A wire, its worker and the log on which both work.
 #[derive(Drop)]
 pub(crate) struct Line<'a> {
     log: &'a Log,
     worker: Worker<'a>,
-    role: Role,
-    conn: Conn,
-    input: MemoryInput,
-    output: MemoryOutput,
+    wire: Wire,
     ghost same: { worker.log.now ≡ log.now },
-    ghost whose: { conn.role ≡ role },
 }
 
 /// Returns whether a role fits a log with this many tenants.
@@ -74,121 +117,48 @@ fn turn_until(
 }
 
 impl<'a> Line<'a> {
-    /// Returns a line of the tenant and the worker with this pass, on which nothing has come yet.
-    pub(crate) fn open(
-        alloc: Global,
-        log: &'a Log,
-        pass: Pass,
-        tenant: u8,
-        ends: (MemoryInput, MemoryOutput),
-    ) -> Result<Line<'a>, Fault>
-        requires { IsUnusedPass log.now pass }
+    pub(crate) fn of(log: &'a Log, worker: Worker<'a>, wire: Wire) -> Line<'a>
+        requires { worker.log.now ≡ log.now }
     {
-        let Some(tenant) = TenantId::new(tenant) else {
-            return Err(Fault::BadEvent);
-        };
-        let role = Role::Tenant(tenant);
-        let conn = Conn::of(alloc, role.share()?);
-        let worker = Worker::open(alloc, log, pass)?;
-        let (input, output) = ends;
-        Ok(Line {
-            log,
-            worker,
-            role,
-            conn,
-            input,
-            output,
-        })
-    }
-
-    /// Returns a line of an administrator, to whom the tenants have these names, and of the worker
-    /// with this pass. Nothing has come on it yet.
-    pub(crate) fn admin(
-        alloc: Global,
-        log: &'a Log,
-        pass: Pass,
-        names: Names,
-        ends: (MemoryInput, MemoryOutput),
-    ) -> Result<Line<'a>, Fault>
-        requires { IsUnusedPass log.now pass }
-    {
-        let role = Role::Admin(names.share()?);
-        let conn = Conn::admin(alloc, names);
-        let worker = Worker::open(alloc, log, pass)?;
-        let (input, output) = ends;
-        Ok(Line {
-            log,
-            worker,
-            role,
-            conn,
-            input,
-            output,
-        })
+        Line { log, worker, wire }
     }
 
     /// Makes a turn, if the line's role fits the log.
     pub(crate) fn turn(&mut self, buffer: &mut [u8; PULL_BYTES]) -> Result<State, Fault> {
-        if !is_among(&self.role, self.log.settings().tenants().len()) {
+        if !is_among(self.wire.conn.role(), self.log.settings().tenants().len()) {
             return Err(Fault::BadEvent);
         }
         turn(
-            &mut self.conn,
+            &mut self.wire.conn,
             &mut self.worker,
-            &mut self.input,
-            &mut self.output,
+            &mut self.wire.input,
+            &mut self.wire.output,
             buffer,
         )
     }
 
     /// Makes a turn that leaves commands to the next log, if the line's role fits the log.
     pub(crate) fn turn_until(&mut self, buffer: &mut [u8; PULL_BYTES]) -> Result<State, Fault> {
-        if !is_among(&self.role, self.log.settings().tenants().len()) {
+        if !is_among(self.wire.conn.role(), self.log.settings().tenants().len()) {
             return Err(Fault::BadEvent);
         }
         turn_until(
-            &mut self.conn,
+            &mut self.wire.conn,
             &mut self.worker,
-            &mut self.input,
-            &mut self.output,
+            &mut self.wire.input,
+            &mut self.wire.output,
             buffer,
         )
     }
 
     /// Closes the connection as after this fault.
     pub(crate) fn close(&mut self, fault: Fault) {
-        self.conn.close(fault, &mut self.output);
-    }
-
-    /// Makes turns until one ends in this state. Returns whether one does.
-    pub(crate) fn comes_to(&mut self, end: State) -> Result<bool, Fault> {
-        let mut buffer = [0u8; PULL_BYTES];
-        for _ in 0..TURNS {
-            if self.turn(&mut buffer)? == end {
-                return Ok(true);
-            }
-        }
-        Ok(false)
-    }
-
-    /// Returns whether the next turns all end in this state.
-    pub(crate) fn stays(&mut self, end: State, turns: u32) -> Result<bool, Fault> {
-        let mut buffer = [0u8; PULL_BYTES];
-        for _ in 0..turns {
-            if self.turn(&mut buffer)? != end {
-                return Ok(false);
-            }
-        }
-        Ok(true)
-    }
-
-    /// Returns whether the line comes to its end, and has pushed this by then.
-    pub(crate) fn closes_with(&mut self, want: &[u8]) -> Result<bool, Fault> {
-        Ok(self.comes_to(State::Closed)? && self.pushed() == want)
+        self.wire.conn.close(fault, &mut self.wire.output);
     }
 
     /// Returns what was pushed.
     pub(crate) fn pushed(&self) -> &[u8] {
-        self.output.as_bytes()
+        self.wire.output.as_bytes()
     }
 
     /// Returns how many entries the worker has replayed.
@@ -198,29 +168,19 @@ impl<'a> Line<'a> {
 
     /// Returns what one more pull gives, without the connection.
     pub(crate) fn next_pull(&mut self) -> Pull {
-        self.input.pull(&mut [0; 512])
+        self.wire.input.pull(&mut [0; 512])
     }
 
     /// Returns what one more push takes, without the connection.
     pub(crate) fn next_push(&mut self) -> Push {
-        self.output.push(b"x")
+        self.wire.output.push(b"x")
     }
 }
 
-/// Returns an input that holds these bytes, and an output; both follow these steps first.
-pub(crate) fn ends_of(
-    alloc: Global,
-    sent: &[u8],
-    pulls: &[InputStep],
-    pushes: &[OutputStep],
-) -> Result<(MemoryInput, MemoryOutput), Fault> {
-    let bytes = Vec::from_slice(alloc, sent)?;
-    let pulls = Vec::from_slice(alloc, pulls)?;
-    let pushes = Vec::from_slice(alloc, pushes)?;
-    Ok((
-        MemoryInput::new(bytes, pulls),
-        MemoryOutput::new(alloc, pushes),
-    ))
+/// Returns the settings of two workers, this many places and tenants with these quotas.
+fn settings(alloc: Global, places: u64, quotas: &[Limits]) -> Result<Settings, Fault> {
+    let quotas = Vec::from_slice(alloc, quotas)?;
+    Settings::check(2, places, quotas)
 }
 
 /// Opens a log of two workers, this many places and tenants with these quotas, and returns the
@@ -234,10 +194,8 @@ pub(crate) fn opened(
         (λ opened. (number : ℕ) (pass : _) → slice_get opened.1.items number ≡ Some pass →
         IsUnusedPass opened.0 pass) }
 {
-    let quotas = Vec::from_slice(alloc, quotas)?;
-    let settings = Settings::check(2, places, quotas)?;
-    let (log, passes) = Log::open(alloc, &settings)?;
-    Ok((log, passes))
+    let settings = settings(alloc, places, quotas)?;
+    Log::open(alloc, &settings)
 }
 
 /// Returns the passes of worker 0 and worker 1.
@@ -251,30 +209,62 @@ pub(crate) fn both_passes(log: &Log, mut passes: Vec<Pass>) -> Option<(Pass, Pas
     Some((first, second))
 }
 
-/// Returns a line of the first tenant and worker 0. The other worker does nothing.
-pub(crate) fn one_line<'a>(
+/// Returns the worker with this pass.
+pub(crate) fn worker_of<'a>(alloc: Global, log: &'a Log, pass: Pass) -> Result<Worker<'a>, Fault>
+    requires { IsUnusedPass log.now pass }
+    ensures { IfOk result (λ worker. worker.log.now ≡ log.now) }
+{
+    Worker::open(alloc, log, pass)
+}
+
+/// Returns worker 0. The other worker does nothing.
+fn one_worker<'a>(alloc: Global, log: &'a Log, passes: Vec<Pass>) -> Result<Worker<'a>, Fault>
+    requires { (number : ℕ) (pass : _) → slice_get passes.items number ≡ Some pass →
+        IsUnusedPass log.now pass }
+    ensures { IfOk result (λ worker. worker.log.now ≡ log.now) }
+{
+    match both_passes(log, passes) {
+        Some((first, _idle)) => worker_of(alloc, log, first),
+        None => Err(Fault::BadEvent),
+    }
+}
+
+/// Returns whether the line of this wire and worker 0 does these acts.
+fn play_on(
     alloc: Global,
-    log: &'a Log,
+    log: &Log,
     passes: Vec<Pass>,
-    ends: (MemoryInput, MemoryOutput),
-) -> Result<Line<'a>, Fault>
+    wire: Wire,
+    acts: &[Act],
+) -> Result<bool, Fault>
     requires { (number : ℕ) (pass : _) → slice_get passes.items number ≡ Some pass →
         IsUnusedPass log.now pass }
 {
-    let Some((first, _idle)) = both_passes(log, passes) else {
-        return Err(Fault::BadEvent);
-    };
-    Line::open(alloc, log, first, 0, ends)
+    let worker = one_worker(alloc, log, passes)?;
+    let mut line = Line::of(log, worker, wire);
+    line.play(acts)
 }
 
-/// Returns whether a client with this input and output reads this, with a new log of this many
-/// places.
-pub(crate) fn reads(
+/// Returns whether the wire does these acts, with a new log of this many places.
+fn play_over(alloc: Global, places: u64, wire: Wire, acts: &[Act]) -> Result<bool, Fault> {
+    let (log, passes) = opened(alloc, places, &[QUOTAS])?;
+    play_on(alloc, &log, passes, wire, acts)
+}
+
+/// Returns whether the connection of this client, of the first tenant, does these acts, with a new
+/// log of this many places.
+pub(crate) fn play(
     alloc: Global,
     places: u64,
-    ends: (MemoryInput, MemoryOutput),
-    want: &[u8],
+    client: Client,
+    acts: &[Act],
 ) -> Result<bool, Fault> {
-    let (log, passes) = opened(alloc, places, &[QUOTAS])?;
-    one_line(alloc, &log, passes, ends)?.closes_with(want)
+    let wire = Wire::of_tenant(alloc, 0, client)?;
+    play_over(alloc, places, wire, acts)
+}
+
+/// Returns whether this client of the first tenant reads this, with a new log of this many places.
+pub(crate) fn reads(alloc: Global, places: u64, client: Client, want: &str) -> Result<bool, Fault> {
+    let acts = [Act::Turns(State::Closed), Act::Pushed(want)];
+    play(alloc, places, client, &acts)
 }

@@ -1,10 +1,9 @@
 //! Golden streams in pieces: a client's input comes, and what it is owed goes, however both are
 //! cut.
-use crate::lines::{ends_of, reads};
+use crate::lines::{Client, reads};
 use mc_model::Fault;
 use mc_stream::{InputStep, OutputStep};
 use std::alloc::Global;
-use std::test::Fail;
 
 /// What a client sends, and what it reads.
 const STREAMS: [(&str, &str); 3] = [
@@ -27,64 +26,54 @@ const BLOCK: (&str, &str) = (
 
 /// Returns whether a client that sends the first text reads the second, with a new log of this many
 /// places and by these steps of the input and the output.
-fn is_served(
+fn is_served<'a>(
     alloc: Global,
     places: u64,
-    (sent, want): (&str, &str),
-    pulls: &[InputStep],
-    pushes: &[OutputStep],
+    (sent, want): (&'a str, &'a str),
+    pulls: &'a [InputStep],
+    pushes: &'a [OutputStep],
 ) -> Result<bool, Fault> {
-    let ends = ends_of(alloc, sent.as_bytes(), pulls, pushes)?;
-    reads(alloc, places, ends, want.as_bytes())
-}
-
-/// Returns steps that pull `count` single bytes, with an empty pull before each.
-fn single_pulls(alloc: Global, count: usize) -> Result<Vec<InputStep>, Fault> {
-    let mut steps = Vec::new(alloc);
-    for _ in 0..count {
-        steps.extend_from_slice(&[InputStep::Empty, InputStep::Give(1)])?;
-    }
-    Ok(steps)
-}
-
-/// Returns steps that push `count` single bytes, with a full push before each.
-fn single_pushes(alloc: Global, count: usize) -> Result<Vec<OutputStep>, Fault> {
-    let mut steps = Vec::new(alloc);
-    for _ in 0..count {
-        steps.extend_from_slice(&[OutputStep::Full, OutputStep::Take(1)])?;
-    }
-    Ok(steps)
+    let client = Client {
+        sent,
+        pulls,
+        pushes,
+    };
+    reads(alloc, places, client, want)
 }
 
 /// Returns whether the client is served if pulls give nothing and one byte in turn, and pushes take
 /// nothing and one byte in turn.
 fn is_served_by_turns(alloc: Global, stream: (&str, &str)) -> Result<bool, Fault> {
-    let pulls = single_pulls(alloc, stream.0.len())?;
-    let pushes = single_pushes(alloc, stream.1.len())?;
+    let pulls = [InputStep::Empty, InputStep::Give(1)].repeat(alloc, stream.0.len())?;
+    let pushes = [OutputStep::Full, OutputStep::Take(1)].repeat(alloc, stream.1.len())?;
     is_served(alloc, 64, stream, &pulls, &pushes)
 }
 
 #[test]
-fn empty_and_full_in_turn(rt: HostRuntime) -> Result<(), Fail> {
-    for stream in STREAMS {
-        assert!(rt; is_served_by_turns(rt.alloc(), stream)?, "{}", stream.0);
+fn empty_and_full_in_turn(rt: HostRuntime) -> Result<(), Fault> {
+    for stream in &STREAMS {
+        assert!(rt; is_served_by_turns(rt.alloc(), *stream)?, "{}", stream.0);
     }
     Ok(())
 }
 
-/// The first pull gives the bytes before the cut, and the second the others.
+/// Returns whether the client of `BLOCK` is served if the first pull gives this many bytes, and the
+/// second the others.
+fn is_served_in_two(alloc: Global, count: usize) -> Result<bool, Fault> {
+    is_served(alloc, 64, BLOCK, &[InputStep::Give(count)], &[])
+}
+
 #[test]
-fn block_cut_anywhere(rt: HostRuntime) -> Result<(), Fail> {
+fn block_cut_anywhere(rt: HostRuntime) -> Result<(), Fault> {
     for count in 1..BLOCK.0.len() {
-        let pulls = [InputStep::Give(count)];
-        assert!(rt; is_served(rt.alloc(), 64, BLOCK, &pulls, &[])?, "{count}");
+        assert!(rt; is_served_in_two(rt.alloc(), count)?, "{count}");
     }
     Ok(())
 }
 
 /// The third command finds the log full, and the replies that need no log are given as before.
 #[test]
-fn log_full_on_the_wire(rt: HostRuntime) -> Result<(), Fail> {
+fn log_full_on_the_wire(rt: HostRuntime) -> Result<(), Fault> {
     let stream = (
         "set a 0 0 1\r\nx\r\nset b 0 0 1\r\ny\r\nget a\r\nversion\r\n",
         "STORED\r\nSTORED\r\nSERVER_ERROR log full\r\nVERSION 1.0.0\r\n",

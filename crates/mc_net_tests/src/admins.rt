@@ -1,6 +1,6 @@
 //! An administrator over sockets beside a tenant, whose quotas it sets.
 use crate::clients::Act;
-use crate::visits::{Outcome, QUOTAS, Visit, outcome_of};
+use crate::visits::{QUOTAS, Visit, check};
 use std::test::Fail;
 
 /// The administrator connects first, at the last listener, and lowers the quotas between two sets of
@@ -34,9 +34,6 @@ fn an_administrator_lowers_a_tenants_quotas(rt: HostRuntime) -> Result<(), Fail>
         workers: 2,
         acts: &LOWERED,
     };
-    let Outcome { failed, tenants } = outcome_of(&rt, rt.alloc(), visit, false)?;
-    assert_eq!(rt; failed, None);
     // Two sets, a limit, a get and a set: what the tenant asked of the administrator isn't logged.
-    assert_eq!(rt; tenants?.len(), 5);
-    Ok(())
+    check(&rt, visit, false, &[5])
 }

@@ -1,7 +1,7 @@
 //! Isolation of tenants over sockets: each has its own table, and a client belongs to the tenant at
 //! whose listener it connected.
 use crate::clients::Act;
-use crate::visits::{Outcome, Visit, outcome_of};
+use crate::visits::{Visit, check};
 use mc_model::Limits;
 use std::test::Fail;
 
@@ -53,11 +53,6 @@ fn items(items: u64) -> Limits {
     Limits { items, bytes: 100 }
 }
 
-/// Returns how many of the entries are this tenant's.
-fn count_of(tenants: &[u8], tenant: u8) -> usize {
-    tenants.iter().filter(|other| **other == tenant).count()
-}
-
 #[test]
 fn two_tenants_two_connections(rt: HostRuntime) -> Result<(), Fail> {
     let visit = Visit {
@@ -66,11 +61,7 @@ fn two_tenants_two_connections(rt: HostRuntime) -> Result<(), Fail> {
         workers: 2,
         acts: &SAME_KEY,
     };
-    let Outcome { failed, tenants } = outcome_of(&rt, rt.alloc(), visit, false)?;
-    assert_eq!(rt; failed, None);
-    let tenants = tenants?;
-    assert_eq!(rt; [count_of(&tenants, 0), count_of(&tenants, 1)], [2, 3]);
-    Ok(())
+    check(&rt, visit, false, &[2, 3])
 }
 
 #[test]
@@ -81,12 +72,5 @@ fn clients_are_their_listeners_tenants(rt: HostRuntime) -> Result<(), Fail> {
         workers: 2,
         acts: &CROSSED,
     };
-    let Outcome { failed, tenants } = outcome_of(&rt, rt.alloc(), visit, false)?;
-    assert_eq!(rt; failed, None);
-    let tenants = tenants?;
-    assert_eq!(rt; tenants.len(), 12);
-    for tenant in 0..3u8 {
-        assert_eq!(rt; count_of(&tenants, tenant), 4);
-    }
-    Ok(())
+    check(&rt, visit, false, &[4, 4, 4])
 }

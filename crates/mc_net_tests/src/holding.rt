@@ -1,6 +1,6 @@
 //! A worker that is held over sockets holds no other.
 use crate::clients::Act;
-use crate::visits::{Outcome, QUOTAS, Visit, outcome_of};
+use crate::visits::{QUOTAS, Visit, check};
 use std::test::Fail;
 
 /// The first client's worker is held after it has announced the client's command, until the second
@@ -24,8 +24,5 @@ fn two_workers_at_once(rt: HostRuntime) -> Result<(), Fail> {
         workers: 2,
         acts: &ACTS,
     };
-    let Outcome { failed, tenants } = outcome_of(&rt, rt.alloc(), visit, true)?;
-    assert_eq!(rt; failed, None);
-    assert_eq!(rt; tenants?.len(), 3);
-    Ok(())
+    check(&rt, visit, true, &[3])
 }

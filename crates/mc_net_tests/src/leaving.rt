@@ -1,7 +1,7 @@
 //! Clients over sockets that leave, never read or reset their connection, next to one that the same
 //! worker serves to the end.
 use crate::clients::Act;
-use crate::visits::{Outcome, QUOTAS, Visit, outcome_of};
+use crate::visits::{Outcome, QUOTAS, Visit, check, outcome_of};
 use std::alloc::{AllocError, Global};
 use std::test::Fail;
 
@@ -39,10 +39,7 @@ fn two_leave_in_a_block(rt: HostRuntime) -> Result<(), Fail> {
         workers: 1,
         acts: &HALF,
     };
-    let Outcome { failed, tenants } = outcome_of(&rt, rt.alloc(), visit, false)?;
-    assert_eq!(rt; failed, None);
-    assert_eq!(rt; tenants?.len(), 2);
-    Ok(())
+    check(&rt, visit, false, &[2])
 }
 
 #[test]

@@ -7,7 +7,9 @@ use std::alloc::{AllocError, Global};
 use std::io;
 use std::io::ErrorKind;
 use std::net::{Net, SocketAddr, TcpListener, TcpStream};
+use std::process::Abort;
 use std::sync::Wait;
+use std::test::Fail;
 use std::thread::{Threads, join};
 
 /// Enough for all that most tests store.
@@ -111,4 +113,43 @@ where
         || first_failure(rt, alloc, &signals, &addresses, visit.acts),
     );
     Ok(Outcome { failed, tenants })
+}
+
+/// Returns how many of the entries are this tenant's.
+fn count_of(tenants: &[u8], tenant: usize) -> usize {
+    tenants
+        .iter()
+        .filter(|other| usize::from(**other) == tenant)
+        .count()
+}
+
+/// Returns whether each tenant has this many entries, in the order of their numbers, and no other
+/// has any.
+fn have_counts(tenants: &[u8], counts: &[usize]) -> bool {
+    for (tenant, count) in counts.iter().enumerate() {
+        if count_of(tenants, tenant) != *count {
+            return false;
+        }
+    }
+    tenants
+        .iter()
+        .all(|tenant| usize::from(*tenant) < counts.len())
+}
+
+/// Asserts that no act of the visit fails, and that the log's entries are this many of each tenant,
+/// in the order of their numbers.
+pub(crate) fn check<R>(rt: &R, visit: Visit, is_held: bool, counts: &[usize]) -> Result<(), Fail>
+where
+    R: Threads
+        + Wait
+        + Net<Listener = TcpListener, Stream = TcpStream>
+        + Sync
+        + AllocGlobal
+        + Abort,
+{
+    let Outcome { failed, tenants } = outcome_of(rt, rt.alloc(), visit, is_held)?;
+    assert_eq!(rt; failed, None);
+    let tenants = tenants?;
+    assert!(rt; have_counts(&tenants, counts), "{tenants:?}");
+    Ok(())
 }

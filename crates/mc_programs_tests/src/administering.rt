@@ -1,32 +1,16 @@
 //! The requests of an administrator's lines: each stream is read byte by byte, and cut in two at
 //! every place. And tenants by their names.
-use crate::reading::check_of;
-use crate::runs::{columns, joined};
+use crate::reading::{check_of, check_rows, check_texts};
+use crate::runs::Text;
 use mc_model::{Fault, Name, Names, Request, TenantId};
 use mc_read::{Reader, Speaker};
 use std::alloc::Global;
-use std::process::Abort;
-use std::test::Fail;
-
-/// Asserts that the stream of a row reads as its requests on an administrator's connection. A row
-/// is a name, a stream and its requests, with `|` between them.
-fn check_row(rt: &(impl AllocGlobal + Abort), row: &str) -> Result<(), Fault> {
-    let (name, sent, wanted) = columns(row);
-    check_of(rt, Speaker::Admin, name, sent.as_bytes(), wanted.as_bytes())
-}
-
-/// Does as `check_row` for each row, with `~` between them.
-fn check_rows(rt: &(impl AllocGlobal + Abort), rows: &str) -> Result<(), Fault> {
-    for row in rows.split('~') {
-        check_row(rt, row)?;
-    }
-    Ok(())
-}
 
 #[test]
-fn lines_of_an_administrator(rt: HostRuntime) -> Result<(), Fail> {
+fn lines_of_an_administrator(rt: HostRuntime) -> Result<(), Fault> {
     check_rows(
         &rt,
+        Speaker::Admin,
         "\
         quotas-of-two\
         |limit a 2 100\r\nlimit x 1 1\r\nget a\r\nquit\r\n\
@@ -49,35 +33,29 @@ fn lines_of_an_administrator(rt: HostRuntime) -> Result<(), Fail> {
         other-lines\
         |version\r\nversion now\r\nset a 0 0 1\r\nx\r\ngets a\r\nflush_all\r\nLIMIT a 1 1\r\n\r\nquit now\r\nquit\r\nlimit a 1 1\r\n\
         |version\r\nERROR\r\nERROR\r\nERROR\r\nERROR\r\nERROR\r\nERROR\r\nERROR\r\nERROR\r\nquit\r\n",
-    )?;
-    Ok(())
+    )
 }
 
 #[test]
-fn limit_on_a_tenants_connection(rt: HostRuntime) -> Result<(), Fail> {
+fn limit_on_a_tenants_connection(rt: HostRuntime) -> Result<(), Fault> {
     let sent = b"limit a 1 1\r\nlimit a 1 1 noreply\r\nget a\r\n";
     let wanted = b"ERROR\r\nERROR\r\nget a\r\n";
-    check_of(&rt, Speaker::Tenant, "limit", sent, wanted)?;
-    Ok(())
+    check_of(&rt, Speaker::Tenant, "limit", sent, wanted)
 }
 
 #[test]
-fn name_of_32_bytes(rt: HostRuntime) -> Result<(), Fail> {
-    let name = [b'n'; 32];
-    let sent = joined(
-        rt.alloc(),
-        &[b"limit ", &name, b" 1 1\r\nlimit ", &name, b"n 1 1\r\n"],
-    )?;
-    let wanted = joined(
-        rt.alloc(),
-        &[
-            b"limit ",
-            &name,
-            b" 1 1\r\nCLIENT_ERROR bad command line format\r\n",
-        ],
-    )?;
-    check_of(&rt, Speaker::Admin, "name-of-32-bytes", &sent, &wanted)?;
-    Ok(())
+fn name_of_32_bytes(rt: HostRuntime) -> Result<(), Fault> {
+    let sent = Text {
+        form: "limit @ 1 1\r\nlimit @n 1 1\r\n",
+        word: "n",
+        times: 32,
+    };
+    let wanted = Text {
+        form: "limit @ 1 1\r\nCLIENT_ERROR bad command line format\r\n",
+        word: "n",
+        times: 32,
+    };
+    check_texts(&rt, Speaker::Admin, "name-of-32-bytes", sent, wanted)
 }
 
 /// Returns whether the stream reads as a line that is too long, and nothing before it.
@@ -87,11 +65,15 @@ fn is_too_long(alloc: Global, sent: &[u8]) -> Result<bool, Fault> {
     Ok(reader.next()? == Some(Request::TooLong))
 }
 
+/// Returns whether that is so of a line of `limit` alone, again and again.
+fn limits_are_too_long(alloc: Global) -> Result<bool, Fault> {
+    let line = "limit ".repeat(alloc, 10_923)?;
+    is_too_long(alloc, line.as_bytes())
+}
+
 #[test]
-fn too_long_a_line_of_an_administrator(rt: HostRuntime) -> Result<(), Fail> {
-    let line = "limit ".repeat(rt.alloc(), 10_923)?;
-    let holds = is_too_long(rt.alloc(), line.as_bytes())?;
-    assert!(rt; holds);
+fn too_long_a_line_of_an_administrator(rt: HostRuntime) -> Result<(), Fault> {
+    assert!(rt; limits_are_too_long(rt.alloc())?);
     Ok(())
 }
 
@@ -113,23 +95,39 @@ fn many_names(alloc: Global, count: usize) -> Result<Names, Fault> {
     Names::new(names)
 }
 
-/// Returns the numbers of the tenants named `a`, `b` and `c`.
-fn tenants(alloc: Global, names: &Names) -> Result<[Option<TenantId>; 3], Fault> {
-    Ok([
-        names.tenant(&name_of(alloc, b"a")?),
-        names.tenant(&name_of(alloc, b"b")?),
-        names.tenant(&name_of(alloc, b"c")?),
-    ])
+/// Returns the number of the tenant of this name, if there is one.
+fn number_of(alloc: Global, names: &Names, name: &[u8]) -> Result<Option<u8>, Fault> {
+    let name = name_of(alloc, name)?;
+    Ok(names.tenant(&name).map(TenantId::number))
+}
+
+/// Returns whether the tenants of these names have these numbers.
+fn have_numbers(alloc: Global, names: &Names, rows: &[(&[u8], Option<u8>)]) -> Result<bool, Fault> {
+    for row in rows {
+        if number_of(alloc, names, row.0)? != row.1 {
+            return Ok(false);
+        }
+    }
+    Ok(true)
+}
+
+/// Returns whether 64 names have as many tenants, also where the names are shared.
+fn shared_names_have_numbers(alloc: Global) -> Result<bool, Fault> {
+    let names = many_names(alloc, 63)?.share()?;
+    let rows: [(&[u8], Option<u8>); 3] = [(b"a", Some(0)), (b"b", Some(63)), (b"c", None)];
+    Ok(names.len() == 64 && have_numbers(alloc, &names, &rows)?)
+}
+
+/// Returns whether the name after 64 others has no tenant.
+fn one_more_name_has_no_number(alloc: Global) -> Result<bool, Fault> {
+    let names = many_names(alloc, 64)?;
+    let rows: [(&[u8], Option<u8>); 3] = [(b"a", Some(0)), (b"b", None), (b"c", None)];
+    have_numbers(alloc, &names, &rows)
 }
 
 #[test]
-fn tenants_by_their_names(rt: HostRuntime) -> Result<(), Fail> {
-    let alloc = rt.alloc();
-    let names = many_names(alloc, 63)?.share()?;
-    assert_eq!(rt; names.len(), 64);
-    let found = tenants(alloc, &names)?;
-    assert!(rt; found == [TenantId::new(0), TenantId::new(63), None]);
-    let found = tenants(alloc, &many_names(alloc, 64)?)?;
-    assert!(rt; found == [TenantId::new(0), None, None]);
+fn tenants_by_their_names(rt: HostRuntime) -> Result<(), Fault> {
+    assert!(rt; shared_names_have_numbers(rt.alloc())?);
+    assert!(rt; one_more_name_has_no_number(rt.alloc())?);
     Ok(())
 }

@@ -2,7 +2,7 @@
 //! every place.
 ghost use Rattle.std.specs.Prelude.{◌<◌};
 
-use crate::runs::{columns, joined};
+use crate::runs::{Text, columns};
 use itoa::Buffer;
 use mc_model::{Command, Data, Fault, Key, Limits, Name, Reply, Request, Verb};
 use mc_read::{Reader, Speaker};
@@ -354,34 +354,42 @@ pub(crate) fn check_of(
     check_cuts(rt, case, 0, sent.len())
 }
 
-/// Does as `check_of` for a tenant's stream.
-fn check(
-    rt: &(impl AllocGlobal + Abort),
-    name: &str,
-    sent: &[u8],
-    wanted: &[u8],
-) -> Result<(), Fault> {
-    check_of(rt, Speaker::Tenant, name, sent, wanted)
-}
-
-/// Does as `check` for a row: a name, a stream and its requests, with `|` between them.
-fn check_row(rt: &(impl AllocGlobal + Abort), row: &str) -> Result<(), Fault> {
+/// Does as `check_of` for a row: a name, a stream and its requests, with `|` between them.
+fn check_row(rt: &(impl AllocGlobal + Abort), speaker: Speaker, row: &str) -> Result<(), Fault> {
     let (name, sent, wanted) = columns(row);
-    check(rt, name, sent.as_bytes(), wanted.as_bytes())
+    check_of(rt, speaker, name, sent.as_bytes(), wanted.as_bytes())
 }
 
 /// Does as `check_row` for each row, with `~` between them.
-fn check_rows(rt: &(impl AllocGlobal + Abort), rows: &str) -> Result<(), Fault> {
+pub(crate) fn check_rows(
+    rt: &(impl AllocGlobal + Abort),
+    speaker: Speaker,
+    rows: &str,
+) -> Result<(), Fault> {
     for row in rows.split('~') {
-        check_row(rt, row)?;
+        check_row(rt, speaker, row)?;
     }
     Ok(())
 }
 
+/// Does as `check_of` for texts with repeated words.
+pub(crate) fn check_texts(
+    rt: &(impl AllocGlobal + Abort),
+    speaker: Speaker,
+    name: &str,
+    sent: Text,
+    wanted: Text,
+) -> Result<(), Fault> {
+    let sent = sent.filled(rt.alloc())?;
+    let wanted = wanted.filled(rt.alloc())?;
+    check_of(rt, speaker, name, sent.as_bytes(), wanted.as_bytes())
+}
+
 #[test]
-fn worked_rows_of_few_commands(rt: HostRuntime) -> Result<(), Fail> {
+fn worked_rows_of_few_commands(rt: HostRuntime) -> Result<(), Fault> {
     check_rows(
         &rt,
+        Speaker::Tenant,
         "\
         set-then-get\
         |set a 5 0 3\r\nabc\r\nget a\r\n\
@@ -416,14 +424,14 @@ fn worked_rows_of_few_commands(rt: HostRuntime) -> Result<(), Fail> {
         delete-flush-cas-words\
         |delete a 1\r\nflush_all 5\r\nflush_all x\r\nflush_all noreply\r\ncas a 0 0 1 x\r\ny\r\nincr a\r\n\
         |CLIENT_ERROR bad command line format\r\nCLIENT_ERROR expiry is not supported\r\nCLIENT_ERROR bad command line format\r\nquiet flush_all\r\nCLIENT_ERROR bad command line format\r\nERROR\r\n",
-    )?;
-    Ok(())
+    )
 }
 
 #[test]
-fn worked_rows_of_changes(rt: HostRuntime) -> Result<(), Fail> {
+fn worked_rows_of_changes(rt: HostRuntime) -> Result<(), Fault> {
     check_rows(
         &rt,
+        Speaker::Tenant,
         "\
         cas-outcomes\
         |set a 0 0 1\r\nx\r\ncas a 0 0 1 1\r\ny\r\ncas a 0 0 1 1\r\nz\r\ncas b 0 0 1 1\r\nw\r\ngets a\r\n\
@@ -446,16 +454,16 @@ fn worked_rows_of_changes(rt: HostRuntime) -> Result<(), Fail> {
         fragments-joined\
         |set n 3 0 1\r\n1\r\nappend n 0 0 1\r\n0\r\nprepend n 0 0 1\r\n2\r\nincr n 5\r\nappend n 0 0 2\r\nab\r\ngets n\r\n\
         |set n 3 1\r\nappend n 0 0\r\nprepend n 0 2\r\nincr n 5\r\nappend n 0 ab\r\ngets n\r\n",
-    )?;
-    Ok(())
+    )
 }
 
 /// The programs of these rows are given quotas, places or generations; the reader reads their input
 /// like any other.
 #[test]
-fn worked_rows_with_options(rt: HostRuntime) -> Result<(), Fail> {
+fn worked_rows_with_options(rt: HostRuntime) -> Result<(), Fault> {
     check_rows(
         &rt,
+        Speaker::Tenant,
         "\
         item-quota\
         |set a 0 0 1\r\nx\r\ngets a\r\nset b 0 0 1\r\ny\r\nset a 0 0 1\r\nz\r\ngets a b\r\n\
@@ -472,14 +480,14 @@ fn worked_rows_with_options(rt: HostRuntime) -> Result<(), Fail> {
         generations\
         |set a 0 0 1\r\nx\r\nset b 0 0 1\r\ny\r\ngets a b\r\ncas a 0 0 1 1\r\nz\r\ngets a\r\nincr c 1\r\nget a\r\nversion\r\n\
         |set a 0 x\r\nset b 0 y\r\ngets a b\r\ncas 1 a 0 z\r\ngets a\r\nincr c 1\r\nget a\r\nversion\r\n",
-    )?;
-    Ok(())
+    )
 }
 
 #[test]
-fn lines_that_name_a_block(rt: HostRuntime) -> Result<(), Fail> {
+fn lines_that_name_a_block(rt: HostRuntime) -> Result<(), Fault> {
     check_rows(
         &rt,
+        Speaker::Tenant,
         "\
         empty-block\
         |set a 0 0 0\r\n\r\nget a\r\n\
@@ -517,14 +525,14 @@ fn lines_that_name_a_block(rt: HostRuntime) -> Result<(), Fail> {
         words-of-cas\
         |cas a 0 0 1 noreply\r\ny\r\ncas a 0 0 1\r\ncas a 0 0 1 1 noreply x\r\ncas a 0 60 1 1\r\ny\r\nget a\r\n\
         |CLIENT_ERROR bad command line format\r\nERROR\r\nERROR\r\nCLIENT_ERROR expiry is not supported\r\nget a\r\n",
-    )?;
-    Ok(())
+    )
 }
 
 #[test]
-fn lines_alone(rt: HostRuntime) -> Result<(), Fail> {
+fn lines_alone(rt: HostRuntime) -> Result<(), Fault> {
     check_rows(
         &rt,
+        Speaker::Tenant,
         "\
         greatest-delta\
         |incr n 18446744073709551615 noreply\r\ndecr n 18446744073709551616\r\ndecr n -1 noreply\r\n\
@@ -559,46 +567,37 @@ fn lines_alone(rt: HostRuntime) -> Result<(), Fail> {
         nothing-is-read-after-quit\
         |quit\nset a 0 0 1\r\nx\r\n\
         |quit\r\n",
-    )?;
-    Ok(())
+    )
 }
 
 #[test]
-fn key_of_250_bytes(rt: HostRuntime) -> Result<(), Fail> {
-    let name = [b'k'; 250];
-    let sent = joined(
-        rt.alloc(),
-        &[
-            b"set ",
-            &name,
-            b" 0 0 1\r\nx\r\nset ",
-            &name,
-            b"k 0 0 1\r\ny\r\nget ",
-            &name,
-            b"\r\n",
-        ],
-    )?;
-    let wanted = joined(
-        rt.alloc(),
-        &[
-            b"set ",
-            &name,
-            b" 0 x\r\nCLIENT_ERROR bad command line format\r\nget ",
-            &name,
-            b"\r\n",
-        ],
-    )?;
-    check(&rt, "key-of-250-bytes", &sent, &wanted)?;
-    Ok(())
+fn key_of_250_bytes(rt: HostRuntime) -> Result<(), Fault> {
+    let sent = Text {
+        form: "set @ 0 0 1\r\nx\r\nset @k 0 0 1\r\ny\r\nget @\r\n",
+        word: "k",
+        times: 250,
+    };
+    let wanted = Text {
+        form: "set @ 0 x\r\nCLIENT_ERROR bad command line format\r\nget @\r\n",
+        word: "k",
+        times: 250,
+    };
+    check_texts(&rt, Speaker::Tenant, "key-of-250-bytes", sent, wanted)
 }
 
 #[test]
-fn longest_line(rt: HostRuntime) -> Result<(), Fail> {
-    let line = "a".repeat(rt.alloc(), 65_535)?;
-    let line = line.as_bytes();
-    let sent = joined(rt.alloc(), &[line, b"\r\n", line, b"a\r\nversion\r\n"])?;
-    check(&rt, "longest-line", &sent, b"ERROR\r\nline too long\r\n")?;
-    Ok(())
+fn longest_line(rt: HostRuntime) -> Result<(), Fault> {
+    let sent = Text {
+        form: "@\r\n@a\r\nversion\r\n",
+        word: "a",
+        times: 65_535,
+    };
+    let wanted = Text {
+        form: "ERROR\r\nline too long\r\n",
+        word: "",
+        times: 0,
+    };
+    check_texts(&rt, Speaker::Tenant, "longest-line", sent, wanted)
 }
 
 /// Cuts the stream at each 64th place, with each of the 64 first cuts: each place is a cut of one
@@ -644,30 +643,31 @@ fn check_long(
     check_thousands(rt, case)
 }
 
+/// Does as `check_long` for texts with repeated words.
+fn check_long_texts(
+    rt: &(impl AllocGlobal + Abort),
+    name: &str,
+    sent: Text,
+    wanted: Text,
+) -> Result<(), Fault> {
+    let sent = sent.filled(rt.alloc())?;
+    let wanted = wanted.filled(rt.alloc())?;
+    check_long(rt, name, sent.as_bytes(), wanted.as_bytes())
+}
+
 #[test]
-fn object_too_large(rt: HostRuntime) -> Result<(), Fail> {
-    let block = "z".repeat(rt.alloc(), 1_048_576)?;
-    let block = block.as_bytes();
-    let sent = joined(
-        rt.alloc(),
-        &[
-            b"set b 0 0 1048577\r\n",
-            block,
-            b"z\r\nset b 0 0 1048576\r\n",
-            block,
-            b"\r\nappend b 0 0 1\r\nz\r\n",
-        ],
-    )?;
-    let wanted = joined(
-        rt.alloc(),
-        &[
-            b"SERVER_ERROR object too large for cache\r\nset b 0 ",
-            block,
-            b"\r\nappend b 0 z\r\n",
-        ],
-    )?;
-    check_long(&rt, "object-too-large", &sent, &wanted)?;
-    Ok(())
+fn object_too_large(rt: HostRuntime) -> Result<(), Fault> {
+    let sent = Text {
+        form: "set b 0 0 1048577\r\n@z\r\nset b 0 0 1048576\r\n@\r\nappend b 0 0 1\r\nz\r\n",
+        word: "z",
+        times: 1_048_576,
+    };
+    let wanted = Text {
+        form: "SERVER_ERROR object too large for cache\r\nset b 0 @\r\nappend b 0 z\r\n",
+        word: "z",
+        times: 1_048_576,
+    };
+    check_long_texts(&rt, "object-too-large", sent, wanted)
 }
 
 /// Returns whether there is no request, without a second try.

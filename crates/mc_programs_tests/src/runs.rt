@@ -21,20 +21,12 @@ pub fn joined(alloc: Global, pieces: &[&[u8]]) -> Result<Vec<u8>, AllocError> {
 
 /// Returns steps that pull `count` single bytes, with an empty pull before each.
 pub fn single_pulls(alloc: Global, count: usize) -> Result<Vec<InputStep>, AllocError> {
-    let mut steps = Vec::new(alloc);
-    for _ in 0..count {
-        steps.extend_from_slice(&[InputStep::Empty, InputStep::Give(1)])?;
-    }
-    Ok(steps)
+    [InputStep::Empty, InputStep::Give(1)].repeat(alloc, count)
 }
 
 /// Returns steps that push `count` single bytes, with a full push before each.
 pub fn single_pushes(alloc: Global, count: usize) -> Result<Vec<OutputStep>, AllocError> {
-    let mut steps = Vec::new(alloc);
-    for _ in 0..count {
-        steps.extend_from_slice(&[OutputStep::Full, OutputStep::Take(1)])?;
-    }
-    Ok(steps)
+    [OutputStep::Full, OutputStep::Take(1)].repeat(alloc, count)
 }
 
 /// Returns an input that holds these bytes, and follows these steps first.
@@ -52,57 +44,61 @@ pub fn output_of(alloc: Global, steps: &[OutputStep]) -> Result<MemoryOutput, Al
     Ok(MemoryOutput::new(alloc, Vec::from_slice(alloc, steps)?))
 }
 
-/// Appends a text in which `#` stands for a number and `@` for a key.
-fn push_filled(
-    bytes: &mut Vec<u8>,
-    text: &[u8],
-    number: usize,
-    key: &[u8],
-) -> Result<(), AllocError> {
-    let mut buffer = Buffer::new();
-    let digits = buffer.format(number).as_bytes();
-    for byte in text {
-        match *byte {
-            b'#' => bytes.extend_from_slice(digits)?,
-            b'@' => bytes.extend_from_slice(key)?,
-            other => bytes.push(other)?,
-        }
+/// A text in which `@` stands for a word that is repeated.
+#[derive(Clone, Copy)]
+pub struct Text<'a> {
+    pub form: &'a str,
+    pub word: &'a str,
+    pub times: usize,
+}
+
+impl Text<'_> {
+    /// Returns the text with its words.
+    pub fn filled(&self, alloc: Global) -> Result<String, AllocError> {
+        let word = self.word.repeat(alloc, self.times)?;
+        self.form.replace(alloc, '@', &word)
     }
-    Ok(())
+}
+
+/// Appends a text in which `#` stands for a number and `@` for a key.
+fn push_filled(texts: &mut String, text: &str, number: usize, key: &str) -> Result<(), AllocError> {
+    let alloc = *texts.allocator();
+    let mut buffer = Buffer::new();
+    let text = text.replace(alloc, '#', buffer.format(number))?;
+    texts.push_str(&text.replace(alloc, '@', key)?)
 }
 
 /// Returns the text once for each number from 1,000 to 1,999, for which `#` stands.
-fn for_each_number(alloc: Global, text: &[u8]) -> Result<Vec<u8>, AllocError> {
-    let mut bytes = Vec::new(alloc);
+fn for_each_number(alloc: Global, text: &str) -> Result<String, AllocError> {
+    let mut texts = String::new(alloc);
     for number in 1_000..2_000 {
-        push_filled(&mut bytes, text, number, &[])?;
+        push_filled(&mut texts, text, number, "")?;
     }
-    Ok(bytes)
+    Ok(texts)
 }
 
 /// Returns the text once for each length of a key; `#` stands for the length, and `@` for a key of
 /// that length.
-pub fn for_each_key(alloc: Global, text: &[u8]) -> Result<Vec<u8>, AllocError> {
-    let mut bytes = Vec::new(alloc);
-    let key = [b'k'; 250];
+pub fn for_each_key(alloc: Global, text: &str) -> Result<String, AllocError> {
+    let mut texts = String::new(alloc);
     for length in 1..=250 {
-        push_filled(&mut bytes, text, length, &key[..length])?;
+        push_filled(&mut texts, text, length, &"k".repeat(alloc, length)?)?;
     }
-    Ok(bytes)
+    Ok(texts)
 }
 
 /// Returns lines that set 1,000 keys, and get them all in one line.
 pub fn thousand_keys(alloc: Global) -> Result<Vec<u8>, AllocError> {
-    let sets = for_each_number(alloc, b"set k# 0 0 4\r\n#\r\n")?;
-    let keys = for_each_number(alloc, b" k#")?;
-    joined(alloc, &[&sets, b"get", &keys, b"\r\n"])
+    let sets = for_each_number(alloc, "set k# 0 0 4\r\n#\r\n")?;
+    let keys = for_each_number(alloc, " k#")?;
+    joined(alloc, &[sets.as_bytes(), b"get", keys.as_bytes(), b"\r\n"])
 }
 
 /// Returns what `thousand_keys` is owed.
 pub fn thousand_values(alloc: Global) -> Result<Vec<u8>, AllocError> {
-    let stored = for_each_number(alloc, b"STORED\r\n")?;
-    let values = for_each_number(alloc, b"VALUE k# 0 4\r\n#\r\n")?;
-    joined(alloc, &[&stored, &values, b"END\r\n"])
+    let stored = for_each_number(alloc, "STORED\r\n")?;
+    let values = for_each_number(alloc, "VALUE k# 0 4\r\n#\r\n")?;
+    joined(alloc, &[stored.as_bytes(), values.as_bytes(), b"END\r\n"])
 }
 
 /// Returns the three columns of a row, with `|` between them.

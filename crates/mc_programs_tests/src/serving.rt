@@ -3,8 +3,7 @@
 ghost use Rattle.std.specs.Prelude.{◌≤◌, ⊤, length};
 
 use crate::runs::{
-    demand, input_of, joined, output_of, single_pulls, single_pushes, thousand_keys,
-    thousand_values,
+    Text, demand, input_of, output_of, single_pulls, single_pushes, thousand_keys, thousand_values,
 };
 use mc_model::{Fault, Limits};
 use mc_programs::{
@@ -14,7 +13,6 @@ use mc_programs::{
 use std::alloc::{AllocError, Global};
 use std::process::Abort;
 use std::sync::Wait;
-use std::test::Fail;
 use uc_log::Log;
 use uc_worker::{Next, Worker};
 
@@ -30,62 +28,60 @@ const LIMITS: Limits = Limits {
 /// What is pushed last if memory runs out.
 const STARVED: &[u8] = b"SERVER_ERROR out of memory\r\n";
 
-/// Returns what a client sends, and the replies that it is owed.
-fn streams() -> [(&'static str, &'static [&'static str]); 10] {
-    [
-        // A stored value is given back with its flags and its length.
-        (
-            "set a 5 0 3\r\nabc\r\nget a\r\n",
-            &["STORED\r\n", "VALUE a 5 3\r\nabc\r\nEND\r\n"],
-        ),
-        // Line ends inside a block don't end it.
-        (
-            "set k 0 0 7\r\n\r\nEND\r\n\r\nget k\r\n",
-            &["STORED\r\n", "VALUE k 0 7\r\n\r\nEND\r\n\r\nEND\r\n"],
-        ),
-        // An input that ends inside a block or a line gives nothing for it.
-        ("set a 0 0 3\r\nab", &[]),
-        ("get a\r\nget a", &["END\r\n"]),
-        ("", &[]),
-        // A bad format is answered though it says noreply, and its block is passed over.
-        (
-            "set a x 0 1 noreply\r\ny\r\nget a\r\n",
-            &["CLIENT_ERROR bad command line format\r\n", "END\r\n"],
-        ),
-        // A block without its end is refused, and reading goes on two bytes after it.
-        (
-            "set a 0 0 2\r\nabcde\r\n",
-            &["CLIENT_ERROR bad data chunk\r\n", "ERROR\r\n"],
-        ),
-        // An expiry is refused with its block, without a reply if the line says so.
-        (
-            "set a 0 60 3\r\nget\r\nset a 0 9 1 noreply\r\nx\r\nget a\r\n",
-            &["CLIENT_ERROR expiry is not supported\r\n", "END\r\n"],
-        ),
-        // Names of no command, and a get without a key.
-        (
-            "bogus\r\n\r\nGET a\r\nget\r\nget  a b\n",
-            &[
-                "ERROR\r\n",
-                "ERROR\r\n",
-                "ERROR\r\n",
-                "ERROR\r\n",
-                "END\r\n",
-            ],
-        ),
-        // A quiet set is done and not answered; replies come in the order of the requests.
-        (
-            "set a 1 0 1 noreply\r\nx\r\nget a\r\nset a 2 0 0\r\n\r\nget b a a\r\nbogus\r\nset b 3 0 1 noreply\r\ny\r\nget b\r\n",
-            &[
-                "VALUE a 1 1\r\nx\r\nEND\r\n",
-                "STORED\r\n",
-                "VALUE a 2 0\r\n\r\nVALUE a 2 0\r\n\r\nEND\r\n",
-                "ERROR\r\n",
-                "VALUE b 3 1\r\ny\r\nEND\r\n",
-            ],
-        ),
-    ]
-}
+/// What a client sends, and the replies that it is owed.
+const STREAMS: [(&str, &[&str]); 10] = [
+    // A stored value is given back with its flags and its length.
+    (
+        "set a 5 0 3\r\nabc\r\nget a\r\n",
+        &["STORED\r\n", "VALUE a 5 3\r\nabc\r\nEND\r\n"],
+    ),
+    // Line ends inside a block don't end it.
+    (
+        "set k 0 0 7\r\n\r\nEND\r\n\r\nget k\r\n",
+        &["STORED\r\n", "VALUE k 0 7\r\n\r\nEND\r\n\r\nEND\r\n"],
+    ),
+    // An input that ends inside a block or a line gives nothing for it.
+    ("set a 0 0 3\r\nab", &[]),
+    ("get a\r\nget a", &["END\r\n"]),
+    ("", &[]),
+    // A bad format is answered though it says noreply, and its block is passed over.
+    (
+        "set a x 0 1 noreply\r\ny\r\nget a\r\n",
+        &["CLIENT_ERROR bad command line format\r\n", "END\r\n"],
+    ),
+    // A block without its end is refused, and reading goes on two bytes after it.
+    (
+        "set a 0 0 2\r\nabcde\r\n",
+        &["CLIENT_ERROR bad data chunk\r\n", "ERROR\r\n"],
+    ),
+    // An expiry is refused with its block, without a reply if the line says so.
+    (
+        "set a 0 60 3\r\nget\r\nset a 0 9 1 noreply\r\nx\r\nget a\r\n",
+        &["CLIENT_ERROR expiry is not supported\r\n", "END\r\n"],
+    ),
+    // Names of no command, and a get without a key.
+    (
+        "bogus\r\n\r\nGET a\r\nget\r\nget  a b\n",
+        &[
+            "ERROR\r\n",
+            "ERROR\r\n",
+            "ERROR\r\n",
+            "ERROR\r\n",
+            "END\r\n",
+        ],
+    ),
+    // A quiet set is done and not answered; replies come in the order of the requests.
+    (
+        "set a 1 0 1 noreply\r\nx\r\nget a\r\nset a 2 0 0\r\n\r\nget b a a\r\nbogus\r\nset b 3 0 1 noreply\r\ny\r\nget b\r\n",
+        &[
+            "VALUE a 1 1\r\nx\r\nEND\r\n",
+            "STORED\r\n",
+            "VALUE a 2 0\r\n\r\nVALUE a 2 0\r\n\r\nEND\r\n",
+            "ERROR\r\n",
+            "VALUE b 3 1\r\ny\r\nEND\r\n",
+        ],
+    ),
+];
 
 /// The streams of one client, and how serving it ended.
 #[derive(Drop)]
@@ -109,7 +105,7 @@ fn open(
     })
 }
 
-/// Serves a client on up to N logs of this many places, each but the first opened by `over`.
+/// Serves a client on up to this many logs of this many places, each but the first opened by `over`.
 fn serve_turned(
     rt: &(impl Wait + AllocGlobal),
     over: &impl TurnOver,
@@ -131,16 +127,11 @@ fn serve_turned(
     );
 }
 
-/// Serves a client on up to N logs of this many places.
+/// Serves a client on up to this many logs of this many places.
 fn serve_logs(rt: &(impl Wait + AllocGlobal), places: u64, generations: u64, served: &mut Served)
     requires { 1 ≤ generations }
 {
     serve_turned(rt, &TurnOverAlone, places, generations, served);
-}
-
-/// Serves a client on one log of this many places.
-fn serve_places(rt: &(impl Wait + AllocGlobal), places: u64, served: &mut Served) {
-    serve_logs(rt, places, 1, served);
 }
 
 /// Serves a client that sends these bytes, with these steps.
@@ -151,7 +142,7 @@ fn serve(
     pushes: &[OutputStep],
 ) -> Result<Served, AllocError> {
     let mut served = open(rt, sent, pulls, pushes)?;
-    serve_places(rt, PLACES, &mut served);
+    serve_logs(rt, PLACES, 1, &mut served);
     Ok(served)
 }
 
@@ -252,53 +243,71 @@ fn check_each_way(
 }
 
 #[test]
-fn serves_worked_streams(rt: HostRuntime) -> Result<(), Fail> {
-    for (sent, replies) in streams() {
-        check_each_way(&rt, sent.as_bytes(), replies)?;
+fn serves_worked_streams(rt: HostRuntime) -> Result<(), Fault> {
+    for stream in &STREAMS {
+        check_each_way(&rt, stream.0.as_bytes(), stream.1)?;
     }
     Ok(())
 }
 
 const LINE_TOO_LONG: &str = "CLIENT_ERROR line too long\r\n";
 
-/// Asserts that a stream that begins with 65,536 letters is served.
-fn check_line(
+/// Does as `check_each_way` for a text with repeated words.
+fn check_text(
     rt: &(impl AllocGlobal + Wait + Abort),
-    others: &[u8],
+    sent: Text,
     replies: &[&str],
 ) -> Result<(), Fault> {
-    let line = "a".repeat(rt.alloc(), 65_536)?;
-    let sent = joined(rt.alloc(), &[line.as_bytes(), others])?;
-    check_each_way(rt, &sent, replies)
+    let sent = sent.filled(rt.alloc())?;
+    check_each_way(rt, sent.as_bytes(), replies)
+}
+
+/// Returns a text with 65,536 letters for each `@`.
+fn letters(form: &str) -> Text<'_> {
+    Text {
+        form,
+        word: "a",
+        times: 65_536,
+    }
 }
 
 #[test]
-fn a_line_too_long_ends_the_stream(rt: HostRuntime) -> Result<(), Fail> {
-    check_line(&rt, b"\n", &["ERROR\r\n"])?;
-    check_line(&rt, b"a\nget a\r\nbogus\r\n", &[LINE_TOO_LONG])?;
-    Ok(())
+fn a_line_too_long_ends_the_stream(rt: HostRuntime) -> Result<(), Fault> {
+    check_text(&rt, letters("@\n"), &["ERROR\r\n"])?;
+    check_text(&rt, letters("@a\nget a\r\nbogus\r\n"), &[LINE_TOO_LONG])
+}
+
+/// Five pulls, the last of which brings the end of a line too long, and then a failure.
+const FIVE_PULLS: [InputStep; 6] = [
+    InputStep::Give(16_384),
+    InputStep::Give(16_384),
+    InputStep::Give(16_384),
+    InputStep::Give(16_384),
+    InputStep::Give(16_384),
+    InputStep::Fail,
+];
+
+/// Does as `check_steps` for a text with repeated words, which is owed one reply, and these pulls.
+fn check_text_pulls(
+    rt: &(impl AllocGlobal + Wait + Abort),
+    sent: Text,
+    reply: &str,
+    pulls: &[InputStep],
+) -> Result<(), Fault> {
+    let sent = sent.filled(rt.alloc())?;
+    let case = Case {
+        sent: sent.as_bytes(),
+        wanted: reply.as_bytes(),
+        replies: &[reply],
+    };
+    check_steps(rt, case, pulls, &[])
 }
 
 /// Nothing is pulled after such a line, though the next pull would fail.
 #[test]
-fn nothing_is_pulled_after_a_line_too_long(rt: HostRuntime) -> Result<(), Fail> {
-    let line = "a".repeat(rt.alloc(), 65_537)?;
-    let sent = joined(rt.alloc(), &[line.as_bytes(), b"\nget a\r\nbogus\r\n"])?;
-    let case = Case {
-        sent: &sent,
-        wanted: LINE_TOO_LONG.as_bytes(),
-        replies: &[LINE_TOO_LONG],
-    };
-    let pulls = [
-        InputStep::Give(16_384),
-        InputStep::Give(16_384),
-        InputStep::Give(16_384),
-        InputStep::Give(16_384),
-        InputStep::Give(16_384),
-        InputStep::Fail,
-    ];
-    check_steps(&rt, case, &pulls, &[])?;
-    Ok(())
+fn nothing_is_pulled_after_a_line_too_long(rt: HostRuntime) -> Result<(), Fault> {
+    let sent = letters("@a\nget a\r\nbogus\r\n");
+    check_text_pulls(&rt, sent, LINE_TOO_LONG, &FIVE_PULLS)
 }
 
 /// Returns `good` pulls of 16,384 bytes, and then a failure.
@@ -311,46 +320,56 @@ fn failing_pieces(rt: &impl AllocGlobal, good: usize) -> Result<Vec<InputStep>, 
     Ok(pulls)
 }
 
+/// Returns a text with 1,048,576 letters for each `@`.
+fn blocks(form: &str) -> Text<'_> {
+    Text {
+        form,
+        word: "x",
+        times: 1_048_576,
+    }
+}
+
+/// Asserts that the stream is served by whole pulls that fail after its end.
+fn check_failing_end(
+    rt: &(impl AllocGlobal + Wait + Abort),
+    sent: &[u8],
+    wanted: &[u8],
+) -> Result<(), Fault> {
+    let pulls = failing_pieces(rt, sent.len() / 16_384 + 1)?;
+    check_serves(rt, sent, &pulls, &[], Ok(()), wanted)
+}
+
+/// Does as `check_failing_end` for texts with repeated words.
+fn check_failing_texts(
+    rt: &(impl AllocGlobal + Wait + Abort),
+    sent: Text,
+    wanted: Text,
+) -> Result<(), Fault> {
+    let sent = sent.filled(rt.alloc())?;
+    let wanted = wanted.filled(rt.alloc())?;
+    check_failing_end(rt, sent.as_bytes(), wanted.as_bytes())
+}
+
 /// Nothing is pulled after a `quit` that waited for replies of more than 1,048,576 bytes, though
 /// the next pull would fail.
 #[test]
-fn nothing_is_pulled_after_a_quit_that_waited(rt: HostRuntime) -> Result<(), Fail> {
-    let block = "x".repeat(rt.alloc(), 1_048_576)?;
-    let block = block.as_bytes();
-    let sent = joined(
-        rt.alloc(),
-        &[
-            b"set a 0 0 1048576\r\n",
-            block,
-            b"\r\nget a\r\nget a\r\nquit\r\n",
-        ],
-    )?;
-    let wanted = joined(
-        rt.alloc(),
-        &[
-            b"STORED\r\nVALUE a 0 1048576\r\n",
-            block,
-            b"\r\nEND\r\nVALUE a 0 1048576\r\n",
-            block,
-            b"\r\nEND\r\n",
-        ],
-    )?;
-    let pulls = failing_pieces(&rt, sent.len() / 16_384 + 1)?;
-    let served = serve(&rt, &sent, &pulls, &[])?;
-    check_end(&rt, &served, Ok(()), &wanted)?;
-    Ok(())
+fn nothing_is_pulled_after_a_quit_that_waited(rt: HostRuntime) -> Result<(), Fault> {
+    let sent = blocks("set a 0 0 1048576\r\n@\r\nget a\r\nget a\r\nquit\r\n");
+    let wanted = blocks(
+        "STORED\r\nVALUE a 0 1048576\r\n@\r\nEND\r\nVALUE a 0 1048576\r\n@\r\nEND\r\n",
+    );
+    check_failing_texts(&rt, sent, wanted)
 }
 
 #[test]
-fn too_large_an_object_is_passed_over(rt: HostRuntime) -> Result<(), Fail> {
-    let block = "\n".repeat(rt.alloc(), 1_048_577)?;
-    let sent = joined(
-        rt.alloc(),
-        &[b"set a 0 0 1048577\r\n", block.as_bytes(), b"\r\nget a\r\n"],
-    )?;
+fn too_large_an_object_is_passed_over(rt: HostRuntime) -> Result<(), Fault> {
+    let sent = Text {
+        form: "set a 0 0 1048577\r\n@\r\nget a\r\n",
+        word: "\n",
+        times: 1_048_577,
+    };
     let refusal = "SERVER_ERROR object too large for cache\r\n";
-    check_each_way(&rt, &sent, &[refusal, "END\r\n"])?;
-    Ok(())
+    check_text(&rt, sent, &[refusal, "END\r\n"])
 }
 
 /// Returns how many bytes the next pull gives, which are all that are left.
@@ -383,6 +402,19 @@ fn check_end(
         pushed.len(),
     );
     Ok(())
+}
+
+/// Asserts that serving a client by these steps ends like this, and pushes these bytes.
+fn check_serves(
+    rt: &(impl AllocGlobal + Wait + Abort),
+    sent: &[u8],
+    pulls: &[InputStep],
+    pushes: &[OutputStep],
+    end: Result<(), Fault>,
+    pushed: &[u8],
+) -> Result<(), Fault> {
+    let served = serve(rt, sent, pulls, pushes)?;
+    check_end(rt, &served, end, pushed)
 }
 
 /// Returns what is owed for bytes that are the front of a stream.
@@ -442,9 +474,9 @@ fn check_failing_pulls(
 }
 
 #[test]
-fn a_failing_pull_ends_it(rt: HostRuntime) -> Result<(), Fail> {
-    for (sent, replies) in streams() {
-        check_failing_pulls(&rt, sent.as_bytes(), replies)?;
+fn a_failing_pull_ends_it(rt: HostRuntime) -> Result<(), AllocError> {
+    for stream in &STREAMS {
+        check_failing_pulls(&rt, stream.0.as_bytes(), stream.1)?;
     }
     Ok(())
 }
@@ -515,29 +547,37 @@ fn check_pushes(
 }
 
 #[test]
-fn a_failing_push_ends_it(rt: HostRuntime) -> Result<(), Fail> {
-    for (sent, replies) in streams() {
-        check_pushes(&rt, sent.as_bytes(), replies)?;
+fn a_failing_push_ends_it(rt: HostRuntime) -> Result<(), Fault> {
+    for stream in &STREAMS {
+        check_pushes(&rt, stream.0.as_bytes(), stream.1)?;
     }
     Ok(())
 }
 
-#[test]
-fn a_long_reply_is_pushed_before_the_next_request(rt: HostRuntime) -> Result<(), Fail> {
-    let block = "x".repeat(rt.alloc(), 1_048_576)?;
-    let block = block.as_bytes();
-    let sent = joined(
-        rt.alloc(),
-        &[b"set a 0 0 1048576\r\n", block, b"\r\nget a\r\nget a\r\n"],
-    )?;
-    let pushed = joined(
-        rt.alloc(),
-        &[b"STORED\r\nVALUE a 0 1048576\r\n", block, b"\r\nEND\r\n"],
-    )?;
+/// Asserts that a push that fails after the first ends serving a text with repeated words.
+fn check_failing_second(
+    rt: &(impl AllocGlobal + Wait + Abort),
+    sent: Text,
+    pushed: Text,
+) -> Result<(), Fault> {
+    let sent = sent.filled(rt.alloc())?;
+    let pushed = pushed.filled(rt.alloc())?;
     let pushes = [OutputStep::Take(2_097_152), OutputStep::Fail];
-    let served = serve(&rt, &sent, &[], &pushes)?;
-    check_end(&rt, &served, Err(Fault::Output), &pushed)?;
-    Ok(())
+    check_serves(
+        rt,
+        sent.as_bytes(),
+        &[],
+        &pushes,
+        Err(Fault::Output),
+        pushed.as_bytes(),
+    )
+}
+
+#[test]
+fn a_long_reply_is_pushed_before_the_next_request(rt: HostRuntime) -> Result<(), Fault> {
+    let sent = blocks("set a 0 0 1048576\r\n@\r\nget a\r\nget a\r\n");
+    let pushed = blocks("STORED\r\nVALUE a 0 1048576\r\n@\r\nEND\r\n");
+    check_failing_second(&rt, sent, pushed)
 }
 
 /// What is sent to a log of two places, and the replies: a refusal takes no place, and a quiet
@@ -555,20 +595,23 @@ const FULL_LOG: (&str, &[&str]) = (
     ],
 );
 
-/// Serves a client on a log of two places.
-fn serve_two_places(rt: &(impl Wait + AllocGlobal), sent: &[u8]) -> Result<Served, AllocError> {
-    let mut served = open(rt, sent, &[], &[])?;
-    serve_places(rt, 2, &mut served);
-    Ok(served)
+/// Asserts that the requests of `FULL_LOG` get this from this many logs of two places.
+fn check_generations(
+    rt: &(impl AllocGlobal + Wait + Abort),
+    generations: u64,
+    replies: &[&str],
+) -> Result<(), Fault>
+    requires { 1 ≤ generations }
+{
+    let wanted = bytes_of(rt, replies)?;
+    let mut served = open(rt, FULL_LOG.0.as_bytes(), &[], &[])?;
+    serve_logs(rt, 2, generations, &mut served);
+    check_end(rt, &served, Ok(()), &wanted)
 }
 
 #[test]
-fn a_full_log_refuses_commands_alone(rt: HostRuntime) -> Result<(), Fail> {
-    let (sent, replies) = FULL_LOG;
-    let wanted = bytes_of(&rt, replies)?;
-    let served = serve_two_places(&rt, sent.as_bytes())?;
-    check_end(&rt, &served, Ok(()), &wanted)?;
-    Ok(())
+fn a_full_log_refuses_commands_alone(rt: HostRuntime) -> Result<(), Fault> {
+    check_generations(&rt, 1, FULL_LOG.1)
 }
 
 /// What the requests of `FULL_LOG` get from three logs of two places: no command is refused.
@@ -583,16 +626,10 @@ const THREE_LOGS: &[&str] = &[
 ];
 
 #[test]
-fn a_full_log_is_followed_by_the_next_one(rt: HostRuntime) -> Result<(), Fail> {
-    let (sent, replies) = FULL_LOG;
-    let mut served = open(&rt, sent.as_bytes(), &[], &[])?;
-    serve_logs(&rt, 2, 3, &mut served);
-    check_end(&rt, &served, Ok(()), &bytes_of(&rt, THREE_LOGS)?)?;
+fn a_full_log_is_followed_by_the_next_one(rt: HostRuntime) -> Result<(), Fault> {
+    check_generations(&rt, 3, THREE_LOGS)?;
     // With one log it is refused.
-    let mut served = open(&rt, sent.as_bytes(), &[], &[])?;
-    serve_logs(&rt, 2, 1, &mut served);
-    check_end(&rt, &served, Ok(()), &bytes_of(&rt, replies)?)?;
-    Ok(())
+    check_generations(&rt, 1, FULL_LOG.1)
 }
 
 /// Turns no log over, as if there were never memory for it.
@@ -607,20 +644,17 @@ impl TurnOver for NeverTurnsOver {
 }
 
 #[test]
-fn a_log_that_cannot_be_turned_over_is_the_last(rt: HostRuntime) -> Result<(), Fail> {
-    let (sent, replies) = FULL_LOG;
-    let mut served = open(&rt, sent.as_bytes(), &[], &[])?;
+fn a_log_that_cannot_be_turned_over_is_the_last(rt: HostRuntime) -> Result<(), Fault> {
+    let wanted = bytes_of(&rt, FULL_LOG.1)?;
+    let mut served = open(&rt, FULL_LOG.0.as_bytes(), &[], &[])?;
     serve_turned(&rt, &NeverTurnsOver, 2, 3, &mut served);
-    check_end(&rt, &served, Ok(()), &bytes_of(&rt, replies)?)?;
-    Ok(())
+    check_end(&rt, &served, Ok(()), &wanted)
 }
 
 /// A get that gave up at some key would fail.
 #[test]
-fn a_get_of_a_thousand_keys_shows_each(rt: HostRuntime) -> Result<(), Fail> {
+fn a_get_of_a_thousand_keys_shows_each(rt: HostRuntime) -> Result<(), Fault> {
     let sent = thousand_keys(rt.alloc())?;
     let wanted = thousand_values(rt.alloc())?;
-    let served = serve(&rt, &sent, &[], &[])?;
-    check_end(&rt, &served, Ok(()), &wanted)?;
-    Ok(())
+    check_serves(&rt, &sent, &[], &[], Ok(()), &wanted)
 }

@@ -1,7 +1,7 @@
 //! Runs of mc_stdin: its command line, what a client sends, and what comes out.
 use crate::programs::{NO_STEPS, Program, Steps, Wanted, check_run};
 use crate::runs::{
-    columns, demand, for_each_key, joined, single_pulls, single_pushes, thousand_keys,
+    Text, columns, demand, for_each_key, joined, single_pulls, single_pushes, thousand_keys,
     thousand_values,
 };
 use mc_model::Fault;
@@ -63,18 +63,17 @@ fn check_served(
 const FIRST_RUN: &[u8] = b"set a 5 0 3\r\nabc\r\nget a\r\n";
 
 #[test]
-fn ends_well(rt: HostRuntime) -> Result<(), Fail> {
+fn ends_well(rt: HostRuntime) -> Result<(), AllocError> {
     let wanted = Wanted {
         status: 0,
         output: b"STORED\r\nVALUE a 5 3\r\nabc\r\nEND\r\n",
         errors: b"",
     };
-    check_run(&rt, Program::Stdin, "", FIRST_RUN, NO_STEPS, wanted)?;
-    Ok(())
+    check_run(&rt, Program::Stdin, "", FIRST_RUN, NO_STEPS, wanted)
 }
 
 #[test]
-fn tells_a_failed_input(rt: HostRuntime) -> Result<(), Fail> {
+fn tells_a_failed_input(rt: HostRuntime) -> Result<(), AllocError> {
     let steps = Steps {
         pulls: &[InputStep::Give(18), InputStep::Fail],
         pushes: &[],
@@ -85,12 +84,11 @@ fn tells_a_failed_input(rt: HostRuntime) -> Result<(), Fail> {
         output: b"STORED\r\n",
         errors: b"mc_stdin: input failed\n",
     };
-    check_run(&rt, Program::Stdin, "", FIRST_RUN, steps, wanted)?;
-    Ok(())
+    check_run(&rt, Program::Stdin, "", FIRST_RUN, steps, wanted)
 }
 
 #[test]
-fn tells_a_failed_output(rt: HostRuntime) -> Result<(), Fail> {
+fn tells_a_failed_output(rt: HostRuntime) -> Result<(), AllocError> {
     let steps = Steps {
         pulls: &[],
         pushes: &[OutputStep::Take(4), OutputStep::Fail],
@@ -101,12 +99,11 @@ fn tells_a_failed_output(rt: HostRuntime) -> Result<(), Fail> {
         output: b"STOR",
         errors: b"mc_stdin: output failed\n",
     };
-    check_run(&rt, Program::Stdin, "", FIRST_RUN, steps, wanted)?;
-    Ok(())
+    check_run(&rt, Program::Stdin, "", FIRST_RUN, steps, wanted)
 }
 
 #[test]
-fn passes_over_failed_errors(rt: HostRuntime) -> Result<(), Fail> {
+fn passes_over_failed_errors(rt: HostRuntime) -> Result<(), AllocError> {
     let steps = Steps {
         pulls: &[InputStep::Fail],
         pushes: &[],
@@ -117,8 +114,7 @@ fn passes_over_failed_errors(rt: HostRuntime) -> Result<(), Fail> {
         output: b"",
         errors: b"mc_",
     };
-    check_run(&rt, Program::Stdin, "", FIRST_RUN, steps, wanted)?;
-    Ok(())
+    check_run(&rt, Program::Stdin, "", FIRST_RUN, steps, wanted)
 }
 
 fn check_fault_text(rt: &(impl AllocGlobal + Abort), fault: Fault) -> Result<(), Fail> {
@@ -132,18 +128,20 @@ fn check_fault_text(rt: &(impl AllocGlobal + Abort), fault: Fault) -> Result<(),
     Ok(())
 }
 
+const FAULTS: [Fault; 7] = [
+    Fault::Memory,
+    Fault::LogFull,
+    Fault::Taken,
+    Fault::Input,
+    Fault::Output,
+    Fault::BadEvent,
+    Fault::BadSettings,
+];
+
 #[test]
 fn names_faults_as_they_are_displayed(rt: HostRuntime) -> Result<(), Fail> {
-    for fault in [
-        Fault::Memory,
-        Fault::LogFull,
-        Fault::Taken,
-        Fault::Input,
-        Fault::Output,
-        Fault::BadEvent,
-        Fault::BadSettings,
-    ] {
-        check_fault_text(&rt, fault)?;
+    for fault in &FAULTS {
+        check_fault_text(&rt, *fault)?;
     }
     Ok(())
 }
@@ -159,7 +157,7 @@ fn check_rows(rt: &(impl AllocGlobal + Wait + Abort), rows: &str) -> Result<(), 
 }
 
 #[test]
-fn serves_worked_runs_however_they_are_cut(rt: HostRuntime) -> Result<(), Fail> {
+fn serves_worked_runs_however_they_are_cut(rt: HostRuntime) -> Result<(), AllocError> {
     check_rows(
         &rt,
         "\
@@ -217,117 +215,130 @@ fn serves_worked_runs_however_they_are_cut(rt: HostRuntime) -> Result<(), Fail> 
         Append, prepend and incr on one item are seen joined\
         |set n 3 0 1\r\n1\r\nappend n 0 0 1\r\n0\r\nprepend n 0 0 1\r\n2\r\nincr n 5\r\nappend n 0 0 2\r\nab\r\ngets n\r\n\
         |STORED\r\nSTORED\r\nSTORED\r\n215\r\nSTORED\r\nVALUE n 3 5 5\r\n215ab\r\nEND\r\n",
-    )?;
-    Ok(())
+    )
 }
 
+/// The words of runs, what a client sends, and the replies with which it is served.
+const OPTIONS: [(&str, &str, &str); 5] = [
+    // A full log refuses table commands and nothing else; the connection stays.
+    (
+        "--places 2",
+        "set a 0 0 1\r\nx\r\nset b 0 0 1\r\ny\r\nget a\r\nversion\r\n",
+        "STORED\r\nSTORED\r\nSERVER_ERROR log full\r\nVERSION 1.0.0\r\n",
+    ),
+    // A full log is followed by the next one, as many times as is asked for: uniques go on, and
+    // what holds of the first log's items holds in the second.
+    (
+        "--places 2 --generations 3",
+        "set a 0 0 1\r\nx\r\nset b 0 0 1\r\ny\r\ngets a b\r\ncas a 0 0 1 1\r\nz\r\ngets a\r\nincr c 1\r\nget a\r\nversion\r\n",
+        "STORED\r\nSTORED\r\nVALUE a 0 1 1\r\nx\r\nVALUE b 0 1 2\r\ny\r\nEND\r\nSTORED\r\nVALUE a 0 1 3\r\nz\r\nEND\r\nNOT_FOUND\r\nSERVER_ERROR log full\r\nVERSION 1.0.0\r\n",
+    ),
+    // The quota of items refuses a new key; an old key may be set again.
+    (
+        "--items 1",
+        "set a 0 0 1\r\nx\r\ngets a\r\nset b 0 0 1\r\ny\r\nset a 0 0 1\r\nz\r\ngets a b\r\n",
+        "STORED\r\nVALUE a 0 1 1\r\nx\r\nEND\r\nSERVER_ERROR out of memory storing object\r\nSTORED\r\nVALUE a 0 1 2\r\nz\r\nEND\r\n",
+    ),
+    // The quota of bytes refuses an incr that grows the number.
+    (
+        "--bytes 2",
+        "set n 0 0 1\r\n9\r\nincr n 1\r\ndecr n 1\r\n",
+        "STORED\r\nSERVER_ERROR out of memory storing object\r\n8\r\n",
+    ),
+    // The quota of bytes counts keys and data; a refused set keeps the old item and uses no
+    // unique.
+    (
+        "--bytes 4",
+        "set ab 0 0 2\r\nxy\r\nset ab 0 0 3\r\nxyz\r\nreplace ab 0 0 1\r\nx\r\nset c 0 0 1\r\ny\r\ndelete ab\r\nset c 0 0 3\r\nyyy\r\ngets ab c\r\n",
+        "STORED\r\nSERVER_ERROR out of memory storing object\r\nSTORED\r\nSERVER_ERROR out of memory storing object\r\nDELETED\r\nSTORED\r\nVALUE c 0 3 3\r\nyyy\r\nEND\r\n",
+    ),
+];
+
 #[test]
-fn serves_worked_runs_under_options(rt: HostRuntime) -> Result<(), Fail> {
-    for (words, sent, replies) in [
-        // A full log refuses table commands and nothing else; the connection stays.
-        (
-            "--places 2",
-            "set a 0 0 1\r\nx\r\nset b 0 0 1\r\ny\r\nget a\r\nversion\r\n",
-            "STORED\r\nSTORED\r\nSERVER_ERROR log full\r\nVERSION 1.0.0\r\n",
-        ),
-        // A full log is followed by the next one, as many times as is asked for: uniques go on, and
-        // what holds of the first log's items holds in the second.
-        (
-            "--places 2 --generations 3",
-            "set a 0 0 1\r\nx\r\nset b 0 0 1\r\ny\r\ngets a b\r\ncas a 0 0 1 1\r\nz\r\ngets a\r\nincr c 1\r\nget a\r\nversion\r\n",
-            "STORED\r\nSTORED\r\nVALUE a 0 1 1\r\nx\r\nVALUE b 0 1 2\r\ny\r\nEND\r\nSTORED\r\nVALUE a 0 1 3\r\nz\r\nEND\r\nNOT_FOUND\r\nSERVER_ERROR log full\r\nVERSION 1.0.0\r\n",
-        ),
-        // The quota of items refuses a new key; an old key may be set again.
-        (
-            "--items 1",
-            "set a 0 0 1\r\nx\r\ngets a\r\nset b 0 0 1\r\ny\r\nset a 0 0 1\r\nz\r\ngets a b\r\n",
-            "STORED\r\nVALUE a 0 1 1\r\nx\r\nEND\r\nSERVER_ERROR out of memory storing object\r\nSTORED\r\nVALUE a 0 1 2\r\nz\r\nEND\r\n",
-        ),
-        // The quota of bytes refuses an incr that grows the number.
-        (
-            "--bytes 2",
-            "set n 0 0 1\r\n9\r\nincr n 1\r\ndecr n 1\r\n",
-            "STORED\r\nSERVER_ERROR out of memory storing object\r\n8\r\n",
-        ),
-        // The quota of bytes counts keys and data; a refused set keeps the old item and uses no
-        // unique.
-        (
-            "--bytes 4",
-            "set ab 0 0 2\r\nxy\r\nset ab 0 0 3\r\nxyz\r\nreplace ab 0 0 1\r\nx\r\nset c 0 0 1\r\ny\r\ndelete ab\r\nset c 0 0 3\r\nyyy\r\ngets ab c\r\n",
-            "STORED\r\nSERVER_ERROR out of memory storing object\r\nSTORED\r\nSERVER_ERROR out of memory storing object\r\nDELETED\r\nSTORED\r\nVALUE c 0 3 3\r\nyyy\r\nEND\r\n",
-        ),
-    ] {
-        check_served(&rt, words, sent.as_bytes(), replies.as_bytes())?;
+fn serves_worked_runs_under_options(rt: HostRuntime) -> Result<(), AllocError> {
+    for row in &OPTIONS {
+        check_served(&rt, row.0, row.1.as_bytes(), row.2.as_bytes())?;
     }
     Ok(())
 }
 
-#[test]
-fn a_key_has_at_most_250_bytes(rt: HostRuntime) -> Result<(), Fail> {
-    let key = [b'k'; 250];
-    let sent = joined(
-        rt.alloc(),
-        &[
-            b"set ",
-            &key,
-            b" 0 0 1\r\nx\r\nset ",
-            &key,
-            b"k 0 0 1\r\ny\r\nget ",
-            &key,
-            b"\r\n",
-        ],
-    )?;
-    let replies = joined(
-        rt.alloc(),
-        &[
-            b"STORED\r\nCLIENT_ERROR bad command line format\r\nVALUE ",
-            &key,
-            b" 0 1\r\nx\r\nEND\r\n",
-        ],
-    )?;
-    check_served(&rt, "", &sent, &replies)?;
-    Ok(())
+/// Does as `check_served` for texts with repeated words.
+fn check_texts(
+    rt: &(impl AllocGlobal + Wait + Abort),
+    sent: Text,
+    replies: Text,
+) -> Result<(), AllocError> {
+    let sent = sent.filled(rt.alloc())?;
+    let replies = replies.filled(rt.alloc())?;
+    check_served(rt, "", sent.as_bytes(), replies.as_bytes())
+}
+
+/// Does as `check_serves` for texts with repeated words, whole.
+fn check_texts_whole(
+    rt: &(impl AllocGlobal + Wait + Abort),
+    sent: Text,
+    replies: Text,
+) -> Result<(), AllocError> {
+    let sent = sent.filled(rt.alloc())?;
+    let replies = replies.filled(rt.alloc())?;
+    check_serves(rt, "", sent.as_bytes(), &[], &[], replies.as_bytes())
 }
 
 #[test]
-fn a_line_has_at_most_65_536_bytes(rt: HostRuntime) -> Result<(), Fail> {
-    let line = "a".repeat(rt.alloc(), 65_535)?;
-    let line = line.as_bytes();
-    let sent = joined(rt.alloc(), &[line, b"\r\n", line, b"a\r\nversion\r\n"])?;
-    let replies = b"ERROR\r\nCLIENT_ERROR line too long\r\n";
-    check_served(&rt, "", &sent, replies)?;
-    Ok(())
+fn a_key_has_at_most_250_bytes(rt: HostRuntime) -> Result<(), AllocError> {
+    let sent = Text {
+        form: "set @ 0 0 1\r\nx\r\nset @k 0 0 1\r\ny\r\nget @\r\n",
+        word: "k",
+        times: 250,
+    };
+    let replies = Text {
+        form: "STORED\r\nCLIENT_ERROR bad command line format\r\nVALUE @ 0 1\r\nx\r\nEND\r\n",
+        word: "k",
+        times: 250,
+    };
+    check_texts(&rt, sent, replies)
+}
+
+#[test]
+fn a_line_has_at_most_65_536_bytes(rt: HostRuntime) -> Result<(), AllocError> {
+    let sent = Text {
+        form: "@\r\n@a\r\nversion\r\n",
+        word: "a",
+        times: 65_535,
+    };
+    let replies = Text {
+        form: "ERROR\r\nCLIENT_ERROR line too long\r\n",
+        word: "",
+        times: 0,
+    };
+    check_texts(&rt, sent, replies)
 }
 
 // With a byte a pull this is quick as the gate runs it; under `rt try` it takes more than its
 // minute.
 #[test]
-fn data_have_at_most_1_048_576_bytes(rt: HostRuntime) -> Result<(), Fail> {
-    let block = "z".repeat(rt.alloc(), 1_048_576)?;
-    let block = block.as_bytes();
-    let sent = joined(
-        rt.alloc(),
-        &[
-            b"set b 0 0 1048577\r\n",
-            block,
-            b"z\r\nset b 0 0 1048576\r\n",
-            block,
-            b"\r\nappend b 0 0 1\r\nz\r\n",
-        ],
-    )?;
-    let replies =
-        b"SERVER_ERROR object too large for cache\r\nSTORED\r\nSERVER_ERROR object too large for cache\r\n";
-    check_served(&rt, "", &sent, replies)?;
-    Ok(())
+fn data_have_at_most_1_048_576_bytes(rt: HostRuntime) -> Result<(), AllocError> {
+    let sent = Text {
+        form: "set b 0 0 1048577\r\n@z\r\nset b 0 0 1048576\r\n@\r\nappend b 0 0 1\r\nz\r\n",
+        word: "z",
+        times: 1_048_576,
+    };
+    let replies = Text {
+        form: "SERVER_ERROR object too large for cache\r\nSTORED\r\nSERVER_ERROR object too large for cache\r\n",
+        word: "",
+        times: 0,
+    };
+    check_texts(&rt, sent, replies)
 }
 
 const FOUR_REQUESTS: &[u8] = b"set a 0 0 1\r\nx\r\nset b 0 0 1\r\ny\r\nget a\r\nversion\r\n";
 
 #[test]
-fn applies_as_many_commands_as_are_asked_for(rt: HostRuntime) -> Result<(), Fail> {
+fn applies_as_many_commands_as_are_asked_for(rt: HostRuntime) -> Result<(), AllocError> {
     let replies = b"STORED\r\nSTORED\r\nSERVER_ERROR log full\r\nVERSION 1.0.0\r\n";
-    check_serves(&rt, "--places 2", FOUR_REQUESTS, &[], &[], replies)?;
-    check_serves(&rt, "--places=2", FOUR_REQUESTS, &[], &[], replies)?;
+    for words in &["--places 2", "--places=2"] {
+        check_serves(&rt, words, FOUR_REQUESTS, &[], &[], replies)?;
+    }
     Ok(())
 }
 
@@ -367,45 +378,49 @@ fn check_refused(
     check_run(rt, Program::Stdin, given, FOUR_REQUESTS, NO_STEPS, wanted)
 }
 
+const SHOWN: [(&str, &str); 3] = [
+    ("--help", HELP),
+    ("-h", HELP),
+    ("--version", "mc_stdin 1.0.0\n"),
+];
+
 #[test]
-fn shows_help_and_the_version(rt: HostRuntime) -> Result<(), Fail> {
-    for (given, text) in [
-        ("--help", HELP),
-        ("-h", HELP),
-        ("--version", "mc_stdin 1.0.0\n"),
-    ] {
-        check_shown(&rt, given, text)?;
+fn shows_help_and_the_version(rt: HostRuntime) -> Result<(), AllocError> {
+    for row in &SHOWN {
+        check_shown(&rt, row.0, row.1)?;
+    }
+    Ok(())
+}
+
+const REFUSED: [(&str, &str); 10] = [
+    ("--places 0", "mc_stdin: bad settings\n"),
+    ("--places 1048577", "mc_stdin: bad settings\n"),
+    ("--generations 0", "mc_stdin: bad settings\n"),
+    ("--generations 65537", "mc_stdin: bad settings\n"),
+    ("--items 0", "mc_stdin: bad settings\n"),
+    ("--items 1048577", "mc_stdin: bad settings\n"),
+    ("--bytes 0", "mc_stdin: bad settings\n"),
+    ("--bytes 1073741825", "mc_stdin: bad settings\n"),
+    (
+        "--places x",
+        "error: invalid value 'x' for '--places <N>': invalid digit found in string\n\nFor more information, try '--help'.\n",
+    ),
+    (
+        "--bogus",
+        "error: unexpected argument '--bogus' found\n\nUsage: mc_stdin [OPTIONS]\n\nFor more information, try '--help'.\n",
+    ),
+];
+
+#[test]
+fn refuses_words_that_ask_for_no_service(rt: HostRuntime) -> Result<(), AllocError> {
+    for row in &REFUSED {
+        check_refused(&rt, row.0, row.1)?;
     }
     Ok(())
 }
 
 #[test]
-fn refuses_words_that_ask_for_no_service(rt: HostRuntime) -> Result<(), Fail> {
-    for (given, text) in [
-        ("--places 0", "mc_stdin: bad settings\n"),
-        ("--places 1048577", "mc_stdin: bad settings\n"),
-        ("--generations 0", "mc_stdin: bad settings\n"),
-        ("--generations 65537", "mc_stdin: bad settings\n"),
-        ("--items 0", "mc_stdin: bad settings\n"),
-        ("--items 1048577", "mc_stdin: bad settings\n"),
-        ("--bytes 0", "mc_stdin: bad settings\n"),
-        ("--bytes 1073741825", "mc_stdin: bad settings\n"),
-        (
-            "--places x",
-            "error: invalid value 'x' for '--places <N>': invalid digit found in string\n\nFor more information, try '--help'.\n",
-        ),
-        (
-            "--bogus",
-            "error: unexpected argument '--bogus' found\n\nUsage: mc_stdin [OPTIONS]\n\nFor more information, try '--help'.\n",
-        ),
-    ] {
-        check_refused(&rt, given, text)?;
-    }
-    Ok(())
-}
-
-#[test]
-fn tells_a_failed_output_at_help(rt: HostRuntime) -> Result<(), Fail> {
+fn tells_a_failed_output_at_help(rt: HostRuntime) -> Result<(), AllocError> {
     let steps = Steps {
         pulls: &[],
         pushes: &[OutputStep::Take(10), OutputStep::Fail],
@@ -416,69 +431,75 @@ fn tells_a_failed_output_at_help(rt: HostRuntime) -> Result<(), Fail> {
         output: b"A memcache",
         errors: b"mc_stdin: output failed\n",
     };
-    check_run(&rt, Program::Stdin, "--help", FOUR_REQUESTS, steps, wanted)?;
-    Ok(())
+    check_run(&rt, Program::Stdin, "--help", FOUR_REQUESTS, steps, wanted)
 }
 
 #[test]
-fn serves_a_thousand_keys_of_one_line(rt: HostRuntime) -> Result<(), Fail> {
+fn serves_a_thousand_keys_of_one_line(rt: HostRuntime) -> Result<(), AllocError> {
     let sent = thousand_keys(rt.alloc())?;
     let replies = thousand_values(rt.alloc())?;
-    check_served(&rt, "", &sent, &replies)?;
-    Ok(())
+    check_served(&rt, "", &sent, &replies)
 }
 
-/// How many keys the longest line can have.
-const MOST_KEYS: usize = 32_766;
+/// A set of a key, and a get in the longest line, which asks for that key again and again.
+const LONGEST_GET: Text<'static> = Text {
+    form: "set a 0 0 1\r\nx\r\nget@\r\n",
+    word: " a",
+    times: 32_766,
+};
 
-/// Returns a set of a key, and a get in the longest line, which asks for that key again and again.
-fn longest_get(alloc: Global) -> Result<Vec<u8>, AllocError> {
-    let keys = " a".repeat(alloc, MOST_KEYS)?;
-    joined(
-        alloc,
-        &[b"set a 0 0 1\r\nx\r\nget", keys.as_bytes(), b"\r\n"],
-    )
+/// Asserts that the line of the longest get has as many bytes as a line may have.
+fn check_longest(rt: &(impl AllocGlobal + Abort)) -> Result<(), AllocError> {
+    // The line feed isn't a byte of the line.
+    let length = "set a 0 0 1\r\nx\r\n".len() + 65_536 + 1;
+    assert!(rt; LONGEST_GET.filled(rt.alloc())?.len() == length);
+    Ok(())
 }
 
 #[test]
-fn serves_the_longest_line_of_keys(rt: HostRuntime) -> Result<(), Fail> {
-    let sent = longest_get(rt.alloc())?;
-    let values = "VALUE a 0 1\r\nx\r\n".repeat(rt.alloc(), MOST_KEYS)?;
-    let replies = joined(rt.alloc(), &[b"STORED\r\n", values.as_bytes(), b"END\r\n"])?;
-    // The line feed isn't a byte of the line.
-    assert!(rt; sent.len() == "set a 0 0 1\r\nx\r\n".len() + 65_536 + 1);
-    check_served(&rt, "", &sent, &replies)?;
-    Ok(())
+fn serves_the_longest_line_of_keys(rt: HostRuntime) -> Result<(), AllocError> {
+    let replies = Text {
+        form: "STORED\r\n@END\r\n",
+        word: "VALUE a 0 1\r\nx\r\n",
+        times: LONGEST_GET.times,
+    };
+    check_longest(&rt)?;
+    check_texts(&rt, LONGEST_GET, replies)
 }
 
 /// Returns lines that set a key of each length, and then get each.
 fn keys_sent(alloc: Global) -> Result<Vec<u8>, AllocError> {
-    let sets = for_each_key(alloc, b"set @ # 0 1\r\nx\r\n")?;
-    let gets = for_each_key(alloc, b"get @\r\n")?;
-    joined(alloc, &[&sets, &gets])
+    let sets = for_each_key(alloc, "set @ # 0 1\r\nx\r\n")?;
+    let gets = for_each_key(alloc, "get @\r\n")?;
+    joined(alloc, &[sets.as_bytes(), gets.as_bytes()])
+}
+
+/// Returns the replies to those lines.
+fn keys_owed(alloc: Global) -> Result<Vec<u8>, AllocError> {
+    let stored = for_each_key(alloc, "STORED\r\n")?;
+    let values = for_each_key(alloc, "VALUE @ # 1\r\nx\r\nEND\r\n")?;
+    joined(alloc, &[stored.as_bytes(), values.as_bytes()])
 }
 
 #[test]
-fn serves_keys_of_every_length(rt: HostRuntime) -> Result<(), Fail> {
+fn serves_keys_of_every_length(rt: HostRuntime) -> Result<(), AllocError> {
     let sent = keys_sent(rt.alloc())?;
-    let stored = for_each_key(rt.alloc(), b"STORED\r\n")?;
-    let values = for_each_key(rt.alloc(), b"VALUE @ # 1\r\nx\r\nEND\r\n")?;
-    let replies = joined(rt.alloc(), &[&stored, &values])?;
-    check_served(&rt, "", &sent, &replies)?;
-    Ok(())
+    let replies = keys_owed(rt.alloc())?;
+    check_served(&rt, "", &sent, &replies)
 }
 
-/// Returns the replies to commands of which all but the last find a place in the log, if the words
-/// don't say how many it has.
-fn full_log_replies(alloc: Global) -> Result<Vec<u8>, AllocError> {
-    let answers = "NOT_FOUND\r\n".repeat(alloc, 65_536)?;
-    joined(alloc, &[answers.as_bytes(), b"SERVER_ERROR log full\r\n"])
-}
-
+/// All but the last command find a place in the log, if the words don't say how many it has.
 #[test]
-fn applies_65_536_commands_unless_told_otherwise(rt: HostRuntime) -> Result<(), Fail> {
-    let sent = "delete a\r\n".repeat(rt.alloc(), 65_537)?;
-    let replies = full_log_replies(rt.alloc())?;
-    check_serves(&rt, "", sent.as_bytes(), &[], &[], &replies)?;
-    Ok(())
+fn applies_65_536_commands_unless_told_otherwise(rt: HostRuntime) -> Result<(), AllocError> {
+    let sent = Text {
+        form: "@",
+        word: "delete a\r\n",
+        times: 65_537,
+    };
+    let replies = Text {
+        form: "@SERVER_ERROR log full\r\n",
+        word: "NOT_FOUND\r\n",
+        times: 65_536,
+    };
+    check_texts_whole(&rt, sent, replies)
 }

@@ -82,159 +82,177 @@ Example, two tenants apart from each other on two ports:
   wfmc shop=127.0.0.1:11211,1000,1048576 blog=127.0.0.1:11212,1000,1048576
 ";
 
+const SHOWN: [(&str, &str); 3] = [
+    ("--help", HELP),
+    ("a=b -h", HELP),
+    ("--version", "wfmc 1.0.0\n"),
+];
+
+/// Asserts that a run with these words prints this text, and that it stops after five bytes if
+/// pushing more fails.
+fn check_shown<R: Threads + Wait + Net + Sync + AllocGlobal + Abort>(
+    rt: &R,
+    given: &str,
+    text: &[u8],
+) -> Result<(), AllocError> {
+    let wanted = Wanted {
+        status: 0,
+        output: text,
+        errors: b"",
+    };
+    check_steps(rt, given, &[], &[], wanted)?;
+    let pushes = [OutputStep::Take(5), OutputStep::Fail];
+    let wanted = Wanted {
+        status: 1,
+        output: text.get(..5).unwrap_or(text),
+        errors: b"wfmc: output failed\n",
+    };
+    check_steps(rt, given, &pushes, &[OutputStep::Full], wanted)
+}
+
 #[test]
-fn help_and_the_version_are_shown(rt: HostRuntime) -> Result<(), Fail> {
-    for (given, text) in [
-        ("--help", HELP),
-        ("a=b -h", HELP),
-        ("--version", "wfmc 1.0.0\n"),
-    ] {
-        let wanted = Wanted {
-            status: 0,
-            output: text.as_bytes(),
-            errors: b"",
-        };
-        check_steps(&rt, given, &[], &[], wanted)?;
-        let pushes = [OutputStep::Take(5), OutputStep::Fail];
-        let wanted = Wanted {
-            status: 1,
-            output: &text.as_bytes()[..5],
-            errors: b"wfmc: output failed\n",
-        };
-        check_steps(&rt, given, &pushes, &[OutputStep::Full], wanted)?;
+fn help_and_the_version_are_shown(rt: HostRuntime) -> Result<(), AllocError> {
+    for row in &SHOWN {
+        check_shown(&rt, row.0, row.1.as_bytes())?;
     }
     Ok(())
 }
 
+const MISTAKES: [(&str, &str); 8] = [
+    (
+        "--workers 2",
+        "error: the following required arguments were not provided:\n  <TENANT>...\n\nUsage: wfmc --workers <N> <TENANT>...\n\nFor more information, try '--help'.\n",
+    ),
+    (
+        "--bogus a=b",
+        "error: unexpected argument '--bogus' found\n\n  tip: to pass '--bogus' as a value, use '-- --bogus'\n\nUsage: wfmc [OPTIONS] <TENANT>...\n\nFor more information, try '--help'.\n",
+    ),
+    (
+        "--places x a=b",
+        "error: invalid value 'x' for '--places <N>': invalid digit found in string\n\nFor more information, try '--help'.\n",
+    ),
+    (
+        "--generations x a=b",
+        "error: invalid value 'x' for '--generations <N>': invalid digit found in string\n\nFor more information, try '--help'.\n",
+    ),
+    (
+        "--generations=-1 a=b",
+        "error: invalid value '-1' for '--generations <N>': invalid digit found in string\n\nFor more information, try '--help'.\n",
+    ),
+    (
+        "--log-bytes 1GiB a=b",
+        "error: invalid value '1GiB' for '--log-bytes <N>': invalid digit found in string\n\nFor more information, try '--help'.\n",
+    ),
+    (
+        "--log-bytes 4000 --log-bytes 4000 a=b",
+        "error: the argument '--log-bytes <N>' cannot be used multiple times\n\nUsage: wfmc [OPTIONS] <TENANT>...\n\nFor more information, try '--help'.\n",
+    ),
+    (
+        "--generations -1 a=b",
+        "error: unexpected argument '-1' found\n\n  tip: to pass '-1' as a value, use '-- -1'\n\nUsage: wfmc [OPTIONS] <TENANT>...\n\nFor more information, try '--help'.\n",
+    ),
+];
+
 #[test]
-fn mistakes_are_told_by_clap(rt: HostRuntime) -> Result<(), Fail> {
-    for (given, told) in [
-        (
-            "--workers 2",
-            "error: the following required arguments were not provided:\n  <TENANT>...\n\nUsage: wfmc --workers <N> <TENANT>...\n\nFor more information, try '--help'.\n",
-        ),
-        (
-            "--bogus a=b",
-            "error: unexpected argument '--bogus' found\n\n  tip: to pass '--bogus' as a value, use '-- --bogus'\n\nUsage: wfmc [OPTIONS] <TENANT>...\n\nFor more information, try '--help'.\n",
-        ),
-        (
-            "--places x a=b",
-            "error: invalid value 'x' for '--places <N>': invalid digit found in string\n\nFor more information, try '--help'.\n",
-        ),
-        (
-            "--generations x a=b",
-            "error: invalid value 'x' for '--generations <N>': invalid digit found in string\n\nFor more information, try '--help'.\n",
-        ),
-        (
-            "--generations=-1 a=b",
-            "error: invalid value '-1' for '--generations <N>': invalid digit found in string\n\nFor more information, try '--help'.\n",
-        ),
-        (
-            "--log-bytes 1GiB a=b",
-            "error: invalid value '1GiB' for '--log-bytes <N>': invalid digit found in string\n\nFor more information, try '--help'.\n",
-        ),
-        (
-            "--log-bytes 4000 --log-bytes 4000 a=b",
-            "error: the argument '--log-bytes <N>' cannot be used multiple times\n\nUsage: wfmc [OPTIONS] <TENANT>...\n\nFor more information, try '--help'.\n",
-        ),
-        (
-            "--generations -1 a=b",
-            "error: unexpected argument '-1' found\n\n  tip: to pass '-1' as a value, use '-- -1'\n\nUsage: wfmc [OPTIONS] <TENANT>...\n\nFor more information, try '--help'.\n",
-        ),
-    ] {
-        check_told(&rt, given, 2, told)?;
+fn mistakes_are_told_by_clap(rt: HostRuntime) -> Result<(), AllocError> {
+    for row in &MISTAKES {
+        check_told(&rt, row.0, 2, row.1)?;
     }
     Ok(())
 }
 
+const REFUSED: [&str; 37] = [
+    "a=127.0.0.1:0,0,1",
+    "a=127.0.0.1:0,1,0",
+    "a=127.0.0.1:0,1048577,1",
+    "a=127.0.0.1:0,1,1073741825",
+    "a=127.0.0.1:0,1,1 a=127.0.0.1:0,1,1",
+    "a=127.0.0.1:0,1,1 b=127.0.0.1:0,1,1 a=127.0.0.1:0,1,1",
+    "A=127.0.0.1:0,1,1",
+    "=127.0.0.1:0,1,1",
+    "abcdefghijklmnopqrstuvwxyz0123456=127.0.0.1:0,1,1",
+    "a=127.0.0.1,1,1",
+    "a=127.0.0.256:0,1,1",
+    "a=[::1]:0,1,1",
+    "a=localhost:0,1,1",
+    "a=127.0.0.1:65536,1,1",
+    "a=127.0.0.1:0,1",
+    "a=127.0.0.1:0,1,1,1",
+    "a=127.0.0.1:0,1,x",
+    "a=127.0.0.1:0,-1,1",
+    "a=127.0.0.1:0,18446744073709551616,1",
+    "a",
+    "--workers 0 a=127.0.0.1:0,1,1",
+    "--workers 17 a=127.0.0.1:0,1,1",
+    "--places 0 a=127.0.0.1:0,1,1",
+    "--places 1048577 a=127.0.0.1:0,1,1",
+    "--generations 65537 a=127.0.0.1:0,1,1",
+    "--generations=18446744073709551615 a=127.0.0.1:0,1,1",
+    "--log-bytes 0 a=127.0.0.1:0,1,1",
+    "--log-bytes=1099511627777 a=127.0.0.1:0,1,1",
+    "--generations 0 --log-bytes 0 a=127.0.0.1:0,1,1",
+    // Fewer workers serve than are asked for, but no more may be asked for.
+    "--generations 0 --places 2 --workers 17 a=127.0.0.1:0,1,1",
+    "--generations 0 --places 0 --workers 2 a=127.0.0.1:0,1,1",
+    "--generations 0 --places 2 --workers 0 a=127.0.0.1:0,1,1",
+    "--admin 127.0.0.1:0 admin=127.0.0.1:0,1,1",
+    "--admin 127.0.0.1:0 a=127.0.0.1:0,1,1 admin=127.0.0.1:0,1,1",
+    "--admin 127.0.0.1 a=127.0.0.1:0,1,1",
+    "--admin localhost:1 a=127.0.0.1:0,1,1",
+    "--admin=127.0.0.1:65536 a=127.0.0.1:0,1,1",
+];
+
 #[test]
-fn what_cannot_be_served_is_refused(rt: HostRuntime) -> Result<(), Fail> {
-    for given in [
-        "a=127.0.0.1:0,0,1",
-        "a=127.0.0.1:0,1,0",
-        "a=127.0.0.1:0,1048577,1",
-        "a=127.0.0.1:0,1,1073741825",
-        "a=127.0.0.1:0,1,1 a=127.0.0.1:0,1,1",
-        "a=127.0.0.1:0,1,1 b=127.0.0.1:0,1,1 a=127.0.0.1:0,1,1",
-        "A=127.0.0.1:0,1,1",
-        "=127.0.0.1:0,1,1",
-        "abcdefghijklmnopqrstuvwxyz0123456=127.0.0.1:0,1,1",
-        "a=127.0.0.1,1,1",
-        "a=127.0.0.256:0,1,1",
-        "a=[::1]:0,1,1",
-        "a=localhost:0,1,1",
-        "a=127.0.0.1:65536,1,1",
-        "a=127.0.0.1:0,1",
-        "a=127.0.0.1:0,1,1,1",
-        "a=127.0.0.1:0,1,x",
-        "a=127.0.0.1:0,-1,1",
-        "a=127.0.0.1:0,18446744073709551616,1",
-        "a",
-        "--workers 0 a=127.0.0.1:0,1,1",
-        "--workers 17 a=127.0.0.1:0,1,1",
-        "--places 0 a=127.0.0.1:0,1,1",
-        "--places 1048577 a=127.0.0.1:0,1,1",
-        "--generations 65537 a=127.0.0.1:0,1,1",
-        "--generations=18446744073709551615 a=127.0.0.1:0,1,1",
-        "--log-bytes 0 a=127.0.0.1:0,1,1",
-        "--log-bytes=1099511627777 a=127.0.0.1:0,1,1",
-        "--generations 0 --log-bytes 0 a=127.0.0.1:0,1,1",
-        // Fewer workers serve than are asked for, but no more may be asked for.
-        "--generations 0 --places 2 --workers 17 a=127.0.0.1:0,1,1",
-        "--generations 0 --places 0 --workers 2 a=127.0.0.1:0,1,1",
-        "--generations 0 --places 2 --workers 0 a=127.0.0.1:0,1,1",
-        "--admin 127.0.0.1:0 admin=127.0.0.1:0,1,1",
-        "--admin 127.0.0.1:0 a=127.0.0.1:0,1,1 admin=127.0.0.1:0,1,1",
-        "--admin 127.0.0.1 a=127.0.0.1:0,1,1",
-        "--admin localhost:1 a=127.0.0.1:0,1,1",
-        "--admin=127.0.0.1:65536 a=127.0.0.1:0,1,1",
-    ] {
+fn what_cannot_be_served_is_refused(rt: HostRuntime) -> Result<(), AllocError> {
+    for given in &REFUSED {
         check_told(&rt, given, 2, "wfmc: bad settings\n")?;
     }
     Ok(())
 }
 
+/// Addresses for documents, which no machine has.
+const UNREACHABLE: [(&str, &str); 11] = [
+    (
+        "--places=1 a-1=192.0.2.1:0,1,1",
+        "wfmc: cannot listen a-1\n",
+    ),
+    (
+        "a=127.0.0.1:0,1,1 b_2=192.0.2.1:0,1,1 c=192.0.2.2:0,1,1",
+        "wfmc: cannot listen b_2\n",
+    ),
+    ("-- -a=192.0.2.1:0,+1,01", "wfmc: cannot listen -a\n"),
+    (
+        "--generations 0 a=192.0.2.1:0,1,1",
+        "wfmc: cannot listen a\n",
+    ),
+    (
+        "--generations=65536 a=192.0.2.1:0,1,1",
+        "wfmc: cannot listen a\n",
+    ),
+    ("--log-bytes 1 a=192.0.2.1:0,1,1", "wfmc: cannot listen a\n"),
+    (
+        "--generations 2 --log-bytes=1099511627776 a=192.0.2.1:0,1,1",
+        "wfmc: cannot listen a\n",
+    ),
+    (
+        "--generations 0 --places 1 --workers 16 a=192.0.2.1:0,1,1",
+        "wfmc: cannot listen a\n",
+    ),
+    (
+        "--admin 192.0.2.1:0 a=127.0.0.1:0,1,1",
+        "wfmc: cannot listen admin\n",
+    ),
+    (
+        "--admin 192.0.2.1:0 a=192.0.2.1:0,1,1",
+        "wfmc: cannot listen a\n",
+    ),
+    ("admin=192.0.2.1:0,1,1", "wfmc: cannot listen admin\n"),
+];
+
 #[test]
-fn the_first_address_that_cannot_be_listened_at_is_told(rt: HostRuntime) -> Result<(), Fail> {
-    // Addresses for documents, which no machine has.
-    for (given, told) in [
-        (
-            "--places=1 a-1=192.0.2.1:0,1,1",
-            "wfmc: cannot listen a-1\n",
-        ),
-        (
-            "a=127.0.0.1:0,1,1 b_2=192.0.2.1:0,1,1 c=192.0.2.2:0,1,1",
-            "wfmc: cannot listen b_2\n",
-        ),
-        ("-- -a=192.0.2.1:0,+1,01", "wfmc: cannot listen -a\n"),
-        (
-            "--generations 0 a=192.0.2.1:0,1,1",
-            "wfmc: cannot listen a\n",
-        ),
-        (
-            "--generations=65536 a=192.0.2.1:0,1,1",
-            "wfmc: cannot listen a\n",
-        ),
-        ("--log-bytes 1 a=192.0.2.1:0,1,1", "wfmc: cannot listen a\n"),
-        (
-            "--generations 2 --log-bytes=1099511627776 a=192.0.2.1:0,1,1",
-            "wfmc: cannot listen a\n",
-        ),
-        (
-            "--generations 0 --places 1 --workers 16 a=192.0.2.1:0,1,1",
-            "wfmc: cannot listen a\n",
-        ),
-        (
-            "--admin 192.0.2.1:0 a=127.0.0.1:0,1,1",
-            "wfmc: cannot listen admin\n",
-        ),
-        (
-            "--admin 192.0.2.1:0 a=192.0.2.1:0,1,1",
-            "wfmc: cannot listen a\n",
-        ),
-        ("admin=192.0.2.1:0,1,1", "wfmc: cannot listen admin\n"),
-    ] {
-        check_told(&rt, given, 1, told)?;
+fn the_first_address_that_cannot_be_listened_at_is_told(rt: HostRuntime) -> Result<(), AllocError> {
+    for row in &UNREACHABLE {
+        check_told(&rt, row.0, 1, row.1)?;
     }
     Ok(())
 }
