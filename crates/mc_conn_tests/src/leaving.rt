@@ -1,4 +1,4 @@
-//! A connection whose worker has replayed the whole log: its next command is left to another log.
+//! A connection whose worker's log is closing: its next command is left to another log.
 use crate::acts::Act;
 use crate::lines::{Client, play};
 use mc_conn::State;
@@ -6,16 +6,16 @@ use mc_model::Fault;
 use mc_stream::OutputStep;
 use std::alloc::Global;
 
-/// What a client sends to a log of two places.
+/// What a client sends to a log of three places and two workers, which is closing after two commands.
 const SENT: &str =
-    "version\r\nset a 0 0 1\r\nx\r\nbogus\r\nget a\r\nversion\r\nget a\r\nversion\r\n";
+    "version\r\nset a 0 0 1\r\nx\r\nbogus\r\nget a\r\nversion\r\nget a\r\nversion\r\nget a\r\n";
 
 /// What it reads before the third command.
 const REPLIES: &str =
     "VERSION 1.0.0\r\nSTORED\r\nERROR\r\nVALUE a 0 1\r\nx\r\nEND\r\nVERSION 1.0.0\r\n";
 
-/// What it reads after them, if the third command is taken.
-const REFUSED: &str = "SERVER_ERROR log full\r\nVERSION 1.0.0\r\n";
+/// What it reads after them, if the third command takes the place that was kept free.
+const TAKEN: &str = "VALUE a 0 1\r\nx\r\nEND\r\nVERSION 1.0.0\r\nSERVER_ERROR log full\r\n";
 
 /// The third command is left twice, and then taken by turns that leave none.
 const LEAVES_THE_THIRD: [Act<'static>; 6] = [
@@ -24,10 +24,10 @@ const LEAVES_THE_THIRD: [Act<'static>; 6] = [
     Act::Until(State::Full),
     Act::Pushed(REPLIES),
     Act::Turns(State::Closed),
-    Act::PushedLast(REFUSED),
+    Act::PushedLast(TAKEN),
 ];
 
-/// Returns whether a log of two places serves a client whose output follows these steps by these
+/// Returns whether a log of three places serves a client whose output follows these steps by these
 /// acts.
 fn is_left(alloc: Global, pushes: &[OutputStep], acts: &[Act]) -> Result<bool, Fault> {
     let client = Client {
@@ -35,7 +35,7 @@ fn is_left(alloc: Global, pushes: &[OutputStep], acts: &[Act]) -> Result<bool, F
         pulls: &[],
         pushes,
     };
-    play(alloc, 2, client, acts)
+    play(alloc, 3, client, acts)
 }
 
 #[test]
@@ -55,7 +55,7 @@ const BESIDE_A_FULL_OUTPUT: [Act<'static>; 8] = [
     Act::Until(State::Full),
     Act::Pushed(REPLIES),
     Act::Turns(State::Closed),
-    Act::PushedLast(REFUSED),
+    Act::PushedLast(TAKEN),
 ];
 
 #[test]
