@@ -4,7 +4,6 @@ use crate::generations::is_ready;
 use crate::texts::QUOTAS;
 use mc_model::Fault;
 use std::alloc::Global;
-use std::test::Fail;
 use uc_worker::{Next, turn_over_alone};
 
 /// Turns the log over. Returns `BadEvent` if it has another worker, or this one hasn't replayed all
@@ -25,20 +24,24 @@ fn holds(next: &Next, items: u64) -> bool {
     }
 }
 
-#[test]
-fn the_next_log_has_the_table(rt: HostRuntime) -> Result<(), Fail> {
-    let alloc = rt.alloc();
+/// Returns whether the log after a set has the table.
+fn has_the_table(alloc: Global, client: &mut Client<'_>) -> Result<bool, Fault> {
+    if !client.says(alloc, "set a 0 0 1\r\nx\r\n", "STORED\r\n")? {
+        return Ok(false);
+    }
+    Ok(holds(&turned_over(alloc, client)?, 1))
+}
+
+fn goes_on(alloc: Global) -> Result<bool, Fault> {
     let (log, passes) = opened(alloc, 1, 1, &[QUOTAS])?;
     let mut clients = clients_of(alloc, &log, passes)?;
-    let Some(mut client) = clients.pop() else {
-        return Err(Fail::from("no worker"));
-    };
-    if !client.says(alloc, "set a 0 0 1\r\nx\r\n", "STORED\r\n")? {
-        return Err(Fail::from("not stored"));
+    match clients.pop() {
+        Some(mut client) => has_the_table(alloc, &mut client),
+        None => Err(Fault::BadEvent),
     }
-    if holds(&turned_over(alloc, &client)?, 1) {
-        Ok(())
-    } else {
-        Err(Fail::from("not the table"))
-    }
+}
+
+#[test]
+fn the_next_log_has_the_table(rt: HostRuntime) {
+    assert!(rt; goes_on(rt.alloc()) == Ok(true));
 }

@@ -84,8 +84,26 @@ fn is_answered(
     row: Row,
 ) -> Result<bool, Fault> {
     let (tenant, text, want) = row;
-    let answer = client.ask(alloc, tenant, text, &mut Open)?;
-    is_answer(alloc, &answer, place, want)
+    is_answer(
+        alloc,
+        client.ask(alloc, tenant, text, &mut Open)?,
+        place,
+        want,
+    )
+}
+
+/// Returns the first command that isn't answered as its row says, if any.
+fn first_wrong(
+    alloc: Global,
+    client: &mut Client<'_>,
+    rows: &[Row],
+) -> Result<Option<&'static str>, Fault> {
+    for (place, row) in rows.iter().enumerate() {
+        if !is_answered(alloc, client, place, *row)? {
+            return Ok(Some(row.1));
+        }
+    }
+    Ok(None)
 }
 
 /// The second worker does nothing.
@@ -94,8 +112,6 @@ fn one_worker_answers_two_tenants(rt: HostRuntime) -> Result<(), Fail> {
     let alloc = rt.alloc();
     let (log, passes) = opened(alloc, 2, 64, &QUOTAS)?;
     let (mut client, _idle) = both_clients(alloc, &log, passes)?;
-    for (place, row) in ROWS.iter().enumerate() {
-        assert!(rt; is_answered(alloc, &mut client, place, *row)?, "{}", row.1);
-    }
+    assert_eq!(rt; first_wrong(alloc, &mut client, &ROWS), Ok(None));
     Ok(())
 }

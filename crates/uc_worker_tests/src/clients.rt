@@ -54,10 +54,13 @@ impl<'a> Client<'a> {
     ) -> Result<Answer, Fault>
         ensures { self.new.log ≡ self.old.log }
     {
+        // A local enum that its block drops is proved variant by variant, on each way out.
         let Some(tenant) = TenantId::new(tenant) else {
+            drop(command);
             return Err(Fault::BadEvent);
         };
         if usize::from(tenant.number()) >= self.log.settings().tenants().len() {
+            drop(command);
             return Err(Fault::BadEvent);
         }
         self.worker.submit(tenant, command, gate)
@@ -81,8 +84,7 @@ impl<'a> Client<'a> {
     pub(crate) fn says(&mut self, alloc: Global, text: &str, want: &str) -> Result<bool, Fault>
         ensures { self.new.log ≡ self.old.log }
     {
-        let answer = self.ask(alloc, 0, text, &mut Open)?;
-        reads_as(alloc, &answer.reply, want)
+        is_said(alloc, self.ask(alloc, 0, text, &mut Open)?, want)
     }
 
     pub(crate) fn catch_up(&mut self) -> Result<(), Fault>
@@ -128,33 +130,44 @@ impl<'a> Client<'a> {
     }
 }
 
+/// Returns whether the answer's reply is read as this text.
+pub(crate) fn is_said(alloc: Global, answer: Answer, want: &str) -> Result<bool, Fault> {
+    let said = reads_as(alloc, &answer.reply, want);
+    drop(answer);
+    said
+}
+
 /// Returns whether the answer has this place, and its reply is read as this text.
 pub(crate) fn is_answer(
     alloc: Global,
-    answer: &Answer,
+    answer: Answer,
     place: usize,
     want: &str,
 ) -> Result<bool, Fault> {
-    if answer.place != place {
-        return Ok(false);
-    }
-    reads_as(alloc, &answer.reply, want)
+    let is_there = answer.place == place;
+    Ok(is_said(alloc, answer, want)? && is_there)
 }
 
 /// Returns whether both histories are equal, place by place: the tickets and the entries under
 /// them.
 pub(crate) fn are_equal(ones: &[Seen<'_>], others: &[Seen<'_>]) -> bool {
+    for (one, other) in ones.iter().zip(others) {
+        if one.ticket() != other.ticket() || one.entry() != other.entry() {
+            return false;
+        }
+    }
     ones.len() == others.len()
-        && ones.iter().zip(others).all(|(one, other)| one.ticket() == other.ticket()
-            && one.entry() == other.entry())
 }
 
 /// Returns whether the history has these tickets: pairs of a worker and a number.
 pub(crate) fn has_tickets(history: &[Seen<'_>], tickets: &[(u8, u64)]) -> bool {
+    for (seen, (worker, number)) in history.iter().zip(tickets) {
+        let ticket = seen.ticket();
+        if ticket.worker.number() != *worker || ticket.number != *number {
+            return false;
+        }
+    }
     history.len() == tickets.len()
-        && history.iter().zip(tickets).all(|(seen, (worker, number))| {
-            seen.ticket().worker.number() == *worker && seen.ticket().number == *number
-        })
 }
 
 /// Opens a log of this many workers and places, and of tenants with these quotas, and returns the

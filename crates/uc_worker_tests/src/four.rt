@@ -52,6 +52,6 @@ fn four_threads_three_tenants(rt: HostRuntime) -> Result<(), Fail> {
     let all = all_ended(&rt, alloc, &log, clients)?;
     let all = all_meet(alloc, &log, all)?;
     assert!(rt; are_all_equal(&all, 8_000));
-    assert!(rt; is_recomputed(alloc, &TENANTS, &all)?);
+    assert!(rt; is_recomputed(alloc, &TENANTS, &all) == Ok(true));
     Ok(())
 }

@@ -4,11 +4,10 @@ ghost use Rattle.mc_model.specs.Replay.{HaveRoom};
 ghost use Rattle.uc_log.specs.Passes.{IsUnusedPass};
 ghost use Rattle.uc_worker.specs.Worker.{HasReplayedAll, tables_of};
 
-use crate::clients::{Client, are_equal, both_clients, both_passes, opened};
-use crate::texts::{QUOTAS, command_of, reads_as};
+use crate::clients::{Client, are_equal, both_clients, both_passes, is_said, opened};
+use crate::texts::{QUOTAS, command_of};
 use mc_model::{Command, Fault, Limits};
 use std::alloc::Global;
-use std::test::Fail;
 use uc_log::{Log, Pass};
 use uc_worker::{Base, Next, Open, Worker, turn_over};
 
@@ -82,8 +81,7 @@ fn is_answered(alloc: Global, client: &mut Client<'_>, ask: &Ask, want: &str) ->
     ensures { client.new.log ≡ client.old.log }
 {
     let command = command_for(alloc, ask)?;
-    let answer = client.submit(0, command, &mut Open)?;
-    reads_as(alloc, &answer.reply, want)
+    is_said(alloc, client.submit(0, command, &mut Open)?, want)
 }
 
 /// Returns whether the row's worker answers like this.
@@ -256,13 +254,11 @@ fn go_through(alloc: Global, quotas: Limits, logs: &[[Row; 2]]) -> Result<(), Fa
 }
 
 #[test]
-fn uniques_and_answered_commands_go_on(rt: HostRuntime) -> Result<(), Fail> {
-    go_through(rt.alloc(), QUOTAS, &LOGS)?;
-    Ok(())
+fn uniques_and_answered_commands_go_on(rt: HostRuntime) {
+    assert!(rt; go_through(rt.alloc(), QUOTAS, &LOGS) == Ok(()));
 }
 
 #[test]
-fn quotas_that_were_set_go_on(rt: HostRuntime) -> Result<(), Fail> {
-    go_through(rt.alloc(), QUOTAS, &LIMITED)?;
-    Ok(())
+fn quotas_that_were_set_go_on(rt: HostRuntime) {
+    assert!(rt; go_through(rt.alloc(), QUOTAS, &LIMITED) == Ok(()));
 }

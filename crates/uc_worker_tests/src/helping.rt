@@ -48,7 +48,7 @@ fn announced_and_left(rt: HostRuntime) -> Result<(), Fail> {
     let (log, passes) = opened(alloc, 2, 8, &[QUOTAS])?;
     let (first, second) = both_passes(&log, passes).ok_or("no passes")?;
     let answer = get_beside(alloc, &log, first, second)?;
-    assert!(rt; is_answer(alloc, &answer, 1, "VALUE a 0 1\r\nx\r\nEND\r\n")?);
+    assert!(rt; is_answer(alloc, answer, 1, "VALUE a 0 1\r\nx\r\nEND\r\n") == Ok(true));
     Ok(())
 }
 
@@ -105,11 +105,18 @@ fn helped(alloc: Global, client: &mut Client<'_>, flags: &Flags) -> Result<Answe
         return Err(Fault::BadEvent);
     }
     let mut gate = Held::after(Step::Read, &flags.read, &flags.ended);
-    let answer = client.ask(alloc, 0, "set b 0 0 1\r\ny\r\n", &mut gate)?;
+    let answer = client.ask(alloc, 0, "set b 0 0 1\r\ny\r\n", &mut gate);
     if gate.gave_up {
+        drop(answer);
         return Err(Fault::BadEvent);
     }
-    Ok(answer)
+    answer
+}
+
+fn place_of(answer: Answer) -> usize {
+    let place = answer.place;
+    drop(answer);
+    place
 }
 
 /// Holds worker 1 after it has first looked, until the other has read; then worker 1 finishes its
@@ -118,9 +125,9 @@ fn helping(alloc: Global, client: &mut Client<'_>, flags: &Flags) -> Result<Answ
     ensures { client.new.log ≡ client.old.log }
 {
     let mut gate = Held::after(Step::Look, &flags.looked, &flags.read);
-    let first = client.ask(alloc, 0, "set a 0 0 1\r\nx\r\n", &mut gate)?;
-    let second = client.ask(alloc, 0, "set a 0 0 1\r\nz\r\n", &mut Open)?;
-    if (gate.gave_up, first.place, second.place) != (false, 0, 1) {
+    let first = place_of(client.ask(alloc, 0, "set a 0 0 1\r\nx\r\n", &mut gate)?);
+    let second = place_of(client.ask(alloc, 0, "set a 0 0 1\r\nz\r\n", &mut Open)?);
+    if (gate.gave_up, first, second) != (false, 0, 1) {
         return Err(Fault::BadEvent);
     }
     let last = client.ask(alloc, 0, "get b\r\n", &mut Open)?;
@@ -173,16 +180,14 @@ fn have_met<'a>(first: &mut Client<'a>, second: &mut Client<'a>) -> Result<bool,
 /// as this text.
 fn is_proposed(
     alloc: Global,
-    answer: &Result<Answer, Fault>,
+    answer: Result<Answer, Fault>,
     proposals: u64,
     place: usize,
     want: &str,
 ) -> Result<bool, Fault> {
-    match answer {
-        Ok(answer) if answer.proposals == proposals => is_answer(alloc, answer, place, want),
-        Ok(_) => Ok(false),
-        Err(fault) => Err(*fault),
-    }
+    let answer = answer?;
+    let is_proposed = answer.proposals == proposals;
+    Ok(is_answer(alloc, answer, place, want)? && is_proposed)
 }
 
 /// What worker 1 found when it looked is old by the time of its proposal: the other's announcement
@@ -198,8 +203,9 @@ fn help_on_two_threads(rt: HostRuntime) -> Result<(), Fail> {
         ended: AtomicBool::new(false),
     };
     let ((mut first, one), (mut second, other)) = both_ended(&rt, alloc, first, second, &flags);
-    assert!(rt; have_met(&mut first, &mut second)?);
-    assert!(rt; is_proposed(alloc, &one, 3, 2, "STORED\r\n")?);
-    assert!(rt; is_proposed(alloc, &other, 2, 3, "VALUE b 0 1\r\ny\r\nEND\r\n")?);
+    assert!(rt; have_met(&mut first, &mut second) == Ok(true));
+    assert!(rt; is_proposed(alloc, one, 3, 2, "STORED\r\n") == Ok(true));
+    let want = "VALUE b 0 1\r\ny\r\nEND\r\n";
+    assert!(rt; is_proposed(alloc, other, 2, 3, want) == Ok(true));
     Ok(())
 }

@@ -55,7 +55,7 @@ fn a_worker_catches_up_in_parts(rt: HostRuntime) -> Result<(), Fail> {
     let alloc = rt.alloc();
     let (log, passes) = opened(alloc, 2, 8, &[QUOTAS])?;
     let (mut first, mut second) = both_clients(alloc, &log, passes)?;
-    assert!(rt; catches_up_after(alloc, &mut second, &mut first, 5, &PARTS)?);
-    assert!(rt; catches_up_after(alloc, &mut second, &mut first, 3, &LAST_PARTS)?);
+    assert!(rt; catches_up_after(alloc, &mut second, &mut first, 5, &PARTS) == Ok(true));
+    assert!(rt; catches_up_after(alloc, &mut second, &mut first, 3, &LAST_PARTS) == Ok(true));
     Ok(())
 }

@@ -34,9 +34,11 @@ fn is_answer_to(
     reply: &Reply,
 ) -> Result<bool, Fault> {
     let command = command_of(alloc, asked.text.as_str())?;
+    let is_command = entry.command == command;
+    drop(command);
     Ok(
-        entry.tenant.number() == asked.tenant
-            && entry.command == command
+        is_command
+            && entry.tenant.number() == asked.tenant
             && asked.answer.place == place
             && asked.answer.reply == *reply,
     )
@@ -69,7 +71,9 @@ fn is_right_at(
         return Ok(false);
     };
     let reply = reply_to(tables, entry)?;
-    is_answer_to(alloc, asked, entry, place, &reply)
+    let is_answer = is_answer_to(alloc, asked, entry, place, &reply);
+    drop(reply);
+    is_answer
 }
 
 /// Returns the tables after the history, if they answer each of its places as it was answered.
@@ -96,9 +100,12 @@ fn holds_alike(alloc: Global, one: &Items, other: &Items, name: &str) -> Result<
     })
 }
 
-/// Returns whether both tables are alike in the keys that the tests use.
+/// The keys that the tests use.
+const NAMES: &[&str] = &["a", "b", "n"];
+
+/// Returns whether both tables are alike in these keys.
 fn are_alike(alloc: Global, one: &Items, other: &Items) -> Result<bool, Fault> {
-    for name in ["a", "b", "n"] {
+    for name in NAMES {
         if !holds_alike(alloc, one, other, name)? {
             return Ok(false);
         }

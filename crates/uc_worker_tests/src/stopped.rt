@@ -100,7 +100,9 @@ fn held_between(
 ) -> Result<Option<Step>, Fault> {
     let mut gate = Beside::after(alloc, other, left);
     let answer = first.ask(alloc, 0, "set a 0 0 1\r\nx\r\n", &mut gate)?;
-    gate.held(&mut first, answer.proposals)
+    let proposals = answer.proposals;
+    drop(answer);
+    gate.held(&mut first, proposals)
 }
 
 /// Returns the step after which a worker was held on a new log, if its submit takes that many.
@@ -137,7 +139,7 @@ fn stopped_at_each_step(rt: HostRuntime) -> Result<(), Fail> {
         Step::Replay,
     ];
     for kind in kinds {
-        assert!(rt; steps.iter().any(|step| *step == kind));
+        assert!(rt; steps.contains(&kind));
     }
     Ok(())
 }

@@ -4,7 +4,7 @@
 ghost use Rattle.uc_cells.specs.Cells.{HasCell};
 
 use crate::cells::values::{entry_of, ticket_in};
-use mc_model::{Entry, Fault, Ticket};
+use mc_model::{Fault, Ticket};
 use std::alloc::Global;
 use std::process::Abort;
 use std::test::Fail;
@@ -23,14 +23,15 @@ fn assert_untouched(
     alloc: Global,
     cells: &Cells,
     fault: Fault,
-    other: Entry,
+    ticket: Ticket,
 ) -> Result<(), Fail>
-    requires { HasCell cells.now other.ticket }
+    requires { HasCell cells.now ticket }
 {
     assert!(rt; fault == Fault::Memory);
-    match cells.put(alloc, other) {
-        Ok(_) => Err(Fail::from(REPORTED)),
-        Err(_) => panic!(rt; "the cell was written to"),
+    let other = entry_of(alloc, ticket, OTHER)?;
+    match cells.put(alloc, other).err() {
+        None => Err(Fail::from(REPORTED)),
+        Some(_) => panic!(rt; "the cell was written to"),
     }
 }
 
@@ -39,10 +40,9 @@ fn a_put_reports_out_of_memory(rt: HostRuntime) -> Result<(), Fail> {
     let alloc = rt.alloc();
     let cells = Cells::open(alloc, 1, 2)?;
     let ticket = ticket_in(&cells, 0, 1).ok_or("no cell")?;
-    let other = entry_of(alloc, ticket, OTHER)?;
-    match cells.put(alloc, entry_of(alloc, ticket, FIRST)?) {
-        Ok(_) => Ok(()),
-        Err(fault) => assert_untouched(&rt, alloc, &cells, fault, other),
+    match cells.put(alloc, entry_of(alloc, ticket, FIRST)?).err() {
+        None => Ok(()),
+        Some(fault) => assert_untouched(&rt, alloc, &cells, fault, ticket),
     }
 }
 
@@ -53,9 +53,8 @@ fn a_sighting_reports_out_of_memory(rt: HostRuntime) -> Result<(), Fail> {
     let ticket = ticket_in(&cells, 0, 1).ok_or("no cell")?;
     // In parts, since a ticket that is passed twice gets no proof.
     let Ticket { worker, number } = ticket;
-    let other = entry_of(alloc, ticket, OTHER)?;
-    match cells.see(alloc, Ticket { worker, number }) {
-        Ok(_) => Ok(()),
-        Err(fault) => assert_untouched(&rt, alloc, &cells, fault, other),
+    match cells.see(alloc, Ticket { worker, number }).err() {
+        None => Ok(()),
+        Some(fault) => assert_untouched(&rt, alloc, &cells, fault, ticket),
     }
 }

@@ -4,7 +4,7 @@ ghost use Rattle.uc_worker_tests.specs.Places.{IsSeenIn};
 ghost use Rattle.uc_cells.specs.Cells.{HasCell};
 
 use crate::cells::threads::{assert_agreed, put_or_see};
-use crate::cells::values::{assert_holds, entry_of, ticket_in};
+use crate::cells::values::{entry_of, holds, ticket_in};
 use crate::texts::command_of;
 use mc_model::{Command, Fault, TenantId, Ticket};
 use std::alloc::Global;
@@ -16,27 +16,49 @@ use uc_cells::{Cells, Sealed, Seen};
 
 const FIRST: &str = "set a 7 0 3\r\nabc\r\n";
 
-#[test]
-fn what_was_sealed_is_shown_again(rt: HostRuntime) -> Result<(), Fail> {
-    let alloc = rt.alloc();
-    let cells = Cells::open(alloc, 1, 2)?;
-    let ticket = ticket_in(&cells, 0, 0).ok_or("no cell")?;
-    let first = entry_of(alloc, ticket, FIRST)?;
+/// Returns whether what was put and sealed is shown twice.
+fn is_shown_again(alloc: Global, cells: &Cells, ticket: Ticket) -> Result<bool, Fault>
+    requires { HasCell cells.now ticket }
+{
     let mut known = cells.put(alloc, entry_of(alloc, ticket, FIRST)?)?.seal();
-    assert!(rt; known.ticket() == ticket);
-    assert_holds(&rt, &cells.see_again(&mut known), &first);
-    assert_holds(&rt, &cells.see_again(&mut known), &first);
-    Ok(())
+    let is_ticket = known.ticket() == ticket;
+    let is_once = holds(alloc, &cells.see_again(&mut known), ticket, FIRST)?;
+    let is_twice = holds(alloc, &cells.see_again(&mut known), ticket, FIRST)?;
+    Ok(is_ticket && is_once && is_twice)
+}
+
+/// Returns whether what was sealed absent is shown absent.
+fn is_absent_again(alloc: Global, cells: &Cells, ticket: Ticket) -> Result<bool, Fault>
+    requires { HasCell cells.now ticket }
+{
+    let mut known = cells.see(alloc, ticket)?.seal();
+    Ok(cells.see_again(&mut known).entry().is_none())
+}
+
+fn first_is_shown_again(alloc: Global) -> Result<bool, Fault> {
+    let cells = Cells::open(alloc, 1, 2)?;
+    match ticket_in(&cells, 0, 0) {
+        Some(ticket) => is_shown_again(alloc, &cells, ticket),
+        None => Err(Fault::BadEvent),
+    }
+}
+
+fn absent_is_shown_again(alloc: Global) -> Result<bool, Fault> {
+    let cells = Cells::open(alloc, 1, 2)?;
+    match ticket_in(&cells, 0, 1) {
+        Some(ticket) => is_absent_again(alloc, &cells, ticket),
+        None => Err(Fault::BadEvent),
+    }
 }
 
 #[test]
-fn what_was_sealed_absent_is_shown_absent(rt: HostRuntime) -> Result<(), Fail> {
-    let alloc = rt.alloc();
-    let cells = Cells::open(alloc, 1, 2)?;
-    let ticket = ticket_in(&cells, 0, 1).ok_or("no cell")?;
-    let mut known = cells.see(alloc, ticket)?.seal();
-    assert!(rt; cells.see_again(&mut known).entry().is_none());
-    Ok(())
+fn what_was_sealed_is_shown_again(rt: HostRuntime) {
+    assert!(rt; first_is_shown_again(rt.alloc()) == Ok(true));
+}
+
+#[test]
+fn what_was_sealed_absent_is_shown_absent(rt: HostRuntime) {
+    assert!(rt; absent_is_shown_again(rt.alloc()) == Ok(true));
 }
 
 /// Returns the command's entry, sealed; or that the cell is absent, if another thread saw it first.
@@ -98,14 +120,26 @@ fn seal_and_show<R: Threads + Sync + Abort>(
     Ok(())
 }
 
+/// Does so with each of the first worker's cells.
+fn seal_and_show_all<R: Threads + Sync + Abort>(
+    rt: &R,
+    cells: &Cells,
+    alloc: Global,
+    command: &Command,
+) -> Result<(), Fail> {
+    for number in 0..100 {
+        let ticket = ticket_in(cells, 0, number).ok_or("no cell")?;
+        seal_and_show(rt, cells, alloc, ticket, command)?;
+    }
+    Ok(())
+}
+
 #[test]
 fn what_one_thread_sealed_another_shows(rt: HostRuntime) -> Result<(), Fail> {
     let alloc = rt.alloc();
     let cells = Cells::open(alloc, 1, 100)?;
     let command = command_of(alloc, FIRST)?;
-    for number in 0..100 {
-        let ticket = ticket_in(&cells, 0, number).ok_or("no cell")?;
-        seal_and_show(&rt, &cells, alloc, ticket, &command)?;
-    }
-    Ok(())
+    let shown = seal_and_show_all(&rt, &cells, alloc, &command);
+    drop(command);
+    shown
 }

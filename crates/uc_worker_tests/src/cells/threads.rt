@@ -152,16 +152,33 @@ fn put_and_see<'a, R: Threads + Sync + Abort>(
     agreed(rt, cells, alloc, all, see_all(cells, alloc)?)
 }
 
+/// Asserts that what is seen of each cell is the command, or nothing.
+fn assert_seen(rt: &impl Abort, all: &[Seen<'_>], command: &Command) {
+    for seen in all {
+        assert!(rt; seen.entry().is_none_or(|entry| entry.command == *command));
+    }
+}
+
+/// Has threads put the command and see it, and asserts what they see.
+fn assert_seen_alike<R: Threads + Sync + Abort>(
+    rt: &R,
+    cells: &Cells,
+    alloc: Global,
+    command: &Command,
+) -> Result<(), Fail> {
+    let tenant = TenantId::new(0).ok_or("no tenant")?;
+    let all = put_and_see(rt, cells, alloc, tenant, command)?;
+    assert_eq!(rt; all.len() as u64, CELLS);
+    assert_seen(rt, &all, command);
+    Ok(())
+}
+
 #[test]
 fn all_threads_see_the_same(rt: HostRuntime) -> Result<(), Fail> {
     let alloc = rt.alloc();
     let cells = Cells::open(alloc, 1, CELLS)?;
     let command = command_of(alloc, "set a 7 0 3\r\nabc\r\n")?;
-    let tenant = TenantId::new(0).ok_or("no tenant")?;
-    let all = put_and_see(&rt, &cells, alloc, tenant, &command)?;
-    assert_eq!(rt; all.len() as u64, CELLS);
-    for seen in all.iter() {
-        assert!(rt; seen.entry().is_none_or(|entry| entry.command == command));
-    }
-    Ok(())
+    let seen = assert_seen_alike(&rt, &cells, alloc, &command);
+    drop(command);
+    seen
 }

@@ -3,10 +3,8 @@ ghost use Rattle.std.specs.Prelude.{◌≡◌, IfOk, IfSome};
 ghost use Rattle.uc_cells.specs.Cells.{HasCell};
 
 use crate::texts::command_of;
-use mc_model::{Entry, TenantId, Ticket, WorkerId};
+use mc_model::{Entry, Fault, TenantId, Ticket, WorkerId};
 use std::alloc::Global;
-use std::process::Abort;
-use std::test::Fail;
 use uc_cells::{Cells, Seen};
 
 /// Returns the ticket of this worker and number, if it has a cell.
@@ -22,11 +20,11 @@ pub(crate) fn ticket_in(cells: &Cells, worker: u8, number: u64) -> Option<Ticket
 }
 
 /// Returns the entry of the first tenant under this ticket.
-pub(crate) fn entry_of(alloc: Global, ticket: Ticket, text: &str) -> Result<Entry, Fail>
+pub(crate) fn entry_of(alloc: Global, ticket: Ticket, text: &str) -> Result<Entry, Fault>
     ensures { IfOk result (λ entry. entry.ticket ≡ ticket) }
 {
+    let tenant = TenantId::new(0).ok_or(Fault::BadEvent)?;
     let command = command_of(alloc, text)?;
-    let tenant = TenantId::new(0).ok_or("no tenant")?;
     Ok(Entry {
         ticket,
         tenant,
@@ -34,10 +32,48 @@ pub(crate) fn entry_of(alloc: Global, ticket: Ticket, text: &str) -> Result<Entr
     })
 }
 
-/// Asserts that the cell that was seen holds this entry.
-pub(crate) fn assert_holds(rt: &impl Abort, seen: &Seen<'_>, want: &Entry) {
-    let Some(entry) = seen.entry() else {
-        panic!(rt; "no entry was seen")
+/// Returns whether the cell that was seen holds the entry of this text under this ticket.
+pub(crate) fn holds(
+    alloc: Global,
+    seen: &Seen<'_>,
+    ticket: Ticket,
+    text: &str,
+) -> Result<bool, Fault> {
+    let want = entry_of(alloc, ticket, text)?;
+    let is_held = match seen.entry() {
+        Some(entry) => *entry == want,
+        None => false,
     };
-    assert!(rt; *entry == *want);
+    // A local that its block drops is proved variant by variant of what it holds.
+    drop(want);
+    Ok(is_held)
+}
+
+/// Returns whether a put of this text shows its entry.
+pub(crate) fn is_put(
+    alloc: Global,
+    cells: &Cells,
+    ticket: Ticket,
+    text: &str,
+) -> Result<bool, Fault>
+    requires { HasCell cells.now ticket }
+{
+    // In parts, since a ticket that is passed twice gets no proof.
+    let Ticket { worker, number } = ticket;
+    let seen = cells.put(alloc, entry_of(alloc, ticket, text)?)?;
+    holds(alloc, &seen, Ticket { worker, number }, text)
+}
+
+/// Returns whether the cell shows the entry of this text.
+pub(crate) fn is_seen(
+    alloc: Global,
+    cells: &Cells,
+    ticket: Ticket,
+    text: &str,
+) -> Result<bool, Fault>
+    requires { HasCell cells.now ticket }
+{
+    let Ticket { worker, number } = ticket;
+    let seen = cells.see(alloc, ticket)?;
+    holds(alloc, &seen, Ticket { worker, number }, text)
 }
