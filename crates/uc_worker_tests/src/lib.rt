@@ -15,6 +15,8 @@ mod cells;
 #[cfg(test)]
 mod clients;
 #[cfg(test)]
+mod filling;
+#[cfg(test)]
 mod flags;
 #[cfg(test)]
 mod four;
