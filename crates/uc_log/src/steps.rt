@@ -71,16 +71,15 @@ impl Log {
         ensures faults { IfErr result (λ fault. (fault ≡ faults.Memory) ⊎ (fault ≡ faults.Taken)) }
         ensures unchanged { OnErr result (pass.new ≡ pass.old) }
     {
-        let ticket = Ticket {
-            worker: pass.desk.worker(),
-            number: pass.desk.announced(),
-        };
-        let seen = self.cells.see(alloc, ticket)?;
+        let (worker, number) = (pass.desk.worker(), pass.desk.announced());
+        let next = Ticket { worker, number };
+        let seen = self.cells.see(alloc, next)?;
         if seen.entry().is_some() {
             return Err(Fault::Taken);
         }
         pass.sealed.push_reserved(seen.seal());
-        pass.desk.announce(&self.places);
+        let places = &self.places;
+        pass.desk.announce(places);
         Ok(())
     }
 
