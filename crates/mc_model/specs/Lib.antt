@@ -15,3 +15,4 @@ pub mod Legal
 pub mod Shown
 pub mod Lawful
 pub mod Helping
+pub mod Octets
