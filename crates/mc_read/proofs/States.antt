@@ -14,7 +14,7 @@ use Rattle.mc_read.specs.Line.{refused}
 use Rattle.mc_read.specs.Reading.{Ended, Held, IsFed, Kept, ReadsOn, Swallowing}
 use Rattle.mc_read.specs.State.{IsLineAt, IsSearched, IsStateOf, held_in}
 use Rattle.mc_read.specs.Text.{Lines}
-use Rattle.mc_read.proofs.Holdings.{fed_within, reads_alike}
+use Rattle.mc_read.proofs.Holdings.{fed_kept, fed_within, reads_alike}
 use Rattle.mc_read.proofs.Lines.{line_length_le}
 
 -- a line that has ended stays as long
@@ -77,6 +77,12 @@ module _ (lines : Lines) where
       (subst (λ n. ReadsOn lines (Swallowing request n bytes) more requests ↔ ReadsOn lines (Swallowing request left bytes) more requests) (sym same) (reads_alike lines (Swallowing request left bytes) more requests)))
       (cases_lt 0 left)
 
+  -- a piece comes while a block is awaited
+  pub fed_awaited : (s : State) (line : ℕ) (header : Header) (old piece new : List ℕ) (r : Result (Unit {0}) Fault) → s ≡ state.AwaitsBlock line header → OnOk r (new ≡ old ++ piece) → OnOk r (IsFed lines (held_in s old) piece (held_in s new))
+  fed_awaited s line header old piece new (Ok u) is more =
+      subst (λ t. IsFed lines (held_in t old) piece (held_in t new)) (sym is) (subst (λ b. IsFed lines (Kept old) piece (Kept b)) (sym more) (fed_kept lines old piece))
+  fed_awaited s line header old piece new (Err fault) is more = tt
+
   -- while a block is awaited, its line stands at the front of what is held
   pub line_of_block : (s : State) (inside : List ℕ) (line : ℕ) (header : Header) (bytes : List ℕ) → s ≡ state.AwaitsBlock line header → IsStateOf lines s inside → held_in s inside ≡ Kept bytes → IsLineAt bytes line
   line_of_block s inside line header bytes is_block is held =
@@ -110,7 +116,7 @@ on_err (Err error) holds = holds
 pub kept_bytes : (bytes more : List ℕ) → Kept bytes ≡ Kept more → bytes ≡ more
 kept_bytes bytes more same = cc
 
-pub step_parts : (request other : Option Request) (before after : State) → ◌≡◌ {A = Result (Option Request × State) Fault} (Ok (request, before)) (Ok (other, after)) → (request ≡ other) × (before ≡ after)
-step_parts request other before after same =
-    let pair : ◌≡◌ {A = Option Request × State} (request, before) (other, after) = cc in
-    (ap (λ (p : Option Request × State). p.0) pair, ap (λ (p : Option Request × State). p.1) pair)
+pub step_parts : (request other : Option Request) (before after : State) (few many : ℕ) → ◌≡◌ {A = Result (Option Request × State × ℕ) Fault} (Ok (request, before, few)) (Ok (other, after, many)) → (request ≡ other) × (before ≡ after)
+step_parts request other before after few many same =
+    let step : ◌≡◌ {A = Option Request × State × ℕ} (request, before, few) (other, after, many) = cc in
+    (ap (λ (p : Option Request × State × ℕ). p.0) step, ap (λ (p : Option Request × State × ℕ). p.1) step)

@@ -1,7 +1,7 @@
 -- What a byte list reads as: requests, and a rest that has no whole request at its front. After
 -- memcached's doc/protocol.txt, "Protocol": a connection is a stream of such texts, one after
 -- another.
-use Rattle.std.specs.Prelude.{◌≡◌, ◌≢◌, ◌↔◌, ℕ, Bool, true, false, nat_lt, MatchBool, List, [], ◌∷◌, ◌++◌, length, drop}
+use Rattle.std.specs.Prelude.{◌≡◌, ◌≢◌, ◌↔◌, ℕ, ◌+◌, ◌-◌, ◌^◌, min, Bool, true, false, nat_lt, MatchBool, List, [], ◌∷◌, ◌++◌, length, drop}
 use Rattle.mc_model.specs.declared.request.Request.{Request}
 use Rattle.mc_model.specs.declared.request.Request.TheVariants.{Limit, Local, Logged, Quit, TooLong}
 use Rattle.mc_read.specs.declared.speaker.Speaker.{Speaker}
@@ -36,10 +36,18 @@ pub data Held : Type 0 where
   Swallowing : Request → ℕ → List ℕ → Held
   Ended : Held
 
--- A reader as contracts see it: whose lines it reads, and what it holds.
+-- A reader as contracts see it: whose lines it reads, what it holds, how many bytes it was fed, in
+-- how many of these a line end was searched, and in how many of those that it holds.
 pub record ReaderView : Type 0 where
   pub speaker : Speaker
   pub held : Held
+  pub fed : ℕ
+  pub scanned : ℕ
+  pub searched : ℕ
+
+-- a count that rises by so much, and stops at the largest number of 64 bits
+abbrev pub raised : ℕ → ℕ → ℕ
+raised count more = min (count + more) (2 ^ 64 - 1)
 
 -- the first of the requests is this one, and P holds of the others
 abbrev pub GoesOn : Request → (List Request → Type 0) → List Request → Type 0

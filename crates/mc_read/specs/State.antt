@@ -1,5 +1,5 @@
 -- What a reader's fields mean, and what is true of them.
-use Rattle.std.specs.Prelude.{◌≡◌, ℕ, ◌+◌, ◌<◌, ◌≤◌, Bool, if◌then◌else◌, List, [], length, take, drop, Option, Some, None}
+use Rattle.std.specs.Prelude.{◌≡◌, ℕ, ◌+◌, ◌-◌, ◌^◌, ◌<◌, ◌≤◌, min, ◌⊎◌, Bool, if◌then◌else◌, List, [], length, take, drop, Option, Some, None}
 use Rattle.mc_model.specs.declared.item.Data.{Data}
 use Rattle.mc_model.specs.declared.item.TheConstants.{DATA_BYTES}
 use Rattle.mc_model.specs.declared.reply.WireNo.{WireNo}
@@ -99,3 +99,39 @@ abbrev pub IsSought : List ℕ → Sought → Type 0
 IsSought bytes (sought.Found line) = IsLineAt bytes line
 IsSought bytes sought.TooLong = LINE_BYTES < line_length bytes
 IsSought bytes sought.Open = (line_length bytes ≡ length bytes) × (length bytes ≤ LINE_BYTES)
+
+-- how far the first line reaches in the bytes, with its line feed, but no farther than a line may
+abbrev pub line_reach : List ℕ → ℕ
+line_reach bytes = min (min (line_length bytes + 1) (length bytes)) (LINE_BYTES + 1)
+
+-- in how many bytes at the front the end of the first line was searched
+abbrev pub searched_in : State → ℕ
+searched_in (state.AwaitsLine searched) = searched
+searched_in (state.AwaitsBlock line header) = line + 1
+searched_in (state.SwallowsBlock refusal quiet left) = 0
+searched_in state.Ended = 0
+
+-- in how many more it is to be searched
+abbrev pub to_search : Held → ℕ → ℕ
+to_search (Kept bytes) searched = line_reach bytes - searched
+to_search (Swallowing request left bytes) searched = 0
+to_search Ended searched = 0
+
+-- after a request nothing of the next line is searched; without one all that can be is
+abbrev pub IsAllSearched : Option Request → Held → ℕ → Type 0
+IsAllSearched None held searched = to_search held searched ≡ 0
+IsAllSearched (Some request) held searched = searched ≡ 0
+
+-- how many bytes are held in which no line end was searched yet
+abbrev pub ahead_in : State → List ℕ → ℕ
+ahead_in (state.AwaitsLine searched) bytes = length bytes - searched
+ahead_in (state.AwaitsBlock line header) bytes = length bytes - (line + 1)
+ahead_in (state.SwallowsBlock refusal quiet left) bytes = length bytes
+ahead_in state.Ended bytes = 0
+
+-- What is true of a reader's fields. Of the bytes that it was fed, a line end was searched in none
+-- of those that are ahead, unless the count of them has stopped.
+pub record IsReader (lines : Lines) (s : State) (bytes : List ℕ) (fed scanned : ℕ) : Type 0 where
+  pub stands : IsStateOf lines s bytes
+  pub within : scanned ≤ fed
+  pub ahead : (scanned + ahead_in s bytes ≤ fed) ⊎ (fed ≡ 2 ^ 64 - 1)

@@ -1,9 +1,11 @@
 //! A queue of bytes: they are added at the end and taken from the front.
-ghost use Rattle.std.specs.Prelude.{◌≡◌, ℕ, ◌+◌, ◌≤◌, List, [], ◌++◌, drop, length, vec_len, IsOkUnless, OnOk, OnErr};
+ghost use Rattle.std.specs.Prelude.{◌≡◌, ℕ, ◌+◌, ◌≤◌, List, [], ◌++◌, drop, length, take, vec_len, IfOk, IsOkUnless, OnOk, OnErr};
 
+use bytes::Bytes;
 use mc_model::Fault;
 use std::alloc::Global;
 use std::marker::Model;
+use std::mem;
 
 /// How many bytes of memory an empty buffer keeps at most.
 const SPARE_BYTES: usize = 65_536;
@@ -53,6 +55,21 @@ impl Buffer {
         Ok(())
     }
 
+    /// Returns the number of bytes for which there is memory.
+    pub fn capacity(&self) -> usize
+        ensures { length self.now ≤ result }
+    {
+        self.bytes.capacity()
+    }
+
+    /// Makes room for `count` bytes in all, unless the allocation fails.
+    pub fn expect(&mut self, count: usize)
+        ensures { self.new ≡ self.old }
+    {
+        let held = self.bytes.len() - self.taken;
+        let _ = self.bytes.reserve_exact(count.saturating_sub(held));
+    }
+
     /// Removes `count` bytes from the front.
     pub fn advance(&mut self, count: usize)
         requires { count ≤ length self.old }
@@ -75,6 +92,36 @@ impl Buffer {
         self.bytes.clear();
         self.taken = 0;
         self.give_back();
+    }
+
+    /// Removes `count` bytes from the front and returns them without copying them; the memory is
+    /// theirs from then on, and the bytes behind them are copied. Returns `Memory` if an allocation
+    /// fails; the queue is unchanged then.
+    pub fn share_front(&mut self, count: usize) -> Result<Bytes, Fault>
+        requires { count ≤ length self.old }
+        ensures front { IfOk result (λ bytes. bytes ≡ take count self.old) }
+        ensures behind { OnOk result (self.new ≡ drop count self.old) }
+        ensures memory { IsOkUnless result Fault.Memory }
+        ensures unchanged { OnErr result (self.new ≡ self.old) }
+    {
+        let alloc = *self.bytes.allocator();
+        let behind = Vec::from_slice(alloc, &self.bytes[self.taken + count..])?;
+        let bytes = mem::replace(&mut self.bytes, behind);
+        let taken = self.taken;
+        self.taken = 0;
+        match Bytes::from_vec(bytes) {
+            Ok(all) => {
+                let mut all = all;
+                all.advance(taken);
+                all.truncate(count);
+                Ok(all)
+            }
+            Err(failed) => {
+                self.bytes = failed.value;
+                self.taken = taken;
+                Err(Fault::Memory)
+            }
+        }
     }
 
     /// Gives the memory back if the buffer is empty and has more of it than an empty one keeps.

@@ -12,6 +12,7 @@ mod buffer;
 pub mod laws;
 mod line;
 mod reader;
+mod source;
 mod speaker;
 mod storage;
 mod without_block;

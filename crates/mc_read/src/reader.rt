@@ -1,19 +1,19 @@
 //! The reader: what has arrived of the stream and isn't read yet.
 ghost use Rattle.std.specs.Bool.{MatchBool, OnTrue};
 ghost use Rattle.std.specs.Prelude.{◌≡◌, ◌≢◌, ℕ, ◌+◌, ◌-◌, ◌<◌, ◌≤◌, if◌then◌else◌, List, [], ◌++◌, length, take, drop, IfOk, IfSome, IsOk, IsOkUnless, OnOk, OnErr};
-ghost use Rattle.mc_model.specs.declared.item.TheConstants.{DATA_BYTES};
 ghost use Rattle.mc_model.specs.declared.request.Request.{Request};
 ghost use Rattle.mc_read.specs.declared.speaker.Speaker.TheVariants as speakers;
 ghost use Rattle.mc_read.specs.Administering.{lines_spoken};
-ghost use Rattle.mc_read.specs.Reading.{ends_stream, Ended, IsFed, Kept, Swallowing};
-ghost use Rattle.mc_read.specs.State.{EndsInRefusal, IsNextAnswer, IsLineAt, IsSearched, IsSought, IsStateOf, IsTaken, held_in, state_past};
-ghost use Rattle.mc_read.specs.Text.{IsTooLongText, IsUnended, ends_well, stored_if};
+ghost use Rattle.mc_read.specs.Line.{HasLawfulBlock};
+ghost use Rattle.mc_read.specs.Reading.{ends_stream, Ended, IsFed, Kept, Swallowing, raised};
+ghost use Rattle.mc_read.specs.State.{EndsInRefusal, IsAllSearched, IsNextAnswer, IsLineAt, IsSearched, IsStateOf, ahead_in, held_in, line_reach, searched_in, state_past, to_search};
+ghost use Rattle.mc_read.specs.Text.{IsTooLongText, IsUnended, Lines, stored_if};
 
-use crate::buffer::Buffer;
 use crate::line::{Asked, BLOCK_LENGTH, Header, LINE_BYTES, refused};
+use crate::source::Source;
 use crate::speaker::Speaker;
+use bytes::Bytes;
 use mc_model::{Data, Fault, Request, WireNo};
-use memchr::memchr;
 use std::alloc::Global;
 use std::marker::Model;
 use std::mem;
@@ -41,27 +41,13 @@ enum State {
 }
 
 /// What a search for a line found.
-enum Sought {
+pub(crate) enum Sought {
     /// A line of this length.
     Found(usize),
     /// More bytes than a line may have, without a line feed.
     TooLong,
     /// No line feed yet.
     Open,
-}
-
-/// Searches for the end of the first line, which isn't in the first `searched` bytes.
-#[tactic(auto, using(crate::proofs::Lines::line_length_le))]
-fn find_line(bytes: &[u8], searched: usize) -> Sought
-    requires { IsSearched searched bytes.now }
-    ensures { IsSought bytes.now result }
-{
-    let limit = bytes.len().min(LINE_BYTES + 1);
-    match memchr(b'\n', &bytes[searched..limit]) {
-        Some(place) => Sought::Found(searched + place),
-        None if bytes.len() > LINE_BYTES => Sought::TooLong,
-        None => Sought::Open,
-    }
 }
 
 /// Returns whether nothing is read after the request.
@@ -84,59 +70,15 @@ fn stored(header: Header, block: Data, ends_well: bool) -> Request
     }
 }
 
-/// Copies a block out of the bytes after its line, and returns with it whether the two bytes after
-/// it are a line end. Returns `Memory` if the allocation fails.
-fn copy_block(alloc: Global, size: usize, body: &[u8]) -> Result<(Data, bool), Fault>
-    requires small { size ≤ DATA_BYTES }
-    requires whole { length body.now ≡ size + 2 }
-    ensures block { IfOk result (λ copied. copied.0 ≡ take size body.now) }
-    ensures ends_well { IfOk result (λ copied. copied.1 ≡ ends_well (drop size body.now)) }
-    ensures memory { IsOkUnless result Fault.Memory }
-{
-    let ends_well = &body[size..] == b"\r\n".as_slice();
-    match Data::new(Vec::from_slice(alloc, &body[..size])?) {
-        Some(block) => Ok((block, ends_well)),
-        None => unreachable!(),
-    }
-}
-
-/// Removes a line and its block from the front, if the block has arrived whole with the two bytes
-/// after it. Returns a copy of the block, and whether those two are a line end. Returns `Memory` if
-/// the allocation fails; nothing is removed then. Inlined, since a reader fed byte by byte calls it
-/// after each.
-#[inline(always)]
-fn take_block(
-    alloc: Global,
-    buffer: &mut Buffer,
-    line: usize,
-    size: usize,
-) -> Result<Option<(Data, bool)>, Fault>
-    requires line_end { line < length buffer.old }
-    requires small { size ≤ DATA_BYTES }
-    ensures taken { IfOk result (λ taken. IsTaken buffer.old line size taken buffer.new) }
-    ensures memory { IsOkUnless result Fault.Memory }
-    ensures unchanged { OnErr result (buffer.new ≡ buffer.old) }
-{
-    let bytes = buffer.as_slice();
-    let start = line + 1;
-    if bytes.len() - start < size + 2 {
-        return Ok(None);
-    }
-    let end = start + (size + 2);
-    let copied = copy_block(alloc, size, &bytes[start..end])?;
-    buffer.advance(end);
-    Ok(Some(copied))
-}
-
 /// Removes a line from the front, with what has arrived of its refused block and of the two bytes
 /// after it. Returns how many of these are still to come.
-fn swallow(buffer: &mut Buffer, line: usize, size: u64) -> u64
+fn swallow(buffer: &mut Source, line: usize, size: u64) -> u64
     requires line_end { line < length buffer.old }
     requires readable { size ≤ BLOCK_LENGTH }
     ensures left { result ≡ line + 1 + (size + 2) - length buffer.old }
     ensures bytes { buffer.new ≡ drop (line + 1 + (size + 2)) buffer.old }
 {
-    let held = buffer.as_slice().len();
+    let held = buffer.len();
     let start = line + 1;
     let swallowed = (size + 2).min((held - start) as u64);
     buffer.advance(start + swallowed as usize);
@@ -145,7 +87,7 @@ fn swallow(buffer: &mut Buffer, line: usize, size: u64) -> u64
 
 /// Removes a request of `count` bytes from the front, and returns the state in which the reader
 /// goes on. At the end of the stream nothing is kept.
-fn move_on(buffer: &mut Buffer, count: usize, request: &Request) -> State
+fn move_on(buffer: &mut Source, count: usize, request: &Request) -> State
     requires { count ≤ length buffer.old }
     ensures state { result ≡ state_past request.now }
     ensures bytes { buffer.new ≡ (if ends_stream request.now then [] else drop count buffer.old) }
@@ -159,28 +101,35 @@ fn move_on(buffer: &mut Buffer, count: usize, request: &Request) -> State
     }
 }
 
-/// Reads a request at the front of the bytes whose line has this length. Returns it, if it is
-/// whole, and the state in which the reader goes on. Returns `Memory` if an allocation fails;
-/// nothing is removed then.
-fn read_line(
+/// Reads a request at the front of the bytes, given the length of its line and what this asks for.
+/// Returns it, if it is whole, and the state in which the reader goes on. Returns `Memory` if an
+/// allocation fails; nothing is removed then.
+fn read_asked(
     alloc: Global,
     speaker: Speaker,
-    buffer: &mut Buffer,
+    buffer: &mut Source,
     line: usize,
+    asked: Asked,
 ) -> Result<(Option<Request>, State), Fault>
-    requires { IsLineAt buffer.old line }
+    requires line { IsLineAt buffer.old line }
+    requires asked { asked ≡ lines_spoken speaker (take line buffer.old) }
+    requires lawful { HasLawfulBlock asked }
     ensures answer { IfOk result
         (λ step. IsNextAnswer (lines_spoken speaker) (Kept buffer.old) step.0
         (held_in step.1 buffer.new)) }
     ensures state { IfOk result (λ step. IsStateOf (lines_spoken speaker) step.1 buffer.new) }
     ensures end { IfOk result (λ step. IfSome step.0 (λ request. step.1 ≡ state_past request)) }
+    ensures ahead { IfOk result
+        (λ step. line + 1 + ahead_in step.1 buffer.new ≤ length buffer.old) }
+    ensures all { IfOk result
+        (λ step. IsAllSearched step.0 (held_in step.1 buffer.new) (searched_in step.1)) }
     ensures refused { (request : Request) (left : ℕ) →
         EndsInRefusal (lines_spoken speaker) buffer.old request left →
         IfOk result (λ step. held_in step.1 buffer.new ≡ Swallowing request left []) }
     ensures memory { IsOkUnless result Fault.Memory }
     ensures unchanged { OnErr result (buffer.new ≡ buffer.old) }
 {
-    match speaker.ask(alloc, &buffer.as_slice()[..line])? {
+    match asked {
         Asked::LineOnly(request) => {
             let state = move_on(buffer, line + 1, &request);
             Ok((Some(request), state))
@@ -206,26 +155,58 @@ fn read_line(
         }
         Asked::StoredBlock(header) => {
             let size = header.length as usize;
-            match take_block(alloc, buffer, line, size)? {
+            match buffer.take_block(alloc, line, size)? {
                 Some((block, ends_well)) => {
                     let request = stored(header, block, ends_well);
                     Ok((Some(request), State::AwaitsLine { searched: 0 }))
                 }
-                None => Ok((None, State::AwaitsBlock { line, header })),
+                None => {
+                    buffer.expect(line, size);
+                    Ok((None, State::AwaitsBlock { line, header }))
+                }
             }
         }
     }
 }
 
+/// Reads a request at the front of the bytes whose line has this length. Returns it, if it is
+/// whole, and the state in which the reader goes on. Returns `Memory` if an allocation fails;
+/// nothing is removed then.
+fn read_line(
+    alloc: Global,
+    speaker: Speaker,
+    buffer: &mut Source,
+    line: usize,
+) -> Result<(Option<Request>, State), Fault>
+    requires { IsLineAt buffer.old line }
+    ensures answer { IfOk result
+        (λ step. IsNextAnswer (lines_spoken speaker) (Kept buffer.old) step.0
+        (held_in step.1 buffer.new)) }
+    ensures state { IfOk result (λ step. IsStateOf (lines_spoken speaker) step.1 buffer.new) }
+    ensures end { IfOk result (λ step. IfSome step.0 (λ request. step.1 ≡ state_past request)) }
+    ensures ahead { IfOk result
+        (λ step. line + 1 + ahead_in step.1 buffer.new ≤ length buffer.old) }
+    ensures all { IfOk result
+        (λ step. IsAllSearched step.0 (held_in step.1 buffer.new) (searched_in step.1)) }
+    ensures refused { (request : Request) (left : ℕ) →
+        EndsInRefusal (lines_spoken speaker) buffer.old request left →
+        IfOk result (λ step. held_in step.1 buffer.new ≡ Swallowing request left []) }
+    ensures memory { IsOkUnless result Fault.Memory }
+    ensures unchanged { OnErr result (buffer.new ≡ buffer.old) }
+{
+    let asked = buffer.ask(alloc, speaker, line)?;
+    read_asked(alloc, speaker, buffer, line, asked)
+}
+
 /// Reads a request at the front of the bytes, the first `searched` of which hold no line feed.
-/// Returns it, if it is whole, and the state in which the reader goes on. Returns `Memory` if an
-/// allocation fails; nothing is removed then.
+/// Returns it, if it is whole, the state in which the reader goes on, and in how many bytes a line
+/// end was searched. Returns `Memory` if an allocation fails; nothing is removed then.
 fn next_line(
     alloc: Global,
     speaker: Speaker,
-    buffer: &mut Buffer,
+    buffer: &mut Source,
     searched: usize,
-) -> Result<(Option<Request>, State), Fault>
+) -> Result<(Option<Request>, State, usize), Fault>
     requires { IsSearched searched buffer.old }
     ensures answer { IfOk result
         (λ step. IsNextAnswer (lines_spoken speaker) (Kept buffer.old) step.0
@@ -236,23 +217,110 @@ fn next_line(
         EndsInRefusal (lines_spoken speaker) buffer.old request left →
         IfOk result (λ step. held_in step.1 buffer.new ≡ Swallowing request left []) }
     ensures unended { IsUnended buffer.old →
-        result ≡ Ok (None, State.AwaitsLine (length buffer.old)) × (buffer.new ≡ buffer.old) }
+        result ≡ Ok (None, State.AwaitsLine (length buffer.old), length buffer.old - searched)
+        × (buffer.new ≡ buffer.old) }
     ensures too_long { (text more : List ℕ) (request : Request) → buffer.old ≡ text ++ more →
         IsTooLongText text request →
-        result ≡ Ok (Some request, State.Ended) }
+        result ≡ Ok (Some request, State.Ended, LINE_BYTES + 1 - searched) }
+    ensures scanned { IfOk result
+        (λ step. searched + step.2 + ahead_in step.1 buffer.new ≤ length buffer.old) }
+    ensures all { IfOk result
+        (λ step. IsAllSearched step.0 (held_in step.1 buffer.new) (searched_in step.1)) }
+    ensures once { IfOk result (λ step. step.2 ≡ line_reach buffer.old - searched) }
     ensures memory { IsOkUnless result Fault.Memory }
     ensures unchanged { OnErr result (buffer.new ≡ buffer.old) }
 {
-    match find_line(buffer.as_slice(), searched) {
-        Sought::Found(line) => read_line(alloc, speaker, buffer, line),
+    match buffer.find(searched) {
+        Sought::Found(line) => {
+            let (request, state) = read_line(alloc, speaker, buffer, line)?;
+            Ok((request, state, line + 1 - searched))
+        }
         Sought::TooLong => {
             buffer.clear();
-            Ok((Some(Request::TooLong), State::Ended))
+            Ok((
+                Some(Request::TooLong),
+                State::Ended,
+                LINE_BYTES + 1 - searched,
+            ))
         }
         Sought::Open => {
-            let searched = buffer.as_slice().len();
-            Ok((None, State::AwaitsLine { searched }))
+            let held = buffer.len();
+            Ok((None, State::AwaitsLine { searched: held }, held - searched))
         }
+    }
+}
+
+/// Takes the next piece of the stream, of which what is kept may be shared. Returns `Memory` if an
+/// allocation fails; nothing changes then.
+fn take_piece(state: &mut State, buffer: &mut Source, piece: Bytes) -> Result<(), Fault>
+    ensures readings { OnOk result ((lines : Lines) → IsStateOf lines state.old buffer.old →
+        IsFed lines (held_in state.old buffer.old) piece (held_in state.new buffer.new)) }
+    ensures state { (lines : Lines) → IsStateOf lines state.old buffer.old →
+        IsStateOf lines state.new buffer.new }
+    ensures ahead { OnOk result
+        (ahead_in state.new buffer.new ≤ ahead_in state.old buffer.old + length piece) }
+    ensures searched { searched_in state.new ≡ searched_in state.old }
+    ensures memory { IsOkUnless result Fault.Memory }
+    ensures unchanged { OnErr result ((state.new ≡ state.old) × (buffer.new ≡ buffer.old)) }
+    ensures swallowed { (request : Request) (left : ℕ) →
+        held_in state.old buffer.old ≡ Swallowing request left [] → length piece ≤ left →
+        IsOk result
+        × (held_in state.new buffer.new ≡ Swallowing request (left - length piece) []) }
+    ensures ended { held_in state.old buffer.old ≡ Ended → IsOk result
+        × (held_in state.new buffer.new ≡ Ended) }
+{
+    match state {
+        State::AwaitsLine { .. } => buffer.append(piece),
+        State::AwaitsBlock { .. } => buffer.append(piece),
+        State::SwallowsBlock { left, .. } => {
+            let length = piece.len() as u64;
+            if length <= *left {
+                *left -= length;
+                return Ok(());
+            }
+            let mut piece = piece;
+            piece.advance(*left as usize);
+            buffer.append(piece)?;
+            *left = 0;
+            Ok(())
+        }
+        State::Ended => Ok(()),
+    }
+}
+
+/// Takes the next piece of the stream, of which what is kept is copied. Returns `Memory` if an
+/// allocation fails; nothing changes then.
+fn take_slice(state: &mut State, buffer: &mut Source, piece: &[u8]) -> Result<(), Fault>
+    ensures readings { OnOk result ((lines : Lines) → IsStateOf lines state.old buffer.old →
+        IsFed lines (held_in state.old buffer.old) piece.now (held_in state.new buffer.new)) }
+    ensures state { (lines : Lines) → IsStateOf lines state.old buffer.old →
+        IsStateOf lines state.new buffer.new }
+    ensures ahead { OnOk result
+        (ahead_in state.new buffer.new ≤ ahead_in state.old buffer.old + length piece.now) }
+    ensures searched { searched_in state.new ≡ searched_in state.old }
+    ensures memory { IsOkUnless result Fault.Memory }
+    ensures unchanged { OnErr result ((state.new ≡ state.old) × (buffer.new ≡ buffer.old)) }
+    ensures swallowed { (request : Request) (left : ℕ) →
+        held_in state.old buffer.old ≡ Swallowing request left [] → length piece.now ≤ left →
+        IsOk result
+        × (held_in state.new buffer.new ≡ Swallowing request (left - length piece.now) []) }
+    ensures ended { held_in state.old buffer.old ≡ Ended → IsOk result
+        × (held_in state.new buffer.new ≡ Ended) }
+{
+    match state {
+        State::AwaitsLine { .. } => buffer.extend(piece),
+        State::AwaitsBlock { .. } => buffer.extend(piece),
+        State::SwallowsBlock { left, .. } => {
+            let length = piece.len() as u64;
+            if length <= *left {
+                *left -= length;
+                return Ok(());
+            }
+            buffer.extend(&piece[*left as usize..])?;
+            *left = 0;
+            Ok(())
+        }
+        State::Ended => Ok(()),
     }
 }
 
@@ -264,20 +332,24 @@ fn next_line(
 pub struct Reader {
     alloc: Global,
     speaker: Speaker,
-    buffer: Buffer,
+    buffer: Source,
     state: State,
+    /// How many bytes were fed, at most 2^64 - 1.
+    fed: u64,
+    /// In how many of them a line end was searched, at most 2^64 - 1.
+    scanned: u64,
 }
 
 impl Model for Reader {
     ghost use Rattle.mc_read.specs.Administering.{lines_spoken};
     ghost use Rattle.mc_read.specs.Reading.{ReaderView};
-    ghost use Rattle.mc_read.specs.State.{IsStateOf, held_in};
+    ghost use Rattle.mc_read.specs.State.{IsReader, held_in, searched_in};
 
     ghost Value = { ReaderView };
 
-    ghost view = { λ reader. record { speaker = reader.speaker; held = held_in reader.state reader.buffer } };
+    ghost view = { λ reader. record { speaker = reader.speaker; held = held_in reader.state reader.buffer; fed = reader.fed; scanned = reader.scanned; searched = searched_in reader.state } };
 
-    ghost invariant = { λ reader. IsStateOf (lines_spoken reader.speaker) reader.state reader.buffer };
+    ghost invariant = { λ reader. IsReader (lines_spoken reader.speaker) reader.state reader.buffer reader.fed reader.scanned };
 }
 
 impl Reader {
@@ -285,6 +357,7 @@ impl Reader {
     pub fn new(alloc: Global) -> Reader
         ensures speaker { result.speaker ≡ speakers.Tenant }
         ensures held { result.held ≡ Kept [] }
+        ensures none { (result.fed ≡ 0) × (result.scanned ≡ 0) × (result.searched ≡ 0) }
     {
         Reader::of(alloc, Speaker::Tenant)
     }
@@ -293,6 +366,7 @@ impl Reader {
     pub fn admin(alloc: Global) -> Reader
         ensures speaker { result.speaker ≡ speakers.Admin }
         ensures held { result.held ≡ Kept [] }
+        ensures none { (result.fed ≡ 0) × (result.scanned ≡ 0) × (result.searched ≡ 0) }
     {
         Reader::of(alloc, Speaker::Admin)
     }
@@ -301,13 +375,32 @@ impl Reader {
     fn of(alloc: Global, speaker: Speaker) -> Reader
         ensures speaker { result.speaker ≡ speaker }
         ensures held { result.held ≡ Kept [] }
+        ensures none { (result.fed ≡ 0) × (result.scanned ≡ 0) × (result.searched ≡ 0) }
     {
         Reader {
             alloc,
             speaker,
-            buffer: Buffer::new(alloc),
+            buffer: Source::new(alloc),
             state: State::AwaitsLine { searched: 0 },
+            fed: 0,
+            scanned: 0,
         }
+    }
+
+    /// Returns how many bytes were fed, at most 2^64 - 1.
+    pub fn fed(&self) -> u64
+        ensures { result ≡ self.now.fed }
+    {
+        self.fed
+    }
+
+    /// Returns in how many bytes a line end was searched, at most 2^64 - 1: in each byte of a line
+    /// once, and in none of a block.
+    pub fn scanned(&self) -> u64
+        ensures count { result ≡ self.now.scanned }
+        ensures within { self.now.scanned ≤ self.now.fed }
+    {
+        self.scanned
     }
 
     /// Returns whether nothing more is read.
@@ -336,22 +429,44 @@ impl Reader {
             self.old.held ≡ Swallowing request left [] → length piece.now ≤ left →
             IsOk result × (self.new.held ≡ Swallowing request (left - length piece.now) []) }
         ensures ended { self.old.held ≡ Ended → IsOk result × (self.new.held ≡ Ended) }
+
+        // The piece is counted, and nothing is searched.
+        ensures fed { OnOk result (self.new.fed ≡ raised self.old.fed (length piece.now)) }
+        ensures scanned { self.new.scanned ≡ self.old.scanned }
+        ensures searched { self.new.searched ≡ self.old.searched }
+        ensures same { OnErr result (self.new ≡ self.old) }
     {
-        match &mut self.state {
-            State::AwaitsLine { .. } => self.buffer.extend(piece),
-            State::AwaitsBlock { .. } => self.buffer.extend(piece),
-            State::SwallowsBlock { left, .. } => {
-                let length = piece.len() as u64;
-                if length <= *left {
-                    *left -= length;
-                    return Ok(());
-                }
-                self.buffer.extend(&piece[*left as usize..])?;
-                *left = 0;
-                Ok(())
-            }
-            State::Ended => Ok(()),
-        }
+        let fed = self.fed.saturating_add(piece.len() as u64);
+        take_slice(&mut self.state, &mut self.buffer, piece)?;
+        self.fed = fed;
+        Ok(())
+    }
+
+    /// Takes the next piece of the stream, as `feed`. A long block that lies in it shares its
+    /// memory. Returns `Memory` if an allocation fails; the piece isn't taken then.
+    pub fn feed_bytes(&mut self, piece: Bytes) -> Result<(), Fault>
+        ensures readings { OnOk result
+            (IsFed (lines_spoken self.old.speaker) self.old.held piece self.new.held) }
+        ensures speaker { self.new.speaker ≡ self.old.speaker }
+        ensures memory { IsOkUnless result Fault.Memory }
+        ensures unchanged { OnErr result (self.new.held ≡ self.old.held) }
+
+        // Within a refused block, and after the end, it needs no memory.
+        ensures swallowed { (request : Request) (left : ℕ) →
+            self.old.held ≡ Swallowing request left [] → length piece ≤ left →
+            IsOk result × (self.new.held ≡ Swallowing request (left - length piece) []) }
+        ensures ended { self.old.held ≡ Ended → IsOk result × (self.new.held ≡ Ended) }
+
+        // The piece is counted, and nothing is searched.
+        ensures fed { OnOk result (self.new.fed ≡ raised self.old.fed (length piece)) }
+        ensures scanned { self.new.scanned ≡ self.old.scanned }
+        ensures searched { self.new.searched ≡ self.old.searched }
+        ensures same { OnErr result (self.new ≡ self.old) }
+    {
+        let fed = self.fed.saturating_add(piece.len() as u64);
+        take_piece(&mut self.state, &mut self.buffer, piece)?;
+        self.fed = fed;
+        Ok(())
     }
 
     /// Returns the next request, or `None` if no whole request is held. Returns `Memory` if an
@@ -389,21 +504,29 @@ impl Reader {
             result ≡ Ok (Some request) × (self.new.held ≡ Ended) }
         ensures memory { IsOkUnless result Fault.Memory }
         ensures unchanged { OnErr result (self.new.held ≡ self.old.held) }
+
+        // A line end is searched in each byte of a line once, and in none of a block.
+        ensures once { OnOk result (self.new.scanned
+            ≡ raised self.old.scanned (to_search self.old.held self.old.searched)) }
+        ensures all { IfOk result (λ next. IsAllSearched next self.new.held self.new.searched) }
+        ensures fed { self.new.fed ≡ self.old.fed }
+        ensures same { OnErr result (self.new ≡ self.old) }
     {
         match &self.state {
             State::AwaitsLine { searched } => {
-                let (request, state) = next_line(
+                let (request, state, count) = next_line(
                     self.alloc,
                     self.speaker,
                     &mut self.buffer,
                     *searched,
                 )?;
                 self.state = state;
+                self.scanned = self.scanned.saturating_add(count as u64);
                 Ok(request)
             }
             State::AwaitsBlock { line, header } => {
                 let size = header.length as usize;
-                let taken = take_block(self.alloc, &mut self.buffer, *line, size)?;
+                let taken = self.buffer.take_block(self.alloc, *line, size)?;
                 let Some((block, ends_well)) = taken else {
                     return Ok(None);
                 };

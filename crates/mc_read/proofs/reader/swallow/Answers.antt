@@ -4,14 +4,14 @@ use Rattle.std.proofs.lemmas.List.{drop_all}
 use Rattle.mc_read.proofs.reader.swallow.Goals as goal
 
 pub returns-clause-left : goal.returns-clause-left
-returns-clause-left c = omega (arith, c.min-swallowed.ensures, ap length c.as_slice-held.ensures, c.requires.line_end)
+returns-clause-left c = omega (arith, c.min-swallowed.ensures, c.len-held.ensures, c.requires.line_end)
 
 pub returns-clause-bytes : goal.returns-clause-bytes
 returns-clause-bytes c =
     let bytes = c.args.buffer.now in
     let line = c.args.line in
     let size = c.args.size in
-    let held = ap length c.as_slice-held.ensures in
+    let held = c.len-held.ensures in
     c.advance.ensures
     ∙ ⊎_elim
     (λ partial. drop_all _ bytes (omega (arith, c.min-swallowed.ensures, held, c.requires.line_end, partial)) ∙ sym (drop_all _ bytes (omega (arith, held, c.requires.line_end, partial))))

@@ -1,38 +1,23 @@
-use Rattle.std.proofs.Common.{inl, inr, ◌≡◌, ◌-◌, ◌<◌, [], length, refl, sym, ◌∙◌, ap, subst}
+use Rattle.std.proofs.Common.{◌≡◌, sym, ◌∙◌, refl, ap, subst, arith, rules}
+use Rattle.std.proofs.lemmas.Bool.{false≢true}
 use Rattle.mc_read.specs.Administering.{lines_spoken}
-use Rattle.mc_read.specs.Line.{refused}
-use Rattle.mc_read.specs.Reading.{IsFed, Swallowing}
-use Rattle.mc_read.specs.State.{IsStateOf, held_in}
-use Rattle.mc_read.proofs.States.{fed_refused, fewer, on_err, state_more}
+use Rattle.mc_read.specs.Reading.{IsFed}
+use Rattle.mc_read.specs.State.{held_in}
 use Rattle.mc_read.proofs.reader.Reader.feed.Goals as goal
 
-pub returns-then-length-left-clause-readings : goal.returns-then-length-left-clause-readings
-returns-then-length-left-clause-readings c =
-    let bytes = c.self.inside.buffer in
-    let request = refused c.in-SwallowsBlock.refusal c.in-SwallowsBlock.quiet in
-    let empty : 0 < c.in-SwallowsBlock.left → bytes ≡ [] = subst (λ s. IsStateOf (lines_spoken c.self.inside.speaker) s bytes) c.in-SwallowsBlock.is c.self.invariant in
-    let held : Swallowing request c.in-SwallowsBlock.left bytes ≡ c.args.self.now.held = ap (λ s. held_in s bytes) (sym c.in-SwallowsBlock.is) ∙ ap (λ view. view.held) c.self.view_is in
-    let after = Swallowing request (c.in-SwallowsBlock.left - length c.args.piece.now) bytes in
+pub returns-clause-readings : goal.returns-clause-readings
+returns-clause-readings c =
+    let after = held_in c.take_slice.new.state c.take_slice.new.buffer in
+    let readings = c.in_ok-take_slice.ensures.readings (lines_spoken c.self.inside.speaker) c.self.invariant.stands in
     subst (λ s. IsFed (lines_spoken s) c.args.self.now.held c.args.piece.now after) (ap (λ view. view.speaker) c.self.view_is)
-    (subst (λ h. IsFed (lines_spoken c.self.inside.speaker) h c.args.piece.now after) held
-    (fed_refused (lines_spoken c.self.inside.speaker) request c.in-SwallowsBlock.left bytes c.args.piece.now empty c.if-length-left.true))
+    (subst (λ h. IsFed (lines_spoken c.self.inside.speaker) h c.args.piece.now after) (ap (λ view. view.held) c.self.view_is) readings)
 
-pub invariant_of-self : goal.invariant_of-self
-invariant_of-self c =
-    state_more (lines_spoken c.self.inside.speaker) c.self.inside.state c.self.inside.buffer c.args.piece.now _ c.extend.result (inl (_, c.in-AwaitsLine.is)) c.self.invariant c.extend.ensures.bytes c.extend.ensures.unchanged
+pub returns-clause-swallowed : goal.returns-clause-swallowed
+returns-clause-swallowed c = λ request left is_held short.
+    let held = c.in_ok-take_slice.ensures.swallowed request left (ap (λ view. view.held) c.self.view_is ∙ is_held) short in
+    (refl, held.1)
 
-pub invariant_of-self-in-AwaitsBlock : goal.invariant_of-self-in-AwaitsBlock
-invariant_of-self-in-AwaitsBlock c =
-    state_more (lines_spoken c.self.inside.speaker) c.self.inside.state c.self.inside.buffer c.args.piece.now _ c.extend-in-AwaitsBlock.result (inr (_, _, c.in-AwaitsBlock.is)) c.self.invariant c.extend-in-AwaitsBlock.ensures.bytes c.extend-in-AwaitsBlock.ensures.unchanged
-
-pub returns-then-length-left-clause-swallowed : goal.returns-then-length-left-clause-swallowed
-returns-then-length-left-clause-swallowed c = λ request left is_held short.
-    let bytes = c.self.inside.buffer in
-    let held = ap (λ s. held_in s bytes) (sym c.in-SwallowsBlock.is) ∙ (ap (λ view. view.held) c.self.view_is ∙ is_held) in
-    (refl, ap (fewer (length c.args.piece.now)) held)
-
-pub returns-in_err-extend-in-SwallowsBlock-clause-unchanged : goal.returns-in_err-extend-in-SwallowsBlock-clause-unchanged
-returns-in_err-extend-in-SwallowsBlock-clause-unchanged c =
-    let block = c.in-SwallowsBlock in
-    let same = c.in_err-extend-in-SwallowsBlock.ensures.unchanged in
-    on_err c.from_residual.result (ap (λ bytes. Swallowing (refused block.refusal block.quiet) block.left bytes) same ∙ (ap (λ s. held_in s c.self.inside.buffer) (sym block.is) ∙ ap (λ view. view.held) c.self.view_is))
+pub returns-in_err-take_slice-clause-swallowed : goal.returns-in_err-take_slice-clause-swallowed
+returns-in_err-take_slice-clause-swallowed c = λ request left is_held short.
+    let held = c.in_err-take_slice.ensures.swallowed request left (ap (λ view. view.held) c.self.view_is ∙ is_held) short in
+    absurd (false≢true held.0)

@@ -19,17 +19,17 @@ returns-in_ok-request-in-AwaitsLine-clause-refused c = λ bytes request left is_
 
 pub returns-in_err-taken-in-AwaitsBlock-clause-unended : goal.returns-in_err-taken-in-AwaitsBlock-clause-unended
 returns-in_err-taken-in-AwaitsBlock-clause-unended c = λ bytes is_held is.
-    absurd (not_unended bytes c.in-AwaitsBlock.line (line_of_block (lines_spoken c.self.inside.speaker) c.self.inside.state c.self.inside.buffer c.in-AwaitsBlock.line c.in-AwaitsBlock.header bytes c.in-AwaitsBlock.is c.self.invariant (ap (λ view. view.held) c.self.view_is ∙ is_held)) is)
+    absurd (not_unended bytes c.in-AwaitsBlock.line (line_of_block (lines_spoken c.self.inside.speaker) c.self.inside.state c.self.inside.buffer c.in-AwaitsBlock.line c.in-AwaitsBlock.header bytes c.in-AwaitsBlock.is c.self.invariant.stands (ap (λ view. view.held) c.self.view_is ∙ is_held)) is)
 
 pub returns-in_err-taken-in-AwaitsBlock-clause-too_long : goal.returns-in_err-taken-in-AwaitsBlock-clause-too_long
 returns-in_err-taken-in-AwaitsBlock-clause-too_long c = λ text more request is_held is.
-    absurd (not_too_long (text ++ more) c.in-AwaitsBlock.line (line_of_block (lines_spoken c.self.inside.speaker) c.self.inside.state c.self.inside.buffer c.in-AwaitsBlock.line c.in-AwaitsBlock.header (text ++ more) c.in-AwaitsBlock.is c.self.invariant (ap (λ view. view.held) c.self.view_is ∙ is_held)) text more request refl is)
+    absurd (not_too_long (text ++ more) c.in-AwaitsBlock.line (line_of_block (lines_spoken c.self.inside.speaker) c.self.inside.state c.self.inside.buffer c.in-AwaitsBlock.line c.in-AwaitsBlock.header (text ++ more) c.in-AwaitsBlock.is c.self.invariant.stands (ap (λ view. view.held) c.self.view_is ∙ is_held)) text more request refl is)
 
 pub returns-in_default-clause-answer : goal.returns-in_default-clause-answer
 returns-in_default-clause-answer c =
     let bytes = c.self.inside.buffer in
-    let is : IsStateOf (lines_spoken c.self.inside.speaker) (state.AwaitsBlock c.in-AwaitsBlock.line c.in-AwaitsBlock.header) bytes = subst (λ s. IsStateOf (lines_spoken c.self.inside.speaker) s bytes) c.in-AwaitsBlock.is c.self.invariant in
-    let left = c.take_block.new.buffer in
+    let is : IsStateOf (lines_spoken c.self.inside.speaker) (state.AwaitsBlock c.in-AwaitsBlock.line c.in-AwaitsBlock.header) bytes = subst (λ s. IsStateOf (lines_spoken c.self.inside.speaker) s bytes) c.in-AwaitsBlock.is c.self.invariant.stands in
+    let left = c.take_block.new.self in
     let held : Kept bytes ≡ c.args.self.now.held = ap (λ s. held_in s bytes) (sym c.in-AwaitsBlock.is) ∙ ap (λ view. view.held) c.self.view_is in
     let after : Kept left ≡ held_in c.self.inside.state left = ap (λ s. held_in s left) (sym c.in-AwaitsBlock.is) in
     let answer = answer_awaited (lines_spoken c.self.inside.speaker) bytes c.in-AwaitsBlock.line is.0 c.in-AwaitsBlock.header is.1 is.2 left (rw c.in_default.is at c.in_ok-taken-in-AwaitsBlock.ensures.taken) in
@@ -38,14 +38,14 @@ returns-in_default-clause-answer c =
 
 pub returns-in_default-clause-too_long : goal.returns-in_default-clause-too_long
 returns-in_default-clause-too_long c = λ text more request is_held is.
-    absurd (not_too_long (text ++ more) c.in-AwaitsBlock.line (line_of_block (lines_spoken c.self.inside.speaker) c.self.inside.state c.self.inside.buffer c.in-AwaitsBlock.line c.in-AwaitsBlock.header (text ++ more) c.in-AwaitsBlock.is c.self.invariant (ap (λ view. view.held) c.self.view_is ∙ is_held)) text more request refl is)
+    absurd (not_too_long (text ++ more) c.in-AwaitsBlock.line (line_of_block (lines_spoken c.self.inside.speaker) c.self.inside.state c.self.inside.buffer c.in-AwaitsBlock.line c.in-AwaitsBlock.header (text ++ more) c.in-AwaitsBlock.is c.self.invariant.stands (ap (λ view. view.held) c.self.view_is ∙ is_held)) text more request refl is)
 
 pub returns-in-AwaitsBlock-replace-clause-answer : goal.returns-in-AwaitsBlock-replace-clause-answer
 returns-in-AwaitsBlock-replace-clause-answer c =
     let bytes = c.self.inside.buffer in
     let header = c.in-AwaitsBlock.header in
-    let is : IsStateOf (lines_spoken c.self.inside.speaker) (state.AwaitsBlock c.in-AwaitsBlock.line header) bytes = subst (λ s. IsStateOf (lines_spoken c.self.inside.speaker) s bytes) c.in-AwaitsBlock.is c.self.invariant in
-    let left = c.take_block.new.buffer in
+    let is : IsStateOf (lines_spoken c.self.inside.speaker) (state.AwaitsBlock c.in-AwaitsBlock.line header) bytes = subst (λ s. IsStateOf (lines_spoken c.self.inside.speaker) s bytes) c.in-AwaitsBlock.is c.self.invariant.stands in
+    let left = c.take_block.new.self in
     let held : Kept bytes ≡ c.args.self.now.held = ap (λ s. held_in s bytes) (sym c.in-AwaitsBlock.is) ∙ ap (λ view. view.held) c.self.view_is in
     let after : Kept left ≡ held_in c.replace.new.dest left = ap (λ s. held_in s left) (sym c.replace.ensures.after) in
     let same_state : state.AwaitsBlock c.in-AwaitsBlock-replace.line c.in-AwaitsBlock-replace.header ≡ state.AwaitsBlock c.in-AwaitsBlock.line header = sym c.in-AwaitsBlock-replace.is ∙ (c.replace.ensures.value ∙ c.in-AwaitsBlock.is) in
@@ -58,11 +58,11 @@ returns-in-AwaitsBlock-replace-clause-answer c =
 
 pub returns-in-AwaitsBlock-replace-clause-unended : goal.returns-in-AwaitsBlock-replace-clause-unended
 returns-in-AwaitsBlock-replace-clause-unended c = λ bytes is_held is.
-    absurd (not_unended bytes c.in-AwaitsBlock.line (line_of_block (lines_spoken c.self.inside.speaker) c.self.inside.state c.self.inside.buffer c.in-AwaitsBlock.line c.in-AwaitsBlock.header bytes c.in-AwaitsBlock.is c.self.invariant (ap (λ view. view.held) c.self.view_is ∙ is_held)) is)
+    absurd (not_unended bytes c.in-AwaitsBlock.line (line_of_block (lines_spoken c.self.inside.speaker) c.self.inside.state c.self.inside.buffer c.in-AwaitsBlock.line c.in-AwaitsBlock.header bytes c.in-AwaitsBlock.is c.self.invariant.stands (ap (λ view. view.held) c.self.view_is ∙ is_held)) is)
 
 pub returns-in-AwaitsBlock-replace-clause-too_long : goal.returns-in-AwaitsBlock-replace-clause-too_long
 returns-in-AwaitsBlock-replace-clause-too_long c = λ text more request is_held is.
-    absurd (not_too_long (text ++ more) c.in-AwaitsBlock.line (line_of_block (lines_spoken c.self.inside.speaker) c.self.inside.state c.self.inside.buffer c.in-AwaitsBlock.line c.in-AwaitsBlock.header (text ++ more) c.in-AwaitsBlock.is c.self.invariant (ap (λ view. view.held) c.self.view_is ∙ is_held)) text more request refl is)
+    absurd (not_too_long (text ++ more) c.in-AwaitsBlock.line (line_of_block (lines_spoken c.self.inside.speaker) c.self.inside.state c.self.inside.buffer c.in-AwaitsBlock.line c.in-AwaitsBlock.header (text ++ more) c.in-AwaitsBlock.is c.self.invariant.stands (ap (λ view. view.held) c.self.view_is ∙ is_held)) text more request refl is)
 
 pub returns-in_ok-request-in-AwaitsLine-clause-answer : goal.returns-in_ok-request-in-AwaitsLine-clause-answer
 returns-in_ok-request-in-AwaitsLine-clause-answer c =
@@ -75,7 +75,7 @@ pub returns-in_ok-request-in-AwaitsLine-clause-too_long : goal.returns-in_ok-req
 returns-in_ok-request-in-AwaitsLine-clause-too_long c = λ text more request is_held is.
     let step = c.in_ok-request-in-AwaitsLine in
     let kept : Kept c.self.inside.buffer ≡ Kept (text ++ more) = ap (λ s. held_in s c.self.inside.buffer) (sym c.in-AwaitsLine.is) ∙ (ap (λ view. view.held) c.self.view_is ∙ is_held) in
-    let parts = step_parts step.request (Some request) step.state state.Ended (step.ensures.too_long text more request (kept_bytes _ _ kept) is) in
+    let parts = step_parts step.request (Some request) step.state state.Ended step.count _ (step.ensures.too_long text more request (kept_bytes _ _ kept) is) in
     (ap Ok parts.0, ap (λ s. held_in s c.next_line.new.buffer) parts.1)
 
 pub returns-in-SwallowsBlock-2-clause-answer : goal.returns-in-SwallowsBlock-2-clause-answer

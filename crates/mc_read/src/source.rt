@@ -1,0 +1,312 @@
+//! The bytes that have arrived and aren't read yet.
+ghost use Rattle.std.specs.Prelude.{◌≡◌, ℕ, ◌+◌, ◌-◌, ◌<◌, ◌≤◌, List, [], ◌++◌, drop, length, take, IfOk, IsOkUnless, OnOk, OnErr};
+ghost use Rattle.memchr.specs.Find.{IsFirstByte, is_byte};
+ghost use Rattle.mc_model.specs.declared.item.TheConstants.{DATA_BYTES};
+ghost use Rattle.mc_read.specs.Administering.{lines_spoken};
+ghost use Rattle.mc_read.specs.Line.{HasLawfulBlock};
+ghost use Rattle.mc_read.specs.State.{IsLineAt, IsSearched, IsSought, IsTaken};
+ghost use Rattle.mc_read.specs.Text.{ends_well};
+
+use crate::buffer::Buffer;
+use crate::line::{Asked, LINE_BYTES};
+use crate::reader::Sought;
+use crate::speaker::Speaker;
+use bytes::Bytes;
+use mc_model::{Data, Fault};
+use memchr::memchr;
+use std::alloc::Global;
+use std::marker::Model;
+
+/// The least number of bytes of a block that shares the memory in which it arrived.
+const SHARED_BYTES: usize = 4_096;
+
+/// The most bytes for which an awaited block has room behind it.
+const SPARE_BYTES: usize = 16_384;
+
+/// The piece that arrived last, and before it what is left of the pieces before. If requests are
+/// asked for after each piece, this is no more than a request that goes on in the last piece.
+#[derive(Debug, Drop)]
+pub struct Source {
+    rest: Buffer,
+    piece: Bytes,
+}
+
+impl Model for Source {
+    ghost use Rattle.std.specs.Prelude.{ℕ, List, ◌++◌};
+
+    ghost Value = { List ℕ };
+
+    ghost view = { λ source. source.rest ++ source.piece };
+}
+
+/// Returns the place of the first line feed from `start` up to the limit, counted from `start`.
+fn find_in(bytes: &[u8], start: usize, limit: usize) -> Option<usize>
+    requires { (start ≤ limit) × (limit ≤ length bytes.now) }
+    ensures { IsFirstByte (is_byte 10) (take (limit - start) (drop start bytes.now)) result }
+{
+    memchr(b'\n', &bytes[start..limit])
+}
+
+/// Searches the piece behind the rest for the end of the first line, which isn't in the rest and
+/// the first `searched` bytes.
+fn find_behind(rest: &[u8], piece: &[u8], searched: usize) -> Sought
+    requires searched { IsSearched searched (rest.now ++ piece.now) }
+    requires behind { length rest.now ≤ searched }
+    ensures { IsSought (rest.now ++ piece.now) result }
+{
+    let held = rest.len();
+    let limit = piece.len().min(LINE_BYTES + 1 - held);
+    match find_in(piece, searched - held, limit) {
+        Some(place) => Sought::Found(searched + place),
+        None if piece.len() > LINE_BYTES - held => Sought::TooLong,
+        None => Sought::Open,
+    }
+}
+
+/// Searches for the end of the first line, which isn't in the first `searched` bytes.
+fn find_line(rest: &[u8], piece: &[u8], searched: usize) -> Sought
+    requires { IsSearched searched (rest.now ++ piece.now) }
+    ensures { IsSought (rest.now ++ piece.now) result }
+{
+    if rest.len() <= searched {
+        return find_behind(rest, piece, searched);
+    }
+    let limit = rest.len().min(LINE_BYTES + 1);
+    match find_in(rest, searched, limit) {
+        Some(place) => Sought::Found(searched + place),
+        None if rest.len() > LINE_BYTES => Sought::TooLong,
+        None => find_behind(rest, piece, rest.len()),
+    }
+}
+
+impl Source {
+    /// Returns a source without bytes. Allocates nothing.
+    pub fn new(alloc: Global) -> Source
+        ensures { result ≡ [] }
+    {
+        Source {
+            rest: Buffer::new(alloc),
+            piece: Bytes::new(),
+        }
+    }
+
+    /// Returns the number of bytes.
+    pub fn len(&self) -> usize
+        ensures { result ≡ length self.now }
+    {
+        self.rest.as_slice().len() + self.piece.len()
+    }
+
+    /// Appends a piece, which is shared; what is left of the piece before is copied. Returns
+    /// `Memory` if an allocation fails; nothing changes then.
+    pub fn append(&mut self, piece: Bytes) -> Result<(), Fault>
+        ensures bytes { OnOk result (self.new ≡ self.old ++ piece) }
+        ensures memory { IsOkUnless result Fault.Memory }
+        ensures unchanged { OnErr result (self.new ≡ self.old) }
+    {
+        if piece.len() < SHARED_BYTES {
+            return self.extend(piece.as_slice());
+        }
+        if !self.piece.is_empty() {
+            self.rest.extend(self.piece.as_slice())?;
+        }
+        self.piece = piece;
+        Ok(())
+    }
+
+    /// Appends a copy of a piece. Returns `Memory` if an allocation fails; nothing is appended then.
+    pub fn extend(&mut self, piece: &[u8]) -> Result<(), Fault>
+        ensures bytes { OnOk result (self.new ≡ self.old ++ piece.now) }
+        ensures memory { IsOkUnless result Fault.Memory }
+        ensures unchanged { OnErr result (self.new ≡ self.old) }
+    {
+        if !self.piece.is_empty() {
+            self.rest.extend(self.piece.as_slice())?;
+            self.piece = Bytes::new();
+        }
+        self.rest.extend(piece)
+    }
+
+    /// Makes room for a line and an awaited block of this size, unless the allocation fails.
+    pub fn expect(&mut self, line: usize, size: usize)
+        requires { (line ≤ LINE_BYTES) × (size ≤ DATA_BYTES) }
+        ensures { self.new ≡ self.old }
+    {
+        if size >= SHARED_BYTES {
+            self.rest.expect(line + size + (size / 2).min(SPARE_BYTES));
+        }
+    }
+
+    /// Removes `count` bytes from the front.
+    pub fn advance(&mut self, count: usize)
+        requires { count ≤ length self.old }
+        ensures { self.new ≡ drop count self.old }
+    {
+        let held = self.rest.as_slice().len();
+        if count < held {
+            self.rest.advance(count);
+            return;
+        }
+        self.rest.clear();
+        if count - held < self.piece.len() {
+            self.piece.advance(count - held);
+        } else if !self.piece.is_empty() {
+            self.piece = Bytes::new();
+        }
+    }
+
+    /// Removes all bytes.
+    pub fn clear(&mut self)
+        ensures { self.new ≡ [] }
+    {
+        self.rest.clear();
+        self.piece = Bytes::new();
+    }
+
+    /// Moves bytes from the front of the piece to the end of the rest, until this has `count`.
+    /// Returns `Memory` if an allocation fails; nothing changes then.
+    fn gather(rest: &mut Buffer, piece: &mut Bytes, count: usize) -> Result<(), Fault>
+        requires { count ≤ length rest.old + length piece.old }
+        ensures same { rest.new ++ piece.new ≡ rest.old ++ piece.old }
+        ensures count { OnOk result (count ≤ length rest.new) }
+        ensures least { OnOk result (length rest.old ≤ count → length rest.new ≡ count) }
+        ensures memory { IsOkUnless result Fault.Memory }
+    {
+        let held = rest.as_slice().len();
+        if held < count {
+            rest.extend(&piece.as_slice()[..count - held])?;
+            piece.advance(count - held);
+        }
+        Ok(())
+    }
+
+    /// Searches for the end of the first line, which isn't in the first `searched` bytes.
+    pub fn find(&self, searched: usize) -> Sought
+        requires { IsSearched searched self.now }
+        ensures { IsSought self.now result }
+    {
+        find_line(self.rest.as_slice(), self.piece.as_slice(), searched)
+    }
+
+    /// Returns what the first line asks for, which has this length. Returns `Memory` if an
+    /// allocation fails.
+    pub fn ask(&mut self, alloc: Global, speaker: Speaker, line: usize) -> Result<Asked, Fault>
+        requires { IsLineAt self.old line }
+        ensures asked { IfOk result (λ asked. asked ≡ lines_spoken speaker (take line self.old)) }
+        ensures lawful { IfOk result HasLawfulBlock }
+        ensures memory { IsOkUnless result Fault.Memory }
+        ensures same { self.new ≡ self.old }
+    {
+        let held = self.rest.as_slice().len();
+        if held == 0 {
+            return speaker.ask(alloc, &self.piece.as_slice()[..line]);
+        }
+        Source::gather(&mut self.rest, &mut self.piece, line + 1)?;
+        speaker.ask(alloc, &self.rest.as_slice()[..line])
+    }
+
+    /// Removes a line and its block from the front, if the block has arrived whole with the two
+    /// bytes after it. Returns the block, and whether those two are a line end. Returns `Memory` if
+    /// an allocation fails; nothing is removed then.
+    pub fn take_block(
+        &mut self,
+        alloc: Global,
+        line: usize,
+        size: usize,
+    ) -> Result<Option<(Data, bool)>, Fault>
+        requires line_end { line < length self.old }
+        requires small { size ≤ DATA_BYTES }
+        ensures taken { IfOk result (λ taken. IsTaken self.old line size taken self.new) }
+        ensures memory { IsOkUnless result Fault.Memory }
+        ensures unchanged { OnErr result (self.new ≡ self.old) }
+    {
+        let held = self.len();
+        let start = line + 1;
+        if held - start < size + 2 {
+            return Ok(None);
+        }
+        let end = start + (size + 2);
+        let block = if self.rest.as_slice().is_empty() {
+            block_of_piece(alloc, &self.piece, start, size)?
+        } else {
+            Source::gather(&mut self.rest, &mut self.piece, end)?;
+            if (size >= SHARED_BYTES) & (self.rest.capacity() / 2 <= size) {
+                return Ok(Some(block_of_rest(&mut self.rest, start, size)?));
+            }
+            copy_block(alloc, size, &self.rest.as_slice()[start..end])?
+        };
+        self.advance(end);
+        Ok(Some(block))
+    }
+}
+
+/// Copies a block out of the bytes after its line, and returns with it whether the two bytes after
+/// it are a line end. Returns `Memory` if the allocation fails.
+fn copy_block(alloc: Global, size: usize, body: &[u8]) -> Result<(Data, bool), Fault>
+    requires small { size ≤ DATA_BYTES }
+    requires whole { length body.now ≡ size + 2 }
+    ensures block { IfOk result (λ copied. copied.0 ≡ take size body.now) }
+    ensures ends_well { IfOk result (λ copied. copied.1 ≡ ends_well (drop size body.now)) }
+    ensures memory { IsOkUnless result Fault.Memory }
+{
+    let ends_well = &body[size..] == b"\r\n".as_slice();
+    match Data::new(Vec::from_slice(alloc, &body[..size])?) {
+        Some(block) => Ok((block, ends_well)),
+        None => unreachable!(),
+    }
+}
+
+/// Returns the block that follows a line in a piece, with whether the two bytes after it are a line
+/// end. A long block shares the piece; a short one is copied, so that it doesn't keep the piece in
+/// memory. Returns `Memory` if an allocation fails.
+fn block_of_piece(
+    alloc: Global,
+    piece: &Bytes,
+    start: usize,
+    size: usize,
+) -> Result<(Data, bool), Fault>
+    requires small { size ≤ DATA_BYTES }
+    requires whole { start + (size + 2) ≤ length piece.now }
+    ensures block { IfOk result
+        (λ given. given.0 ≡ take size (take (size + 2) (drop start piece.now))) }
+    ensures ends_well { IfOk result
+        (λ given. given.1 ≡ ends_well (drop size (take (size + 2) (drop start piece.now)))) }
+    ensures memory { IsOkUnless result Fault.Memory }
+{
+    let body = &piece.as_slice()[start..start + (size + 2)];
+    if size < SHARED_BYTES {
+        return copy_block(alloc, size, body);
+    }
+    let ends_well = &body[size..] == b"\r\n".as_slice();
+    match Data::from_bytes(piece.slice(start..start + size)?) {
+        Some(block) => Ok((block, ends_well)),
+        None => unreachable!(),
+    }
+}
+
+/// Removes a line and its block from the front, without copying the block. Returns it, with whether
+/// the two bytes after it are a line end. Returns `Memory` if an allocation fails; nothing is
+/// removed then.
+fn block_of_rest(rest: &mut Buffer, start: usize, size: usize) -> Result<(Data, bool), Fault>
+    requires small { size ≤ DATA_BYTES }
+    requires whole { start + (size + 2) ≤ length rest.old }
+    ensures block { IfOk result
+        (λ taken. taken.0 ≡ take size (take (size + 2) (drop start rest.old))) }
+    ensures ends_well { IfOk result
+        (λ taken. taken.1 ≡ ends_well (drop size (take (size + 2) (drop start rest.old)))) }
+    ensures left { OnOk result (rest.new ≡ drop (start + (size + 2)) rest.old) }
+    ensures memory { IsOkUnless result Fault.Memory }
+    ensures unchanged { OnErr result (rest.new ≡ rest.old) }
+{
+    let bytes = rest.as_slice();
+    let end = start + (size + 2);
+    let body = &bytes[start..end];
+    let ends_well = &body[size..] == b"\r\n".as_slice();
+    let mut block = rest.share_front(end)?;
+    block.advance(start);
+    block.truncate(size);
+    match Data::from_bytes(block) {
+        Some(block) => Ok((block, ends_well)),
+        None => unreachable!(),
+    }
+}
