@@ -6,23 +6,38 @@ ghost use Rattle.std.specs.Prelude.{◌≡◌, ℕ, ◌≤◌, List, length, nat
 ghost use Rattle.mc_model.specs.declared.item.TheConstants.{DATA_BYTES};
 
 use crate::Fault;
+use bytes::Bytes;
 use std::marker::Model;
 
 /// The largest number of bytes in a data block.
 pub const DATA_BYTES: usize = 1_048_576;
 
+/// Where a block's bytes are.
+#[derive(Debug, Drop)]
+enum Octets {
+    /// In a vector of the block's own.
+    Owned(Vec<u8>),
+    /// In a buffer that others may share.
+    Shared(Bytes),
+}
+
 /// A data block: any bytes, at most `DATA_BYTES` of them.
 #[derive(Debug, Drop)]
 pub struct Data {
-    bytes: Vec<u8>,
+    octets: Octets,
 }
 
 impl Model for Data {
+    ghost use Rattle.std.specs.Prelude.{ℕ, ◌≤◌, List, length};
+    ghost use Rattle.mc_model.specs.declared.item.TheConstants.{DATA_BYTES};
+
     ghost Value = { List ℕ };
 
-    ghost view = { λ block. block.bytes.items };
+    ghost use Rattle.mc_model.specs.Octets.{bytes_of};
 
-    ghost invariant = { λ block. vec_len block.bytes ≤ DATA_BYTES };
+    ghost view = { λ block. bytes_of block.octets };
+
+    ghost invariant = { λ block. length (bytes_of block.octets) ≤ DATA_BYTES };
 }
 
 impl Data {
@@ -31,10 +46,25 @@ impl Data {
         ensures { SomeIff result (vec_len bytes ≤ DATA_BYTES) bytes.items }
     {
         if bytes.len() <= DATA_BYTES {
-            Some(Data { bytes })
+            Some(Data {
+                octets: Octets::Owned(bytes),
+            })
         } else {
             None
         }
+    }
+
+    /// Returns the block of these bytes, which it shares, or `None` if there are more than
+    /// `DATA_BYTES`. Allocates nothing.
+    pub fn from_bytes(bytes: Bytes) -> Option<Data>
+        ensures { SomeIff result (length bytes ≤ DATA_BYTES) bytes }
+    {
+        if bytes.len() > DATA_BYTES {
+            return None;
+        }
+        Some(Data {
+            octets: Octets::Shared(bytes),
+        })
     }
 
     /// Returns the block's bytes.
@@ -42,17 +72,23 @@ impl Data {
         ensures value { result.now ≡ self.now }
         ensures few { length self.now ≤ DATA_BYTES }
     {
-        self.bytes.as_slice()
+        match &self.octets {
+            Octets::Owned(bytes) => bytes.as_slice(),
+            Octets::Shared(bytes) => bytes.as_slice(),
+        }
     }
 
-    /// Returns a copy of the block. Returns `Memory` if the allocation fails.
+    /// Returns a copy of the block, which shares a shared block's bytes. Returns `Memory` if the
+    /// allocation fails.
     pub fn try_clone(&self) -> Result<Data, Fault>
         ensures block { IfOk result (λ block. block ≡ self.now) }
         ensures memory { IsOkUnless result Fault.Memory }
     {
-        Ok(Data {
-            bytes: Vec::from_slice(*self.bytes.allocator(), &self.bytes)?,
-        })
+        let octets = match &self.octets {
+            Octets::Owned(bytes) => Octets::Owned(Vec::from_slice(*bytes.allocator(), bytes)?),
+            Octets::Shared(bytes) => Octets::Shared(bytes.clone()?),
+        };
+        Ok(Data { octets })
     }
 }
 
@@ -62,7 +98,7 @@ impl PartialEq for Data {
     ghost laws = { partial_equiv_from_equiv nat_list_eq_equiv };
 
     fn eq(&self, other: &Data) -> bool {
-        self.bytes == other.bytes
+        self.as_bytes() == other.as_bytes()
     }
 }
 
