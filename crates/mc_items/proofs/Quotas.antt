@@ -1,9 +1,9 @@
 -- What a table counts for in total, and what its quotas allow.
-use Rattle.std.proofs.Common.{◌≡◌, ℕ, ◌+◌, ◌-◌, ◌≤◌, ◌<◌, ◌&&◌, Bool, true, false, T, nat_le, nat_lt, cond, if◌then◌else◌, List, length, Result, Ok, Err, Some, None, refl, sym, ap, subst, ◌∙◌, arith}
+use Rattle.std.proofs.Common.{◌≡◌, ℕ, ◌+◌, ◌-◌, ◌≤◌, ◌&&◌, Bool, true, false, T, nat_le, nat_lt, cond, if◌then◌else◌, List, length, Result, Ok, Err, Some, None, refl, sym, ap, subst, ◌∙◌, arith}
 use Rattle.std.proofs.lemmas.Grind.{common_steps}
 use Rattle.std.proofs.lemmas.Option.{none-some, same_Some}
 use Rattle.std.specs.FinMap as map
-use Rattle.std.specs.FinMap.{len-empty, len-insert}
+use Rattle.std.specs.FinMap.{len-insert}
 use Rattle.std.specs.Option.{is_some, option_map, unwrap_or}
 use Rattle.std.specs.Prelude.{Option, is_ok}
 use Rattle.std.specs.Result.{result_unwrap_or}
@@ -15,8 +15,8 @@ use Rattle.mc_model.specs.declared.reply.TheConstants.WireNo.{NO_ROOM, TOO_LARGE
 use Rattle.mc_model.specs.declared.reply.WireNo.{WireNo}
 use Rattle.mc_model.specs.declared.settings.Limits.{Limits}
 use Rattle.mc_model.specs.State.{TableState}
-use Rattle.mc_model.specs.Table.{Table, count_of, is_within, key_cmp, key_cmp_total, use_of, weight}
-use Rattle.model_lemmas.proofs.Uses.{count-remove, use-empty, use-insert, use-remove, within_parts}
+use Rattle.mc_model.specs.Table.{Table, count_of, is_within, key_cmp_total, use_of, weight}
+use Rattle.model_lemmas.proofs.Uses.{use-insert, use-remove, within_parts}
 use Rattle.mc_model.specs.Use.{use_under, weight_of}
 use Rattle.mc_items.specs.Held.{IsUseOf}
 use Rattle.mc_items.specs.Storing.{allows, joined_or_refusal, weight_at}

@@ -3,6 +3,7 @@ pub mod Name
 pub mod Number
 pub mod Numerals
 pub mod Settings
+pub mod Octets
 pub mod Table
 pub mod Use
 pub mod Effect

@@ -17,7 +17,7 @@ pub const DATA_BYTES: usize = 1_048_576;
 enum Octets {
     /// In a vector of the block's own.
     Owned(Vec<u8>),
-    /// In memory that others may share.
+    /// In a buffer that others may share.
     Shared(Bytes),
 }
 
@@ -55,17 +55,16 @@ impl Data {
     }
 
     /// Returns the block of these bytes, which it shares, or `None` if there are more than
-    /// `DATA_BYTES`.
+    /// `DATA_BYTES`. Allocates nothing.
     pub fn from_bytes(bytes: Bytes) -> Option<Data>
         ensures { SomeIff result (length bytes ≤ DATA_BYTES) bytes }
     {
-        if bytes.len() <= DATA_BYTES {
-            Some(Data {
-                octets: Octets::Shared(bytes),
-            })
-        } else {
-            None
+        if bytes.len() > DATA_BYTES {
+            return None;
         }
+        Some(Data {
+            octets: Octets::Shared(bytes),
+        })
     }
 
     /// Returns the block's bytes.
@@ -79,7 +78,8 @@ impl Data {
         }
     }
 
-    /// Returns a copy of the block. Returns `Memory` if the allocation fails.
+    /// Returns a copy of the block, which shares a shared block's bytes. Returns `Memory` if the
+    /// allocation fails.
     pub fn try_clone(&self) -> Result<Data, Fault>
         ensures block { IfOk result (λ block. block ≡ self.now) }
         ensures memory { IsOkUnless result Fault.Memory }

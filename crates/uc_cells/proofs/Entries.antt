@@ -1,16 +1,20 @@
 -- What `==` finds equal of a cell's contents is the same.
-use Rattle.std.proofs.Common.{Bool, false, not, ◌≡◌, true, Option, Some, None, refl, ap}
+use Rattle.std.proofs.Common.{Bool, false, not, ◌≡◌, true, Option, Some, None, refl, ap, rules}
 use Rattle.std.proofs.lemmas.Bool.{and_parts}
 use Rattle.std.proofs.lemmas.Bool.Decides.{Decides-eqb}
 use Rattle.std.proofs.lemmas.Slice.Eq.{slice_eq-Decides}
 use Rattle.std.specs.Cmp.{booleans_Decides}
 use Rattle.std.specs.Cmp.Lexicographic.{bytes_decides}
 use Rattle.std.specs.Option.{option_eq}
+use Rattle.std.specs.Result.{MatchResult, is_err}
+use Rattle.std.specs.declared.result.Result.{Result}
+use Rattle.std.specs.declared.result.Result.TheVariants.{Ok, Err}
 use Rattle.mc_model.specs.declared.command.Command.{Command}
 use Rattle.mc_model.specs.declared.command.Command.TheVariants.{Store, Cas, Get, Delete, Incr, Decr, Flush, Limit}
 use Rattle.mc_model.specs.declared.command.Verb.{Verb}
 use Rattle.mc_model.specs.declared.command.Verb.TheVariants.{Set, Add, Replace, Append, Prepend}
 use Rattle.mc_model.specs.declared.request.Entry.{Entry}
+use Rattle.mc_model.specs.Log.{entry_for}
 use Rattle.mc_model.specs.contracts.request.EntryPartialEq.TheImpl as entries
 use Rattle.mc_model.specs.contracts.command.CommandPartialEq.TheImpl as commands
 use Rattle.mc_model.specs.contracts.command.VerbPartialEq.TheImpl as verbs
@@ -94,3 +98,12 @@ passes false fails = absurd (cc)
 -- two contents of a cell are the same if `!=` finds no difference
 pub same_unless : (one other : Option Entry) → false ≡ not (option_eq entries.eq-value.it one other) → one ≡ other
 same_unless one other fails = same_content one other (passes _ fails)
+
+-- what holds of a result unless it is an error, where it is none
+pub was_set : {A E : Type 0} (P : Type 0) (Q : E → Type 0) (result : Result A E) → MatchResult result (λ _. P) Q → false ≡ is_err result → P
+was_set P Q (Ok value) holds set = holds
+was_set P Q (Err error) holds set = absurd (cc)
+
+-- an entry counts for its own ticket
+pub counts_itself : (entry : Entry) → entry_for entry.ticket entry ≡ Some entry
+counts_itself entry = search rules
