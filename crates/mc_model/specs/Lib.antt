@@ -16,4 +16,3 @@ pub mod Legal
 pub mod Shown
 pub mod Lawful
 pub mod Helping
-pub mod Octets
