@@ -1,5 +1,5 @@
 //! The bytes that have arrived and aren't read yet.
-ghost use Rattle.std.specs.Prelude.{◌≡◌, ℕ, ◌+◌, ◌-◌, ◌<◌, ◌≤◌, List, [], ◌++◌, drop, length, take, IfOk, IsOkUnless, OnOk, OnErr};
+ghost use Rattle.std.specs.Prelude.{◌≡◌, ℕ, ◌+◌, ◌-◌, ◌<◌, ◌≤◌, ◌⊎◌, List, [], ◌++◌, drop, length, take, IfOk, IsOkUnless, OnOk, OnErr};
 ghost use Rattle.memchr.specs.Find.{IsFirstByte, is_byte};
 ghost use Rattle.mc_model.specs.declared.item.TheConstants.{DATA_BYTES};
 ghost use Rattle.mc_read.specs.Administering.{lines_spoken};
@@ -79,6 +79,30 @@ fn find_line(rest: &[u8], piece: &[u8], searched: usize) -> Sought
     }
 }
 
+/// Returns the first `count` bytes, which stand together.
+fn front<'a>(rest: &'a [u8], piece: &'a [u8], count: usize) -> &'a [u8]
+    requires together { (rest.now ≡ []) ⊎ (count ≤ length rest.now) }
+    requires some { count ≤ length rest.now + length piece.now }
+    ensures { result.now ≡ take count (rest.now ++ piece.now) }
+{
+    if rest.is_empty() {
+        return &piece[..count];
+    }
+    &rest[..count]
+}
+
+/// Removes `count` bytes from the front of a piece. One that is used up keeps no memory.
+fn advance_piece(piece: &mut Bytes, count: usize)
+    requires { count ≤ length piece.old }
+    ensures { piece.new ≡ drop count piece.old }
+{
+    if count < piece.len() {
+        piece.advance(count);
+    } else if count > 0 {
+        *piece = Bytes::new();
+    }
+}
+
 impl Source {
     /// Returns a source without bytes. Allocates nothing.
     pub fn new(alloc: Global) -> Source
@@ -148,11 +172,7 @@ impl Source {
             return;
         }
         self.rest.clear();
-        if count - held < self.piece.len() {
-            self.piece.advance(count - held);
-        } else if !self.piece.is_empty() {
-            self.piece = Bytes::new();
-        }
+        advance_piece(&mut self.piece, count - held);
     }
 
     /// Removes all bytes.
@@ -163,17 +183,17 @@ impl Source {
         self.piece = Bytes::new();
     }
 
-    /// Moves bytes from the front of the piece to the end of the rest, until this has `count`.
-    /// Returns `Memory` if an allocation fails; nothing changes then.
+    /// Moves bytes from the front of the piece to the end of the rest, until this has `count`; if
+    /// it is empty, the first `count` bytes already stand together. Returns `Memory` if an
+    /// allocation fails; nothing changes then.
     fn gather(rest: &mut Buffer, piece: &mut Bytes, count: usize) -> Result<(), Fault>
         requires { count ≤ length rest.old + length piece.old }
         ensures same { rest.new ++ piece.new ≡ rest.old ++ piece.old }
-        ensures count { OnOk result (count ≤ length rest.new) }
-        ensures least { OnOk result (length rest.old ≤ count → length rest.new ≡ count) }
+        ensures count { OnOk result ((rest.new ≡ []) ⊎ (count ≤ length rest.new)) }
         ensures memory { IsOkUnless result Fault.Memory }
     {
         let held = rest.as_slice().len();
-        if held < count {
+        if (held > 0) & (held < count) {
             rest.extend(&piece.as_slice()[..count - held])?;
             piece.advance(count - held);
         }
@@ -185,6 +205,9 @@ impl Source {
         requires { IsSearched searched self.now }
         ensures { IsSought self.now result }
     {
+        if searched == self.len() {
+            return Sought::Open;
+        }
         find_line(self.rest.as_slice(), self.piece.as_slice(), searched)
     }
 
@@ -197,17 +220,16 @@ impl Source {
         ensures memory { IsOkUnless result Fault.Memory }
         ensures same { self.new ≡ self.old }
     {
-        let held = self.rest.as_slice().len();
-        if held == 0 {
-            return speaker.ask(alloc, &self.piece.as_slice()[..line]);
-        }
         Source::gather(&mut self.rest, &mut self.piece, line + 1)?;
-        speaker.ask(alloc, &self.rest.as_slice()[..line])
+        let front = front(self.rest.as_slice(), self.piece.as_slice(), line + 1);
+        speaker.ask(alloc, &front[..line])
     }
 
     /// Removes a line and its block from the front, if the block has arrived whole with the two
     /// bytes after it. Returns the block, and whether those two are a line end. Returns `Memory` if
-    /// an allocation fails; nothing is removed then.
+    /// an allocation fails; nothing is removed then. Inlined, since a reader fed byte by byte calls
+    /// it after each.
+    #[inline(always)]
     pub fn take_block(
         &mut self,
         alloc: Global,
@@ -226,15 +248,13 @@ impl Source {
             return Ok(None);
         }
         let end = start + (size + 2);
-        let block = if self.rest.as_slice().is_empty() {
-            block_of_piece(alloc, &self.piece, start, size)?
-        } else {
-            Source::gather(&mut self.rest, &mut self.piece, end)?;
-            if (size >= SHARED_BYTES) & (self.rest.capacity() / 2 <= size) {
-                return Ok(Some(block_of_rest(&mut self.rest, start, size)?));
-            }
-            copy_block(alloc, size, &self.rest.as_slice()[start..end])?
-        };
+        Source::gather(&mut self.rest, &mut self.piece, end)?;
+        if size >= SHARED_BYTES {
+            let taken = take_long(alloc, &mut self.rest, &mut self.piece, start, size)?;
+            return Ok(Some(taken));
+        }
+        let front = front(self.rest.as_slice(), self.piece.as_slice(), end);
+        let block = copy_block(alloc, size, &front[start..end])?;
         self.advance(end);
         Ok(Some(block))
     }
@@ -242,6 +262,7 @@ impl Source {
 
 /// Copies a block out of the bytes after its line, and returns with it whether the two bytes after
 /// it are a line end. Returns `Memory` if the allocation fails.
+#[inline(always)]
 fn copy_block(alloc: Global, size: usize, body: &[u8]) -> Result<(Data, bool), Fault>
     requires small { size ≤ DATA_BYTES }
     requires whole { length body.now ≡ size + 2 }
@@ -256,29 +277,27 @@ fn copy_block(alloc: Global, size: usize, body: &[u8]) -> Result<(Data, bool), F
     }
 }
 
-/// Returns the block that follows a line in a piece, with whether the two bytes after it are a line
-/// end. A long block shares the piece; a short one is copied, so that it doesn't keep the piece in
-/// memory. Returns `Memory` if an allocation fails.
-fn block_of_piece(
-    alloc: Global,
-    piece: &Bytes,
-    start: usize,
-    size: usize,
-) -> Result<(Data, bool), Fault>
+/// Removes a line and its block from the front of a piece, whose memory the block shares. Returns
+/// it, with whether the two bytes after it are a line end. Returns `Memory` if an allocation fails;
+/// nothing is removed then.
+fn block_of_piece(piece: &mut Bytes, start: usize, size: usize) -> Result<(Data, bool), Fault>
     requires small { size ≤ DATA_BYTES }
-    requires whole { start + (size + 2) ≤ length piece.now }
+    requires whole { start + (size + 2) ≤ length piece.old }
     ensures block { IfOk result
-        (λ given. given.0 ≡ take size (take (size + 2) (drop start piece.now))) }
+        (λ taken. taken.0 ≡ take size (take (size + 2) (drop start piece.old))) }
     ensures ends_well { IfOk result
-        (λ given. given.1 ≡ ends_well (drop size (take (size + 2) (drop start piece.now)))) }
+        (λ taken. taken.1 ≡ ends_well (drop size (take (size + 2) (drop start piece.old)))) }
+    ensures left { OnOk result (piece.new ≡ drop (start + (size + 2)) piece.old) }
     ensures memory { IsOkUnless result Fault.Memory }
+    ensures unchanged { OnErr result (piece.new ≡ piece.old) }
 {
-    let body = &piece.as_slice()[start..start + (size + 2)];
-    if size < SHARED_BYTES {
-        return copy_block(alloc, size, body);
-    }
+    let bytes = piece.as_slice();
+    let end = start + (size + 2);
+    let body = &bytes[start..end];
     let ends_well = &body[size..] == b"\r\n".as_slice();
-    match Data::from_bytes(piece.slice(start..start + size)?) {
+    let block = piece.slice(start..start + size)?;
+    advance_piece(piece, end);
+    match Data::from_bytes(block) {
         Some(block) => Ok((block, ends_well)),
         None => unreachable!(),
     }
@@ -309,4 +328,39 @@ fn block_of_rest(rest: &mut Buffer, start: usize, size: usize) -> Result<(Data, 
         Some(block) => Ok((block, ends_well)),
         None => unreachable!(),
     }
+}
+
+/// Does as `Source::take_block` for a long block that has arrived whole. In one piece it shares the
+/// piece. In the rest it takes the memory in which it is, if that isn't much more than its own, and
+/// else is copied: so it keeps at most twice its own bytes in memory, and no more than those of the
+/// block are copied.
+fn take_long(
+    alloc: Global,
+    rest: &mut Buffer,
+    piece: &mut Bytes,
+    start: usize,
+    size: usize,
+) -> Result<(Data, bool), Fault>
+    requires small { size ≤ DATA_BYTES }
+    requires together { (rest.old ≡ []) ⊎ (start + (size + 2) ≤ length rest.old) }
+    requires whole { start + (size + 2) ≤ length rest.old + length piece.old }
+    ensures block { IfOk result
+        (λ taken. taken.0 ≡ take size (take (size + 2) (drop start (rest.old ++ piece.old)))) }
+    ensures ends_well { IfOk result (λ taken. taken.1
+        ≡ ends_well (drop size (take (size + 2) (drop start (rest.old ++ piece.old))))) }
+    ensures left { OnOk result
+        (rest.new ++ piece.new ≡ drop (start + (size + 2)) (rest.old ++ piece.old)) }
+    ensures memory { IsOkUnless result Fault.Memory }
+    ensures unchanged { OnErr result (rest.new ++ piece.new ≡ rest.old ++ piece.old) }
+{
+    if rest.as_slice().is_empty() {
+        return block_of_piece(piece, start, size);
+    }
+    if rest.capacity() / 2 <= size {
+        return block_of_rest(rest, start, size);
+    }
+    let end = start + (size + 2);
+    let taken = copy_block(alloc, size, &rest.as_slice()[start..end])?;
+    rest.advance(end);
+    Ok(taken)
 }
