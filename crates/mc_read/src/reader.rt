@@ -273,9 +273,9 @@ fn take_piece(state: &mut State, buffer: &mut Source, piece: Bytes) -> Result<()
         State::AwaitsLine { .. } => buffer.append(piece),
         State::AwaitsBlock { .. } => buffer.append(piece),
         State::SwallowsBlock { left, .. } => {
-            let length = piece.len() as u64;
-            if length <= *left {
-                *left -= length;
+            let count = piece.len() as u64;
+            if count <= *left {
+                *left -= count;
                 return Ok(());
             }
             let mut piece = piece;

@@ -260,6 +260,13 @@ impl Source {
     }
 }
 
+/// Returns whether these bytes, which follow a block, are a line end.
+fn is_line_end(after: &[u8]) -> bool
+    ensures { result ≡ ends_well after.now }
+{
+    after == b"\r\n".as_slice()
+}
+
 /// Copies a block out of the bytes after its line, and returns with it whether the two bytes after
 /// it are a line end. Returns `Memory` if the allocation fails.
 #[inline(always)]
@@ -270,7 +277,7 @@ fn copy_block(alloc: Global, size: usize, body: &[u8]) -> Result<(Data, bool), F
     ensures ends_well { IfOk result (λ copied. copied.1 ≡ ends_well (drop size body.now)) }
     ensures memory { IsOkUnless result Fault.Memory }
 {
-    let ends_well = &body[size..] == b"\r\n".as_slice();
+    let ends_well = is_line_end(&body[size..]);
     match Data::new(Vec::from_slice(alloc, &body[..size])?) {
         Some(block) => Ok((block, ends_well)),
         None => unreachable!(),
@@ -294,7 +301,7 @@ fn block_of_piece(piece: &mut Bytes, start: usize, size: usize) -> Result<(Data,
     let bytes = piece.as_slice();
     let end = start + (size + 2);
     let body = &bytes[start..end];
-    let ends_well = &body[size..] == b"\r\n".as_slice();
+    let ends_well = is_line_end(&body[size..]);
     let block = piece.slice(start..start + size)?;
     advance_piece(piece, end);
     match Data::from_bytes(block) {
@@ -320,7 +327,7 @@ fn block_of_rest(rest: &mut Buffer, start: usize, size: usize) -> Result<(Data, 
     let bytes = rest.as_slice();
     let end = start + (size + 2);
     let body = &bytes[start..end];
-    let ends_well = &body[size..] == b"\r\n".as_slice();
+    let ends_well = is_line_end(&body[size..]);
     let mut block = rest.share_front(end)?;
     block.advance(start);
     block.truncate(size);

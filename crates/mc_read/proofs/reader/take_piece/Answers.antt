@@ -1,20 +1,20 @@
-use Rattle.std.proofs.Common.{inl, inr, ◌≡◌, ◌-◌, ◌<◌, [], length, refl, sym, ◌∙◌, ap, subst}
+use Rattle.std.proofs.Common.{inl, inr, ◌≡◌, ◌-◌, ◌<◌, [], length, sym, ap, subst}
 use Rattle.mc_read.specs.Line.{refused}
 use Rattle.mc_read.specs.Reading.{IsFed, Swallowing}
 use Rattle.mc_read.specs.State.{IsStateOf, held_in}
-use Rattle.mc_read.proofs.States.{fed_awaited, fed_refused, state_more}
+use Rattle.mc_read.proofs.States.{fed_refused, state_more}
 use Rattle.mc_read.proofs.reader.take_piece.Goals as goal
 
-pub returns-then-length-left-clause-readings : goal.returns-then-length-left-clause-readings
-returns-then-length-left-clause-readings c = λ lines is.
+pub returns-then-count-left-clause-readings : goal.returns-then-count-left-clause-readings
+returns-then-count-left-clause-readings c = λ lines is.
     let bytes = c.args.buffer.now in
     let request = refused c.in-SwallowsBlock.refusal c.in-SwallowsBlock.quiet in
     let empty : 0 < c.in-SwallowsBlock.left → bytes ≡ [] = subst (λ s. IsStateOf lines s bytes) c.in-SwallowsBlock.is is in
     let held : Swallowing request c.in-SwallowsBlock.left bytes ≡ held_in c.args.state.now bytes = ap (λ s. held_in s bytes) (sym c.in-SwallowsBlock.is) in
-    let count : c.len-length.result ≡ length c.args.piece = c.len-length.ensures.value in
+    let count : c.len-count.result ≡ length c.args.piece = c.len-count.ensures.value in
     subst (λ n. IsFed lines (held_in c.args.state.now bytes) c.args.piece (Swallowing request (c.in-SwallowsBlock.left - n) bytes)) (sym count)
     (subst (λ h. IsFed lines h c.args.piece (Swallowing request (c.in-SwallowsBlock.left - length c.args.piece) bytes)) held
-    (fed_refused lines request c.in-SwallowsBlock.left bytes c.args.piece empty (rw count at c.if-length-left.true)))
+    (fed_refused lines request c.in-SwallowsBlock.left bytes c.args.piece empty (rw count at c.if-count-left.true)))
 
 pub returns-in-AwaitsLine-clause-state : goal.returns-in-AwaitsLine-clause-state
 returns-in-AwaitsLine-clause-state c = λ lines is.

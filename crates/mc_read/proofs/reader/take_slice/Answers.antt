@@ -1,8 +1,8 @@
-use Rattle.std.proofs.Common.{inl, inr, ◌≡◌, ◌-◌, ◌<◌, [], length, refl, sym, ◌∙◌, ap, subst}
+use Rattle.std.proofs.Common.{inl, inr, ◌≡◌, ◌-◌, ◌<◌, [], length, sym, ap, subst}
 use Rattle.mc_read.specs.Line.{refused}
 use Rattle.mc_read.specs.Reading.{IsFed, Swallowing}
 use Rattle.mc_read.specs.State.{IsStateOf, held_in}
-use Rattle.mc_read.proofs.States.{fed_awaited, fed_refused, state_more}
+use Rattle.mc_read.proofs.States.{fed_refused, state_more}
 use Rattle.mc_read.proofs.reader.take_slice.Goals as goal
 
 pub returns-then-length-left-clause-readings : goal.returns-then-length-left-clause-readings

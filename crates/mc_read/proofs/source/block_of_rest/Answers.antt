@@ -1,4 +1,4 @@
-use Rattle.std.proofs.Common.{◌≡◌, ◌+◌, take, drop, ◌∙◌, ap, arith}
+use Rattle.std.proofs.Common.{◌+◌, take, drop, ◌∙◌, ap}
 use Rattle.std.proofs.lemmas.List.{drop-take}
 use Rattle.mc_read.proofs.source.block_of_rest.Goals as goal
 

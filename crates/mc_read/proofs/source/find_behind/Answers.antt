@@ -1,5 +1,5 @@
-use Rattle.std.proofs.Common.{◌≡◌, ℕ, ◌+◌, ◌-◌, ◌<◌, ◌≤◌, ◌++◌, length, length-append, arith}
-use Rattle.mc_read.proofs.Lines.{line_length_le, line_in_front, no_line_in_front, line_behind, no_line_behind}
+use Rattle.std.proofs.Common.{◌++◌, length-append, arith}
+use Rattle.mc_read.proofs.Lines.{line_length_le, line_behind, no_line_behind}
 use Rattle.mc_read.proofs.source.find_behind.Goals as goal
 
 pub find_in-requires : goal.find_in-requires

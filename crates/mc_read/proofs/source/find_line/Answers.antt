@@ -1,5 +1,5 @@
-use Rattle.std.proofs.Common.{◌≡◌, ℕ, ◌+◌, ◌-◌, ◌<◌, ◌≤◌, ◌++◌, length, length-append, arith}
-use Rattle.mc_read.proofs.Lines.{line_length_le, line_in_front, no_line_in_front, line_behind, no_line_behind}
+use Rattle.std.proofs.Common.{length-append, arith}
+use Rattle.mc_read.proofs.Lines.{line_in_front, no_line_in_front}
 use Rattle.mc_read.proofs.source.find_line.Goals as goal
 
 pub find_behind-requires-in-None-2-clause-searched : goal.find_behind-requires-in-None-2-clause-searched

@@ -1,4 +1,4 @@
-use Rattle.std.proofs.Common.{◌≡◌, sym, ◌∙◌, refl, ap, subst, arith, rules}
+use Rattle.std.proofs.Common.{◌∙◌, refl, ap, subst}
 use Rattle.std.proofs.lemmas.Bool.{false≢true}
 use Rattle.mc_read.specs.Administering.{lines_spoken}
 use Rattle.mc_read.specs.Reading.{IsFed}

@@ -1,4 +1,4 @@
-use Rattle.std.proofs.Common.{◌≡◌, ℕ, ◌+◌, ◌-◌, ◌++◌, List, length, take, drop, ◌∙◌, ap, sym, arith}
+use Rattle.std.proofs.Common.{◌≡◌, ℕ, ◌+◌, ◌-◌, ◌++◌, List, take, drop, ◌∙◌, ap, arith}
 use Rattle.std.proofs.lemmas.List.{drop-take, take-take}
 use Rattle.mc_read.specs.Text.{ends_well}
 use Rattle.mc_read.proofs.source.Source.take_block.Goals as goal
