@@ -12,7 +12,7 @@ use Rattle.uc_places.specs.declared.view.View.{View}
 use Rattle.uc_places.specs.Desk.{Spells}
 use Rattle.uc_places.specs.Rule.{IsKept, OthersLead}
 use Rattle.uc_places.specs.Told.{new_seat}
-use Rattle.uc_places.proofs.Moves.{TableState, law, seated}
+use Rattle.uc_places.proofs.Moves.{TableState, is_reached, law, seated}
 use Rattle.uc_places.proofs.Wording.{ticket_small}
 
 -- one more seat at the end
@@ -47,7 +47,7 @@ closes size id view words slots is final =
     let s = final.0 in let kept = final.1.0 in let at = final.1.1 in let law = law size s kept in
     let mine = seated size s kept id view at is in let few = kept.small.1 in (
       kept.log,
-      kept.reached,
+      is_reached size s kept,
       spells size s kept words final.2,
       mine.1,
       mine.3,
@@ -56,7 +56,7 @@ closes size id view words slots is final =
 -- the same, if no seat is left
 pub closes_bare : (size : LogSize) (words : List ℕ) (slots : List Unit) → Final (IsKept size) words slots →
     (log : ShownState) × IsReached size log × Spells words (1 + size.workers) size.places log.decided
-closes_bare size words slots final = let kept = final.1 in (kept.log, kept.reached, spells size final.0 kept words final.2)
+closes_bare size words slots final = let kept = final.1 in (kept.log, is_reached size final.0 kept, spells size final.0 kept words final.2)
 
 pub if_ok : {A E : Type 0} (r : Result A E) (P Q : A → Type 0) → ((v : A) → P v → Q v) → IfOk r P → IfOk r Q
 if_ok (Ok v) P Q f h = f v h
