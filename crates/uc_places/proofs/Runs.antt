@@ -1,17 +1,16 @@
 -- A run goes on by an event, which is its worker's own and no other's.
-use Rattle.std.proofs.Common.{◌≡◌, ◌≢◌, ℕ, zero, suc, Bool, true, false, if◌then◌else◌, List, [], ◌∷◌, ◌++◌, map, refl, sym, ap, ◌∙◌, subst, append-nil, eq-eqb, ne_eqb, slice_get, Some}
+use Rattle.std.proofs.Common.{◌≡◌, ◌≢◌, ℕ, zero, suc, Bool, true, false, if◌then◌else◌, List, [], ◌∷◌, ◌++◌, map, refl, sym, ap, ◌∙◌, subst, append-nil, eq-eqb, ne_eqb}
 use Rattle.std.proofs.lemmas.List.{map-append}
 use Rattle.std.proofs.lemmas.List.Elements.{filter-append}
-use Rattle.std.proofs.lemmas.Option.{none-some, same_Some}
 use Rattle.mc_model.specs.declared.shown.LogSize.{LogSize}
 use Rattle.mc_model.specs.declared.shown.ShownState.{ShownState}
-use Rattle.mc_model.specs.Lawful.{IsReached, IsWorker, LeadOn, ShownEvent, announces, looks, proposes, reads, stops}
+use Rattle.mc_model.specs.Lawful.{IsReached, LeadOn, ShownEvent, announces, looks, proposes, reads, stops}
 use Rattle.mc_model.specs.Shown.{new_log}
 use Rattle.uc_places.specs.declared.view.Call.{Call}
 use Rattle.uc_places.specs.declared.view.Call.TheVariants.{Announce, Look, Propose, Read}
 use Rattle.uc_places.specs.declared.view.Part.{Part}
 use Rattle.uc_places.specs.Rule.{AreOfOthers, taker}
-use Rattle.uc_places.specs.Run.{AreOneRun, HasMade, event_of, is_of, own_events}
+use Rattle.uc_places.specs.Run.{AreAmong, AreOneRun, HasMade, event_of, is_of, own_events}
 
 -- another's event isn't the worker's; a call's is
 not_its : (number : ℕ) (event : ShownEvent) → taker event ≢ number → is_of number event ≡ false
@@ -67,18 +66,25 @@ reached size run log lead = on run (new_log size) log ([], refl) lead
     on [] from log there same = subst (IsReached size) (sym same) there
     on (event ∷ run) from log there lead = on run lead.0 log ((event ∷ there.0), (from, there.1, lead.1)) lead.2
 
+-- the first two of a list may be turned
+pub among_turned : (one other : Part) (rest : List Part) → AreAmong (one ∷ other ∷ rest) (other ∷ one ∷ rest)
+among_turned one other rest zero part at = (1, at)
+among_turned one other rest (suc zero) part at = (0, at)
+among_turned one other rest (suc (suc place)) part at = (suc (suc place), at)
+
+-- of one run's workers some may be named
+pub among_run : (size : LogSize) (parts all : List Part) (log : ShownState) → AreAmong parts all → AreOneRun size all log → AreOneRun size parts log
+among_run size parts all log among run = record {
+  run = run.run;
+  lead = run.lead;
+  sized = λ place part at. let there = among place part at in run.sized there.0 part there.1;
+  shown = λ place part at. let there = among place part at in run.shown there.0 part there.1;
+  own = λ place part at. let there = among place part at in run.own there.0 part there.1;
+}
+
 -- of two workers either may be named first
 pub turned : (size other_size : LogSize) (one other : Part) (log : ShownState) → other.size ≡ other_size → AreOneRun size (one ∷ other ∷ []) log →
     AreOneRun other_size (other ∷ one ∷ []) log
-turned size other_size one other log named all = let same : size ≡ other_size = sym (all.sized 1 other refl) ∙ named in record {
-  run = all.run;
-  lead = subst (λ (z : LogSize). LeadOn z (new_log z) all.run log) same all.lead;
-  sized = λ place part at. swapped (λ (p : Part). p.size ≡ other_size) named (all.sized 0 one refl ∙ same) place part at;
-  shown = λ place part at. swapped (λ (p : Part). IsWorker log p.worker p.state) (all.shown 1 other refl) (all.shown 0 one refl) place part at;
-  own = λ place part at. swapped (λ (p : Part). HasMade all.run p.worker p.calls) (all.own 1 other refl) (all.own 0 one refl) place part at;
-}
-  where
-    swapped : (P : Part → Type 0) → P other → P one → (place : ℕ) (part : Part) → slice_get (other ∷ one ∷ []) place ≡ Some part → P part
-    swapped P second first zero part at = subst P (same_Some _ _ at) second
-    swapped P second first (suc zero) part at = subst P (same_Some _ _ at) first
-    swapped P second first (suc (suc place)) part at = absurd (none-some part at)
+turned size other_size one other log named all =
+    subst (λ (z : LogSize). AreOneRun z (other ∷ one ∷ []) log) (sym (all.sized 1 other refl) ∙ named)
+    (among_run size (other ∷ one ∷ []) (one ∷ other ∷ []) log (among_turned other one []) all)

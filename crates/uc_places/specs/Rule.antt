@@ -26,7 +26,7 @@ use Rattle.uc_places.specs.declared.view.Kind.{Kind}
 use Rattle.uc_places.specs.declared.view.Kind.TheVariants.{Spare, Seated, Spent}
 use Rattle.uc_places.specs.declared.view.Part.{Part}
 use Rattle.uc_places.specs.declared.view.View.{View}
-use Rattle.uc_places.specs.Run.{HasMade, part_of}
+use Rattle.uc_places.specs.Run.{HasMade, all_parts}
 use Rattle.uc_places.specs.Words.{Shows}
 
 -- the worker whose event it is
@@ -78,7 +78,7 @@ module _ (size : LogSize) (log : ShownState) (run : List ShownEvent) (owner : �
       Plays number new_worker (new_log size) []
   -- it is the seat of its worker, and of those whose seats were joined into it; the log begins with
   -- the list that was shared with it
-  Knows view Seated = PlaysAll (part_of view ∷ view.joined) × BeginsWith log.decided view.told
+  Knows view Seated = PlaysAll (all_parts view) × BeginsWith log.decided view.told
   -- nothing
   Knows view Spent = Unit {0}
 

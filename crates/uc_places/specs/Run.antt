@@ -1,6 +1,6 @@
 -- Runs of the log, and which of a run's events are a worker's own: a history, and the subhistory of
 -- one process in it (Herlihy and Wing, Linearizability, TOPLAS 1990).
-use Rattle.std.specs.Prelude.{◌≡◌, ℕ, ◌==◌, Bool, List, map, slice_get, Some}
+use Rattle.std.specs.Prelude.{◌≡◌, ℕ, ◌==◌, ◌∷◌, Bool, List, map, slice_get, Some}
 use Rattle.std.specs.List.{filter}
 use Rattle.mc_model.specs.declared.shown.LogSize.{LogSize}
 use Rattle.mc_model.specs.declared.shown.ShownState.{ShownState}
@@ -53,6 +53,15 @@ part_of view = record {
   last = view.last;
   calls = view.calls;
 }
+
+-- what it knows of all workers whose seat it is
+abbrev pub all_parts : View → List Part
+all_parts view = part_of view ∷ view.joined
+
+-- each of the first list is among the second
+abbrev pub AreAmong : List Part → List Part → Type 0
+AreAmong parts all = (place : ℕ) (part : Part) → slice_get parts place ≡ Some part →
+    (other : ℕ) × (slice_get all other ≡ Some part)
 
 -- One run has all calls of these workers' seats, and no other events of these workers: it leads from
 -- the opening to this state of the log, in which each worker is as its seat shows it, and each

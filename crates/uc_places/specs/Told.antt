@@ -17,7 +17,7 @@ use Rattle.uc_places.specs.declared.view.Kind.TheVariants.{Spare, Seated, Spent}
 use Rattle.uc_places.specs.declared.view.Part.{Part}
 use Rattle.uc_places.specs.declared.view.View.{View}
 use Rattle.uc_places.specs.Rule.{OthersLead}
-use Rattle.uc_places.specs.Run.{AreOneRun, part_of}
+use Rattle.uc_places.specs.Run.{AreOneRun, all_parts, part_of}
 use Rattle.uc_places.specs.Words.{found_in, said_ticket, said_word}
 
 -- a view that no event was taken with; those of a log's seats at its opening: of the spare seat that
@@ -106,7 +106,7 @@ ProposeTells at old found new =
 -- run
 abbrev pub MeetTells : TableStep → SeatState → ℕ → SeatState → Type 0
 MeetTells at old found new = (new ≡ old)
-    × ((log : ShownState) × AreOneRun old.0.size (part_of old.0 ∷ old.0.joined) log)
+    × ((log : ShownState) × AreOneRun old.0.size (all_parts old.0) log)
 
 -- a seat with which a list is shared, and a seat that knows nothing any more
 abbrev pub told_list : View → List Ticket → View
