@@ -99,32 +99,34 @@ takes_announced old middle new made takes =
     takes_through 1 1 old middle new
     (takes_event 0 1 old old middle Announce _ (takes_none old) made (omega arith)) takes
 
--- a seat that shares its list with another, and one with which a list is shared
-pub takes_telling : (old new : Desk) → known new ≡ known old → TakesFew 0 old new
-takes_telling old new same = record {
-  calls = [];
-  lead = record {
-    size = ap (λ (v : View). v.size) same;
-    worker = ap (λ (v : View). v.worker) same;
-    state = ap (λ (v : View). v.state) same;
-    last = ap (λ (v : View). v.last) same;
-    calls = ap (λ (v : View). v.calls) same;
-  };
-  few = let long = ap (λ (v : View). length v.state.learned) same in omega arith;
+-- a seat that takes no event: one that shares its list with another, or with which a list is shared
+pub takes_still : (old new : Desk) → IsStill old new → TakesFew 0 old new
+takes_still old new still =
+    record { calls = []; lead = still; few = let long = ap (λ (s : WorkerState). length s.learned) still.state in omega arith }
+
+pub still_telling : (old new : Desk) → known new ≡ known old → IsStill old new
+still_telling old new same = record {
+  size = ap (λ (v : View). v.size) same;
+  worker = ap (λ (v : View). v.worker) same;
+  state = ap (λ (v : View). v.state) same;
+  last = ap (λ (v : View). v.last) same;
+  calls = ap (λ (v : View). v.calls) same;
 }
 
+pub still_told : (old new : Desk) (list : List Ticket) → known new ≡ told_list (known old) list → IsStill old new
+still_told old new list told = record {
+  size = ap (λ (v : View). v.size) told;
+  worker = ap (λ (v : View). v.worker) told;
+  state = ap (λ (v : View). v.state) told;
+  last = ap (λ (v : View). v.last) told;
+  calls = ap (λ (v : View). v.calls) told;
+}
+
+pub takes_telling : (old new : Desk) → known new ≡ known old → TakesFew 0 old new
+takes_telling old new same = takes_still old new (still_telling old new same)
+
 pub takes_told : (old middle new : Desk) (list : List Ticket) → known middle ≡ told_list (known old) list → TakesFew 0 middle new → TakesFew 0 old new
-takes_told old middle new list told takes = takes_through 0 0 old middle new (record {
-  calls = [];
-  lead = record {
-    size = ap (λ (v : View). v.size) told;
-    worker = ap (λ (v : View). v.worker) told;
-    state = ap (λ (v : View). v.state) told;
-    last = ap (λ (v : View). v.last) told;
-    calls = ap (λ (v : View). v.calls) told;
-  };
-  few = let long = ap (λ (v : View). length v.state.learned) told in omega arith;
-}) takes
+takes_told old middle new list told takes = takes_through 0 0 old middle new (takes_still old middle (still_told old middle list told)) takes
 
 -- no event is taken where nothing is learned
 pub takes_nothing : (old new : Desk) → TakesFew 0 old new → length (state_of new).learned ≡ length (state_of old).learned → IsStill old new
