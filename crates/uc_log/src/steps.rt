@@ -4,7 +4,7 @@ ghost use Rattle.mc_model.specs.declared.fault.Fault.TheVariants as faults;
 ghost use Rattle.mc_model.specs.declared.shown.Phase.TheVariants as phase;
 ghost use Rattle.mc_model.specs.Lawful.{HasRoom};
 ghost use Rattle.uc_log.specs.Passes.{IsOf, Keeps, desk, learned, next_no_op, next_sighting, own_sightings, row_of, size, state, worker};
-ghost use Rattle.uc_places.specs.Calls.{Announces, Looks, Proposes, ReadsPlace, Tells};
+ghost use Rattle.uc_places.specs.Calls.{Announces, Looks, Proposes, ReadsPlace, ShareOneRun, Tells};
 
 use crate::log::Log;
 use crate::pass::Pass;
@@ -165,6 +165,8 @@ impl Log {
         requires { IsOf self.now one.old × IsOf self.now other.old }
         ensures told { Tells (desk one.old) (desk other.old) (desk one.new) (desk other.new) }
         ensures kept { Keeps self.now one.old one.new × Keeps self.now other.old other.new }
+        // One run of the log has all calls of both seats, and no other events of their workers.
+        ensures run { ShareOneRun (desk one.new) (desk other.new) }
     {
         one.desk.tell(&self.places, &mut other.desk);
     }

@@ -11,7 +11,7 @@ module _ (size : LogSize) where
   none_lead number log = ([], tt, refl)
 
   -- one more event follows a list of them
-  one_more : (events : List ShownEvent) (old log new : ShownState) (event : ShownEvent) → LeadOn size old events log → Step size log event new →
+  pub one_more : (events : List ShownEvent) (old log new : ShownState) (event : ShownEvent) → LeadOn size old events log → Step size log event new →
       LeadOn size old (events ++ event ∷ []) new
   one_more [] old log new event same step = (new, subst (λ (z : ShownState). Step size z event new) same step, refl)
   one_more (first ∷ events) old log new event lead step = (lead.0, lead.1, one_more events lead.0 log new event lead.2 step)

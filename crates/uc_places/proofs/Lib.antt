@@ -1,4 +1,5 @@
 pub mod Followed
+pub mod Runs
 pub mod Wording
 pub mod Moves
 pub mod Seating

@@ -1,5 +1,5 @@
 -- The numbers of a seat follow what it knows.
-use Rattle.std.proofs.Common.{◌≡◌, ◌≢◌, ◌⊎◌, ℕ, zero, suc, ◌+◌, ◌-◌, ◌<◌, ◌≤◌, ◌==◌, ◌&&◌, Bool, true, false, ltb, if◌then◌else◌, [], ◌∷◌, ◌++◌, get_or, set, length, sym, refl, ap, ◌∙◌, subst, ⊎_elim, arith, unwrap_or, Option, Some, None, length-append, length-set, get_or-set_same, get_or-set_other}
+use Rattle.std.proofs.Common.{◌≡◌, ◌≢◌, ◌⊎◌, ℕ, zero, suc, ◌+◌, ◌-◌, ◌<◌, ◌≤◌, ◌==◌, ◌&&◌, Bool, true, false, ltb, if◌then◌else◌, List, [], ◌∷◌, ◌++◌, get_or, set, length, sym, refl, ap, ◌∙◌, subst, ⊎_elim, arith, unwrap_or, Option, Some, None, length-append, length-set, get_or-set_same, get_or-set_other}
 use Rattle.std.proofs.lemmas.List.Sums.{count_by-le-length}
 use Rattle.std.proofs.Math.Decide.{ℕ_discrete}
 use Rattle.std.proofs.Math.Logic.{dite}
@@ -18,11 +18,13 @@ use Rattle.lists.proofs.Public.{at_seam}
 use Rattle.model_lemmas.proofs.Tickets.{count_other, count_own}
 use Rattle.uc_places.specs.declared.desk.Desk.{Desk}
 use Rattle.uc_places.specs.declared.desk.Numbers.{Numbers}
+use Rattle.uc_places.specs.declared.view.Call.{Call}
+use Rattle.uc_places.specs.declared.view.Call.TheVariants.{Look, Propose, Read}
 use Rattle.uc_places.specs.declared.view.View.{View}
 use Rattle.uc_places.specs.Calls.{Makes, known, last_of, state_of, worker_of}
 use Rattle.uc_places.specs.Desk.{Mirrors, learned_one, owns, ticket_for}
 use Rattle.uc_places.specs.SeatLaw.{SeatLaw}
-use Rattle.uc_places.specs.Told.{Happens, IsTicketOf, ReadTells, SeatState, TableStep, moved_on}
+use Rattle.uc_places.specs.Told.{Happens, IsTicketOf, ReadTells, SeatState, TableStep, moved_on, told_list}
 use Rattle.uc_places.specs.Words.{found_in, said_ticket, said_word}
 use Rattle.uc_places.proofs.Wording.{decoded}
 
@@ -41,13 +43,13 @@ pub owns_is : (view : View) (numbers : Numbers) (ticket : Ticket) → Mirrors vi
 owns_is view numbers ticket m = λ i. (ticket.worker == sym m.worker i) && (ticket.number + 1 == sym m.announced i)
 
 -- one more ticket is learned, by a read or a proposal
-pub mirrors_learned : (last : ShownState) (view : View) (state : WorkerState) (numbers : Numbers) (ticket : Ticket) (proposals : ℕ) →
+pub mirrors_learned : (call : Call) (last : ShownState) (view : View) (state : WorkerState) (numbers : Numbers) (ticket : Ticket) (proposals : ℕ) →
     (phase : Phase) → Mirrors view numbers → phase ≢ Looked →
     state.learned ≡ (learn view.worker phase ticket view.state).learned → state.phase ≡ (learn view.worker phase ticket view.state).phase →
     state.announced ≡ view.state.announced → state.mark ≡ view.state.mark → state.proposals ≡ proposals →
     ticket.worker < WORKERS → numbers.learned < view.size.places → proposals ≤ numbers.learned + 1 → proposals ≤ numbers.workers + 1 →
-    Mirrors (moved_on view state last) (record (learned_one numbers ticket phase) { proposals = proposals })
-mirrors_learned last view state numbers ticket proposals phase m rests learns phased announces marks proposes few room low helped = record {
+    Mirrors (moved_on view call state last) (record (learned_one numbers ticket phase) { proposals = proposals })
+mirrors_learned call last view state numbers ticket proposals phase m rests learns phased announces marks proposes few room low helped = record {
   seated = m.seated;
   small = m.small;
   workers = m.workers;
@@ -95,11 +97,11 @@ count_few view numbers worker m inside = let same = m.counts worker inside in
 -- a read has made its event
 pub made_read : (old new : Desk) (at : TableStep) (found : ℕ) (stands : Option Ticket) → found_in found ≡ stands →
     new.seat.table_id ≡ old.seat.table_id → new.seat.id ≡ old.seat.id →
-    ReadTells at old.seat.me found new.seat.me → Makes old new (reads (worker_of old)) (read (worker_of old) stands (state_of old))
+    ReadTells at old.seat.me found new.seat.me → Makes old new Read (read (worker_of old) stands (state_of old))
 made_read old new at found stands e table id tells = (
   table,
   id,
-  ap (λ (m : SeatState). m.0) tells.0 ∙ ap (λ (z : Option Ticket). moved_on (known old) (read (worker_of old) z (state_of old)) (last_of new)) e,
+  ap (λ (m : SeatState). m.0) tells.0 ∙ ap (λ (z : Option Ticket). moved_on (known old) Read (read (worker_of old) z (state_of old)) (last_of new)) e,
   subst (λ (z : Option Ticket). Happens (known old).size (reads (worker_of old)) (known old) (read (worker_of old) z (state_of old))
       (last_of new)) e tells.4,
 )
@@ -148,7 +150,7 @@ proposed_worker view numbers helped found m small = by_test (ltb (get_or numbers
 -- looking is kept as the word of the ticket that the worker proposes next
 pub mirrors_looked : (last : ShownState) (view : View) (numbers : Numbers) (helped found word : ℕ) → Mirrors view numbers → helped < 16 →
     helped ≡ turn view.size view.state → numbers.learned < view.size.places → word ≡ said_word (ticket_for numbers helped found) →
-    Mirrors (moved_on view (look (turn view.size view.state) found view.state) last) (record numbers { proposal = word; phase = Looked })
+    Mirrors (moved_on view Look (look (turn view.size view.state) found view.state) last) (record numbers { proposal = word; phase = Looked })
 mirrors_looked last view numbers helped found word m small at room is = let same = proposed_is view numbers helped found m small at in record {
   seated = m.seated;
   small = m.small;
@@ -186,9 +188,9 @@ stood (suc found) word stands proposed ticket is small which said = ⊎_elim
 pub mirrors_proposed : (last : ShownState) (view : View) (numbers : Numbers) (ticket : Ticket) (found : Option Ticket) → Mirrors view numbers →
     view.state.phase ≡ Looked → ticket ≡ unwrap_or found (proposal view.worker view.state) → ticket.worker < WORKERS →
     (propose view.worker found view.state).proposals ≤ view.size.workers + 1 →
-    Mirrors (moved_on view (propose view.worker found view.state) last) (record (learned_one numbers ticket Pending) { proposals = numbers.proposals + 1 })
+    Mirrors (moved_on view Propose (propose view.worker found view.state) last) (record (learned_one numbers ticket Pending) { proposals = numbers.proposals + 1 })
 mirrors_proposed last view numbers ticket found m looked same small helped = let few = m.proposals_few in let workers = m.workers in let made = m.proposals in
-    mirrors_learned last view (propose view.worker found view.state) numbers ticket (numbers.proposals + 1) Pending m (λ (other : Pending ≡ Looked). cc)
+    mirrors_learned Propose last view (propose view.worker found view.state) numbers ticket (numbers.proposals + 1) Pending m (λ (other : Pending ≡ Looked). cc)
     (ap (λ (t : Ticket). (learn view.worker Pending t view.state).learned) (sym same))
     (ap (λ (t : Ticket). (learn view.worker Pending t view.state).phase) (sym same)) refl refl (ap (λ (k : ℕ). k + 1) m.proposals) small (m.room looked)
     (omega arith) (omega arith)
@@ -198,3 +200,28 @@ pub proposed_inside : (view : View) (ticket : Ticket) (found : Option Ticket) �
     ticket ≡ unwrap_or found (proposal view.worker view.state) → (ticket.worker < view.size.workers) × (ticket.number < view.size.places)
 proposed_inside view ticket found law same = law.inside (length view.state.learned) ticket
     (at_seam view.state.learned (unwrap_or found (proposal view.worker view.state)) [] ∙ ap (λ (t : Ticket). Some t) (sym same))
+
+-- a list that is shared with a seat is no number of it
+pub mirrors_told : (view : View) (list : List Ticket) (numbers : Numbers) → Mirrors view numbers → Mirrors (told_list view list) numbers
+mirrors_told view list numbers m = record {
+  seated = m.seated;
+  small = m.small;
+  workers = m.workers;
+  places = m.places;
+  worker = m.worker;
+  inside = m.inside;
+  learned = m.learned;
+  few = m.few;
+  announced = m.announced;
+  announced_few = m.announced_few;
+  proposals = m.proposals;
+  proposals_few = m.proposals_few;
+  proposals_helped = m.proposals_helped;
+  mark = m.mark;
+  phase = m.phase;
+  word = m.word;
+  proposes = m.proposes;
+  room = m.room;
+  wide = m.wide;
+  counts = m.counts;
+}

@@ -1,7 +1,7 @@
 -- Each operation of a worker's seat on a word keeps the invariant, and is its event.
 use Rattle.std.proofs.Common.{◌≡◌, ◌≢◌, ◌⊎◌, ℕ, zero, suc, ◌+◌, ◌%◌, ◌^◌, ◌<◌, ◌==◌, Bool, List, [], ◌∷◌, ◌++◌, length, get_or, set, sym, refl, ap, ◌∙◌, subst, inl, inr, ⊎_elim, arith, eq-eqb, ne_eqb, slice_get, unwrap_or, Option, Some, None}
 use Rattle.std.proofs.lemmas.List.Sums.{count_by-le-length}
-use Rattle.std.proofs.lemmas.Option.{slice_get_within}
+use Rattle.std.proofs.lemmas.Option.{none-some, same_Some, slice_get_within}
 use mathlib.Core.Option.{none, some}
 use lib.ListN.{get_elem?}
 use lib.Seq.{set-get_or}
@@ -15,17 +15,22 @@ use Rattle.mc_model.specs.declared.shown.ShownState.{ShownState}
 use Rattle.mc_model.specs.declared.shown.WorkerState.{WorkerState}
 use Rattle.lists.specs.Lists.{BeginsWith}
 use Rattle.mc_model.specs.Helping.{LogLaw}
-use Rattle.mc_model.specs.Lawful.{HasRoom, IsWorker, ShownEvent, Step, announced_by, announces, decided_with, looks, next, proposes, reads, turn, with_worker}
+use Rattle.mc_model.specs.Lawful.{HasRoom, IsReached, IsWorker, ShownEvent, Step, announced_by, announces, decided_with, looks, next, proposes, reads, turn, with_worker}
 use Rattle.mc_model.specs.Shown.{announce, look, new_log, new_worker, proposal, propose, read}
 use Rattle.lists.proofs.Public.{at_seam, begins_self, begins_through, nothing_next, set_elsewhere, set_here}
 use Rattle.model_lemmas.proofs.Waiting.{is_lawful}
+use Rattle.uc_places.specs.declared.view.Call.{Call}
+use Rattle.uc_places.specs.declared.view.Call.TheVariants.{Announce, Look, Propose, Read}
 use Rattle.uc_places.specs.declared.view.Kind.{Kind}
-use Rattle.uc_places.specs.declared.view.Kind.TheVariants.{Spare, Seated, Note, Spent}
+use Rattle.uc_places.specs.declared.view.Kind.TheVariants.{Spare, Seated, Spent}
+use Rattle.uc_places.specs.declared.view.Part.{Part}
 use Rattle.uc_places.specs.declared.view.View.{View}
-use Rattle.uc_places.specs.Rule.{Fits, IsKept, Knows, OthersLead, taker}
-use Rattle.uc_places.specs.Told.{AnnounceTells, CompareTells, Happens, IsTicketOf, LookTells, ProposeTells, ReadTells, SeatState, moved_on}
+use Rattle.uc_places.specs.Rule.{Fits, IsKept, Knows, OthersLead, Plays, PlaysAll, taker}
+use Rattle.uc_places.specs.Run.{AreOneRun, HasMade, event_of, part_of}
+use Rattle.uc_places.specs.Told.{AnnounceTells, Happens, IsTicketOf, LookTells, MeetTells, ProposeTells, ReadTells, SeatState, moved_on}
 use Rattle.uc_places.specs.Words.{Shows, found_in, place_word, said_word}
-use Rattle.uc_places.proofs.Followed.{none_lead, others_lead_on}
+use Rattle.uc_places.proofs.Followed.{none_lead, one_more, others_lead_on}
+use Rattle.uc_places.proofs.Runs.{made_else, made_on, reached, taken}
 use Rattle.uc_places.proofs.Wording.{announced_in, found, same_counts, shows_count, shows_place, shows_same, ticket_found}
 
 abbrev pub TableState : Type 0
@@ -36,85 +41,106 @@ abbrev pub after : ShownState → List Ticket → ℕ → WorkerState → ShownS
 after log decided number worker = record { decided = decided; workers = set log.workers number worker }
 
 module _ (size : LogSize) where
+  -- the invariant's state is reachable
+  pub is_reached : (s : TableState) (kept : IsKept size s) → IsReached size kept.log
+  is_reached s kept = reached size kept.run kept.log kept.leads
+
   pub law : (s : TableState) (kept : IsKept size s) → LogLaw size kept.log
-  law s kept = is_lawful size kept.log kept.reached
+  law s kept = is_lawful size kept.log (is_reached s kept)
 
   -- what the invariant says of a worker's seat
   pub seated : (s : TableState) (kept : IsKept size s) (id : ℕ) (view : View) → get_elem? s.views id ≡ some view → view.kind ≡ Seated →
       (kept.owner view.worker ≡ id) × IsWorker kept.log view.worker view.state × BeginsWith kept.log.decided view.told
-      × OthersLead size view.worker view.last kept.log
-  seated s kept id view at is = subst (Knows size kept.log kept.owner id view) is (kept.fits id view at).1
+      × OthersLead size view.worker view.last kept.log × HasMade kept.run view.worker view.calls
+      × PlaysAll size kept.log kept.run kept.owner id (part_of view ∷ view.joined)
+  seated s kept id view at is = let its = subst (Knows size kept.log kept.run kept.owner id view) is (kept.fits id view at).1 in
+      let play = its.0.1 in (play.0, play.1, its.1, play.2, play.3, its.0)
 
   -- another seat keeps what the invariant says of it
-  others : (old new : ShownState) (event : ShownEvent) (owner : ℕ → ℕ) (number id other : ℕ) (state : WorkerState) → taker event ≡ number →
-      Step size old event new →
-      owner number ≡ id → other ≢ id → new.workers ≡ set old.workers number state → BeginsWith new.decided old.decided →
-      (view : View) (kind : Kind) → Knows size old owner other view kind → Knows size new owner other view kind
-  others old new event owner number id other state takes is mine apart moved longer view kind = by_kind kind
-    where
-      -- a worker whose seat is the other one isn't the one that took the event
-      not_taker : (worker : ℕ) → owner worker ≡ other → worker ≢ number
-      not_taker worker theirs same = apart (sym theirs ∙ (ap owner same ∙ mine))
+  module _ (old new : ShownState) (run : List ShownEvent) (event : ShownEvent) (owner : ℕ → ℕ) (number id other : ℕ) (state : WorkerState)
+      (takes : taker event ≡ number) (is : Step size old event new) (mine : owner number ≡ id) (apart : other ≢ id)
+      (moved : new.workers ≡ set old.workers number state) (longer : BeginsWith new.decided old.decided) where
+    abbrev later : List ShownEvent
+    later = run ++ event ∷ []
 
-      followed : (worker : ℕ) (last : ShownState) → owner worker ≡ other → OthersLead size worker last old → OthersLead size worker last new
-      followed worker last theirs lead = others_lead_on size worker last old new event lead is (λ same. not_taker worker theirs (sym same ∙ takes))
+    plays_on : (worker : ℕ) (theirs : WorkerState) (last : ShownState) (calls : List Call) → Plays size old run owner other worker theirs last calls →
+        Plays size new later owner other worker theirs last calls
+    plays_on worker theirs last calls plays =
+        -- a worker whose seat is the other one isn't the one that took the event
+        let not_taker : worker ≢ number = (λ same. apart (sym plays.0 ∙ (ap owner same ∙ mine))) in
+        let not_its : taker event ≢ worker = (λ same. not_taker (sym same ∙ takes)) in (
+          plays.0,
+          ap (λ (l : List WorkerState). slice_get l worker) moved ∙ (set_elsewhere old.workers number worker state not_taker ∙ plays.1),
+          others_lead_on size worker last old new event plays.2 is not_its,
+          made_else run worker calls event not_its plays.3,
+        )
 
-      elsewhere : (worker : ℕ) (theirs : WorkerState) → owner worker ≡ other → IsWorker old worker theirs → IsWorker new worker theirs
-      elsewhere worker theirs own at = ap (λ (l : List WorkerState). slice_get l worker) moved
-          ∙ (set_elsewhere old.workers number worker state (not_taker worker own) ∙ at)
+    all_play_on : (parts : List Part) → PlaysAll size old run owner other parts → PlaysAll size new later owner other parts
+    all_play_on [] play = tt
+    all_play_on (part ∷ parts) play =
+        (play.0, plays_on part.worker part.state part.last part.calls play.1, play.2, all_play_on parts play.3)
 
-      by_kind : (kind : Kind) → Knows size old owner other view kind → Knows size new owner other view kind
-      by_kind Spare knows = λ worker low high. let was = knows worker low high in
-          (was.0, elsewhere worker new_worker was.0 was.1, followed worker (new_log size) was.0 was.2)
-      by_kind Seated knows = (
-        knows.0,
-        elsewhere view.worker view.state knows.0 knows.1,
-        begins_through new.decided old.decided view.told longer knows.2,
-        followed view.worker view.last knows.0 knows.3,
-      )
-      by_kind Note knows = begins_through new.decided old.decided view.told longer knows
-      by_kind Spent knows = tt
+    others : (view : View) (kind : Kind) → Knows size old run owner other view kind → Knows size new later owner other view kind
+    others view Spare knows = λ worker low high. plays_on worker new_worker (new_log size) [] (knows worker low high)
+    others view Seated knows = (
+      all_play_on (part_of view ∷ view.joined) knows.0,
+      begins_through new.decided old.decided view.told longer knows.1,
+    )
+    others view Spent knows = tt
 
   -- an event of a worker, by its seat, keeps the invariant if the words then show the new state
-  steps : (s : TableState) (kept : IsKept size s) (id : ℕ) (view : View) (event : ShownEvent) (decided : List Ticket) (state : WorkerState)
+  steps : (s : TableState) (kept : IsKept size s) (id : ℕ) (view : View) (call : Call) (decided : List Ticket) (state : WorkerState)
       (words : List ℕ) →
-      get_elem? s.views id ≡ some view → view.kind ≡ Seated → taker event ≡ view.worker →
-      Step size kept.log event (after kept.log decided view.worker state) → BeginsWith decided kept.log.decided →
+      get_elem? s.views id ≡ some view → view.kind ≡ Seated → view.joined ≡ [] →
+      Step size kept.log (event_of view.worker call) (after kept.log decided view.worker state) → BeginsWith decided kept.log.decided →
       Shows size words (after kept.log decided view.worker state) →
-      IsKept size record { words = words; homes = s.homes; views = set s.views id (moved_on view state (after kept.log decided view.worker state)) }
-  steps s kept id view event decided state words at is takes step longer shows =
+      IsKept size record { words = words; homes = s.homes; views = set s.views id (moved_on view call state (after kept.log decided view.worker state)) }
+  steps s kept id view call decided state words at is alone step longer shows =
       let new : ShownState = after kept.log decided view.worker state in let mine = seated s kept id view at is in
-      let moved = moved_on view state new in record {
+      let event = event_of view.worker call in let later : List ShownEvent = kept.run ++ event ∷ [] in
+      let moved = moved_on view call state new in record {
         small = kept.small;
+        run = later;
         log = new;
-        reached = ((event ∷ kept.reached.0), (kept.log, kept.reached.1, step));
+        leads = one_more size kept.run (new_log size) kept.log new event kept.leads step;
         shows = shows;
         owner = kept.owner;
         fits = λ other some_view there. ⊎_elim
             (λ (same : (other ≡ id) × (moved ≡ some_view)). subst
-            (λ (z : ℕ × View). Fits size new kept.owner z.0 z.1) (λ i. (sym same.0 i, same.1 i)) (
+            (λ (z : ℕ × View). Fits size new later kept.owner z.0 z.1) (λ i. (sym same.0 i, same.1 i)) (
               (kept.fits id view at).0,
-              subst (Knows size new kept.owner id moved) (sym is) (
-                mine.0,
-                set_here kept.log.workers view.worker state (slice_get_within kept.log.workers view.worker view.state mine.1),
+              subst (Knows size new later kept.owner id moved) (sym is) (
+                subst (λ (parts : List Part). PlaysAll size new later kept.owner id (part_of moved ∷ parts)) (sym alone) (
+                  mine.5.0,
+                  (
+                    mine.0,
+                    set_here kept.log.workers view.worker state (slice_get_within kept.log.workers view.worker view.state mine.1),
+                    none_lead size view.worker new,
+                    made_on kept.run view.worker view.calls call mine.4,
+                  ),
+                  tt,
+                  tt,
+                ),
                 begins_through decided kept.log.decided view.told longer mine.2,
-                none_lead size view.worker new,
               ),
             ))
-            (λ (apart : (other ≢ id) × (get_elem? s.views other ≡ some some_view)). let fits = kept.fits other some_view apart.1 in
-            (fits.0, others kept.log new event kept.owner view.worker id other state takes step mine.0 apart.0 refl longer some_view some_view.kind fits.1))
+            (λ (apart : (other ≢ id) × (get_elem? s.views other ≡ some some_view)). let fits = kept.fits other some_view apart.1 in (
+              fits.0,
+              others kept.log new kept.run event kept.owner view.worker id other state (taken view.worker call) step mine.0 apart.0 refl longer
+                  some_view some_view.kind fits.1,
+            ))
             (table_lists.at_set s.views id other moved some_view there);
       }
 
   happens : (s : TableState) (kept : IsKept size s) (id : ℕ) (view : View) (event : ShownEvent) (decided : List Ticket) (state : WorkerState) →
       get_elem? s.views id ≡ some view → view.kind ≡ Seated → Step size kept.log event (after kept.log decided view.worker state) →
       Happens size event view state (after kept.log decided view.worker state)
-  happens s kept id view event decided state at is step = let mine = seated s kept id view at is in (
+  happens s kept id view event decided state at is step = let mine = seated s kept id view at is in let was = is_reached s kept in (
     kept.log,
     mine.3,
-    kept.reached,
+    was,
     step,
-    ((event ∷ kept.reached.0), (kept.log, kept.reached.1, step)),
+    ((event ∷ was.0), (kept.log, was.1, step)),
     mine.1,
     set_here kept.log.workers view.worker state (slice_get_within kept.log.workers view.worker view.state mine.1),
   )
@@ -127,6 +153,45 @@ at_size size slots id me is word f tells body s kept long at fits =
     (done.0, done.1, done.2, subst (λ (z : LogSize). IsKept z (stepped s word (f (get_or s.words word 0)) id me.1 done.0 done.1)) same done.3, done.4)
 
 module _ (slots id : ℕ) (me : SeatState) (is : me.0.kind ≡ Seated) where
+  -- a load changes no word
+  loads : (s : TableState) (word : ℕ) (view : View) → IsKept me.0.size record { words = s.words; homes = s.homes; views = set s.views id view } →
+      IsKept me.0.size record { words = set s.words word (get_or s.words word 0); homes = s.homes; views = set s.views id view }
+  loads s word view = subst (λ (words : List ℕ). IsKept me.0.size record { words = words; homes = s.homes; views = set s.views id view })
+      (sym (set-get_or s.words word 0))
+
+  -- the workers whose seat it is are as it shows them
+  all_play : (size : LogSize) (log : ShownState) (run : List ShownEvent) (owner : ℕ → ℕ) (parts : List Part) → PlaysAll size log run owner id parts →
+      (place : ℕ) (part : Part) → slice_get parts place ≡ Some part → (part.size ≡ size) × Plays size log run owner id part.worker part.state part.last part.calls
+  all_play size log run owner [] play place part at = absurd (none-some part at)
+  all_play size log run owner (first ∷ parts) play zero part at = let same : first ≡ part = same_Some _ _ at in
+      subst (λ (p : Part). (p.size ≡ size) × Plays size log run owner id p.worker p.state p.last p.calls) same (play.0, play.1)
+  all_play size log run owner (first ∷ parts) play (suc place) part at = all_play size log run owner parts play.3 place part at
+
+  pub one_run : (size : LogSize) (s : TableState) (kept : IsKept size s) → get_elem? s.views id ≡ some me.0 →
+      AreOneRun size (part_of me.0 ∷ me.0.joined) kept.log
+  one_run size s kept at = let mine = seated size s kept id me.0 at is in
+      let play = all_play size kept.log kept.run kept.owner (part_of me.0 ∷ me.0.joined) mine.5 in record {
+        run = kept.run;
+        lead = kept.leads;
+        sized = λ place part there. (play place part there).0;
+        shown = λ place part there. (play place part there).1.1;
+        own = λ place part there. (play place part there).1.3;
+      }
+
+  pub meets_word : (size : LogSize) → Allows (IsKept size) slots id me 0 (λ n. n) (MeetTells (step slots 0 0 0 none) me)
+  meets_word size = at_size size slots id me is 0 (λ n. n) (MeetTells (step slots 0 0 0 none) me) body
+    where
+      body : Allows (IsKept me.0.size) slots id me 0 (λ n. n) (MeetTells (step slots 0 0 0 none) me)
+      body s kept long at _ = (
+        me.0,
+        keeps,
+        tt,
+        loads s 0 me.0 (subst (λ (views : List View). IsKept me.0.size record { words = s.words; homes = s.homes; views = views })
+            (sym (table_lists.set_again s.views id me.0 at)) kept),
+        (refl, (kept.log, one_run me.0.size s kept at)),
+      )
+
+module _ (slots id : ℕ) (me : SeatState) (is : me.0.kind ≡ Seated) (alone : me.0.joined ≡ []) where
   pub announces_word : (size : LogSize) → me.0.state.phase ≡ Idle → HasRoom me.0.size me.0.state →
       Allows (IsKept size) slots id me (1 + me.0.worker) (λ n. (n + 1) % 2 ^ 64) (AnnounceTells (step slots (1 + me.0.worker) 1 0 none) me)
   announces_word size phase room = at_size size slots id me is (1 + me.0.worker) (λ n. (n + 1) % 2 ^ 64)
@@ -145,19 +210,13 @@ module _ (slots id : ℕ) (me : SeatState) (is : me.0.kind ≡ Seated) where
           let few = count_by-le-length (λ (some : Ticket). some.worker == number) old.learned in
           let now : old.announced + 1 ≡ n' = omega arith in
           let event : Step view.size kept.log (announces number) (with_worker kept.log number new) = (old, mine.1, phase, room, refl) in (
-            moved_on view new (with_worker kept.log number new),
+            moved_on view Announce new (with_worker kept.log number new),
             keeps,
             tt,
-            steps view.size s kept id view (announces number) kept.log.decided new (set s.words (1 + number) n') at is refl event (begins_self kept.log.decided)
+            steps view.size s kept id view Announce kept.log.decided new (set s.words (1 + number) n') at is alone event (begins_self kept.log.decided)
                 (shows_count view.size s.words kept.log number old new n' inside kept.shows mine.1 now),
             (refl, same, omega arith, happens view.size s kept id view (announces number) kept.log.decided new at is event),
           )
-
-  -- a load changes no word
-  loads : (s : TableState) (word : ℕ) (view : View) → IsKept me.0.size record { words = s.words; homes = s.homes; views = set s.views id view } →
-      IsKept me.0.size record { words = set s.words word (get_or s.words word 0); homes = s.homes; views = set s.views id view }
-  loads s word view = subst (λ (words : List ℕ). IsKept me.0.size record { words = words; homes = s.homes; views = set s.views id view })
-      (sym (set-get_or s.words word 0))
 
   read_announced : (number : ℕ) (worker : WorkerState) (stands : Option Ticket) → (read number stands worker).announced ≡ worker.announced
   read_announced number worker None = refl
@@ -190,11 +249,11 @@ module _ (slots id : ℕ) (me : SeatState) (is : me.0.kind ≡ Seated) where
           let new = read number (found_in n) old in
           let event : Step view.size kept.log (reads number) (with_worker kept.log number new) =
           (old, mine.1, phase, room, ap (λ (o : Option Ticket). with_worker kept.log number (read number o old)) saw) in (
-            moved_on view new (with_worker kept.log number new),
+            moved_on view Read new (with_worker kept.log number new),
             keeps,
             tt,
-            loads s i (moved_on view new (with_worker kept.log number new))
-                (steps view.size s kept id view (reads number) kept.log.decided new s.words at is refl event (begins_self kept.log.decided)
+            loads slots id me is s i (moved_on view Read new (with_worker kept.log number new))
+                (steps view.size s kept id view Read kept.log.decided new s.words at is alone event (begins_self kept.log.decided)
                 (shows_same view.size s.words kept.log number old new kept.shows mine.1 (read_announced number old (found_in n)))),
             (
               refl,
@@ -220,11 +279,11 @@ module _ (slots id : ℕ) (me : SeatState) (is : me.0.kind ≡ Seated) where
           let new = look (turn view.size old) n old in
           let event : Step view.size kept.log (looks number) (with_worker kept.log number new) =
           (old, mine.1, phase, room, marked, ap (λ (many : ℕ). with_worker kept.log number (look (turn view.size old) many old)) saw) in (
-            moved_on view new (with_worker kept.log number new),
+            moved_on view Look new (with_worker kept.log number new),
             keeps,
             tt,
-            loads s i (moved_on view new (with_worker kept.log number new))
-                (steps view.size s kept id view (looks number) kept.log.decided new s.words at is refl event (begins_self kept.log.decided)
+            loads slots id me is s i (moved_on view Look new (with_worker kept.log number new))
+                (steps view.size s kept id view Look kept.log.decided new s.words at is alone event (begins_self kept.log.decided)
                 (shows_same view.size s.words kept.log number old new kept.shows mine.1 refl)),
             (
               refl,
@@ -259,10 +318,10 @@ module _ (slots id : ℕ) (me : SeatState) (is : me.0.kind ≡ Seated) where
           let event : Step view.size kept.log (proposes number) (after kept.log decided number new) =
           (old, mine.1, phase, ap (λ (o : Option Ticket). after kept.log decided number (propose number o old)) saw) in
           let now = happens view.size s kept id view (proposes number) decided new at is event in (
-            moved_on view new (after kept.log decided number new),
+            moved_on view Propose new (after kept.log decided number new),
             keeps,
             tt,
-            steps view.size s kept id view (proposes number) decided new (set s.words i (either (n == 0) (said_word ticket) n)) at is refl event
+            steps view.size s kept id view Propose decided new (set s.words i (either (n == 0) (said_word ticket) n)) at is alone event
                 (grows kept.log.decided (next kept.log old) ticket)
                 (placed view.size s.words kept.log number old new ticket n (next kept.log old) refl same room kept.shows mine.1 own.begins refl),
             (
@@ -310,53 +369,46 @@ module _ (slots id : ℕ) (me : SeatState) (is : me.0.kind ≡ Seated) where
               (subst (λ (some : List ℕ). Shows size some (with_worker log number new)) (sym (set-get_or words i 0))
               (shows_same size words log number old new shows at kept))
 
-  -- one of two beginnings of a list begins with the other
-  compared : (a b r q : List Ticket) → a ++ r ≡ b ++ q → BeginsWith a b ⊎ BeginsWith b a
-  compared [] b r q e = inr (b, refl)
-  compared (x ∷ a) [] r q e = inl (x ∷ a, refl)
-  compared (x ∷ a) (y ∷ b) r q e = let same : x ≡ y = cc in let rest : a ++ r ≡ b ++ q = cc in
-      ⊎_elim (λ (h : BeginsWith a b). inl (h.0, λ i. same i ∷ h.1 i)) (λ (h : BeginsWith b a). inr (h.0, λ i. sym same i ∷ h.1 i))
-      (compared a b r q rest)
+-- one of two beginnings of a list begins with the other
+compared : (a b r q : List Ticket) → a ++ r ≡ b ++ q → BeginsWith a b ⊎ BeginsWith b a
+compared [] b r q e = inr (b, refl)
+compared (x ∷ a) [] r q e = inl (x ∷ a, refl)
+compared (x ∷ a) (y ∷ b) r q e = let same : x ≡ y = cc in let rest : a ++ r ≡ b ++ q = cc in
+    ⊎_elim (λ (h : BeginsWith a b). inl (h.0, λ i. same i ∷ h.1 i)) (λ (h : BeginsWith b a). inr (h.0, λ i. sym same i ∷ h.1 i))
+    (compared a b r q rest)
 
-  pub compares_word : (size : LogSize) → Allows (IsKept size) slots id me 0 (λ n. n) (CompareTells (step slots 0 0 0 none) me)
-  compares_word size = at_size size slots id me is 0 (λ n. n) (CompareTells (step slots 0 0 0 none) me) body
-    where
-      body : Allows (IsKept me.0.size) slots id me 0 (λ n. n) (CompareTells (step slots 0 0 0 none) me)
-      body s kept long at _ =
-          let view = me.0 in let mine = seated view.size s kept id view at is in
-          let begins = ((law view.size s kept).each view.worker view.state mine.1).begins in (
-            view,
-            keeps,
-            tt,
-            loads s 0 view (subst (λ (views : List View). IsKept view.size record { words = s.words; homes = s.homes; views = views })
-                (sym (table_lists.set_again s.views id view at)) kept),
-            (refl, compared view.told view.state.learned mine.2.0 begins.0 (sym mine.2.1 ∙ begins.1)),
-          )
+-- of two workers one has learned what the other has
+pub both_begin : (size : LogSize) (one other : Part) (log : ShownState) → AreOneRun size (one ∷ other ∷ []) log →
+    BeginsWith one.state.learned other.state.learned ⊎ BeginsWith other.state.learned one.state.learned
+both_begin size one other log all = let law = is_lawful size log (reached size all.run log all.lead) in
+    let first = (law.each one.worker one.state (all.shown 0 one refl)).begins in
+    let second = (law.each other.worker other.state (all.shown 1 other refl)).begins in
+    compared one.state.learned other.state.learned first.0 second.0 (sym first.1 ∙ second.1)
 
 -- the operations at a word by another name
-module _ (slots id : ℕ) (me : SeatState) (is : me.0.kind ≡ Seated) (size : LogSize) (i : ℕ) where
+module _ (slots id : ℕ) (me : SeatState) (is : me.0.kind ≡ Seated) (alone : me.0.joined ≡ []) (size : LogSize) (i : ℕ) where
   pub announces_at : i ≡ 1 + me.0.worker → me.0.state.phase ≡ Idle → HasRoom me.0.size me.0.state →
       Allows (IsKept size) slots id me i (λ n. (n + 1) % 2 ^ 64) (AnnounceTells (step slots i 1 0 none) me)
   announces_at e phase room =
       subst (λ (z : ℕ). Allows (IsKept size) slots id me z (λ n. (n + 1) % 2 ^ 64) (AnnounceTells (step slots z 1 0 none) me)) (sym e)
-      (announces_word slots id me is size phase room)
+      (announces_word slots id me is alone size phase room)
 
   pub reads_at : i ≡ 1 + me.0.size.workers + length me.0.state.learned → (me.0.state.phase ≡ Idle) ⊎ (me.0.state.phase ≡ Pending) →
       HasRoom me.0.size me.0.state →
       Allows (IsKept size) slots id me i (λ n. n) (ReadTells (step slots i 0 0 none) me)
   reads_at e phase room =
       subst (λ (z : ℕ). Allows (IsKept size) slots id me z (λ n. n) (ReadTells (step slots z 0 0 none) me)) (sym e)
-      (reads_word slots id me is size phase room)
+      (reads_word slots id me is alone size phase room)
 
   pub looks_at_word : i ≡ 1 + turn me.0.size me.0.state → me.0.state.phase ≡ Pending → HasRoom me.0.size me.0.state → me.0.state.mark ≢ None →
       Allows (IsKept size) slots id me i (λ n. n) (LookTells (step slots i 0 0 none) me)
   looks_at_word e phase room marked =
       subst (λ (z : ℕ). Allows (IsKept size) slots id me z (λ n. n) (LookTells (step slots z 0 0 none) me)) (sym e)
-      (looks_word slots id me is size phase room marked)
+      (looks_word slots id me is alone size phase room marked)
 
   pub proposes_at : (c : ℕ) → i ≡ 1 + me.0.size.workers + length me.0.state.learned → c ≡ said_word (proposal me.0.worker me.0.state) →
       me.0.state.phase ≡ Looked →
       Allows (IsKept size) slots id me i (λ n. either (n == 0) c n) (ProposeTells (step slots i 0 c none) me)
   proposes_at c e said phase =
       subst (λ (z : ℕ × ℕ). Allows (IsKept size) slots id me z.0 (λ n. either (n == 0) z.1 n) (ProposeTells (step slots z.0 0 z.1 none) me))
-      (λ j. (sym e j, sym said j)) (proposes_word slots id me is size phase)
+      (λ j. (sym e j, sym said j)) (proposes_word slots id me is alone size phase)

@@ -1,5 +1,5 @@
 -- One seat's calls, with the others' events between them, are one run.
-use Rattle.std.proofs.Common.{◌≡◌, ◌≢◌, ℕ, zero, suc, ◌<◌, Bool, true, false, if◌then◌else◌, List, [], ◌∷◌, ◌++◌, Option, Some, None, refl, sym, ap, ◌∙◌, subst, arith, ne_eqb, slice_get}
+use Rattle.std.proofs.Common.{◌≡◌, ◌≢◌, ℕ, zero, suc, ◌<◌, List, [], ◌∷◌, ◌++◌, Option, Some, None, refl, sym, ap, ◌∙◌, subst, arith, slice_get}
 use Rattle.std.proofs.lemmas.List.Elements.{filter-append}
 use Rattle.mc_model.specs.declared.id.Ticket.{Ticket}
 use Rattle.mc_model.specs.declared.shown.LogSize.{LogSize}
@@ -10,30 +10,14 @@ use Rattle.mc_model.specs.Lawful.{IsWorker, LeadOn, ShownEvent, Step, announces,
 use Rattle.mc_model.specs.Shown.{new_log, new_worker, proposal}
 use Rattle.lists.proofs.Public.{begins_self, begins_through, set_elsewhere}
 use Rattle.uc_places.specs.declared.desk.Desk.{Desk}
+use Rattle.uc_places.specs.declared.view.Call.{Call}
 use Rattle.uc_places.specs.declared.view.View.{View}
 use Rattle.uc_places.specs.Calls.{known, last_of, desk_size, state_of, worker_of}
-use Rattle.uc_places.specs.OneRun.{CallsLead, CallsLieOnOneRun, OthersLeaveIt, is_of, own_events}
+use Rattle.uc_places.specs.OneRun.{CallsLead, CallsLieOnOneRun, OthersLeaveIt}
 use Rattle.uc_places.specs.Rule.{AreOfOthers, OthersLead, taker}
+use Rattle.uc_places.specs.Run.{HasMade, event_of, is_of, own_events}
 use Rattle.uc_places.specs.Told.{Happens}
-
--- another's event isn't the worker's
-not_its : (number : ℕ) (event : ShownEvent) → taker event ≢ number → is_of number event ≡ false
-not_its number (announces worker) apart = ne_eqb worker number apart
-not_its number (reads worker) apart = ne_eqb worker number apart
-not_its number (looks worker) apart = ne_eqb worker number apart
-not_its number (proposes worker) apart = ne_eqb worker number apart
-not_its number (stops worker) apart = ne_eqb worker number apart
-
--- one more event in front, by whether it is the worker's
-in_front : (number : ℕ) (event : ShownEvent) (events : List ShownEvent) (its : Bool) → is_of number event ≡ its →
-    own_events number (event ∷ events) ≡ (if its then event ∷ own_events number events else own_events number events)
-in_front number event events its is =
-    ap (λ (b : Bool). if b then event ∷ own_events number events else own_events number events) is
-
--- none of others' events is the worker's
-none_its : (number : ℕ) (events : List ShownEvent) → AreOfOthers number events → own_events number events ≡ []
-none_its number [] others = refl
-none_its number (event ∷ events) others = in_front number event events false (not_its number event others.0) ∙ none_its number events others.1
+use Rattle.uc_places.proofs.Runs.{none_its, own_first}
 
 -- one list of events leads on from the other
 lead_on : (size : LogSize) (front back : List ShownEvent) (old here new : ShownState) → LeadOn size old front here → LeadOn size here back new →
@@ -43,26 +27,27 @@ lead_on size (event ∷ front) back old here new one other = (one.0, one.1, lead
 
 -- events lead from one desk's last state to another's, and these calls are the worker's own among
 -- them
-abbrev Lie : LogSize → ℕ → Desk → List ShownEvent → Desk → Type 0
-Lie size number old calls new = (events : List ShownEvent) × LeadOn size (last_of old) events (last_of new) × (own_events number events ≡ calls)
+abbrev Lie : LogSize → ℕ → Desk → List Call → Desk → Type 0
+Lie size number old calls new = (events : List ShownEvent) × LeadOn size (last_of old) events (last_of new) × HasMade events number calls
     × IsWorker (last_of new) number (state_of new)
 
 -- the others' events, the call, and what comes after it
-one_call : (size : LogSize) (number : ℕ) (old next new : Desk) (event : ShownEvent) (calls : List ShownEvent) (view : View) (state : WorkerState) →
-    view.worker ≡ number → view.last ≡ last_of old → is_of number event ≡ true →
-    Happens size event view state (last_of next) → Lie size number next calls new → Lie size number old (event ∷ calls) new
-one_call size number old next new event calls view state whose from its happens later =
+one_call : (size : LogSize) (number : ℕ) (old next new : Desk) (call : Call) (calls : List Call) (view : View) (state : WorkerState) →
+    view.worker ≡ number → view.last ≡ last_of old →
+    Happens size (event_of number call) view state (last_of next) → Lie size number next calls new → Lie size number old (call ∷ calls) new
+one_call size number old next new call calls view state whose from happens later =
+    let event = event_of number call in
     let others : OthersLead size number (last_of old) happens.0 =
     subst (λ (z : ℕ × ShownState). OthersLead size z.0 z.1 happens.0) (λ i. (whose i, from i)) happens.1 in (
       others.0 ++ event ∷ later.0,
       lead_on size others.0 (event ∷ later.0) (last_of old) happens.0 (last_of new) others.2 (last_of next, happens.3, later.1),
       filter-append (is_of number) others.0 (event ∷ later.0)
           ∙ (ap (λ (l : List ShownEvent). l ++ own_events number (event ∷ later.0)) (none_its number others.0 others.1)
-          ∙ (in_front number event later.0 true its ∙ ap (λ (l : List ShownEvent). event ∷ l) later.2)),
+          ∙ (own_first number call later.0 ∙ ap (λ (l : List ShownEvent). event ∷ l) later.2)),
       later.3,
     )
 
-lie : (size : LogSize) (number : ℕ) (old new : Desk) (calls : List ShownEvent) → desk_size old ≡ size → worker_of old ≡ number →
+lie : (size : LogSize) (number : ℕ) (old new : Desk) (calls : List Call) → desk_size old ≡ size → worker_of old ≡ number →
     IsWorker (last_of old) number (state_of old) → CallsLead old calls new → Lie size number old calls new
 lie size number old new [] sized whose at still = (
   [],
@@ -70,18 +55,17 @@ lie size number old new [] sized whose at still = (
   refl,
   subst (λ (z : ShownState × WorkerState). IsWorker z.0 number z.1) (λ i. (sym still.last i, sym still.state i)) at,
 )
-lie size number old new (event ∷ calls) sized whose at lead =
-    let here = lead.0 in let next = lead.1 in let state = lead.2 in let still = lead.3 in let makes = lead.5 in
+lie size number old new (call ∷ calls) sized whose at lead =
+    let here = lead.0 in let next = lead.1 in let state = lead.2 in let still = lead.3 in let makes = lead.4 in
     let now = makes.2 in
     let here_size : desk_size here ≡ size = still.size ∙ sized in
     let here_worker : worker_of here ≡ number = still.worker ∙ whose in
-    let happens : Happens size event (known here) state (last_of next) =
-    subst (λ (z : LogSize). Happens z event (known here) state (last_of next)) here_size makes.3 in
+    let happens : Happens size (event_of number call) (known here) state (last_of next) =
+    subst (λ (z : LogSize × ℕ). Happens z.0 (event_of z.1 call) (known here) state (last_of next)) (λ i. (here_size i, here_worker i)) makes.3 in
     let shown : IsWorker (last_of next) number (state_of next) =
     subst (λ (z : ℕ × WorkerState). IsWorker (last_of next) z.0 z.1) (λ i. (here_worker i, sym (ap (λ (v : View). v.state) now) i)) happens.6 in
-    one_call size number old next new event calls (known here) state here_worker still.last
-    (ap (λ (n : ℕ). is_of n event) (sym here_worker) ∙ lead.4) happens
-    (lie size number next new calls (ap (λ (v : View). v.size) now ∙ here_size) (ap (λ (v : View). v.worker) now ∙ here_worker) shown lead.6)
+    one_call size number old next new call calls (known here) state here_worker still.last happens
+    (lie size number next new calls (ap (λ (v : View). v.size) now ∙ here_size) (ap (λ (v : View). v.worker) now ∙ here_worker) shown lead.5)
 
 -- a new worker is there before any event
 is_new : (many number : ℕ) → number < many → slice_get (new_log (record { workers = many; places = 0 })).workers number ≡ Some new_worker

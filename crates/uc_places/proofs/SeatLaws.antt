@@ -13,6 +13,7 @@ use Rattle.mc_model.specs.Legal.{IsLegal, count}
 use Rattle.mc_model.specs.Shown.{is_latest, new_worker, proposal, propose, read}
 use Rattle.lists.proofs.Public.{begins_longer, take_longer}
 use Rattle.model_lemmas.proofs.Waiting.{is_lawful}
+use Rattle.uc_places.specs.declared.view.Call.{Call}
 use Rattle.uc_places.specs.declared.view.View.{View}
 use Rattle.uc_places.specs.Reached.{LastIsReached}
 use Rattle.uc_places.specs.SeatLaw.{SeatLaw}
@@ -62,9 +63,9 @@ seat_law size log number worker reached at = record {
     begins_few = let longer = begins_longer log.decided worker.learned each.begins in let few = law.few in omega arith
 
 -- after an event
-pub law_after : (view new : View) (event : ShownEvent) (state : WorkerState) → new ≡ moved_on view state new.last →
+pub law_after : (view new : View) (event : ShownEvent) (call : Call) (state : WorkerState) → new ≡ moved_on view call state new.last →
     Happens view.size event view state new.last → SeatLaw new.size new.worker new.state
-law_after view new event state is happens =
+law_after view new event call state is happens =
     subst (λ (v : View). SeatLaw v.size v.worker v.state) (sym is) (seat_law view.size new.last view.worker state happens.4 happens.6)
 
 -- before the first
@@ -81,9 +82,9 @@ law_of_new size number = record {
 
 -- the last state of a seat after an event, before the first, and of a seat with which a list is
 -- shared
-pub last_after : (view new : View) (event : ShownEvent) (state : WorkerState) → new ≡ moved_on view state new.last →
+pub last_after : (view new : View) (event : ShownEvent) (call : Call) (state : WorkerState) → new ≡ moved_on view call state new.last →
     Happens view.size event view state new.last → LastIsReached new
-last_after view new event state is happens =
+last_after view new event call state is happens =
     subst LastIsReached (sym is) (record {
       reached = ∣ happens.4 ∣₁;
       shown = happens.6;

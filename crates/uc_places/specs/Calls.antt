@@ -1,19 +1,22 @@
 -- What the calls of a seat do. The four events are those of Herlihy's universal construction
 -- (Wait-Free Synchronization, TOPLAS 1991): a command is announced, a place of the list is read,
 -- the worker to be helped is looked for, and a command is proposed.
-use Rattle.std.specs.Prelude.{◌≡◌, ◌≢◌, ◌⊎◌, ℕ, ◌+◌, ◌<◌, ◌≤◌, Bool, true, false, length, Option, Some, None, slice_get}
+use Rattle.std.specs.Prelude.{◌≡◌, ◌≢◌, ◌⊎◌, ℕ, ◌+◌, ◌<◌, ◌≤◌, Bool, true, false, List, [], ◌∷◌, length, Option, Some, None, slice_get}
 use Rattle.mc_model.specs.declared.id.Ticket.{Ticket}
 use Rattle.mc_model.specs.declared.shown.Phase.{Phase}
 use Rattle.mc_model.specs.declared.shown.LogSize.{LogSize}
 use Rattle.mc_model.specs.declared.shown.ShownState.{ShownState}
 use Rattle.mc_model.specs.declared.shown.WorkerState.{WorkerState}
 use Rattle.lists.specs.Lists.{BeginsWith}
-use Rattle.mc_model.specs.Lawful.{HasRoom, ShownEvent, announced_by, announces, looks, proposes, reads, turn}
+use Rattle.mc_model.specs.Lawful.{HasRoom, announced_by, turn}
 use Rattle.mc_model.specs.Shown.{announce, look, propose, read}
 use Rattle.uc_places.specs.declared.desk.Desk.{Desk}
 use Rattle.uc_places.specs.declared.desk.Places.{Places}
+use Rattle.uc_places.specs.declared.view.Call.{Call}
+use Rattle.uc_places.specs.declared.view.Call.TheVariants.{Announce, Look, Propose, Read}
 use Rattle.uc_places.specs.declared.view.View.{View}
 use Rattle.uc_places.specs.Reached.{LastIsReached}
+use Rattle.uc_places.specs.Run.{AreOneRun, event_of, part_of}
 use Rattle.uc_places.specs.SeatLaw.{SeatLaw}
 use Rattle.uc_places.specs.Told.{Happens, moved_on, told_list}
 
@@ -38,23 +41,27 @@ last_of desk = (known desk).last
 abbrev pub IsSeatOf : Places → Desk → Type 0
 IsSeatOf places desk = desk.seat.table_id ≡ places.table.shared.table_id
 
--- The call is this event of the log, and gives the seat's worker this state: the event leads from a
+-- all calls of the seat since the opening, in order
+abbrev pub calls_of : Desk → List Call
+calls_of desk = (known desk).calls
+
+-- The call is its worker's event of the log, and gives the worker this state: the event leads from a
 -- reachable state, in which the worker is as the seat showed it, to the seat's new last state, in
 -- which it is as the seat shows it now; only events of other workers lie between the seat's last
--- event and this one. Nothing else of the seat changes.
-abbrev pub Makes : Desk → Desk → ShownEvent → WorkerState → Type 0
-Makes old new event state = (new.seat.table_id ≡ old.seat.table_id) × (new.seat.id ≡ old.seat.id)
-    × (known new ≡ moved_on (known old) state (last_of new))
-    × Happens (desk_size old) event (known old) state (last_of new)
+-- event and this one. The call is one more of the seat's, and nothing else of it changes.
+abbrev pub Makes : Desk → Desk → Call → WorkerState → Type 0
+Makes old new call state = (new.seat.table_id ≡ old.seat.table_id) × (new.seat.id ≡ old.seat.id)
+    × (known new ≡ moved_on (known old) call state (last_of new))
+    × Happens (desk_size old) (event_of (worker_of old) call) (known old) state (last_of new)
 
 -- the worker announces its next command
 abbrev pub Announces : Desk → Desk → Type 0
-Announces old new = Makes old new (announces (worker_of old)) (announce (state_of old))
+Announces old new = Makes old new Announce (announce (state_of old))
 
 -- the worker reads its next place, and this is what stands there; it is the ticket that the list
 -- shared with the seat has at that place, if the list is long enough
 pub record ReadsPlace (old new : Desk) (found : Option Ticket) : Type 0 where
-  pub made : Makes old new (reads (worker_of old)) (read (worker_of old) found (state_of old))
+  pub made : Makes old new Read (read (worker_of old) found (state_of old))
   pub stands : slice_get (last_of new).decided (length (state_of old).learned) ≡ found
   pub told : (ticket : Ticket) →
       slice_get (known old).told (length (state_of old).learned) ≡ Some ticket → found ≡ Some ticket
@@ -63,12 +70,12 @@ pub record ReadsPlace (old new : Desk) (found : Option Ticket) : Type 0 where
 -- place
 abbrev pub Looks : Desk → Desk → Type 0
 Looks old new = let helped = turn (desk_size old) (state_of old) in
-    Makes old new (looks (worker_of old))
+    Makes old new Look
     (look helped (announced_by (last_of new) helped) (state_of old))
 
 -- the worker proposes at its next place, and this ticket stands there afterwards
 pub record Proposes (old new : Desk) (ticket : Ticket) : Type 0 where
-  pub made : Makes old new (proposes (worker_of old))
+  pub made : Makes old new Propose
       (propose (worker_of old) (Some ticket) (state_of old))
   pub stands : slice_get (last_of new).decided (length (state_of old).learned) ≡ Some ticket
 
@@ -80,6 +87,11 @@ pub record Shares (one other new_one new_other : Desk) : Type 0 where
       × (known new_other ≡ told_list (known other) (state_of one).learned)
   pub compared : BeginsWith (state_of one).learned (state_of other).learned
       ⊎ BeginsWith (state_of other).learned (state_of one).learned
+
+-- one run has all calls of both seats, and no other events of their workers
+abbrev pub ShareOneRun : Desk → Desk → Type 0
+ShareOneRun one other = (log : ShownState)
+    × AreOneRun (desk_size one) (part_of (known one) ∷ part_of (known other) ∷ []) log
 
 -- of two seats, the one whose worker has learned more shares that with the other; if both have
 -- learned as many places, the first shares

@@ -1,4 +1,5 @@
 pub mod Words
+pub mod Run
 pub mod Rule
 pub mod Told
 pub mod SeatLaw

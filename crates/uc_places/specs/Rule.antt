@@ -1,14 +1,14 @@
--- The invariant of the shared words. At every moment there is a reachable state of the log of which
--- three things hold.
---   The words show it (`Shows`): how many commands each worker has announced, and which ticket
---   stands at each place.
+-- The invariant of the shared words. At every moment there is a run of the log from its opening, of
+-- which four things hold.
+--   The words show the state that it leads to (`Shows`): how many commands each worker has
+--   announced, and which ticket stands at each place.
 --   Each worker's one seat shows its worker: what the seat knows of its worker is exactly that
 --   worker's part of the state.
 --   Each seat keeps the state after its own last event, and only other workers' events lead from
 --   there to the present state.
+--   Each seat keeps its calls, and these, in order, are exactly the run's events of its worker.
 -- So a call can only be one event of its own worker, from a reachable state, and only events of
--- other workers lie between two calls of a seat: a seat's calls lie on one run of the log, in
--- order.
+-- other workers lie between two calls of a seat; and the calls of all seats are one run.
 use Rattle.std.specs.Prelude.{◌≡◌, ◌≢◌, ℕ, ◌<◌, ◌≤◌, List, [], ◌∷◌}
 use mathlib.Core.Option.{some}
 use lib.ListN.{get_elem?}
@@ -17,12 +17,16 @@ use Rattle.mc_model.specs.declared.id.TheConstants.{WORKERS}
 use Rattle.mc_model.specs.declared.settings.TheConstants.{MAX_PLACES}
 use Rattle.mc_model.specs.declared.shown.LogSize.{LogSize}
 use Rattle.mc_model.specs.declared.shown.ShownState.{ShownState}
+use Rattle.mc_model.specs.declared.shown.WorkerState.{WorkerState}
 use Rattle.lists.specs.Lists.{BeginsWith}
-use Rattle.mc_model.specs.Lawful.{IsReached, IsWorker, LeadOn, ShownEvent, announces, looks, proposes, reads, stops}
+use Rattle.mc_model.specs.Lawful.{IsWorker, LeadOn, ShownEvent, announces, looks, proposes, reads, stops}
 use Rattle.mc_model.specs.Shown.{new_log, new_worker}
+use Rattle.uc_places.specs.declared.view.Call.{Call}
 use Rattle.uc_places.specs.declared.view.Kind.{Kind}
-use Rattle.uc_places.specs.declared.view.Kind.TheVariants.{Spare, Seated, Note, Spent}
+use Rattle.uc_places.specs.declared.view.Kind.TheVariants.{Spare, Seated, Spent}
+use Rattle.uc_places.specs.declared.view.Part.{Part}
 use Rattle.uc_places.specs.declared.view.View.{View}
+use Rattle.uc_places.specs.Run.{HasMade, all_parts}
 use Rattle.uc_places.specs.Words.{Shows}
 
 -- the worker whose event it is
@@ -47,33 +51,47 @@ OthersLead size number old new =
 abbrev pub IsSmall : LogSize → Type 0
 IsSmall size = (0 < size.workers) × (size.workers ≤ WORKERS) × (size.places ≤ MAX_PLACES)
 
+-- none of these is this worker's
+abbrev pub AreApart : ℕ → List Part → Type 0
+AreApart number [] = Unit {0}
+AreApart number (part ∷ parts) = (part.worker ≢ number) × AreApart number parts
+
 -- what is true of the view of the table's seat `id`, by the kind of that seat; `owner` gives each
 -- worker's seat
-module _ (size : LogSize) (log : ShownState) (owner : ℕ → ℕ) (id : ℕ) where
+module _ (size : LogSize) (log : ShownState) (run : List ShownEvent) (owner : ℕ → ℕ) (id : ℕ) where
+  -- it is the seat of this worker, and shows it; only other workers have taken events since the
+  -- worker's last one; and the worker's events in the run are these calls
+  abbrev pub Plays : ℕ → WorkerState → ShownState → List Call → Type 0
+  Plays number state last calls = (owner number ≡ id) × IsWorker log number state
+      × OthersLead size number last log × HasMade run number calls
+
+  -- the same of several workers, no two of which are the same
+  abbrev pub PlaysAll : List Part → Type 0
+  PlaysAll [] = Unit {0}
+  PlaysAll (part ∷ parts) = (part.size ≡ size)
+      × Plays part.worker part.state part.last part.calls
+      × AreApart part.worker parts × PlaysAll parts
+
   abbrev pub Knows : View → Kind → Type 0
-  -- no worker from its own on has taken an event
+  -- it is the seat of all workers from its own on, which have taken no event
   Knows view Spare = (number : ℕ) → view.worker ≤ number → number < size.workers →
-      (owner number ≡ id) × IsWorker log number new_worker
-      × OthersLead size number (new_log size) log
-  -- it is its worker's seat, and shows that worker; the log begins with the list that was shared
-  -- with it; only other workers have taken events since its last event
-  Knows view Seated =
-      (owner view.worker ≡ id) × IsWorker log view.worker view.state
-      × BeginsWith log.decided view.told × OthersLead size view.worker view.last log
-  -- the log begins with the list that it knows
-  Knows view Note = BeginsWith log.decided view.told
+      Plays number new_worker (new_log size) []
+  -- it is the seat of its worker, and of those whose seats were joined into it; the log begins with
+  -- the list that was shared with it
+  Knows view Seated = PlaysAll (all_parts view) × BeginsWith log.decided view.told
   -- nothing
   Knows view Spent = Unit {0}
 
   abbrev pub Fits : View → Type 0
   Fits view = (view.kind ≢ Spent → view.size ≡ size) × Knows view view.kind
 
--- the invariant: the words and all seats show one reachable state
+-- the invariant: one run of the log leads to the state that the words and all seats show
 pub record IsKept (size : LogSize) (table : State Unit View) : Type 0 where
   pub small : IsSmall size
+  pub run : List ShownEvent
   pub log : ShownState
-  pub reached : IsReached size log
+  pub leads : LeadOn size (new_log size) run log
   pub shows : Shows size table.words log
   pub owner : ℕ → ℕ
   pub fits : (id : ℕ) (view : View) → get_elem? table.views id ≡ some view →
-      Fits size log owner id view
+      Fits size log run owner id view

@@ -1,6 +1,6 @@
 -- What each operation on a word shows to the seat that does it.
-use Rattle.std.specs.Prelude.{◌≡◌, ◌≢◌, ◌⊎◌, ℕ, ◌+◌, ◌<◌, ◌≤◌, List, [], length, slice_get, Some}
-use Rattle.std.specs.Option.{unwrap_or}
+use Rattle.std.specs.Prelude.{◌≡◌, ◌≢◌, ℕ, ◌+◌, ◌<◌, ◌≤◌, List, [], ◌∷◌, ◌++◌, drop, length, slice_get, Some}
+use Rattle.std.specs.Option.{option_map_or, unwrap_or}
 use Rattle.atomic_table.specs.Table.{Me}
 use Rattle.atomic_table.specs.Table as table
 use Rattle.mc_model.specs.declared.id.TheConstants.{WORKERS}
@@ -8,30 +8,42 @@ use Rattle.mc_model.specs.declared.id.Ticket.{Ticket}
 use Rattle.mc_model.specs.declared.shown.LogSize.{LogSize}
 use Rattle.mc_model.specs.declared.shown.ShownState.{ShownState}
 use Rattle.mc_model.specs.declared.shown.WorkerState.{WorkerState}
-use Rattle.lists.specs.Lists.{BeginsWith}
 use Rattle.mc_model.specs.Lawful.{IsReached, IsWorker, ShownEvent, Step, announced_by, announces, looks, proposes, reads, turn}
 use Rattle.mc_model.specs.Shown.{announce, look, new_log, new_worker, proposal, propose, read}
+use Rattle.uc_places.specs.declared.view.Call.{Call}
+use Rattle.uc_places.specs.declared.view.Call.TheVariants.{Announce, Look, Propose, Read}
 use Rattle.uc_places.specs.declared.view.Kind.{Kind}
-use Rattle.uc_places.specs.declared.view.Kind.TheVariants.{Spare, Seated, Note, Spent}
+use Rattle.uc_places.specs.declared.view.Kind.TheVariants.{Spare, Seated, Spent}
+use Rattle.uc_places.specs.declared.view.Part.{Part}
 use Rattle.uc_places.specs.declared.view.View.{View}
 use Rattle.uc_places.specs.Rule.{OthersLead}
+use Rattle.uc_places.specs.Run.{AreOneRun, all_parts, part_of}
 use Rattle.uc_places.specs.Words.{found_in, said_ticket, said_word}
 
--- a view, and the views of a log's seats at its opening: of the spare seat that has the workers
--- from this one on, and of a worker's seat
-abbrev pub view_of : LogSize → Kind → ℕ → WorkerState → List Ticket → ShownState → View
-view_of size kind worker state told last =
-    record { size = size; kind = kind; worker = worker; state = state; told = told; last = last }
+-- a view that no event was taken with; those of a log's seats at its opening: of the spare seat that
+-- has the workers from this one on, and of a worker's seat
+abbrev pub blank_view : LogSize → Kind → ℕ → View
+blank_view size kind worker = record {
+  size = size;
+  kind = kind;
+  worker = worker;
+  state = new_worker;
+  told = [];
+  last = new_log size;
+  calls = [];
+  joined = [];
+}
 
 abbrev pub spare_from : LogSize → ℕ → View
-spare_from size worker = view_of size Spare worker new_worker [] (new_log size)
+spare_from size worker = blank_view size Spare worker
 
 abbrev pub new_seat : LogSize → ℕ → View
-new_seat size worker = view_of size Seated worker new_worker [] (new_log size)
+new_seat size worker = blank_view size Seated worker
 
--- the view after an event of its worker
-abbrev pub moved_on : View → WorkerState → ShownState → View
-moved_on view state last = view_of view.size view.kind view.worker state view.told last
+-- the view after a call, which is an event of its worker
+abbrev pub moved_on : View → Call → WorkerState → ShownState → View
+moved_on view call state last =
+    record view { state = state; last = last; calls = view.calls ++ call ∷ [] }
 
 -- the event leads from a reachable state, in which the seat's worker is as the seat shows it, to a
 -- reachable state, in which it has the given state; only events of other workers lie between the
@@ -58,7 +70,7 @@ IsTicketOf size word = word ≢ 0 →
 -- an announcement finds how many commands its worker had announced
 abbrev pub AnnounceTells : TableStep → SeatState → ℕ → SeatState → Type 0
 AnnounceTells at old found new = let view = old.0 in let state = announce view.state in
-    (new ≡ (moved_on view state new.0.last, old.1)) × (found ≡ view.state.announced)
+    (new ≡ (moved_on view Announce state new.0.last, old.1)) × (found ≡ view.state.announced)
     × (found < view.size.places) × Happens view.size (announces view.worker) view state new.0.last
 
 -- a read finds what stands at the next place, which is the ticket that the list shared with the
@@ -66,7 +78,7 @@ AnnounceTells at old found new = let view = old.0 in let state = announce view.s
 abbrev pub ReadTells : TableStep → SeatState → ℕ → SeatState → Type 0
 ReadTells at old found new =
     let view = old.0 in let state = read view.worker (found_in found) view.state in
-    (new ≡ (moved_on view state new.0.last, old.1)) × IsTicketOf view.size found
+    (new ≡ (moved_on view Read state new.0.last, old.1)) × IsTicketOf view.size found
     × ((ticket : Ticket) → slice_get view.told (length view.state.learned) ≡ Some ticket →
     found_in found ≡ Some ticket)
     × (slice_get new.0.last.decided (length view.state.learned) ≡ found_in found)
@@ -76,7 +88,7 @@ ReadTells at old found new =
 abbrev pub LookTells : TableStep → SeatState → ℕ → SeatState → Type 0
 LookTells at old found new =
     let view = old.0 in let state = look (turn view.size view.state) found view.state in
-    (new ≡ (moved_on view state new.0.last, old.1))
+    (new ≡ (moved_on view Look state new.0.last, old.1))
     × (found ≡ announced_by new.0.last (turn view.size view.state))
     × Happens view.size (looks view.worker) view state new.0.last
 
@@ -84,34 +96,50 @@ LookTells at old found new =
 abbrev pub ProposeTells : TableStep → SeatState → ℕ → SeatState → Type 0
 ProposeTells at old found new =
     let view = old.0 in let state = propose view.worker (found_in found) view.state in
-    (new ≡ (moved_on view state new.0.last, old.1)) × IsTicketOf view.size found
+    (new ≡ (moved_on view Propose state new.0.last, old.1)) × IsTicketOf view.size found
     × (slice_get new.0.last.decided (length view.state.learned)
     ≡ Some (unwrap_or (found_in found) (proposal view.worker view.state)))
     × (state.proposals ≤ view.size.workers + 1)
     × Happens view.size (proposes view.worker) view state new.0.last
 
--- a load of word 0 changes nothing, and shows that one of the learned list and the shared list
--- begins with the other
-abbrev pub CompareTells : TableStep → SeatState → ℕ → SeatState → Type 0
-CompareTells at old found new =
-    (new ≡ old)
-    × (BeginsWith old.0.told old.0.state.learned ⊎ BeginsWith old.0.state.learned old.0.told)
+-- a load of word 0 changes nothing, and shows that the calls of all workers whose seat it is are one
+-- run
+abbrev pub MeetTells : TableStep → SeatState → ℕ → SeatState → Type 0
+MeetTells at old found new = (new ≡ old)
+    × ((log : ShownState) × AreOneRun old.0.size (all_parts old.0) log)
 
--- a note of what a seat has learned, a seat with which a list or a note is shared, and a seat that
--- knows nothing any more
-abbrev pub note_of : View → View
-note_of view = view_of view.size Note 0 new_worker view.state.learned view.last
-
+-- a seat with which a list is shared, and a seat that knows nothing any more
 abbrev pub told_list : View → List Ticket → View
-told_list view list = view_of view.size view.kind view.worker view.state list view.last
-
-abbrev pub informed : View → View → View
-informed view note = told_list view note.told
+told_list view list = record view { told = list }
 
 abbrev pub spent : View
-spent =
-    view_of (record { workers = 0; places = 0 }) Spent 0 new_worker []
-    (record { decided = []; workers = [] })
+spent = blank_view (record { workers = 0; places = 0 }) Spent 0
+
+-- a seat with another joined into it
+abbrev pub joined_with : View → View → View
+joined_with view other = record view { joined = part_of other ∷ view.joined }
+
+-- the seat of a part, with which a list is shared
+abbrev pub seat_again : List Ticket → Part → View
+seat_again list part = record {
+  size = part.size;
+  kind = Seated;
+  worker = part.worker;
+  state = part.state;
+  told = list;
+  last = part.last;
+  calls = part.calls;
+  joined = [];
+}
+
+-- what is left of a seat once the one that was joined into it last is split off, and that one, which
+-- then knows what the seat's worker has learned
+abbrev pub parted : View → View
+parted view = record view { joined = drop 1 view.joined }
+
+abbrev pub last_joined : View → View
+last_joined view =
+    option_map_or (seat_again view.state.learned) (slice_get view.joined 0) spent
 
 -- what is left of the spare seat once it has given out its first worker's seat, and that seat
 abbrev pub fewer : View → View

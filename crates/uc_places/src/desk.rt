@@ -50,6 +50,7 @@ pub struct Desk {
     ghost mirrors: { Mirrors seat.me.0 numbers },
     ghost law: { SeatLaw seat.me.0.size seat.me.0.worker seat.me.0.state },
     ghost reached: { LastIsReached seat.me.0 },
+    ghost alone: { seat.me.0.joined ≡ [] },
     ghost holds_no_slot: { seat.me.1 ≡ [] },
 }
 

@@ -19,5 +19,5 @@ pub mod words;
 pub use desk::{Desk, Places};
 pub use seats::{Idle, Looked, Pending, Seat};
 pub use telling::tell;
-pub use whole::{close, open};
+pub use whole::{close, close_all, open};
 pub use words::{ticket_in, word_of};

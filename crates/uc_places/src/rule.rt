@@ -1,13 +1,14 @@
 //! The table of words with its invariant, and what an operation on a word shows.
 ghost use Rattle.uc_places.specs.Rule.{IsKept};
-ghost use Rattle.uc_places.specs.Told.{AnnounceTells, CompareTells, LookTells, ProposeTells, ReadTells, fewer, first_of, informed, note_of, spare_from, spent};
+ghost use Rattle.uc_places.specs.Told.{AnnounceTells, LookTells, MeetTells, ProposeTells, ReadTells, fewer, first_of, joined_with, last_joined, parted, spare_from, spent};
 
 use crate::view::View;
 use atomic_table::{Join, Play, Seat, Split, Table, TableRule};
 use mc_model::LogSize;
 use std::alloc::Global;
 
-/// The invariant: the words and the seats show a reachable state of the log.
+/// The invariant: the words and the seats show a state that one run of the log leads to, in which
+/// each worker's events are its seat's calls.
 pub struct LogRule;
 
 impl TableRule<(), View, LogSize> for LogRule {
@@ -50,11 +51,11 @@ impl Play<(), View> for Proposing {
     ghost then = { ProposeTells };
 }
 
-/// Compares the learned list with the one that was shared with the seat.
-pub(crate) struct Comparing;
+/// Shows that all calls of the workers whose seat it is are one run.
+pub(crate) struct Meeting;
 
-impl Play<(), View> for Comparing {
-    ghost then = { CompareTells };
+impl Play<(), View> for Meeting {
+    ghost then = { MeetTells };
 }
 
 /// Splits the seat of its first worker off the spare seat.
@@ -66,17 +67,30 @@ impl Split<View> for Dealing {
     ghost right = { first_of };
 }
 
-/// Makes a note of what one seat has learned, and shares it with another.
-pub(crate) struct Noting;
+/// Leaves a seat that knows nothing, and gives the seat that it was.
+pub(crate) struct Leaving;
 
-impl Split<View> for Noting {
-    ghost left = { λ view. view };
+impl Split<View> for Leaving {
+    ghost left = { λ view. spent };
 
-    ghost right = { note_of };
+    ghost right = { λ view. view };
 }
 
-impl Join<View> for Noting {
-    ghost both = { informed };
+/// Joins a worker's seat into another's.
+pub(crate) struct Joining;
+
+impl Join<View> for Joining {
+    ghost both = { joined_with };
 
     ghost spent = { spent };
+}
+
+/// Splits off the seat that was joined into a seat last, and shares with it what the other has
+/// learned.
+pub(crate) struct Parting;
+
+impl Split<View> for Parting {
+    ghost left = { parted };
+
+    ghost right = { last_joined };
 }

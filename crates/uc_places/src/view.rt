@@ -6,18 +6,36 @@ use std::collections::LinkedList;
 pub enum Kind {
     /// Stands for the seats of all workers from its own on, which aren't given out yet.
     Spare,
-    /// The one seat of its worker.
+    /// The one seat of its worker, and of the workers whose seats were joined into it.
     Seated,
-    /// Knows a list that some worker has learned.
-    Note,
     /// Knows nothing any more.
     Spent,
 }
 
+/// A call of a worker's seat, which is one event of its worker.
+pub enum Call {
+    Announce,
+    Read,
+    Look,
+    Propose,
+}
+
+/// What a seat knows of one worker.
+pub struct Part {
+    pub size: LogSize,
+    /// The worker's number.
+    pub worker: u64,
+    pub state: WorkerState,
+    /// The state of the log directly after the worker's last event.
+    pub last: ShownState,
+    /// All calls of the worker's seat since the opening, in order.
+    pub calls: LinkedList<Call>,
+}
+
 /// What a seat of the table knows.
 ///
-/// `last` is why a seat's calls lie on one run of the log, and `told` is why two workers' learned
-/// lists can be compared.
+/// `last` is why a seat's calls lie on one run of the log, `calls` is why those of all seats lie on
+/// the same one, and `told` is why two workers' learned lists can be compared.
 pub struct View {
     pub size: LogSize,
     pub kind: Kind,
@@ -29,4 +47,8 @@ pub struct View {
     pub told: LinkedList<Ticket>,
     /// The state of the log directly after its worker's last event.
     pub last: ShownState,
+    /// All calls of this seat since the opening, in order.
+    pub calls: LinkedList<Call>,
+    /// The workers whose seats were joined into this one.
+    pub joined: LinkedList<Part>,
 }

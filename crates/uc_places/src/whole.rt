@@ -1,5 +1,5 @@
 //! Opening and closing the shared words.
-ghost use Rattle.std.specs.Prelude.{◌≡◌, ◌<◌, ◌≤◌, ◌+◌, ◌^◌, ℕ, List, length, slice_get, Some, IfOk, IsOkUnless};
+ghost use Rattle.std.specs.Prelude.{◌≡◌, ◌<◌, ◌≤◌, ◌+◌, ◌^◌, ◌∷◌, ℕ, List, [], length, slice_get, Some, IfOk, IfSome, IsOkUnless};
 ghost use Rattle.core.specs.Mem.Slots.{IsFull, slots_items, slots_len};
 ghost use Rattle.mc_model.specs.declared.fault.Fault.TheVariants as faults;
 ghost use Rattle.mc_model.specs.declared.id.Ticket as ticket;
@@ -11,12 +11,14 @@ ghost use Rattle.mc_model.specs.Lawful.{IsReached};
 ghost use Rattle.mc_model.specs.Legal.{IsLegal};
 ghost use Rattle.uc_places.specs.Calls.{IsSeatOf, known, state_of};
 ghost use Rattle.uc_places.specs.Desk.{AreTickets, IsBlank, Spells};
-ghost use Rattle.uc_places.specs.End.{IsEnd, IsPartOf};
+ghost use Rattle.uc_places.specs.End.{AreSeatsOf, IsEnd, IsEndOfAll, IsHostOf, IsPartOf, parts_in, parts_of};
+ghost use Rattle.uc_places.specs.Run.{AreAmong, AreOneRun, all_parts, part_of};
 ghost use Rattle.uc_places.specs.Seats.{desk_of};
 ghost use Rattle.uc_places.specs.Told.{new_seat};
+ghost use Rattle.uc_places.specs.declared.view.Kind.TheVariants as kinds;
 
 use crate::desk::{Desk, Numbers, Places};
-use crate::rule::{Dealing, PlacesTable};
+use crate::rule::{Dealing, Joining, PlacesTable, TableSeat};
 use crate::seats::{Idle, Seat};
 use crate::words::ticket_in;
 use atomic_table::Closed;
@@ -107,11 +109,13 @@ fn decided(
 }
 
 /// Closes the words with one seat that is still open, and returns the log.
-fn close_with(alloc: Global, places: Places, desk: Desk) -> Result<Vec<Ticket>, Fault>
-    requires { IsSeatOf places desk }
+fn close_with(alloc: Global, places: Places, seat: TableSeat) -> Result<Vec<Ticket>, Fault>
+    requires place { seat.table_id ≡ places.table.shared.table_id }
+    requires seated { seat.me.0.kind ≡ kinds.Seated }
     ensures log { IfOk result
         (λ tickets. (log : state.ShownState) × IsReached places.table.shared.key log
-        × (tickets.items ≡ log.decided) × IsPartOf places.table.shared.key log desk) }
+        × (tickets.items ≡ log.decided) × IsPartOf places.table.shared.key log seat.me.0
+        × AreOneRun places.table.shared.key (all_parts seat.me.0) log) }
     ensures memory { IsOkUnless result faults.Memory }
 {
     let Places {
@@ -119,7 +123,6 @@ fn close_with(alloc: Global, places: Places, desk: Desk) -> Result<Vec<Ticket>, 
         workers,
         places,
     } = places;
-    let Desk { seat, numbers: _ } = desk;
     let closed = table.close_with(seat);
     let log = decided(alloc, &closed, 1 + workers, places);
     closed.free();
@@ -130,7 +133,7 @@ fn close_with(alloc: Global, places: Places, desk: Desk) -> Result<Vec<Ticket>, 
 fn close_bare(alloc: Global, places: Places) -> Result<Vec<Ticket>, Fault>
     ensures log { IfOk result
         (λ tickets. (log : state.ShownState) × IsReached places.table.shared.key log
-        × (tickets.items ≡ log.decided)) }
+        × (tickets.items ≡ log.decided) × AreOneRun places.table.shared.key [] log) }
     ensures memory { IsOkUnless result faults.Memory }
 {
     let Places {
@@ -167,7 +170,56 @@ pub fn close(alloc: Global, places: Places, seats: Vec<Seat>) -> Result<Vec<Tick
     ensures memory { IsOkUnless result faults.Memory }
 {
     match first_of(seats) {
-        Some(seat) => close_with(alloc, places, seat.into_desk()),
+        Some(seat) => {
+            let Desk { seat, numbers: _ } = seat.into_desk();
+            close_with(alloc, places, seat)
+        }
+        None => close_bare(alloc, places),
+    }
+}
+
+/// Joins a worker's seat into the one into which others' were joined, if there is one.
+fn join(places: &Places, host: Option<TableSeat>, desk: Desk) -> TableSeat
+    requires place { IsSeatOf places.now desk }
+    requires host { IfSome host (λ seat. IsHostOf places.now seat) }
+    ensures host { IsHostOf places.now result }
+    ensures parts { AreAmong (part_of (known desk) ∷ parts_in host) (all_parts result.me.0) }
+{
+    let Desk { seat, numbers: _ } = desk;
+    let Some(mut host) = host else {
+        return seat;
+    };
+    places.table.shared.join_seat::<Joining>(&mut host, seat);
+    host
+}
+
+/// Joins all these seats into one.
+fn joined(places: &Places, seats: Vec<Seat>) -> Option<TableSeat>
+    requires { AreSeatsOf places.now seats.items }
+    ensures host { IfSome result (λ seat. IsHostOf places.now seat) }
+    ensures parts { AreAmong (parts_of seats.items) (parts_in result) }
+{
+    let mut host = None;
+    for seat in seats {
+        host = Some(join(places, host, seat.into_desk()));
+    }
+    host
+}
+
+/// Closes the words with all these seats, and returns the log, which is a legal list of tickets.
+///
+/// One run of the log, from its opening to its end, has all calls of these seats, in the order in
+/// which each seat made them, and nothing else of their workers. Returns `Memory` if memory runs
+/// out.
+pub fn close_all(alloc: Global, places: Places, seats: Vec<Seat>) -> Result<Vec<Ticket>, Fault>
+    requires { AreSeatsOf places seats.items }
+    ensures legal { IfOk result (λ tickets. IsLegal tickets.items) }
+    ensures run { IfOk result
+        (λ tickets. IsEndOfAll places.table.shared.key tickets.items seats.items) }
+    ensures memory { IsOkUnless result faults.Memory }
+{
+    match joined(&places, seats) {
+        Some(seat) => close_with(alloc, places, seat),
         None => close_bare(alloc, places),
     }
 }

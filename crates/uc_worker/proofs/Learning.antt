@@ -5,10 +5,11 @@ use Rattle.mc_model.specs.declared.shown.Phase.{Phase}
 use Rattle.mc_model.specs.declared.shown.Phase.TheVariants.{Idle, Pending, Looked}
 use Rattle.mc_model.specs.declared.shown.ShownState.{ShownState}
 use Rattle.mc_model.specs.declared.shown.WorkerState.{WorkerState}
-use Rattle.mc_model.specs.Lawful.{announces, looks, proposes, reads}
 use Rattle.mc_model.specs.Legal.{ticket_of}
 use Rattle.mc_model.specs.Shown.{announce, is_latest, look, marked, propose, read}
 use Rattle.uc_places.specs.declared.desk.Desk.{Desk}
+use Rattle.uc_places.specs.declared.view.Call.{Call}
+use Rattle.uc_places.specs.declared.view.Call.TheVariants.{Announce, Look, Propose, Read}
 use Rattle.uc_places.specs.declared.view.View.{View}
 use Rattle.uc_places.specs.Calls.{Makes, known, state_of, worker_of}
 use Rattle.uc_places.specs.Told.{moved_on}
@@ -42,7 +43,7 @@ module _ (number : ℕ) (worker : WorkerState) (ticket : Ticket) (at : Phase) wh
       by_test false is = ap after is
 
 -- what a call makes of a seat, if the worker's state is known
-module _ (old new : View) (state : WorkerState) (last : ShownState) (is : new ≡ moved_on old state last) where
+module _ (old new : View) (call : Call) (state : WorkerState) (last : ShownState) (is : new ≡ moved_on old call state last) where
   same_of : IsSame old new
   same_of = (ap (λ (v : View). v.size) is, ap (λ (v : View). v.worker) is)
 
@@ -71,20 +72,20 @@ learns_more old new ticket learns = ap length learns.learned ∙ length-append o
 
 -- a read that finds a ticket, and a proposal
 pub learns_read : (old new : Desk) (found : Option Ticket) (ticket : Ticket) → found ≡ Some ticket →
-    Makes old new (reads (worker_of old)) (read (worker_of old) found (state_of old)) → Learns (known old) (known new) ticket
-learns_read old new found ticket is made = let state = state_is (known old) (known new) _ _ made.2 ∙ ap (λ (f : Option Ticket). read (worker_of old) f (state_of old)) is in record {
-  same = same_of (known old) (known new) _ _ made.2;
-  told = told_of (known old) (known new) _ _ made.2;
+    Makes old new Read (read (worker_of old) found (state_of old)) → Learns (known old) (known new) ticket
+learns_read old new found ticket is made = let state = state_is (known old) (known new) _ _ _ made.2 ∙ ap (λ (f : Option Ticket). read (worker_of old) f (state_of old)) is in record {
+  same = same_of (known old) (known new) _ _ _ made.2;
+  told = told_of (known old) (known new) _ _ _ made.2;
   announced = ap (λ (s : WorkerState). s.announced) state;
   mark = ap (λ (s : WorkerState). s.mark) state;
   learned = ap (λ (s : WorkerState). s.learned) state;
 }
 
-pub learns_proposed : (old new : Desk) (ticket : Ticket) → Makes old new (proposes (worker_of old)) (propose (worker_of old) (Some ticket) (state_of old)) →
+pub learns_proposed : (old new : Desk) (ticket : Ticket) → Makes old new Propose (propose (worker_of old) (Some ticket) (state_of old)) →
     Learns (known old) (known new) ticket
-learns_proposed old new ticket made = let state = state_is (known old) (known new) _ _ made.2 in record {
-  same = same_of (known old) (known new) _ _ made.2;
-  told = told_of (known old) (known new) _ _ made.2;
+learns_proposed old new ticket made = let state = state_is (known old) (known new) _ _ _ made.2 in record {
+  same = same_of (known old) (known new) _ _ _ made.2;
+  told = told_of (known old) (known new) _ _ _ made.2;
   announced = ap (λ (s : WorkerState). s.announced) state;
   mark = ap (λ (s : WorkerState). s.mark) state;
   learned = ap (λ (s : WorkerState). s.learned) state;
@@ -103,30 +104,30 @@ decides one two three ticket later learns idle own =
     }
 
 pub decides_read : (one : View) (old new : Desk) (found : Option Ticket) (ticket : Ticket) → Later one (known old) → (state_of old).phase ≡ Pending →
-    found ≡ Some ticket → Makes old new (reads (worker_of old)) (read (worker_of old) found (state_of old)) → (state_of new).phase ≡ Idle → Decided one (known new)
+    found ≡ Some ticket → Makes old new Read (read (worker_of old) found (state_of old)) → (state_of new).phase ≡ Idle → Decided one (known new)
 decides_read one old new found ticket later pending is made idle =
-    let state = state_is (known old) (known new) _ _ made.2 ∙ ap (λ (f : Option Ticket). read (worker_of old) f (state_of old)) is in
+    let state = state_is (known old) (known new) _ _ _ made.2 ∙ ap (λ (f : Option Ticket). read (worker_of old) f (state_of old)) is in
     decides one (known old) (known new) ticket later (learns_read old new found ticket is made) idle
     (own_of (worker_of old) (state_of old) ticket (state_of old).phase (λ same. (let e = sym pending ∙ same in cc))
     (sym (ap (λ (s : WorkerState). s.phase) state) ∙ idle))
 
 pub decides_proposed : (one : View) (old new : Desk) (ticket : Ticket) → Later one (known old) →
-    Makes old new (proposes (worker_of old)) (propose (worker_of old) (Some ticket) (state_of old)) → (state_of new).phase ≡ Idle → Decided one (known new)
+    Makes old new Propose (propose (worker_of old) (Some ticket) (state_of old)) → (state_of new).phase ≡ Idle → Decided one (known new)
 decides_proposed one old new ticket later made idle =
     decides one (known old) (known new) ticket later (learns_proposed old new ticket made) idle
     (own_of (worker_of old) (state_of old) ticket Pending (λ (same : Pending ≡ Idle). cc)
-    (sym (ap (λ (s : WorkerState). s.phase) (state_is (known old) (known new) _ _ made.2)) ∙ idle))
+    (sym (ap (λ (s : WorkerState). s.phase) (state_is (known old) (known new) _ _ _ made.2)) ∙ idle))
 
 -- a pending worker that isn't idle after a step is still pending
 pub waits_read : (old new : Desk) (found : Option Ticket) → (state_of old).phase ≡ Pending →
-    Makes old new (reads (worker_of old)) (read (worker_of old) found (state_of old)) → (state_of new).phase ≢ Idle → (state_of new).phase ≡ Pending
-waits_read old new None pending made other = ap (λ (s : WorkerState). s.phase) (state_is (known old) (known new) _ _ made.2) ∙ pending
-waits_read old new (Some ticket) pending made other = let phase = ap (λ (s : WorkerState). s.phase) (state_is (known old) (known new) _ _ made.2) in
+    Makes old new Read (read (worker_of old) found (state_of old)) → (state_of new).phase ≢ Idle → (state_of new).phase ≡ Pending
+waits_read old new None pending made other = ap (λ (s : WorkerState). s.phase) (state_is (known old) (known new) _ _ _ made.2) ∙ pending
+waits_read old new (Some ticket) pending made other = let phase = ap (λ (s : WorkerState). s.phase) (state_is (known old) (known new) _ _ _ made.2) in
     phase ∙ (stays_of (worker_of old) (state_of old) ticket (state_of old).phase (λ idle. other (phase ∙ idle)) ∙ pending)
 
 pub waits_proposed : (old new : Desk) (ticket : Ticket) →
-    Makes old new (proposes (worker_of old)) (propose (worker_of old) (Some ticket) (state_of old)) → (state_of new).phase ≢ Idle → (state_of new).phase ≡ Pending
-waits_proposed old new ticket made other = let phase = ap (λ (s : WorkerState). s.phase) (state_is (known old) (known new) _ _ made.2) in
+    Makes old new Propose (propose (worker_of old) (Some ticket) (state_of old)) → (state_of new).phase ≢ Idle → (state_of new).phase ≡ Pending
+waits_proposed old new ticket made other = let phase = ap (λ (s : WorkerState). s.phase) (state_is (known old) (known new) _ _ _ made.2) in
     phase ∙ stays_of (worker_of old) (state_of old) ticket Pending (λ idle. other (phase ∙ idle))
 
 is_marked : (mark : Option ℕ) (place : ℕ) → marked Pending mark place ≢ None
@@ -135,13 +136,13 @@ is_marked (Some mark) place = λ same. cc
 
 -- an empty place was read
 pub marks_empty : (old new : Desk) (found : Option Ticket) → found ≡ None → (state_of old).phase ≡ Pending →
-    Makes old new (reads (worker_of old)) (read (worker_of old) found (state_of old)) →
+    Makes old new Read (read (worker_of old) found (state_of old)) →
     Later (known old) (known new) × ((state_of new).phase ≡ Pending) × ((state_of new).mark ≢ None)
 marks_empty old new found is pending made =
-    let state = state_is (known old) (known new) _ _ made.2 ∙ ap (λ (f : Option Ticket). read (worker_of old) f (state_of old)) is in (
+    let state = state_is (known old) (known new) _ _ _ made.2 ∙ ap (λ (f : Option Ticket). read (worker_of old) f (state_of old)) is in (
       record {
-        same = same_of (known old) (known new) _ _ made.2;
-        told = told_of (known old) (known new) _ _ made.2;
+        same = same_of (known old) (known new) _ _ _ made.2;
+        told = told_of (known old) (known new) _ _ _ made.2;
         announced = ap (λ (s : WorkerState). s.announced) state;
         learned = begins_same _ _ (ap (λ (s : WorkerState). s.learned) state);
       },
@@ -152,12 +153,12 @@ marks_empty old new found is pending made =
     )
 
 -- a worker looks
-pub looks_later : (old new : Desk) (helped found : ℕ) → Makes old new (looks (worker_of old)) (look helped found (state_of old)) →
+pub looks_later : (old new : Desk) (helped found : ℕ) → Makes old new Look (look helped found (state_of old)) →
     Later (known old) (known new) × ((state_of new).phase ≡ Looked) × ((state_of new).mark ≡ (state_of old).mark) × ((state_of new).learned ≡ (state_of old).learned)
-looks_later old new helped found made = let state = state_is (known old) (known new) _ _ made.2 in (
+looks_later old new helped found made = let state = state_is (known old) (known new) _ _ _ made.2 in (
   record {
-    same = same_of (known old) (known new) _ _ made.2;
-    told = told_of (known old) (known new) _ _ made.2;
+    same = same_of (known old) (known new) _ _ _ made.2;
+    told = told_of (known old) (known new) _ _ _ made.2;
     announced = ap (λ (s : WorkerState). s.announced) state;
     learned = begins_same _ _ (ap (λ (s : WorkerState). s.learned) state);
   },
@@ -167,9 +168,9 @@ looks_later old new helped found made = let state = state_is (known old) (known 
 )
 
 -- a worker announces
-pub announced_of : (old new : Desk) → Makes old new (announces (worker_of old)) (announce (state_of old)) → Announced (known old) (known new)
-announced_of old new made = let state = state_is (known old) (known new) _ _ made.2 in record {
-  same = same_of (known old) (known new) _ _ made.2;
+pub announced_of : (old new : Desk) → Makes old new Announce (announce (state_of old)) → Announced (known old) (known new)
+announced_of old new made = let state = state_is (known old) (known new) _ _ _ made.2 in record {
+  same = same_of (known old) (known new) _ _ _ made.2;
   announced = ap (λ (s : WorkerState). s.announced) state;
   learned = ap (λ (s : WorkerState). s.learned) state;
   phase = ap (λ (s : WorkerState). s.phase) state;

@@ -4,9 +4,9 @@ use Rattle.mc_model.specs.declared.id.Ticket.{Ticket}
 use Rattle.mc_model.specs.declared.shown.Phase.{Phase}
 use Rattle.mc_model.specs.declared.shown.Phase.TheVariants.{Idle}
 use Rattle.lists.specs.Lists.{BeginsWith}
-use Rattle.mc_model.specs.Lawful.{reads}
 use Rattle.mc_model.specs.Shown.{is_latest, read}
 use Rattle.uc_places.specs.declared.desk.Desk.{Desk}
+use Rattle.uc_places.specs.declared.view.Call.TheVariants.{Read}
 use Rattle.uc_places.specs.declared.view.View.{View}
 use Rattle.uc_places.specs.Calls.{Makes, known, state_of, worker_of}
 use Rattle.uc_worker.specs.Steps.{IsSame, Rests}
@@ -18,7 +18,7 @@ rests_if true phase rests = ((λ same. cc), (λ same. cc))
 rests_if false phase rests = rests
 
 -- a worker rests after each read
-pub rests_read : (old new : Desk) (found : Option Ticket) → Makes old new (reads (worker_of old)) (read (worker_of old) found (state_of old)) →
+pub rests_read : (old new : Desk) (found : Option Ticket) → Makes old new Read (read (worker_of old) found (state_of old)) →
     Rests (state_of old).phase → Rests (state_of new).phase
 rests_read old new None made rests = subst Rests (sym (ap (λ (v : View). v.state.phase) made.2)) rests
 rests_read old new (Some ticket) made rests = subst Rests (sym (ap (λ (v : View). v.state.phase) made.2))
@@ -33,7 +33,7 @@ pub record ReadsTold (old new : View) : Type 0 where
   pub begins : BeginsWith old.told new.state.learned
   pub more : length new.state.learned ≡ length old.state.learned + 1
 
-pub reads_told : (old new : Desk) (found : Option Ticket) → Makes old new (reads (worker_of old)) (read (worker_of old) found (state_of old)) →
+pub reads_told : (old new : Desk) (found : Option Ticket) → Makes old new Read (read (worker_of old) found (state_of old)) →
     Rests (state_of old).phase →
     ((ticket : Ticket) → slice_get (known old).told (length (state_of old).learned) ≡ Some ticket → found ≡ Some ticket) →
     BeginsWith (known old).told (state_of old).learned → length (state_of old).learned < length (known old).told → ReadsTold (known old) (known new)

@@ -1,14 +1,14 @@
 -- How many events of the log a worker takes.
 use Rattle.std.specs.Prelude.{ℕ, ◌+◌, ◌*◌, ◌≤◌, List, length}
-use Rattle.mc_model.specs.Lawful.{ShownEvent}
 use Rattle.uc_places.specs.declared.desk.Desk.{Desk}
+use Rattle.uc_places.specs.declared.view.Call.{Call}
 use Rattle.uc_places.specs.Calls.{state_of}
 use Rattle.uc_places.specs.OneRun.{CallsLead}
 
 -- What a seat does from one moment to another is a list of calls, each an event of its own worker.
 -- At most two of them are for each place that the worker learns in between, and `more` are left.
 pub record TakesFew (more : ℕ) (old new : Desk) : Type 0 where
-  pub calls : List ShownEvent
+  pub calls : List Call
   pub lead : CallsLead old calls new
   pub few : length calls + 2 * length (state_of old).learned
       ≤ 2 * length (state_of new).learned + more

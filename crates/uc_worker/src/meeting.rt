@@ -3,6 +3,7 @@ ghost use Rattle.std.specs.Prelude.{◌≡◌, ◌⊎◌, ◌≤◌, length, IsO
 ghost use Rattle.mc_model.specs.declared.fault.Fault.TheVariants as faults;
 ghost use Rattle.lists.specs.Lists.{BeginsWith};
 ghost use Rattle.uc_log.specs.Passes.{IsOf, desk, learned, seat, size, state};
+ghost use Rattle.uc_places.specs.Calls.{ShareOneRun};
 ghost use Rattle.uc_worker.specs.Counting.{TakesFew};
 ghost use Rattle.uc_worker.specs.Steps.{Rests};
 ghost use Rattle.uc_worker.specs.Waiting.{LearnsMore};
@@ -31,7 +32,7 @@ fn read_told(log: &Log, pass: &mut Pass, end: usize)
 }
 
 /// Lets the pass that has learned less learn what the other has.
-fn even(log: &Log, one: &mut Pass, other: &mut Pass)
+fn learn_the_same(log: &Log, one: &mut Pass, other: &mut Pass)
     requires of { IsOf log.now one.old × IsOf log.now other.old }
     requires rests { Rests (state one.old).phase × Rests (state other.old).phase }
     ensures one { LearnsMore log.now one.old one.new }
@@ -47,6 +48,24 @@ fn even(log: &Log, one: &mut Pass, other: &mut Pass)
     } else {
         read_told(log, other, one.learned());
     }
+}
+
+/// Lets the pass that has learned less learn what the other has. One run of the log then has all
+/// that both have done.
+fn even(log: &Log, one: &mut Pass, other: &mut Pass)
+    requires of { IsOf log.now one.old × IsOf log.now other.old }
+    requires rests { Rests (state one.old).phase × Rests (state other.old).phase }
+    ensures one { LearnsMore log.now one.old one.new }
+    ensures other { LearnsMore log.now other.old other.new }
+    ensures learned { learned one.new ≡ learned other.new }
+    ensures either { (learned one.new ≡ learned one.old) ⊎ (learned one.new ≡ learned other.old) }
+    ensures takes { TakesFew 0 (desk one.old) (desk one.new)
+        × TakesFew 0 (desk other.old) (desk other.new) }
+    ensures run { ShareOneRun (desk one.new) (desk other.new) }
+{
+    learn_the_same(log, one, other);
+    // What was read came after they met, so they meet once more.
+    log.tell(one, other);
 }
 
 impl<'a> Worker<'a> {
@@ -65,6 +84,9 @@ impl<'a> Worker<'a> {
             (IsUpToDate self.new
             × ((seat_of self.new).state.learned ≡ (seat_of other.new).state.learned)) }
         ensures learned { LearnsTheSame self.old other.old self.new other.new }
+        // One run of the log, from its opening, has all calls of both workers' seats, in order, and
+        // no other events of the two.
+        ensures run { ShareOneRun (own_desk self.new) (own_desk other.new) }
         // Each takes at most two events for each place that it learns.
         ensures takes { TakesFew 0 (own_desk self.old) (own_desk self.new)
             × TakesFew 0 (own_desk other.old) (own_desk other.new) }

@@ -25,4 +25,4 @@ returns-clause-log c =
     subst (λ (z : ℕ × ℕ). Spells (slots_items c.close-closed.result.words) (1 + z.0) z.1 end.0.decided) (λ i. (p.sized.0 i, p.sized.1 i)) end.2 in
     if_ok _ (λ (v : Vec Ticket Global). (tickets : List Ticket) →
     Spells (slots_items c.close-closed.result.words) (1 + p.workers) p.places tickets → v.items ≡ tickets) _
-    (λ v h. (end.0, end.1, h end.0.decided spells)) c.decided-log.ensures.spelled
+    (λ v h. (end.0, end.1, h end.0.decided spells, end.3)) c.decided-log.ensures.spelled

@@ -9,8 +9,8 @@ use Rattle.uc_places.proofs.whole.close_with.Goals as goal
 
 pub decided-log-requires-clause-tickets : goal.decided-log-requires-clause-tickets
 decided-log-requires-clause-tickets c =
-    let d = c.args.desk in let p = c.args.places in
-    let end = closes p.table.shared.key d.seat.id d.seat.me.0 _ _ d.mirrors.seated c.close_with-closed.ensures.values.2 in
+    let seat = c.args.seat in let p = c.args.places in
+    let end = closes p.table.shared.key seat.id seat.me.0 _ _ c.requires.seated c.close_with-closed.ensures.values.2 in
     subst (λ (z : ℕ × ℕ). AreTickets (slots_items c.close_with-closed.result.words) (1 + z.0) z.1) (λ i. (p.sized.0 i, p.sized.1 i))
     (spelled_tickets _ _ _ _ end.2)
 
@@ -19,11 +19,11 @@ free-requires c = λ k l. let e = c.close_with-closed.ensures.counts.1 in let no
 
 pub returns-clause-log : goal.returns-clause-log
 returns-clause-log c =
-    let d = c.args.desk in let p = c.args.places in
-    let end = closes p.table.shared.key d.seat.id d.seat.me.0 _ _ d.mirrors.seated c.close_with-closed.ensures.values.2 in
+    let seat = c.args.seat in let p = c.args.places in
+    let end = closes p.table.shared.key seat.id seat.me.0 _ _ c.requires.seated c.close_with-closed.ensures.values.2 in
     let spells : Spells (slots_items c.close_with-closed.result.words) (1 + p.workers) p.places end.0.decided =
     subst (λ (z : ℕ × ℕ). Spells (slots_items c.close_with-closed.result.words) (1 + z.0) z.1 end.0.decided)
     (λ i. (p.sized.0 i, p.sized.1 i)) end.2 in
     if_ok _ (λ (v : Vec Ticket Global). (tickets : List Ticket) →
     Spells (slots_items c.close_with-closed.result.words) (1 + p.workers) p.places tickets → v.items ≡ tickets) _
-    (λ v h. (end.0, end.1, h end.0.decided spells, (end.3, end.4))) c.decided-log.ensures.spelled
+    (λ v h. (end.0, end.1, h end.0.decided spells, end.3, end.4)) c.decided-log.ensures.spelled

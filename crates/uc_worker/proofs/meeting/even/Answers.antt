@@ -1,25 +1,32 @@
--- The pass that has learned more shares its list, and the other reads it.
-use Rattle.std.proofs.Common.{◌<◌, ◌≤◌, length, arith}
+-- Meeting once more takes no event (`Telling`).
+use Rattle.std.proofs.Common.{sym, ap, ◌∙◌, ⊎_elim, inl, inr}
+use Rattle.mc_model.specs.declared.shown.WorkerState.{WorkerState}
 use Rattle.uc_log.specs.Passes.{desk}
-use Rattle.uc_places.specs.Calls.{state_of}
-use Rattle.uc_worker.proofs.Counting.{takes_telling, takes_told}
-use Rattle.uc_worker.proofs.Telling.{one_shared, other_shared}
+use Rattle.uc_worker.proofs.Counting.{takes_still, takes_through}
+use Rattle.uc_worker.proofs.Telling.{learns_still, one_still, other_still}
 use Rattle.uc_worker.proofs.meeting.even.Goals as goal
 
-pub returns-then-learned-clause-takes : goal.returns-then-learned-clause-takes
-returns-then-learned-clause-takes c =
-    let one = desk c.args.one.now in let other = desk c.args.other.now in let new_one = desk c.tell.new.one in let new_other = desk c.tell.new.other in
-    let fewer : length (state_of new_one).learned < length (state_of new_other).learned = omega (arith, c.learned.ensures.value, c.learned-2.ensures.value, c.if-learned.true) in
-    let shares = other_shared one other new_one new_other c.tell.ensures.told fewer in (
-      takes_told one new_one (desk c.read_told.new.pass) _ shares.second.1 c.read_told.ensures.takes,
-      takes_telling other new_other shares.first.1,
-    )
+pub returns-clause-one : goal.returns-clause-one
+returns-clause-one c = let same = c.learn_the_same.new in
+    learns_still _ c.args.one.now same.one c.tell.new.one c.learn_the_same.ensures.one (one_still (desk same.one) (desk same.other) _ _ c.tell.ensures.told) c.tell.ensures.kept.0
 
-pub returns-else-learned-clause-takes : goal.returns-else-learned-clause-takes
-returns-else-learned-clause-takes c =
-    let one = desk c.args.one.now in let other = desk c.args.other.now in let new_one = desk c.tell.new.one in let new_other = desk c.tell.new.other in
-    let more : length (state_of new_other).learned ≤ length (state_of new_one).learned = omega (arith, c.learned.ensures.value, c.learned-2.ensures.value, c.if-learned.false) in
-    let shares = one_shared one other new_one new_other c.tell.ensures.told more in (
-      takes_telling one new_one shares.first.1,
-      takes_told other new_other (desk c.read_told-else-learned.new.pass) _ shares.second.1 c.read_told-else-learned.ensures.takes,
+pub returns-clause-other : goal.returns-clause-other
+returns-clause-other c = let same = c.learn_the_same.new in
+    learns_still _ c.args.other.now same.other c.tell.new.other c.learn_the_same.ensures.other (other_still (desk same.one) (desk same.other) _ _ c.tell.ensures.told) c.tell.ensures.kept.1
+
+pub returns-clause-learned : goal.returns-clause-learned
+returns-clause-learned c = let same = c.learn_the_same.new in
+    let one = one_still (desk same.one) (desk same.other) _ _ c.tell.ensures.told in let other = other_still (desk same.one) (desk same.other) _ _ c.tell.ensures.told in
+    ap (λ (s : WorkerState). s.learned) one.state ∙ (c.learn_the_same.ensures.learned ∙ sym (ap (λ (s : WorkerState). s.learned) other.state))
+
+pub returns-clause-either : goal.returns-clause-either
+returns-clause-either c = let same = c.learn_the_same.new in
+    let one = ap (λ (s : WorkerState). s.learned) (one_still (desk same.one) (desk same.other) _ _ c.tell.ensures.told).state in
+    ⊎_elim (λ h. inl (one ∙ h)) (λ h. inr (one ∙ h)) c.learn_the_same.ensures.either
+
+pub returns-clause-takes : goal.returns-clause-takes
+returns-clause-takes c = let same = c.learn_the_same.new in let takes = c.learn_the_same.ensures.takes in
+    let one = one_still (desk same.one) (desk same.other) _ _ c.tell.ensures.told in let other = other_still (desk same.one) (desk same.other) _ _ c.tell.ensures.told in (
+      takes_through 0 0 (desk c.args.one.now) (desk same.one) (desk c.tell.new.one) takes.0 (takes_still (desk same.one) (desk c.tell.new.one) one),
+      takes_through 0 0 (desk c.args.other.now) (desk same.other) (desk c.tell.new.other) takes.1 (takes_still (desk same.other) (desk c.tell.new.other) other),
     )

@@ -4,6 +4,7 @@ use Rattle.atomic_table.specs.Seated.{TableId}
 use Rattle.mc_model.specs.Lawful.{proposes}
 use Rattle.mc_model.specs.Shown.{proposal, propose}
 use Rattle.uc_places.specs.declared.desk.Numbers.{Numbers}
+use Rattle.uc_places.specs.declared.view.Call.TheVariants.{Propose}
 use Rattle.uc_places.specs.declared.view.View.{View}
 use Rattle.uc_places.specs.Desk.{Mirrors}
 use Rattle.uc_places.specs.SeatLaw.{SeatLaw}
@@ -21,7 +22,7 @@ compare_exchange-found-requires c = let d = c.args.self.now in let m = d.mirrors
     let few = ap (λ (z : TableId). z.words) c.requires.place in let place = c.next_word-place.ensures in (
       c.requires.place,
       omega arith,
-      proposes_at _ _ d.seat.me m.seated _ _ _ (omega arith) (m.word c.requires.looked) c.requires.looked,
+      proposes_at _ _ d.seat.me m.seated d.alone _ _ _ (omega arith) (m.word c.requires.looked) c.requires.looked,
     )
 
 -- what stands at the place then is a ticket of this log
@@ -52,16 +53,17 @@ invariant_of-self c =
     let law : SeatLaw view.size view.worker (propose view.worker found view.state) = seat_law view.size _ view.worker _ tells.4.4 tells.4.6 in
     let inside = proposed_inside view c.ticket_in-ticket.result found law stands in
     let below = inside.0 in let small = m.small in let few = small.1 in
-    let now : c.compare_exchange-found.new.seat.me.0 ≡ moved_on view (propose view.worker found view.state) c.compare_exchange-found.new.seat.me.0.last =
+    let now : c.compare_exchange-found.new.seat.me.0 ≡ moved_on view Propose (propose view.worker found view.state) c.compare_exchange-found.new.seat.me.0.last =
     ap (λ (z : SeatState). z.0) tells.0 in
     record {
       words = words_of _ _ _ (sym c.compare_exchange-found.ensures.0) (subst (λ (v : View). c.args.self.now.seat.table_id.words ≡ 1 + v.size.workers
           + v.size.places) (sym now) c.args.self.now.words);
       mirrors = subst (λ (v : View). Mirrors v (record c.learn.new.self { proposals = c.learn.new.self.proposals + 1 })) (sym now)
-          (subst (λ (n : Numbers). Mirrors (moved_on view (propose view.worker found view.state) c.compare_exchange-found.new.seat.me.0.last)
+          (subst (λ (n : Numbers). Mirrors (moved_on view Propose (propose view.worker found view.state) c.compare_exchange-found.new.seat.me.0.last)
           (record n { proposals = n.proposals + 1 })) (sym c.learn.ensures)
           (mirrors_proposed _ view c.args.self.now.numbers c.ticket_in-ticket.result found m c.requires.looked stands (omega arith) tells.3));
-      law = law_after view c.compare_exchange-found.new.seat.me.0 (proposes view.worker) _ now tells.4;
-      reached = last_after view c.compare_exchange-found.new.seat.me.0 (proposes view.worker) _ now tells.4;
+      law = law_after view c.compare_exchange-found.new.seat.me.0 (proposes view.worker) Propose _ now tells.4;
+      reached = last_after view c.compare_exchange-found.new.seat.me.0 (proposes view.worker) Propose _ now tells.4;
+      alone = ap (λ (z : SeatState). z.0.joined) tells.0 ∙ c.args.self.now.alone;
       holds_no_slot = ap (λ (z : SeatState). z.1) tells.0 ∙ c.args.self.now.holds_no_slot;
     }

@@ -1,0 +1,90 @@
+-- A run goes on by an event, which is its worker's own and no other's.
+use Rattle.std.proofs.Common.{◌≡◌, ◌≢◌, ℕ, zero, suc, Bool, true, false, if◌then◌else◌, List, [], ◌∷◌, ◌++◌, map, refl, sym, ap, ◌∙◌, subst, append-nil, eq-eqb, ne_eqb}
+use Rattle.std.proofs.lemmas.List.{map-append}
+use Rattle.std.proofs.lemmas.List.Elements.{filter-append}
+use Rattle.mc_model.specs.declared.shown.LogSize.{LogSize}
+use Rattle.mc_model.specs.declared.shown.ShownState.{ShownState}
+use Rattle.mc_model.specs.Lawful.{IsReached, LeadOn, ShownEvent, announces, looks, proposes, reads, stops}
+use Rattle.mc_model.specs.Shown.{new_log}
+use Rattle.uc_places.specs.declared.view.Call.{Call}
+use Rattle.uc_places.specs.declared.view.Call.TheVariants.{Announce, Look, Propose, Read}
+use Rattle.uc_places.specs.declared.view.Part.{Part}
+use Rattle.uc_places.specs.Rule.{AreOfOthers, taker}
+use Rattle.uc_places.specs.Run.{AreAmong, AreOneRun, HasMade, event_of, is_of, own_events}
+
+-- another's event isn't the worker's; a call's is
+not_its : (number : ℕ) (event : ShownEvent) → taker event ≢ number → is_of number event ≡ false
+not_its number (announces worker) apart = ne_eqb worker number apart
+not_its number (reads worker) apart = ne_eqb worker number apart
+not_its number (looks worker) apart = ne_eqb worker number apart
+not_its number (proposes worker) apart = ne_eqb worker number apart
+not_its number (stops worker) apart = ne_eqb worker number apart
+
+its : (number : ℕ) (call : Call) → is_of number (event_of number call) ≡ true
+its number Announce = eq-eqb number number refl
+its number Read = eq-eqb number number refl
+its number Look = eq-eqb number number refl
+its number Propose = eq-eqb number number refl
+
+pub taken : (number : ℕ) (call : Call) → taker (event_of number call) ≡ number
+taken number Announce = refl
+taken number Read = refl
+taken number Look = refl
+taken number Propose = refl
+
+-- one more event in front, by whether it is the worker's
+in_front : (number : ℕ) (event : ShownEvent) (events : List ShownEvent) (own : Bool) → is_of number event ≡ own →
+    own_events number (event ∷ events) ≡ (if own then event ∷ own_events number events else own_events number events)
+in_front number event events own is =
+    ap (λ (b : Bool). if b then event ∷ own_events number events else own_events number events) is
+
+pub own_first : (number : ℕ) (call : Call) (events : List ShownEvent) →
+    own_events number (event_of number call ∷ events) ≡ event_of number call ∷ own_events number events
+own_first number call events = in_front number (event_of number call) events true (its number call)
+
+-- none of others' events is the worker's
+pub none_its : (number : ℕ) (events : List ShownEvent) → AreOfOthers number events → own_events number events ≡ []
+none_its number [] others = refl
+none_its number (event ∷ events) others = in_front number event events false (not_its number event others.0) ∙ none_its number events others.1
+
+-- a worker's call comes last, or another's
+pub made_on : (run : List ShownEvent) (number : ℕ) (calls : List Call) (call : Call) → HasMade run number calls →
+    HasMade (run ++ event_of number call ∷ []) number (calls ++ call ∷ [])
+made_on run number calls call made = filter-append (is_of number) run (event_of number call ∷ [])
+    ∙ ((λ i. made i ++ own_first number call [] i) ∙ sym (map-append (event_of number) calls (call ∷ [])))
+
+pub made_else : (run : List ShownEvent) (number : ℕ) (calls : List Call) (event : ShownEvent) → taker event ≢ number → HasMade run number calls →
+    HasMade (run ++ event ∷ []) number calls
+made_else run number calls event apart made = filter-append (is_of number) run (event ∷ [])
+    ∙ ((λ i. made i ++ in_front number event [] false (not_its number event apart) i) ∙ append-nil (map (event_of number) calls))
+
+-- a run leads to a reachable state
+pub reached : (size : LogSize) (run : List ShownEvent) (log : ShownState) → LeadOn size (new_log size) run log → IsReached size log
+reached size run log lead = on run (new_log size) log ([], refl) lead
+  where
+    on : (run : List ShownEvent) (from log : ShownState) → IsReached size from → LeadOn size from run log → IsReached size log
+    on [] from log there same = subst (IsReached size) (sym same) there
+    on (event ∷ run) from log there lead = on run lead.0 log ((event ∷ there.0), (from, there.1, lead.1)) lead.2
+
+-- the first two of a list may be turned
+pub among_turned : (one other : Part) (rest : List Part) → AreAmong (one ∷ other ∷ rest) (other ∷ one ∷ rest)
+among_turned one other rest zero part at = (1, at)
+among_turned one other rest (suc zero) part at = (0, at)
+among_turned one other rest (suc (suc place)) part at = (suc (suc place), at)
+
+-- of one run's workers some may be named
+pub among_run : (size : LogSize) (parts all : List Part) (log : ShownState) → AreAmong parts all → AreOneRun size all log → AreOneRun size parts log
+among_run size parts all log among run = record {
+  run = run.run;
+  lead = run.lead;
+  sized = λ place part at. let there = among place part at in run.sized there.0 part there.1;
+  shown = λ place part at. let there = among place part at in run.shown there.0 part there.1;
+  own = λ place part at. let there = among place part at in run.own there.0 part there.1;
+}
+
+-- of two workers either may be named first
+pub turned : (size other_size : LogSize) (one other : Part) (log : ShownState) → other.size ≡ other_size → AreOneRun size (one ∷ other ∷ []) log →
+    AreOneRun other_size (other ∷ one ∷ []) log
+turned size other_size one other log named all =
+    subst (λ (z : LogSize). AreOneRun z (other ∷ one ∷ []) log) (sym (all.sized 1 other refl) ∙ named)
+    (among_run size (other ∷ one ∷ []) (one ∷ other ∷ []) log (among_turned other one []) all)
