@@ -77,11 +77,11 @@ case ${1:-} in
     wfmc)
         port=${2:-11211}
         [[ "$port" =~ ^[1-9][0-9]{0,4}$ ]] && [ "$port" -lt 65535 ] || refuse "a port is a number from 1 to 65534" 2
-        echo "Compiling wfmc without a proof: about a minute on four idle cores." >&2
+        echo "Compiling wfmc without a proof: a minute or two ..." >&2
         try_wfmc "$port"
         ;;
     mc_stdin)
-        echo "Compiling mc_stdin without a proof: less than a minute on four idle cores." >&2
+        echo "Compiling mc_stdin without a proof ..." >&2
         try_stdin
         ;;
     *) refuse "wfmc or mc_stdin?" 2 ;;
