@@ -123,7 +123,7 @@ try_words() {
         while IFS= read -r it; do
             check "$word may not be $it: $(said_of "$word" "$it")" test "$(said_of "$word" "$it")" = "wfmc: bad settings 2"
         done < <(words_of "$wrong")
-    done < <(sed -n '/^### Which word is bad/,/^Numbers have/p' docs/OPERATING.md | grep '^| `')
+    done < <(sed -n '/^### Which word is bad/,/^Numbers are/p' docs/OPERATING.md | grep '^| `')
 }
 
 [ ! -x crates/wfmc/out/wfmc ] || try_words
