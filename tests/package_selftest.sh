@@ -84,6 +84,7 @@ make_later() {
 start_installed() {
     local unit=$root/lib/systemd/system/wfmc.service command words space files
     command=$(sed -n 's/^ExecStart=\(.*\) \$WFMC_WORDS$/\1/p' "$unit")
+    # shellcheck disable=SC1090
     words=$(. "$root$(sed -n 's/^EnvironmentFile=-//p' "$unit")" && sed -E 's/:[0-9]+,/:0,/g' <<<"$WFMC_WORDS")
     space=$(sed -n 's/^LimitAS=//p' "$unit" | numfmt --from=iec)
     files=$(sed -n 's/^LimitNOFILE=//p' "$unit")
