@@ -29,6 +29,8 @@ check() {
     fi
 }
 
+nobody=()
+[ "$(id -u)" != 0 ] || nobody=(--reuid 65534 --regid 65534 --clear-groups --bounding-set=-all --inh-caps=-all)
 command -v dpkg-deb >/dev/null && command -v dpkg >/dev/null || { echo "dpkg is missing: only Debian has it" >&2; exit 1; }
 for program in "${programs[@]}"; do
     [ -x "crates/$program/out/$program" ] || { echo "crates/$program/out/$program isn't built: make build" >&2; exit 1; }
@@ -40,7 +42,7 @@ expected() {
     for it in man1/mc_stdin.1 man1/mc_schedule.1 man8/wfmc.8; do echo "/usr/share/man/$it.gz"; done
     for it in README.md built-from changelog.Debian.gz copyright sources.sha256.gz $(find docs -type f); do echo "/usr/share/doc/wfmc/$it"; done
     echo /usr/share/lintian/overrides/wfmc
-    echo /lib/systemd/system/wfmc.service
+    echo /usr/lib/systemd/system/wfmc.service
     echo /etc/default/wfmc
 }
 
@@ -57,13 +59,14 @@ has_one_tree() {
     dpkg-deb -x "$package" "$folder/deb"
     tar -C "$folder/tar" -xf "$folder"/first/wfmc-*.tar.gz
     diff -r "$folder/deb" "$folder/tar" && diff -r "$folder/deb" "$folder/first/tree" &&
-        diff <(cd "$folder/deb" && find . -printf '%P %m %T@\n' | sort) <(cd "$folder/tar" && find . -printf '%P %m %T@\n' | sort)
+        diff <(cd "$folder/deb" && find . -type f -printf '%P %m %T@\n' | sort) <(cd "$folder/tar" && find . -type f -printf '%P %m %T@\n' | sort)
 }
 
+has_no_folder() { ! tar -tf "$folder"/first/wfmc-*.tar.gz | grep '/$'; }
 sums_hold() { zcat "$folder/deb/usr/share/doc/wfmc/sources.sha256.gz" | sha256sum -c --quiet; }
 built_from_has() { grep -qxF -- "$1" "$folder/deb/usr/share/doc/wfmc/built-from" || { cat "$folder/deb/usr/share/doc/wfmc/built-from"; return 1; }; }
 sum_of_sources() { zcat "$folder/deb/usr/share/doc/wfmc/sources.sha256.gz" | sha256sum | cut -d' ' -f1; }
-unit_verifies() { diff <(sed 's|@PROGRAM@|/usr/bin/wfmc|; s|@DEFAULTS@|/etc/default/wfmc|' etc/wfmc.service) "$folder/deb/lib/systemd/system/wfmc.service"; }
+unit_verifies() { diff <(sed 's|@PROGRAM@|/usr/bin/wfmc|; s|@DEFAULTS@|/etc/default/wfmc|' etc/wfmc.service) "$folder/deb/usr/lib/systemd/system/wfmc.service"; }
 
 lintian_finds_no_error() {
     lintian --allow-root --fail-on error,warning "$package" >"$folder/said" 2>&1 || { cat "$folder/said"; return 1; }
@@ -82,15 +85,15 @@ make_later() {
 
 # The unit's command with the words of its defaults file, but that each port is a free one, under the unit's limits.
 start_installed() {
-    local unit=$root/lib/systemd/system/wfmc.service command words space files
+    local unit=$root/usr/lib/systemd/system/wfmc.service command words space files
     command=$(sed -n 's/^ExecStart=\(.*\) \$WFMC_WORDS$/\1/p' "$unit")
     # shellcheck disable=SC1090
     words=$(. "$root$(sed -n 's/^EnvironmentFile=-//p' "$unit")" && sed -E 's/:[0-9]+,/:0,/g' <<<"$WFMC_WORDS")
     space=$(sed -n 's/^LimitAS=//p' "$unit" | numfmt --from=iec)
     files=$(sed -n 's/^LimitNOFILE=//p' "$unit")
-    # The words are cut at blanks, as systemd does.
+    # A user without rights, where this is root; and the words are cut at blanks, as systemd does.
     # shellcheck disable=SC2086
-    prlimit --as="$space" --nofile="$files" --core=0 setpriv --no-new-privs "$root$command" $words >"$folder/ready" 2>&1 &
+    prlimit --as="$space" --nofile="$files" --core=0 setpriv --no-new-privs "${nobody[@]}" "$root$command" $words >"$folder/ready" 2>&1 &
     server=$!
     for _ in $(seq 100); do
         ! grep -q '^ready' "$folder/ready" || return 0
@@ -164,6 +167,7 @@ END
 check "the same bytes twice" make_packages
 package=$(echo "$folder"/first/wfmc_*.deb)
 check "one tree" has_one_tree
+check "no folder in the tar file, which would take the place of a link" has_no_folder
 check "its files" has_the_files_alone "$folder/deb"
 check "the programs' bytes" programs_are_as_built "$folder/deb"
 check "the checksums of the sources" sums_hold

@@ -70,9 +70,6 @@ make_tree() {
     local tree=$1 documents=$1/usr/share/doc/wfmc list
     DESTDIR=$tree PREFIX=/usr SYSCONFDIR=/etc tools/install.sh install >/dev/null
     rm "$documents/installed" "$documents/wfmc.default" "$documents/LICENSE"
-    mkdir -p "$tree/lib"
-    mv "$tree/usr/lib/systemd" "$tree/lib/systemd"
-    rmdir "$tree/usr/lib"
     list=$(sources)
     printf '%s\n' "$list" | gzip -9n >"$documents/sources.sha256.gz"
     described "$(printf '%s\n' "$list" | sha256sum | cut -d' ' -f1)" >"$documents/built-from"
@@ -106,8 +103,12 @@ chmod 755 "$folder"
 make_tree "$folder/tree"
 mkdir -p "$place"
 rm -rf "$place"/tree "$place"/wfmc[-_]*
-tar -C "$folder/tree" --sort=name --mtime="@$moment" --owner=0 --group=0 --numeric-owner -c . | gzip -9n >"$place/wfmc-$version-$architecture.tar.gz"
+# Files alone: a folder in a tar file takes the place of a link to a folder, as /lib is one.
+(cd "$folder/tree" && find . -type f -printf '%P\0' | LC_ALL=C sort -z | tar --null -T - --mtime="@$moment" --owner=0 --group=0 --numeric-owner -c) |
+    gzip -9n >"$place/wfmc-$version-$architecture.tar.gz"
 cp -a "$folder/tree" "$place/tree"
 make_control "$folder/tree"
 SOURCE_DATE_EPOCH=$moment dpkg-deb --root-owner-group -Zxz --build "$folder/tree" "$place/wfmc_${version}_$architecture.deb" >/dev/null
-(cd "$place" && sha256sum wfmc[-_]*) | tee "$place/wfmc-$version.sha256"
+(cd "$place" && sha256sum "wfmc_${version}_$architecture.deb" "wfmc-$version-$architecture.tar.gz") >"$folder/sums"
+install -m 644 "$folder/sums" "$place/wfmc-$version.sha256"
+cat "$folder/sums"
