@@ -80,6 +80,9 @@ is_interrupted() {
     sleep 1
 }
 
+# Nothing that was compiled for this port runs on.
+leaves_no_process() { ! pgrep -af -- "shop=127.0.0.1:$shop,"; }
+
 leaves_nothing() { [ -z "$(ls -A "$folder/temporary")" ] || { ls "$folder/temporary"; return 1; }; }
 
 shop=$(free_ports)
@@ -98,6 +101,7 @@ check "the other tenant's" test "$(asks "$blog" 'get a')" = "END "
 is_interrupted
 check "the first port is free again" is_refused "$shop"
 check "the second port is free again" is_refused "$blog"
+check "no process is left" leaves_no_process
 check "no file is left" leaves_nothing
 
 TMPDIR=$folder/temporary make -s try-stdin >"$folder/output" 2>"$folder/errors" || cat "$folder/errors"

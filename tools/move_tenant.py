@@ -197,3 +197,5 @@ try:
     sys.exit(main())
 except (Stop, OSError) as error:
     sys.exit(f"tools/move_tenant.py: {error}")
+except KeyboardInterrupt:
+    sys.exit(130)

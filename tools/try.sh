@@ -9,7 +9,10 @@ cd "$(dirname "$0")/.."
 seconds=3600
 folder=$(mktemp -d)
 process=
+# rt removes its files and ends the program at a signal, unless a second one comes meanwhile: so it is in a session of its own, where an
+# interrupt at the terminal doesn't reach it, and gets one from here.
 end() {
+    trap '' INT TERM HUP
     [ -z "$process" ] || { kill "$process" && wait "$process"; } 2>/dev/null || true
     rm -rf "$folder"
 }
@@ -38,7 +41,7 @@ try_wfmc() {
     for port in "$shop" "$blog"; do
         ! is_taken "$port" || refuse "127.0.0.1:$port is taken, perhaps by a memcached: make try PORT=21211" 1
     done
-    (cd crates/wfmc && exec rt try --seconds "$seconds" -- --places 1048576 --generations 0 \
+    (cd crates/wfmc && exec setsid rt try --seconds "$seconds" -- --places 1048576 --generations 0 \
         "shop=127.0.0.1:$shop,1000000,64000000" "blog=127.0.0.1:$blog,1000000,64000000") </dev/null >"$folder/said" 2>&1 &
     process=$!
     until [[ "$(version_at "$blog")" == VERSION* ]]; do
@@ -64,7 +67,7 @@ END
 
 try_stdin() {
     local status=0
-    (cd crates/mc_stdin && exec rt try <stdin) >"$folder/output" 2>"$folder/said" &
+    (cd crates/mc_stdin && exec setsid rt try <stdin) >"$folder/output" 2>"$folder/said" &
     process=$!
     wait "$process" || status=$?
     process=
