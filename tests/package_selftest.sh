@@ -69,7 +69,7 @@ sum_of_sources() { zcat "$folder/deb/usr/share/doc/wfmc/sources.sha256.gz" | sha
 unit_verifies() { diff <(sed 's|@PROGRAM@|/usr/bin/wfmc|; s|@DEFAULTS@|/etc/default/wfmc|' etc/wfmc.service) "$folder/deb/usr/lib/systemd/system/wfmc.service"; }
 
 lintian_finds_no_error() {
-    lintian --allow-root --fail-on error,warning "$package" >"$folder/said" 2>&1 || { cat "$folder/said"; return 1; }
+    lintian --allow-root --fail-on error "$package" >"$folder/said" 2>&1 || { cat "$folder/said"; return 1; }
 }
 
 # Maintainer scripts run outside of the root, with DPKG_ROOT; there is no C library in its database to depend on.

@@ -80,16 +80,17 @@ make_tree() {
     find "$tree" -exec touch -h -d "@$moment" {} +
 }
 
-# The highest version of the C library that a program asks for.
-libc() {
-    local it
-    for it in "${programs[@]}"; do grep -aoE 'GLIBC_[0-9.]+' "crates/$it/out/$it"; done | sed 's/GLIBC_//' | sort -V | tail -n 1
+# The packages with the libraries that the programs ask for: the C library of the highest version that one names, and gcc's.
+libraries() {
+    local it texts
+    texts=$(for it in "${programs[@]}"; do grep -aoE 'GLIBC_[0-9.]+|libgcc_s\.so\.1' "crates/$it/out/$it"; done)
+    echo "libc6 (>= $(sed -n 's/GLIBC_//p' <<<"$texts" | sort -V | tail -n 1))$(grep -q libgcc_s <<<"$texts" && echo ', libgcc-s1' || true)"
 }
 
 make_control() {
     local tree=$1 it
     mkdir "$tree/DEBIAN"
-    sed -e "s/@VERSION@/$version/; s/@ARCHITECTURE@/$architecture/; s/@LIBC@/$(libc)/" \
+    sed -e "s/@VERSION@/$version/; s/@ARCHITECTURE@/$architecture/; s/@LIBRARIES@/$(libraries)/" \
         -e "s/@SIZE@/$(du -k --apparent-size -s --exclude=DEBIAN "$tree" | cut -f1)/; s/@MAINTAINER@/$maintainer/" etc/package/control >"$tree/DEBIAN/control"
     echo /etc/default/wfmc >"$tree/DEBIAN/conffiles"
     (cd "$tree" && find . -path ./DEBIAN -prune -o -path ./etc -prune -o -type f -printf '%P\0' | LC_ALL=C sort -z | xargs -0 md5sum) >"$tree/DEBIAN/md5sums"
