@@ -1,9 +1,17 @@
 # `make run` and `make test` do all set-up on a machine that has the kit (`rt` on the PATH).
-.PHONY: help serve run schedule build install uninstall test mutants golden network compatibility proxy fuzz linearizability \
-	allocation-failures differential wrong-definitions core-states manual bench picture documents layers definitions kit
+.PHONY: help try try-stdin serve run schedule build install uninstall package test mutants golden network compatibility proxy moving fuzz \
+	linearizability allocation-failures differential wrong-definitions core-states manual trying packaging bench picture documents layers definitions kit
 
 help: ## prints this list
 	@awk -F ':.*## ' '/^[a-z-]+:.*## / { printf "make %-20s %s\n", $$1, $$2 }' Makefile
+
+# The first tenant's port for try; the second's is the next one.
+PORT = 11211
+try: kit ## compiles wfmc without a proof and runs it with two tenants on loopback, until it is interrupted; PORT=11211
+	@tools/try.sh wfmc $(PORT)
+
+try-stdin: kit ## compiles mc_stdin without a proof and runs it on its first run
+	@tools/try.sh mc_stdin
 
 serve: kit ## proves, builds and runs wfmc with two tenants on loopback, until it is interrupted
 	@tools/prove.sh wfmc >&2
@@ -30,6 +38,10 @@ install: ## installs the programs as built, their manual pages, a unit for syste
 uninstall: ## removes exactly these; a defaults file that was changed stays
 	@tools/install.sh uninstall
 
+package: kit ## proves and builds, and makes a Debian package, a tar file and the tree for an image, in out/package/
+	@tools/prove.sh wfmc mc_stdin mc_schedule >&2
+	@tools/package.sh
+
 test: kit ## the gate: every proof from nothing, the gate's mutants, the tests, and the programs on their golden tests, over sockets and fuzzed
 	@tests/gate.sh
 
@@ -52,6 +64,10 @@ compatibility: kit ## the compatibility suite: wfmc, and mc_stdin behind a relay
 proxy: kit ## tests twemproxy over three instances of wfmc; installs what it needs where it may
 	@tools/prove.sh wfmc >&2
 	@tools/proxy.sh
+
+moving: kit ## tests moving a tenant from memcached, behind twemproxy, as docs/CLIENTS.md has it; installs what it needs where it may
+	@tools/prove.sh wfmc >&2
+	@tools/moving.sh
 
 # How many minutes the fuzzer takes, and as many the histories, each time; and after how many bytes of commands a log is closed at the third.
 MINUTES = 2
@@ -86,6 +102,12 @@ core-states: ## counts the reachable states of a small core
 manual: ## checks the manual pages against the programs as built, and tests installing into temporary folders
 	@tests/manual.sh
 	@tests/install_selftest.sh
+
+trying: kit ## tests make try and make try-stdin, in some minutes
+	@tests/try_selftest.sh
+
+packaging: ## tests the packages of the programs as built: installing, serving, upgrading and purging under a temporary root
+	@tests/package_selftest.sh
 
 bench: kit ## measures the built programs; the figures of docs/BENCHMARKS.md come from it
 	@tools/prove.sh wfmc mc_stdin mc_schedule benches >&2

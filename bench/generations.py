@@ -12,6 +12,9 @@ Prints a line `GROUP: CASE: WHAT<TAB>VALUE<TAB>UNIT` for each measurement. GROUP
   first thread from then on, while the others serve (dropping);
 - memory: a client sets 1,000 items again and again, over logs of 64 places;
 - bytes: a client sets 1,000 items of 10,000 bytes again and again, 2 GB in total, over logs that are closed by their bytes;
+- time: processor time of a request, with the kernel's and with what turn overs take, next to memcached's, by turns: 50 connections with one
+  request at a time, over 5 logs, and 8 with 32, over 20; 100,000 items, with 1 and 2 workers or threads, 5 runs of each. It depends little on
+  other work on the machine;
 - seconds: 50 connections with one request at a time, and 8 with 32, over 100,000 items, with 1 and 2 workers or threads.
 
 Usage: bench/generations.py [BINARY [GROUP...]] [--logs N] [--seconds N] [--places N] [--generations G]. Without words it measures all groups of
@@ -31,7 +34,7 @@ import time
 
 sys.path.insert(0, str(pathlib.Path(__file__).parents[1] / "tests"))
 from harness import repository
-from harness.measures import figures_of, gathered, print_figure, print_load
+from harness.measures import figures_of, gathered, print_figure, print_load, print_spread
 from harness.servers import LARGE, Memcached, Server
 
 MEBIBYTE = 1 << 20
@@ -41,6 +44,8 @@ TURNS = 5  # that a run of a client has
 DEPTHS = (1, 32)
 SHAPES = ((50, 1), (8, 32))  # connections, requests that each sends at once
 HELD = 100_000
+TIMED = {1: 5, 32: 20}  # logs that are filled at these depths
+RUNS = 5
 MOST_A_SECOND = {1: 500_000, 32: 4_000_000}  # requests, more than a server answers at these depths
 SET_AGAIN = 1_000
 # Of the group bytes: how many bytes a log keeps, in MiB, how many an item has, and how many items are set.
@@ -185,6 +190,29 @@ class Bench:
                     print_figure(f"{case}: address space", server.address_space() / MEBIBYTE, "MiB")
                     print_figure(f"{case}: descriptors", server.descriptors(), "count")
                     print_figure(f"{case}: threads", server.threads(), "count")
+
+    def show_time(self):
+        repository.require("memcached")
+        for connections, depth in SHAPES:
+            requests = TIMED[depth] * self.asked.places
+            if not self.has_room(HELD + requests):
+                continue
+            for threads in (1, 2):
+                found = {"wfmc": [], "memcached": []}
+                for _ in range(RUNS):
+                    for which, times in found.items():
+                        times.append(self.time_of_a_request(which, threads, connections, depth, requests))
+                for which, times in found.items():
+                    print_spread(f"time: {which}, {threads} workers or threads, {connections} connections of depth {depth}: processor time", times, "us")
+
+    def time_of_a_request(self, which, threads, connections, depth, requests):
+        """The processor time that a server takes for a request, once it holds its items, in microseconds."""
+        with self.start(which, threads) as server:
+            port = server.port if which == "memcached" else server.ports["a"]
+            self.load(port, 1, DEPTHS[-1], 1, "-k", HELD)
+            before = server.processor_seconds()
+            self.load(port, connections, depth, requests, "-k", HELD, "-o")
+            return 1e6 * (server.processor_seconds() - before) / requests
 
     def show_seconds(self):
         if self.asked.generations == 1:

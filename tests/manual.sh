@@ -1,7 +1,8 @@
 #!/usr/bin/env bash
 # Checks the manual pages against the built programs: each page is set without a warning, has the expected sections, names each option of
 # the program's --help with its bounds and default and no other, names its version, and points to pages that exist; and the examples of the
-# programs over standard input print what the page says. Options and numbers are checked without man, too.
+# programs over standard input print what the page says. Options and numbers are checked without man, too. And wfmc is tried on the words
+# of the table in docs/OPERATING.md that says which word is bad.
 # Prints a line for each failure; the last line is 'N passed, M failed'.
 set -euo pipefail
 cd "$(dirname "$0")/.."
@@ -91,6 +92,41 @@ example_is_true() {
     [ -s "$folder/wanted" ] && diff "$folder/output" "$folder/wanted"
 }
 
+# Runs wfmc with a word in the place of one of its own: what it says, and its status. No address of 192.0.2.0/24 can be bound, so that words
+# that are right are followed by that failure.
+said_of() {
+    local name=shop address=192.0.2.1:11211 items=1000 bytes=1048576 status=0 words=()
+    case $1 in
+        --*) words=("${1% *}" "$2") ;;
+        NAME) name=$2 ;;
+        ADDR) address=$2 ;;
+        ITEMS) items=$2 ;;
+        BYTES) bytes=$2 ;;
+    esac
+    words+=("$name=$address,$items,$bytes")
+    [ "$1" != TENANT ] || words=("$2")
+    timeout 20 crates/wfmc/out/wfmc "${words[@]}" >"$folder/output" 2>&1 || status=$?
+    echo "$(head -n 1 "$folder/output") $status"
+}
+
+# The words of a table's column, which stand between backquotes.
+words_of() { grep -o '`[^`]*`' <<<"$1" | tr -d '`'; }
+
+# Tries the words of the table of docs/OPERATING.md that says which word is bad.
+try_words() {
+    local word right wrong it
+    while IFS='|' read -r _ word _ right wrong _; do
+        word=$(words_of "$word")
+        while IFS= read -r it; do
+            check "$word may be $it: $(said_of "$word" "$it")" eval '[[ "$(said_of "$word" "$it")" == "wfmc: cannot listen "*" 1" ]]'
+        done < <(words_of "$right")
+        while IFS= read -r it; do
+            check "$word may not be $it: $(said_of "$word" "$it")" test "$(said_of "$word" "$it")" = "wfmc: bad settings 2"
+        done < <(words_of "$wrong")
+    done < <(sed -n '/^### Which word is bad/,/^Numbers are/p' docs/OPERATING.md | grep '^| `')
+}
+
+[ ! -x crates/wfmc/out/wfmc ] || try_words
 for page in man/*.[1-8]; do
     name=$(basename "${page%.*}")
     program=crates/$name/out/$name

@@ -1,0 +1,200 @@
+#!/usr/bin/env python3
+"""Tests how a tenant is moved from a running memcached, as docs/CLIENTS.md has it: Debian's memcached behind twemproxy, by the configuration on
+that page, tools/move_tenant.py while a client goes on, and the switch. Afterwards each item without an expiry is read through the proxy as memcached
+holds it, what was deleted is gone, and the other tenant has noticed nothing. Then what is refused, and servers that aren't there.
+
+Usage: tests/moving.py [WFMC]. tools/moving.sh installs what it needs. The last line is 'N passed, M failed'.
+"""
+
+import pathlib
+import random
+import re
+import subprocess
+import sys
+import tempfile
+import threading
+
+from harness import repository
+from harness.client import Client
+from harness.processes import SECONDS, Process
+from harness.results import Results
+from harness.servers import Memcached, Server, free_port, listens, wait_for
+
+QUOTAS = (100_000, 100_000_000)
+KEYS = [f"key{at}".encode() for at in range(1_500)]
+EXPIRING = [f"expiring{at}".encode() for at in range(20)]
+PAGE = "docs/CLIENTS.md"
+results = Results()
+check = results.check
+
+
+def configuration():
+    """The proxy's configuration on the page."""
+    section = pathlib.Path(PAGE).read_text().partition("\n## Moving a tenant from memcached\n")[2]
+    block = re.search(r"```yaml\n(.*?)```", section, re.S)[1]
+    return re.sub("^   ", "", block, flags=re.M)
+
+
+class Proxy:
+    """twemproxy by that configuration, at a port that stays, before the server at another port."""
+
+    def __init__(self, folder):
+        self.folder, self.port, self.status = folder, free_port(), free_port()
+
+    def start(self, server):
+        file = pathlib.Path(self.folder, "proxy.yml")
+        file.write_text(configuration().replace("22121", str(self.port)).replace("11311", str(server)))
+        words = ["nutcracker", "-c", str(file), "-s", str(self.status), "-a", "127.0.0.1", "-o", f"{self.folder}/log", "-p", f"{self.folder}/pid"]
+        self.process = Process(words)
+        wait_for(lambda: not self.process.is_running() or listens(self.port), "nutcracker")
+
+    def stop(self):
+        self.process.end()
+
+
+def stored(client, key, data, flags=0, expiry=0):
+    return client.line(b"set %s %d %d %d\r\n%s\r\n" % (key, flags, expiry, len(data), data)) == "STORED"
+
+
+def held(port, keys):
+    """The bytes that a get of each of these keys gives."""
+    with Client(port) as client:
+        return {key: client.ask(b"get %s\r\n" % key, b"END\r\n") for key in keys}
+
+
+class Writer(threading.Thread):
+    """A client that sets, counts and deletes through the proxy until that stops."""
+
+    def __init__(self, port):
+        super().__init__()
+        self.client, self.done = Client(port), 0
+        self.enough = threading.Event()
+
+    def run(self):
+        chance = random.Random(7)
+        try:
+            while True:
+                key = chance.choice(KEYS)
+                request = chance.choice((b"set %s 3 0 9\r\n\r\nEND\r\n%02d\r\n" % (key, self.done % 100), b"delete %s\r\n" % key, b"incr number 1\r\n"))
+                if self.client.line(request) in ("(closed)", "(reset)"):
+                    return
+                self.done += 1
+                if self.done == 200:
+                    self.enough.set()
+        except OSError:
+            return
+
+
+def move(*words):
+    pipes = {"stdin": subprocess.PIPE, "stdout": subprocess.PIPE, "stderr": subprocess.PIPE}
+    return Process([sys.executable, "tools/move_tenant.py", *words], text=True, **pipes)
+
+
+def tried(*words):
+    """Its status, output and errors, where its input has ended."""
+    with move(*words) as process:
+        process.process.stdin.close()
+        process.process.stdin = None
+        return process.wait()
+
+
+def fill(port):
+    chance = random.Random(5)
+    with Client(port) as client:
+        check("items are set", all(stored(client, key, chance.randbytes(chance.randrange(300)), at) for at, key in enumerate(KEYS)))
+        check("one of nearly a mebibyte", stored(client, b"large", chance.randbytes(1_000_000), 4_294_967_295))
+        check("a number", stored(client, b"number", b"41"))
+        check("a key with all other characters", stored(client, b"\xff%20=\x80&+", b"x"))
+        check("items with an expiry", all(stored(client, key, b"x", expiry=3_000) for key in EXPIRING))
+
+
+def check_move(source, server, proxy):
+    """Warms up while a client goes on, stops it, and switches."""
+    address = [f"127.0.0.1:{port}" for port in (source.port, server.ports["shop"])]
+    proxy.start(source.port)
+    fill(proxy.port)
+    with Client(server.ports["blog"]) as blog, Client(server.ports["shop"]) as shop:
+        check("the other tenant's", stored(blog, b"key0", b"blog") and stored(blog, b"only", b"blog"))
+        check("an older item of the tenant", stored(shop, b"older", b"shop"))
+    writer = Writer(proxy.port)
+    writer.start()
+    with move(*address) as process:
+        said = [process.process.stdout.readline() for _ in range(4)]
+        check("it says what it copied", re.fullmatch(r"[1-9]\d* items copied, 0 deleted; 20 with an expiry are left out\n", said[2]), said)
+        check("and waits", said[3] == "Stop the clients, and then press Enter.\n", said)
+        writer.enough.wait(SECONDS)
+        proxy.stop()
+        writer.join(SECONDS)
+        check("a client went on meanwhile", writer.done > 200 and not writer.is_alive(), writer.done)
+        names = [*KEYS, b"large", b"number", b"\xff%20=\x80&+"]
+        before = held(source.port, names)
+        output, errors = process.process.communicate("\n", timeout=SECONDS)
+    there = sum(reply != b"END\r\n" for reply in before.values())
+    check("its status", process.process.returncode == 0, errors)
+    check("what has changed is copied", re.search(r"^[1-9]\d* items copied, [1-9]\d* deleted; 20 with", output), output)
+    check("all is the same at both", f"\n{there} items are the same at both\n" in output, (there, output))
+    proxy.start(server.ports["shop"])
+    check("through the proxy all is as it was", held(proxy.port, names) == before)
+    check("some items had been deleted", any(before[key] == b"END\r\n" for key in KEYS))
+    check("what had an expiry is left out", set(held(proxy.port, EXPIRING).values()) == {b"END\r\n"})
+    check("the tenant's older item", held(proxy.port, [b"older"])[b"older"] == b"VALUE older 0 4\r\nshop\r\nEND\r\n")
+    other = held(server.ports["blog"], [*names, b"only"])
+    check("the other tenant's items", {key for key, reply in other.items() if reply != b"END\r\n"} == {b"key0", b"only"})
+    check("and their data", other[b"key0"] == b"VALUE key0 0 4\r\nblog\r\nEND\r\n")
+    check("memcached's items", held(source.port, names) == before)
+    with Client(proxy.port) as client:
+        check("a count goes on", client.line(b"incr number 1\r\n").isdigit())
+        check("a set after the switch", stored(client, b"key0", b"new"))
+    check("goes to wfmc", held(server.ports["shop"], [b"key0"]) != held(source.port, [b"key0"]))
+    proxy.stop()
+
+
+def check_refused(source, server):
+    """What can't be copied is counted, and older items under these keys are dropped."""
+    with Client(source.port) as client:
+        client.line(b"flush_all\r\n")
+        check("items are set there", all(stored(client, b"k%d" % at, b"x" * 500) for at in range(4)))
+        check("one with a key that the protocol forbids", stored(client, b"tab\tbed", b"x"))
+    address = [f"127.0.0.1:{port}" for port in (source.port, server.ports["small"])]
+    with Client(server.ports["small"]) as small:
+        check("older items are set", all(stored(small, b"k%d" % at, b"old") for at in range(4)))
+    status, output, _ = tried(*address, "--once")
+    check("the status when some are refused", status == 1, output)
+    check("by the quota", "2 were refused: SERVER_ERROR out of memory storing object\n" in output, output)
+    check("by the key", "1 were refused: the key has a character that memcached's protocol forbids\n" in output, output)
+    check("the others are the same", "\n2 items are the same at both\n" in output, output)
+    found = held(server.ports["small"], [b"k%d" % at for at in range(4)])
+    check("no older item is left", sorted(len(reply) for reply in found.values()) == [5, 5, 523, 523], found)
+
+
+def check_stopped(source, server):
+    """Servers that aren't there, lists that aren't given, and no second pass."""
+    address = [f"127.0.0.1:{port}" for port in (source.port, server.ports["shop"])]
+    nobody = f"127.0.0.1:{free_port()}"
+    status, _, errors = tried(nobody, address[1])
+    check("no memcached", status == 1 and f"{nobody}: Connection refused" in errors, errors)
+    status, _, errors = tried(address[0], nobody)
+    check("no wfmc", status == 1 and f"{nobody}: Connection refused" in errors, errors)
+    status, _, errors = tried(*address)
+    check("no second pass", status == 1 and "the second pass wasn't made" in errors, errors)
+    status, _, errors = tried(address[1], address[1])
+    check("no memcached's list", status == 1 and "answered ERROR when it was asked for its keys" in errors, errors)
+    status, _, errors = tried("here", address[1])
+    check("no address", status == 2 and "here is no HOST:PORT" in errors, errors)
+
+
+def main():
+    program = sys.argv[1] if len(sys.argv) > 1 else repository.program("wfmc")
+    repository.enter(program)
+    repository.require("memcached", "nutcracker")
+    tenants = {"shop": QUOTAS, "blog": QUOTAS, "small": (100, 1_100)}
+    options = ["--generations", "0", "--places", "1024"]
+    with tempfile.TemporaryDirectory() as folder, Memcached() as source, Server(program, options, tenants) as server:
+        server.addresses()
+        check_move(source, server, Proxy(folder))
+        check_refused(source, server)
+        check_stopped(source, server)
+    results.finish()
+
+
+main()

@@ -1,0 +1,113 @@
+#!/usr/bin/env bash
+# Tests make try and make try-stdin: a port that is taken is refused at once; wfmc serves two tenants apart, says that nothing was proved and
+# how long that took, and leaves neither a process nor a file when it is interrupted; and mc_stdin prints what its first run must print.
+# Some minutes, most of them compiling. The last line is 'N passed, M failed'.
+set -euo pipefail
+cd "$(dirname "$0")/.."
+
+folder=$(mktemp -d)
+tried=
+trap '[ -z "$tried" ] || kill "$tried" 2>/dev/null || true; rm -rf "$folder"' EXIT
+mkdir "$folder/temporary"
+passed=0
+failed=0
+
+# Counts a check by the status of the command after its name.
+check() {
+    local what=$1
+    shift
+    if "$@"; then
+        passed=$((passed + 1))
+    else
+        failed=$((failed + 1))
+        echo "wrong: $what"
+    fi
+}
+
+# A port of loopback that is free, with the next one.
+free_ports() {
+    python3 - <<'END'
+import socket
+while True:
+    with socket.socket() as first, socket.socket() as second:
+        first.bind(("127.0.0.1", 0))
+        try:
+            second.bind(("127.0.0.1", first.getsockname()[1] + 1))
+        except (OSError, OverflowError):
+            continue
+        print(first.getsockname()[1])
+        break
+END
+}
+
+asks() {
+    exec 3<>"/dev/tcp/127.0.0.1/$1"
+    printf '%s\r\nquit\r\n' "$2" >&3
+    timeout 20 cat <&3 | tr -d '\r' | tr '\n' ' '
+    exec 3>&-
+}
+
+is_refused() { (exec 3<>"/dev/tcp/127.0.0.1/$1") 2>/dev/null && return 1 || return 0; }
+says() { grep -qF -- "$2" "$1" || { cat "$1"; return 1; }; }
+
+refuses_a_taken_port() {
+    local status=0 taken=$1
+    rm -f "$folder/listens"
+    python3 -c 'import socket, sys, time
+with socket.create_server(("127.0.0.1", int(sys.argv[1]))): print(flush=True); time.sleep(60)' "$taken" >"$folder/listens" &
+    tried=$!
+    until [ -s "$folder/listens" ] || ! kill -0 "$tried" 2>/dev/null; do sleep 0.1; done
+    tools/try.sh wfmc "$2" >"$folder/output" 2>"$folder/errors" || status=$?
+    kill "$tried" && { wait "$tried" || true; } 2>/dev/null
+    tried=
+    [ "$status" -eq 1 ] && [ ! -s "$folder/output" ] && says "$folder/errors" "127.0.0.1:$taken is taken"
+}
+
+starts() {
+    # In a session of its own, so that an interrupt reaches all that it started, as at a terminal; the shell has it ignored in the background.
+    TMPDIR=$folder/temporary setsid env --default-signal=INT make -s try PORT="$1" >"$folder/output" 2>"$folder/errors" &
+    tried=$!
+    until grep -q 'ends after an hour' "$folder/output"; do
+        kill -0 "$tried" 2>/dev/null || { cat "$folder/output" "$folder/errors"; return 1; }
+        sleep 0.5
+    done
+}
+
+is_interrupted() {
+    kill -INT -- "-$tried"
+    wait "$tried" 2>/dev/null || true
+    tried=
+    sleep 1
+}
+
+# Nothing that was compiled for this port runs on.
+leaves_no_process() { ! pgrep -af -- "shop=127.0.0.1:$shop,"; }
+
+leaves_nothing() { [ -z "$(ls -A "$folder/temporary")" ] || { ls "$folder/temporary"; return 1; }; }
+
+shop=$(free_ports)
+blog=$((shop + 1))
+check "the first port is taken" refuses_a_taken_port "$shop" "$shop"
+check "the second port is taken" refuses_a_taken_port "$blog" "$shop"
+check "no port" eval '! tools/try.sh wfmc many >/dev/null 2>&1'
+check "no program" eval '! tools/try.sh wfmd >/dev/null 2>&1'
+
+check "make try" starts "$shop"
+grep 'ready after' "$folder/output" || true
+check "it says what wasn't proved" says "$folder/output" "Nothing was proved: make serve proves wfmc"
+check "a set" test "$(asks "$shop" $'set a 0 0 1\r\nx')" = "STORED "
+check "the tenant's get" test "$(asks "$shop" 'get a')" = "VALUE a 0 1 x END "
+check "the other tenant's" test "$(asks "$blog" 'get a')" = "END "
+is_interrupted
+check "the first port is free again" is_refused "$shop"
+check "the second port is free again" is_refused "$blog"
+check "no process is left" leaves_no_process
+check "no file is left" leaves_nothing
+
+TMPDIR=$folder/temporary make -s try-stdin >"$folder/output" 2>"$folder/errors" || cat "$folder/errors"
+check "make try-stdin prints what the first run must" diff crates/mc_stdin/stdout <(head -n -1 "$folder/output")
+check "and says what wasn't proved" says "$folder/output" "Nothing was proved: make run proves mc_stdin"
+check "no file is left by it" leaves_nothing
+
+echo "$passed passed, $failed failed"
+[ "$failed" -eq 0 ] && [ "$passed" -gt 0 ]

@@ -1,0 +1,201 @@
+#!/usr/bin/env python3
+"""Copies the items of a running memcached into a tenant of wfmc.
+
+Usage: tools/move_tenant.py FROM TO [--once]. FROM and TO are HOST:PORT: a memcached 1.6, and the listener of the tenant.
+
+It copies in two passes. The first one takes all items, while clients go on. Then it waits for a line on its standard input: stop the
+clients first, by stopping the proxy before memcached, or otherwise. The second pass takes what has changed since, by the items' uniques, and
+deletes what is gone; then both servers' items are compared. With --once there is no first pass.
+
+An item with an expiry isn't copied, since it would never expire here; nor is one that wfmc refuses, for its size, its key or the quota. How
+many there were of each is printed. The tenant's own items stay, but under the keys that it copies. Nothing is changed at memcached.
+
+Status 0: all items without an expiry are at both. 1: some aren't, or a server doesn't answer. 2: wrong words.
+"""
+
+import argparse
+import collections
+import re
+import socket
+import sys
+import urllib.parse
+
+SECONDS = 60
+KEYS_AT_ONCE = 64
+BYTES_AT_ONCE = 1 << 20
+KEY = re.compile(rb"[^\x00-\x20\x7f]{1,250}")
+
+
+class Stop(Exception):
+    """Why it can't go on."""
+
+
+class Server:
+    """A connection to a server of memcached's text protocol."""
+
+    def __init__(self, address):
+        host, _, port = address.rpartition(":")
+        self.address = address
+        try:
+            self.stream = socket.create_connection((host, int(port)), SECONDS)
+        except OSError as error:
+            raise Stop(f"{address}: {error.strerror or error}") from error
+        self.replies = self.stream.makefile("rb")
+
+    def send(self, text):
+        self.stream.sendall(text)
+
+    def line(self):
+        line = self.replies.readline()
+        if not line.endswith(b"\n"):
+            raise Stop(f"{self.address} closed the connection")
+        return line.rstrip(b"\r\n")
+
+    def items(self, keys):
+        """The flags, the unique and the data of these keys, of those that are held."""
+        found = {}
+        self.send(b"gets %s\r\n" % b" ".join(keys))
+        while (line := self.line()) != b"END":
+            word, *words = line.split(b" ")
+            if word != b"VALUE":
+                raise Stop(f"{self.address} answered {line.decode(errors='replace')}")
+            key, flags, length, unique = words
+            found[key] = (int(flags), int(unique), self.replies.read(int(length)))
+            self.line()
+        return found
+
+    def replies_to(self, commands):
+        """The replies to commands that are answered by one line each."""
+        self.send(b"".join(commands))
+        return [self.line() for _ in commands]
+
+
+Listed = collections.namedtuple("Listed", "key unique size expires")
+
+
+def listed(address):
+    """What a memcached holds, by its own list of keys; on a connection of its own, as it asks for."""
+    server = Server(address)
+    server.send(b"lru_crawler metadump hash\r\n")
+    found = []
+    while (line := server.line()) != b"END":
+        fields = dict(field.partition(b"=")[::2] for field in line.split(b" "))
+        if b"key" not in fields:
+            raise Stop(f"{address} answered {line.decode(errors='replace')} when it was asked for its keys")
+        key = urllib.parse.unquote_to_bytes(fields[b"key"])
+        found.append(Listed(key, int(fields[b"cas"]), int(fields[b"size"]), fields[b"exp"] != b"-1"))
+    server.stream.close()
+    return found
+
+
+def batches(items):
+    """These items, some at a time: neither many keys nor many bytes."""
+    batch, size = [], 0
+    for item in items:
+        if batch and (len(batch) == KEYS_AT_ONCE or size + item.size > BYTES_AT_ONCE):
+            yield batch
+            batch, size = [], 0
+        batch.append(item)
+        size += item.size
+    if batch:
+        yield batch
+
+
+class Move:
+    """The items that were copied, with their uniques at memcached, and those that were refused, with the reply."""
+
+    def __init__(self, source, target):
+        self.source, self.target = source, target
+        self.uniques, self.refused, self.expiring = {}, {}, set()
+
+    def copy(self):
+        """One pass: copies the items that aren't copied as they stand, and deletes those that were copied and are gone. How many of each."""
+        there = listed(self.source)
+        self.expiring = {item.key for item in there if item.expires}
+        lasting = [item for item in there if not item.expires]
+        keys = {item.key for item in lasting}
+        new = [item for item in lasting if self.uniques.get(item.key) != item.unique]
+        gone = self.uniques.keys() - keys
+        self.refused = {key: reply for key, reply in self.refused.items() if key in keys}
+        source, target = Server(self.source), Server(self.target)
+        copied = sum(self._put(source, target, batch) for batch in batches(new))
+        for key in gone:
+            target.replies_to([b"delete %s\r\n" % key])
+            del self.uniques[key]
+        return copied, len(gone)
+
+    def _put(self, source, target, batch):
+        """Copies these items, as they are by now. How many were stored."""
+        for item in batch:
+            if not KEY.fullmatch(item.key):
+                self.refused[item.key] = "the key has a character that memcached's protocol forbids"
+        found = source.items([item.key for item in batch if KEY.fullmatch(item.key)] or [b"-"])
+        found = {key: found[key] for key in (item.key for item in batch) if key in found}
+        sets = [b"set %s %d 0 %d\r\n%s\r\n" % (key, flags, len(data), data) for key, (flags, _, data) in found.items()]
+        stored = 0
+        for (key, (_, unique, _)), reply in zip(found.items(), target.replies_to(sets)):
+            if reply == b"STORED":
+                self.uniques[key] = unique
+                self.refused.pop(key, None)
+                stored += 1
+            else:
+                self.refused[key] = reply.decode(errors="replace")
+                self._drop(target, key)
+        return stored
+
+    def _drop(self, target, key):
+        """An older item under a key whose new one is refused would be read as if it were the new one."""
+        target.replies_to([b"delete %s\r\n" % key])
+        self.uniques.pop(key, None)
+
+    def different(self):
+        """The copied keys whose items aren't the same at both."""
+        source, target = Server(self.source), Server(self.target)
+        wrong = []
+        for batch in batches([item for item in listed(self.source) if not item.expires and item.key in self.uniques]):
+            keys = [item.key for item in batch]
+            here, there = source.items(keys), target.items(keys)
+            wrong += [key for key in keys if (here.get(key) or there.get(key)) and self._bare(here, key) != self._bare(there, key)]
+        return wrong
+
+    @staticmethod
+    def _bare(items, key):
+        """An item without its unique, which each server counts itself."""
+        return key in items and (items[key][0], items[key][2])
+
+
+def report(move, copied, gone):
+    print(f"{copied} items copied, {gone} deleted; {len(move.expiring)} with an expiry are left out", flush=True)
+
+
+def main():
+    parser = argparse.ArgumentParser(usage="%(prog)s FROM TO [--once]", description="Copies the items of a running memcached into a tenant of wfmc.")
+    parser.add_argument("source", metavar="FROM", help="HOST:PORT of a memcached 1.6")
+    parser.add_argument("target", metavar="TO", help="HOST:PORT of the tenant's listener")
+    parser.add_argument("--once", action="store_true", help="one pass; the clients were stopped before")
+    words = parser.parse_args()
+    move = Move(words.source, words.target)
+    for address in (words.source, words.target):
+        if not re.fullmatch(r".+:\d+", address):
+            parser.error(f"{address} is no HOST:PORT")
+        version = Server(address).replies_to([b"version\r\n"])[0].decode(errors="replace")
+        print(f"{address}: {version}", flush=True)
+    if not words.once:
+        report(move, *move.copy())
+        print("Stop the clients, and then press Enter.", flush=True)
+        if not sys.stdin.readline():
+            raise Stop("standard input has ended: the second pass wasn't made")
+    report(move, *move.copy())
+    for reply, count in collections.Counter(move.refused.values()).items():
+        print(f"{count} were refused: {reply}")
+    wrong = move.different()
+    print(f"{len(move.uniques) - len(wrong)} items are the same at both" + (f", {len(wrong)} differ: did clients go on?" if wrong else ""))
+    return 1 if move.refused or wrong else 0
+
+
+try:
+    sys.exit(main())
+except (Stop, OSError) as error:
+    sys.exit(f"tools/move_tenant.py: {error}")
+except KeyboardInterrupt:
+    sys.exit(130)
