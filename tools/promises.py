@@ -1,8 +1,8 @@
 #!/usr/bin/env python3
 """Writes docs/PROMISES.md: what each public call of the product's libraries asks and promises, as the sources say it.
 
-promises.py --check fails where the document differs, where the table of docs/PROVED.md names a call, a clause or a mutant that isn't there, and
-where a link to the document leads nowhere.
+promises.py --check fails where the document differs, where the table of docs/PROVED.md names a call, a clause or a mutant that isn't there, where
+those of docs/FAULTS.md name a call or a clause that isn't there or leave out a call that can fail, and where a link to the document leads nowhere.
 """
 
 import re
@@ -11,7 +11,7 @@ from collections import defaultdict
 
 from specifications import CRATES, ROOT, Definitions, Library, anchor_of, libraries, public_items
 
-PAGE, BY_HAND = ROOT / "docs/PROMISES.md", ROOT / "docs/PROVED.md"
+PAGE, BY_HAND, FAULTS = ROOT / "docs/PROMISES.md", ROOT / "docs/PROVED.md", ROOT / "docs/FAULTS.md"
 SETS = {"must-fail": "gate", "more-edits": "full set"}
 INTRODUCTION = """\
 # What each call promises
@@ -134,6 +134,27 @@ def unknown_names():
         yield from [mutant for mutant in mutants if mutant not in known]
 
 
+def can_fail(item):
+    """Whether an item is a call that answers a fault."""
+    head, arrow, result = item.signature.partition("->")
+    return " fn " in f" {head}" and re.search(r"\bResult<.*\b(Fault|RunFault|AllocError)>", result) is not None
+
+
+def wrong_faults():
+    """What the tables of faults name and the sources don't have, and the calls that they leave out."""
+    promises = {f"{item.crate}::{item.name}": item for item in public_items()}
+    listed = set()
+    for line in FAULTS.read_text(encoding="utf-8").splitlines():
+        cells = line.strip("|").split("|")
+        if len(cells) == 4 and "::" in cells[0]:
+            calls = quoted(cells[0])
+            listed.update(calls)
+            labels = {label for call in calls if call in promises for label in promises[call].labels()}
+            yield from [f"no call {call}" for call in calls if call not in promises]
+            yield from [f"no clause {clause} of {', '.join(calls)}" for clause in quoted(cells[3]) if clause not in labels]
+    yield from [f"{call} isn't listed" for call, item in promises.items() if can_fail(item) and call not in listed]
+
+
 def dead_links(text):
     """The links of other documents to headings that the page doesn't have."""
     anchors = {anchor_of(heading) for heading in re.findall(r"^#+ (.*)$", text, re.MULTILINE)}
@@ -149,6 +170,8 @@ def check():
         sys.exit("docs/PROMISES.md isn't what the sources say: make documents")
     if unknown := list(unknown_names()):
         sys.exit(f"docs/PROVED.md names what the sources don't have: {', '.join(unknown)}")
+    if wrong := list(wrong_faults()):
+        sys.exit(f"docs/FAULTS.md isn't what the sources say: {'; '.join(wrong)}")
     if dead := list(dead_links(text)):
         sys.exit(f"links to docs/PROMISES.md lead nowhere: {', '.join(dead)}")
 

@@ -1,11 +1,11 @@
 //! What a pass reports about its worker.
 ghost use Rattle.std.specs.Prelude.{◌≡◌};
 ghost use Rattle.mc_model.specs.declared.shown.Phase.TheVariants as phase;
-ghost use Rattle.uc_log.specs.Passes.{seat, size, worker};
+ghost use Rattle.uc_log.specs.Passes.{learned, seat, size, state, worker};
 ghost use Rattle.uc_places.specs.Calls.{HasLearned, HasProposed, TellsFull, TellsMarked, TellsPhase};
 
 use crate::pass::Pass;
-use mc_model::WorkerId;
+use mc_model::{Ticket, WorkerId};
 
 impl Pass {
     /// Returns the worker whose pass this is.
@@ -20,6 +20,20 @@ impl Pass {
         ensures { HasLearned (seat self.now) result }
     {
         self.desk.learned()
+    }
+
+    /// Returns the tickets that the worker has learned, by their places.
+    pub fn tickets(&self) -> &[Ticket]
+        ensures { result.now ≡ learned self.now }
+    {
+        self.learned.as_slice()
+    }
+
+    /// Returns how many commands the worker has announced.
+    pub fn announced(&self) -> u64
+        ensures { result ≡ (state self.now).announced }
+    {
+        self.desk.announced()
     }
 
     /// Returns the number of places of the log.

@@ -8,3 +8,4 @@ pub mod Counting
 pub mod Lacking
 pub mod NoOps
 pub mod TurningOver
+pub mod Unsettled

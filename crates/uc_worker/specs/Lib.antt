@@ -5,4 +5,5 @@ pub mod Waiting
 pub mod Worker
 pub mod Going
 pub mod TurningOver
+pub mod Unsettled
 pub mod Cited

@@ -19,6 +19,7 @@ pub mod laws;
 mod meeting;
 mod opening;
 mod replaying;
+mod settling;
 mod sizes;
 mod submitting;
 pub mod turning_over;

@@ -5,6 +5,7 @@ ghost use Rattle.mc_model.specs.declared.shown.Phase.TheVariants as phase;
 ghost use Rattle.uc_worker.specs.Counting.{TakesFew};
 ghost use Rattle.uc_worker.specs.Going.{AnnouncesAtMost, CatchesUp, Continues, Submits};
 ghost use Rattle.uc_worker.specs.Steps.{Leaves};
+ghost use Rattle.uc_worker.specs.Unsettled.{HasSettled, UnsettlesOnlyNext};
 ghost use Rattle.uc_worker.specs.Worker.{IsFull, IsSpent, IsUpToDate, openings_of, own_desk, seat_of, tenants_of};
 
 use crate::announcing::{decide_new, settle};
@@ -102,6 +103,10 @@ impl<'a> Worker<'a> {
         // Once a call has found the log full, each later call does.
         ensures spends { IfErr result (λ fault. fault ≡ faults.LogFull → IsSpent self.new) }
         ensures spent { IsSpent self.old → result ≡ Err faults.LogFull }
+        // After an answer nothing is unsettled. After a fault at most this command is, or the one
+        // that was left before.
+        ensures settled { OnOk result (HasSettled self.new) }
+        ensures unsettled { UnsettlesOnlyNext self.old self.new }
     {
         self.ready(gate)?;
         self.answer_new(tenant, command, gate)
