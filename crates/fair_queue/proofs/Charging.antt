@@ -1,5 +1,5 @@
 -- What a charge to the flow that has its turn comes to.
-use Rattle.std.proofs.Common.{◌≡◌, ℕ, ◌-◌, ◌<◌, length, get_or, refl, sym, ◌∙◌, ap, subst}
+use Rattle.std.proofs.Common.{◌≡◌, ℕ, ◌-◌, ◌<◌, length, get_or, ◌∙◌, ap}
 use Rattle.std.proofs.lemmas.List.{get_or_default}
 use Rattle.fair_queue.specs.Turns.{Charges, FlowState, GoesOn, IsNextTurn, QueueState, ends, flow_at, goes_on, idle, renewed, with_flow}
 

@@ -43,12 +43,12 @@ GoesOn spent flow = (0 < length flow.ready) × (spent < flow.credit)
 -- what was spent is charged to the flow that has its turn, which goes on or ends
 pub data Charges (spent : ℕ) (old new : QueueState) : Type 0 where
   goes_on : (flow : FlowState) → flow ≡ flow_at old old.turn → GoesOn spent flow →
-    new ≡ with_flow old old.turn (record flow { credit = flow.credit - spent }) →
-    Charges spent old new
+      new ≡ with_flow old old.turn (record flow { credit = flow.credit - spent }) →
+      Charges spent old new
   ends : (flow : FlowState) → flow ≡ flow_at old old.turn → ¬ (GoesOn spent flow) →
-    (next : ℕ) → IsNextTurn (length old.flows) old.turn next →
-    new ≡ record (with_flow old old.turn (record flow { credit = renewed old.quantum flow.credit spent })) { turn = next } →
-    Charges spent old new
+      (next : ℕ) → IsNextTurn (length old.flows) old.turn next →
+      new ≡ record (with_flow old old.turn (record flow { credit = renewed old.quantum flow.credit spent })) { turn = next } →
+      Charges spent old new
 
 -- nothing waits in any flow
 abbrev pub IsIdle : QueueState → Type 0

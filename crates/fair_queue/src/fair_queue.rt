@@ -1,5 +1,5 @@
 //! A queue of keys in flows, each of which is served in its turn.
-ghost use Rattle.std.specs.Prelude.{◌≡◌, ◌<◌, ℕ, [], IfOk, MatchOption, OnErr, OnOk, length};
+ghost use Rattle.std.specs.Prelude.{◌≡◌, ◌<◌, ◌↔◌, ℕ, [], IfOk, IsTrue, MatchOption, OnErr, OnOk, length};
 ghost use Rattle.fair_queue.specs.Turns.{Charges, ComesAfter, Gives, IsFirstReady, IsIdle, IsNextTurn, IsPushed, QueueState, flow_at};
 
 use crate::flow::Flow;
@@ -46,14 +46,24 @@ fn flow_after(count: usize, turn: usize, others: usize) -> usize
     ensures { ComesAfter count turn others result }
 {
     let left = count - turn;
-    if others < left { turn + others } else { others - left }
+    if others < left {
+        turn + others
+    } else {
+        others - left
+    }
 }
 
 impl FairQueue {
-    /// Returns a queue of this many flows, in which nothing waits. Each may spend a quantum in a turn.
+    /// Returns a queue of this many flows, in which nothing waits, with room for `keys` keys in each.
+    /// A flow may spend a quantum in a turn.
     ///
     /// Returns an error if memory runs out.
-    pub fn new(alloc: Global, flows: usize, quantum: u64) -> Result<FairQueue, AllocError>
+    pub fn new(
+        alloc: Global,
+        flows: usize,
+        quantum: u64,
+        keys: usize,
+    ) -> Result<FairQueue, AllocError>
         requires some { 0 < flows }
         requires quantum { 0 < quantum }
         ensures count { IfOk result (λ queue. length queue.flows ≡ flows) }
@@ -62,7 +72,7 @@ impl FairQueue {
     {
         let mut all = Vec::with_capacity(alloc, flows)?;
         for _ in 0..flows {
-            all.push(Flow::new(alloc, quantum))?;
+            all.push(Flow::new(alloc, quantum, keys)?)?;
         }
         Ok(FairQueue {
             quantum,
@@ -76,6 +86,13 @@ impl FairQueue {
         ensures { result ≡ length self.now.flows }
     {
         self.flows.len()
+    }
+
+    /// Returns whether nothing waits in any flow.
+    pub fn is_empty(&self) -> bool
+        ensures { IsTrue result ↔ IsIdle self.now }
+    {
+        self.first_ready().is_none()
     }
 
     /// Puts a key behind those that wait in its flow.

@@ -1,5 +1,5 @@
 //! What waits in a flow.
-ghost use Rattle.std.specs.Prelude.{◌≡◌, ◌-◌, ◌<◌, ◌∷◌, ◌++◌, [], ◌↔◌, IsTrue, MatchOption, OnErr, OnOk, length, List, ℕ};
+ghost use Rattle.std.specs.Prelude.{◌≡◌, ◌-◌, ◌<◌, ◌∷◌, ◌++◌, [], ◌↔◌, IfOk, IsTrue, MatchOption, OnErr, OnOk, length, List, ℕ};
 ghost use Rattle.fair_queue.specs.Turns.{GoesOn, renewed};
 
 use std::alloc::{AllocError, Global};
@@ -22,15 +22,17 @@ impl Model for Flow {
 }
 
 impl Flow {
-    /// Returns a flow in which nothing waits, with a whole quantum.
-    pub(crate) fn new(alloc: Global, quantum: u64) -> Flow
-        ensures ready { result.ready ≡ [] }
-        ensures credit { result.credit ≡ quantum }
+    /// Returns a flow in which nothing waits, with a whole quantum, and with room for this many keys.
+    ///
+    /// Returns an error if memory runs out.
+    pub(crate) fn new(alloc: Global, quantum: u64, keys: usize) -> Result<Flow, AllocError>
+        ensures ready { IfOk result (λ flow. flow.ready ≡ []) }
+        ensures credit { IfOk result (λ flow. flow.credit ≡ quantum) }
     {
-        Flow {
-            ready: VecDeque::new(alloc),
+        Ok(Flow {
+            ready: VecDeque::with_capacity(alloc, keys)?,
             credit: quantum,
-        }
+        })
     }
 
     /// Returns whether nothing waits in the flow.

@@ -5,5 +5,4 @@ ghost use Rattle.fair_queue.specs.Fair.{WaitsForOneQuantumEach};
 /// what its last key costs beyond it, however many keys wait in it and whatever comes meanwhile.
 pub fn a_flow_waits_for_one_quantum_of_each_other()
     ensures { WaitsForOneQuantumEach }
-{
-}
+{}
