@@ -4,8 +4,8 @@ use Rattle.std.proofs.lemmas.Bool.{cases_lt}
 use Rattle.std.proofs.lemmas.Bool.Decides.{eqb_tells}
 use Rattle.std.proofs.lemmas.List.{get_or-set_other, get_or-set_same, length-append, length-set}
 use Rattle.std.proofs.lemmas.List.Elements.{All-head, All-tail}
-use Rattle.fair_queue.specs.Turns.{Charges, ComesAfter, FlowState, Gives, GoesOn, IsFair, IsNextTurn, IsPushed, QueueState, ends, flow_at, goes_on, idle, renewed, with_flow}
-use Rattle.fair_queue.specs.Fair.{Event, Leads, PassesOver, WaitsForOneQuantumEach, charged_to, comes, gives}
+use Rattle.fair_queue.specs.Turns.{Charges, ComesAfter, FlowState, GivesFirst, TurnGoesOn, IsFair, IsNextTurn, IsPushed, QueueState, ends, flow_at, goes_on, idle, renewed, with_flow}
+use Rattle.fair_queue.specs.Fair.{Event, EventsLead, PassesOver, WaitsForOneQuantumEach, charged_to, comes, gives}
 
 -- a flow after a flow was put in some place
 at_put : (P : FlowState → Type 0) (state : QueueState) (place : ℕ) (flow : FlowState) → place < length state.flows →
@@ -81,7 +81,7 @@ after_push old new flow key waiting other most bound within is may =
     })
 
 -- a flow that gives comes no later than one in which something waits
-no_earlier : (old new : QueueState) (flow key waiting others : ℕ) → (given : Gives flow key old new) →
+no_earlier : (old new : QueueState) (flow key waiting others : ℕ) → (given : GivesFirst flow key old new) →
     0 < length (flow_at old waiting).ready → ComesAfter (length old.flows) old.turn others waiting → given.next.others ≤ others
 no_earlier old new flow key waiting others given waits after =
     elim (cases_lt others given.next.others) [
@@ -92,7 +92,7 @@ no_earlier old new flow key waiting others given waits after =
     ]
 
 -- where another flow gives, the waiting one doesn't have its turn
-not_own : (old new : QueueState) (flow key waiting : ℕ) → Gives flow key old new → flow ≢ waiting → old.turn < length old.flows →
+not_own : (old new : QueueState) (flow key waiting : ℕ) → GivesFirst flow key old new → flow ≢ waiting → old.turn < length old.flows →
     waiting < length old.flows → 0 < length (flow_at old waiting).ready → old.turn ≢ waiting
 not_own old new flow key waiting given isnt turn here waits same =
     let first : given.next.others ≤ 0 =
@@ -134,7 +134,7 @@ wrapped count turn flow others one other turns first second large = (
   ],
 )
 
-still_ahead : (old new : QueueState) (flow key waiting other most bound : ℕ) → Gives flow key old new → Ahead old waiting other most bound →
+still_ahead : (old new : QueueState) (flow key waiting other most bound : ℕ) → GivesFirst flow key old new → Ahead old waiting other most bound →
     (one two : ℕ) → ComesAfter (length old.flows) flow one other → ComesAfter (length old.flows) flow two waiting → one < two →
     (flow_at old other).credit + most ≤ bound
 still_ahead old new flow key waiting other most bound given before one two first second less =
@@ -153,7 +153,7 @@ still_ahead old new flow key waiting other most bound given before one two first
           absurd (let never : 0 < 0 = omega (arith, early, large, second.1) in omega (arith, never))
     ]
 
-after_give : (old new : QueueState) (flow key waiting other most bound : ℕ) → Gives flow key old new → flow ≢ waiting →
+after_give : (old new : QueueState) (flow key waiting other most bound : ℕ) → GivesFirst flow key old new → flow ≢ waiting →
     Ahead old waiting other most bound → MayTake new waiting other most bound
 after_give old new flow key waiting other most bound given isnt before =
     let was = flow_at old flow in
@@ -274,7 +274,7 @@ Charged old charge between waiting other most bound = (charge ≤ bound) × Ahea
 credit_after : (credit spent most bound : ℕ) → spent < credit → credit + most ≤ bound → credit - spent + most ≤ bound - spent
 credit_after credit spent most bound less few = omega (arith, less, few)
 
-after_going_on : (old : QueueState) (flow : FlowState) (spent waiting other most bound : ℕ) → flow ≡ flow_at old old.turn → GoesOn spent flow →
+after_going_on : (old : QueueState) (flow : FlowState) (spent waiting other most bound : ℕ) → flow ≡ flow_at old old.turn → TurnGoesOn spent flow →
     old.turn ≢ waiting → Ahead old waiting other most bound →
     Charged old (cond (nat_eq old.turn other) spent 0)
     (record (with_flow old old.turn (record flow { credit = flow.credit - spent })) { turn = old.turn }) waiting other most bound
@@ -338,13 +338,13 @@ after_ending old flow spent next waiting other most bound is few follows may =
     ))
 
 -- what one event charges is within what may be charged, and the rest may be charged afterwards
-after_giving : (old between new : QueueState) (flow key spent waiting other most bound : ℕ) → Charges spent old between → Gives flow key between new →
+after_giving : (old between new : QueueState) (flow key spent waiting other most bound : ℕ) → Charges spent old between → GivesFirst flow key between new →
     flow ≢ waiting → spent ≤ most → MayTake old waiting other most bound →
     (let charge = cond (nat_eq old.turn other) spent 0 in (charge ≤ bound) × MayTake new waiting other most (bound - charge))
 after_giving old between new flow key spent waiting other most bound (goes_on was is on then) given isnt few may =
     let before = may.before in
     let put : FlowState = record was { credit = was.credit - spent } in
-    let here : Gives flow key (with_flow old old.turn put) new = subst (λ state. Gives flow key state new) then given in
+    let here : GivesFirst flow key (with_flow old old.turn put) new = subst (λ state. GivesFirst flow key state new) then given in
     let count : length (with_flow old old.turn put).flows ≡ length old.flows = length-set old.flows old.turn put in
     let waits : 0 < length (flow_at (with_flow old old.turn put) waiting).ready =
     at_put (λ it. 0 < length it.ready) old old.turn put before.fair.turn waiting
@@ -356,9 +356,9 @@ after_giving old between new flow key spent waiting other most bound (goes_on wa
     (charged.0, after_give _ new flow key waiting other most _ here isnt charged.1)
 after_giving old between new flow key spent waiting other most bound (ends was is over next follows then) given isnt few may =
     let charged = after_ending old was spent next waiting other most bound is few follows may in
-    (charged.0, after_give _ new flow key waiting other most _ (subst (λ state. Gives flow key state new) then given) isnt charged.1)
+    (charged.0, after_give _ new flow key waiting other most _ (subst (λ state. GivesFirst flow key state new) then given) isnt charged.1)
 
-bounded : (events : List Event) (old new : QueueState) (waiting other most bound : ℕ) → MayTake old waiting other most bound → Leads old events new →
+bounded : (events : List Event) (old new : QueueState) (waiting other most bound : ℕ) → MayTake old waiting other most bound → EventsLead old events new →
     All (PassesOver waiting most) events → charged_to other old.turn events ≤ bound
 bounded [] old new waiting other most bound may lead passes = omega arith
 bounded (comes flow key ∷ events) old new waiting other most bound may lead passes =

@@ -1,20 +1,20 @@
 -- How long something that waits in a flow waits at most: what is charged to each other flow meanwhile.
 use Rattle.std.specs.Prelude.{◌≡◌, ◌≢◌, ℕ, ◌+◌, ◌<◌, ◌≤◌, List, [], ◌∷◌, All, length, cond, nat_eq}
-use Rattle.fair_queue.specs.Turns.{Charges, Gives, IsFair, IsPushed, QueueState, flow_at}
+use Rattle.fair_queue.specs.Turns.{Charges, GivesFirst, IsFair, IsPushed, QueueState, flow_at}
 
 -- what happens to a queue: a key is put into a flow, or a flow gives one, once this was spent on the one before
 pub data Event : Type 0 where
   comes : (flow key : ℕ) → Event
   gives : (flow key spent : ℕ) → Event
 
-abbrev pub Happens : Event → QueueState → QueueState → Type 0
-Happens (comes flow key) old new = (flow < length old.flows) × IsPushed flow key old new
-Happens (gives flow key spent) old new = (between : QueueState) × Charges spent old between × Gives flow key between new
+abbrev pub HappensToQueue : Event → QueueState → QueueState → Type 0
+HappensToQueue (comes flow key) old new = (flow < length old.flows) × IsPushed flow key old new
+HappensToQueue (gives flow key spent) old new = (between : QueueState) × Charges spent old between × GivesFirst flow key between new
 
 -- the events lead from one state to another
-abbrev pub Leads : QueueState → List Event → QueueState → Type 0
-Leads old [] new = new ≡ old
-Leads old (event ∷ events) new = (between : QueueState) × Happens event old between × Leads between events new
+abbrev pub EventsLead : QueueState → List Event → QueueState → Type 0
+EventsLead old [] new = new ≡ old
+EventsLead old (event ∷ events) new = (between : QueueState) × HappensToQueue event old between × EventsLead between events new
 
 -- the flow gives nothing, and no key costs more than that
 abbrev pub PassesOver : ℕ → ℕ → Event → Type 0
@@ -32,5 +32,5 @@ charged_to flow turn (gives other key spent ∷ events) = cond (nat_eq turn flow
 abbrev pub WaitsForOneQuantumEach : Type 0
 WaitsForOneQuantumEach = (old new : QueueState) (events : List Event) (waiting other most : ℕ) →
     IsFair old → waiting < length old.flows → 0 < length (flow_at old waiting).ready →
-    other < length old.flows → other ≢ waiting → Leads old events new → All (PassesOver waiting most) events →
+    other < length old.flows → other ≢ waiting → EventsLead old events new → All (PassesOver waiting most) events →
     charged_to other old.turn events ≤ old.quantum + most

@@ -37,15 +37,15 @@ abbrev pub renewed : ℕ → ℕ → ℕ → ℕ
 renewed quantum credit spent = quantum - min (spent - credit) (quantum - 1)
 
 -- after this was spent in a flow's turn it goes on: something waits, and the quantum isn't used up
-abbrev pub GoesOn : ℕ → FlowState → Type 0
-GoesOn spent flow = (0 < length flow.ready) × (spent < flow.credit)
+abbrev pub TurnGoesOn : ℕ → FlowState → Type 0
+TurnGoesOn spent flow = (0 < length flow.ready) × (spent < flow.credit)
 
 -- what was spent is charged to the flow that has its turn, which goes on or ends
 pub data Charges (spent : ℕ) (old new : QueueState) : Type 0 where
-  goes_on : (flow : FlowState) → flow ≡ flow_at old old.turn → GoesOn spent flow →
+  goes_on : (flow : FlowState) → flow ≡ flow_at old old.turn → TurnGoesOn spent flow →
       new ≡ with_flow old old.turn (record flow { credit = flow.credit - spent }) →
       Charges spent old new
-  ends : (flow : FlowState) → flow ≡ flow_at old old.turn → ¬ (GoesOn spent flow) →
+  ends : (flow : FlowState) → flow ≡ flow_at old old.turn → ¬ (TurnGoesOn spent flow) →
       (next : ℕ) → IsNextTurn (length old.flows) old.turn next →
       new ≡ record (with_flow old old.turn (record flow { credit = renewed old.quantum flow.credit spent })) { turn = next } →
       Charges spent old new
@@ -62,7 +62,7 @@ pub record IsFirstReady (state : QueueState) (flow : ℕ) : Type 0 where
   pub first : (earlier other : ℕ) → earlier < others → ComesAfter (length state.flows) state.turn earlier other → (flow_at state other).ready ≡ []
 
 -- the next flow in which something waits gives its first key, and has its turn now
-pub record Gives (flow key : ℕ) (old new : QueueState) : Type 0 where
+pub record GivesFirst (flow key : ℕ) (old new : QueueState) : Type 0 where
   pub next : IsFirstReady old flow
   pub rest : List ℕ
   pub front : (flow_at old flow).ready ≡ key ∷ rest

@@ -1,6 +1,6 @@
 //! A queue of keys in flows, each of which is served in its turn.
 ghost use Rattle.std.specs.Prelude.{◌≡◌, ◌<◌, ◌↔◌, ℕ, [], IfOk, IsTrue, MatchOption, OnErr, OnOk, length};
-ghost use Rattle.fair_queue.specs.Turns.{Charges, ComesAfter, Gives, IsFirstReady, IsIdle, IsNextTurn, IsPushed, QueueState, flow_at};
+ghost use Rattle.fair_queue.specs.Turns.{Charges, ComesAfter, GivesFirst, IsFirstReady, IsIdle, IsNextTurn, IsPushed, QueueState, flow_at};
 
 use crate::flow::Flow;
 use std::alloc::{AllocError, Global};
@@ -136,7 +136,7 @@ impl FairQueue {
     /// Takes the first key of the next flow in which something waits; the flow has its turn then.
     fn give(&mut self, flow: usize) -> Ready
         requires { IsFirstReady self.old flow }
-        ensures { (result.flow ≡ flow) × Gives flow result.key self.old self.new }
+        ensures { (result.flow ≡ flow) × GivesFirst flow result.key self.old self.new }
     {
         self.turn = flow;
         match self.flows[flow].pop() {
@@ -149,7 +149,7 @@ impl FairQueue {
     pub fn next(&mut self, spent: u64) -> Option<Ready>
         ensures { (between : QueueState) × Charges spent self.old between × MatchOption result
             (IsIdle between × (self.new ≡ between))
-            (λ ready. Gives ready.flow ready.key between self.new) }
+            (λ ready. GivesFirst ready.flow ready.key between self.new) }
     {
         self.charge(spent);
         match self.first_ready() {

@@ -1,6 +1,6 @@
 //! What waits in a flow.
 ghost use Rattle.std.specs.Prelude.{◌≡◌, ◌-◌, ◌<◌, ◌∷◌, ◌++◌, [], ◌↔◌, IfOk, IsTrue, MatchOption, OnErr, OnOk, length, List, ℕ};
-ghost use Rattle.fair_queue.specs.Turns.{GoesOn, renewed};
+ghost use Rattle.fair_queue.specs.Turns.{TurnGoesOn, renewed};
 
 use std::alloc::{AllocError, Global};
 use std::collections::VecDeque;
@@ -44,7 +44,7 @@ impl Flow {
 
     /// Returns whether the flow's turn goes on once this was spent.
     pub(crate) fn goes_on(&self, spent: u64) -> bool
-        ensures { IsTrue result ↔ GoesOn spent self.now }
+        ensures { IsTrue result ↔ TurnGoesOn spent self.now }
     {
         !self.ready.is_empty() && spent < self.credit
     }

@@ -9,5 +9,7 @@
 mod fair_queue;
 mod flow;
 pub mod laws;
+#[cfg(test)]
+mod tests;
 
 pub use fair_queue::{FairQueue, Ready};
