@@ -24,13 +24,13 @@ fn are_given(alloc: Global, costs: &[u64], order: &[(usize, usize)]) -> Result<b
 }
 
 #[test]
-fn a_turn_goes_on_while_its_quantum_lasts(alloc: Global) {
-    let given = are_given(alloc, &[9, 1, 1], &[(0, 1), (0, 2), (2, 3)]);
-    assert!(given == Ok(true));
+fn a_turn_goes_on_while_its_quantum_lasts(rt: HostRuntime) {
+    let given = are_given(rt.alloc(), &[9, 1, 1], &[(0, 1), (0, 2), (2, 3)]);
+    assert!(rt; given == Ok(true));
 }
 
 #[test]
-fn a_turn_ends_once_its_quantum_is_spent(alloc: Global) {
-    let given = are_given(alloc, &[10, 1, 1], &[(0, 1), (2, 3), (0, 2)]);
-    assert!(given == Ok(true));
+fn a_turn_ends_once_its_quantum_is_spent(rt: HostRuntime) {
+    let given = are_given(rt.alloc(), &[10, 1, 1], &[(0, 1), (2, 3), (0, 2)]);
+    assert!(rt; given == Ok(true));
 }
