@@ -24,6 +24,13 @@ impl<'a> Worker<'a> {
         self.pass.worker()
     }
 
+    /// Returns how many commands the worker has announced, no-ops among them.
+    pub fn announced(&self) -> u64
+        ensures { result ≡ (seat_of self.now).state.announced }
+    {
+        self.pass.announced()
+    }
+
     /// Returns what was seen at each place that the worker has replayed.
     ///
     /// The tickets there are a legal list: a prefix of those that the worker has learned.

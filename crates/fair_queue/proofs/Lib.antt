@@ -1,0 +1,4 @@
+pub mod Flows
+pub mod Charging
+pub mod Looking
+pub mod Waiting

@@ -1,0 +1,36 @@
+//! Flows are served in turn, each up to its quantum.
+use crate::{FairQueue, Ready};
+use std::alloc::{AllocError, Global};
+
+/// A quantum of ten, three flows, two keys in the first and one in the third, each of which costs this
+/// much: returns whether they're given in this order.
+fn are_given(alloc: Global, costs: &[u64], order: &[(usize, usize)]) -> Result<bool, AllocError> {
+    let mut queue = FairQueue::new(alloc, 3, 10, 4)?;
+    queue.push(0, 1)?;
+    queue.push(0, 2)?;
+    queue.push(2, 3)?;
+    let mut spent = 0;
+    for (cost, (flow, key)) in costs.iter().zip(order) {
+        let given = Ready {
+            flow: *flow,
+            key: *key,
+        };
+        if queue.next(spent) != Some(given) {
+            return Ok(false);
+        }
+        spent = *cost;
+    }
+    Ok(queue.next(spent).is_none() && queue.is_empty())
+}
+
+#[test]
+fn a_turn_goes_on_while_its_quantum_lasts(rt: HostRuntime) {
+    let given = are_given(rt.alloc(), &[9, 1, 1], &[(0, 1), (0, 2), (2, 3)]);
+    assert!(rt; given == Ok(true));
+}
+
+#[test]
+fn a_turn_ends_once_its_quantum_is_spent(rt: HostRuntime) {
+    let given = are_given(rt.alloc(), &[10, 1, 1], &[(0, 1), (2, 3), (0, 2)]);
+    assert!(rt; given == Ok(true));
+}
