@@ -7,6 +7,8 @@
 #[cfg(test)]
 mod administering;
 #[cfg(test)]
+mod counting;
+#[cfg(test)]
 mod programs;
 #[cfg(test)]
 mod reading;

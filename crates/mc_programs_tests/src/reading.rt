@@ -1,8 +1,9 @@
 //! The requests of golden and further streams: each is read whole, byte by byte, and cut in two at
-//! every place.
+//! every place, in pieces that are copied and in pieces that are shared.
 ghost use Rattle.std.specs.Prelude.{◌<◌};
 
 use crate::runs::{Text, columns};
+use bytes::Bytes;
 use itoa::Buffer;
 use mc_model::{Command, Data, Fault, Key, Limits, Name, Reply, Request, Verb};
 use mc_read::{Reader, Speaker};
@@ -266,6 +267,16 @@ impl<'a> Reading<'a> {
         self.see_all()
     }
 
+    /// Does as `read` with a piece that the reader copies or may share.
+    fn read_in(&mut self, rt: &impl AllocGlobal, piece: &[u8], shared: bool) -> Result<(), Fault> {
+        if shared {
+            self.reader
+                .feed_bytes(Bytes::copy_from_slice(rt.alloc(), piece)?)?;
+            return self.see_all();
+        }
+        self.read(piece)
+    }
+
     /// Returns whether all expected requests have come, and no others.
     fn is_done(&self) -> bool {
         self.agrees && self.text.is_empty()
@@ -281,29 +292,38 @@ struct Case<'a> {
     wanted: &'a [u8],
 }
 
-/// Reads a stream in a first piece of `first` bytes and further pieces of `size`.
-fn read_pieces(reading: &mut Reading, sent: &[u8], first: usize, size: usize) -> Result<(), Fault>
-    requires { 0 < size }
+/// How a stream is cut: into a first piece of `first` bytes and further pieces of `size`, which the
+/// reader copies or may share.
+#[derive(Clone, Copy)]
+struct Cut {
+    first: usize,
+    size: usize,
+    shared: bool,
+}
+
+/// Reads a stream in pieces.
+fn read_pieces(
+    rt: &impl AllocGlobal,
+    reading: &mut Reading,
+    sent: &[u8],
+    cut: Cut,
+) -> Result<(), Fault>
+    requires { 0 < cut.size }
 {
-    let (front, others) = sent.split_at(first.min(sent.len()));
-    reading.read(front)?;
-    for piece in others.chunks(size) {
-        reading.read(piece)?;
+    let (front, others) = sent.split_at(cut.first.min(sent.len()));
+    reading.read_in(rt, front, cut.shared)?;
+    for piece in others.chunks(cut.size) {
+        reading.read_in(rt, piece, cut.shared)?;
     }
     Ok(())
 }
 
 /// Returns whether the stream in pieces like these reads as the requests of its case.
-fn reads_in_pieces(
-    rt: &impl AllocGlobal,
-    case: Case,
-    first: usize,
-    size: usize,
-) -> Result<bool, Fault>
-    requires { 0 < size }
+fn reads_in_pieces(rt: &impl AllocGlobal, case: Case, cut: Cut) -> Result<bool, Fault>
+    requires { 0 < cut.size }
 {
     let mut reading = Reading::of(rt, case.speaker, case.wanted);
-    read_pieces(&mut reading, case.sent, first, size)?;
+    read_pieces(rt, &mut reading, case.sent, cut)?;
     Ok(reading.is_done())
 }
 
@@ -316,8 +336,19 @@ fn check_pieces(
 ) -> Result<(), Fault>
     requires { 0 < size }
 {
-    let reads = reads_in_pieces(rt, case, first, size)?;
-    assert!(rt; reads, "{}: {first} bytes, then {size} a piece", case.name);
+    for shared in [false, true] {
+        let cut = Cut {
+            first,
+            size,
+            shared,
+        };
+        let reads = reads_in_pieces(rt, case, cut)?;
+        assert!(rt;
+            reads,
+            "{}: {first} bytes, then {size} a piece, shared: {shared}",
+            case.name
+        );
+    }
     Ok(())
 }
 

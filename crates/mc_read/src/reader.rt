@@ -58,6 +58,7 @@ pub fn ends_stream(request: &Request) -> bool
 }
 
 /// Returns the request of a block that has arrived whole, with the two bytes after it.
+#[inline(always)]
 fn stored(header: Header, block: Data, ends_well: bool) -> Request
     ensures { result ≡ stored_if ends_well header block }
 {
@@ -290,6 +291,7 @@ fn take_piece(state: &mut State, buffer: &mut Source, piece: Bytes) -> Result<()
 
 /// Takes the next piece of the stream, of which what is kept is copied. Returns `Memory` if an
 /// allocation fails; nothing changes then.
+#[inline(always)]
 fn take_slice(state: &mut State, buffer: &mut Source, piece: &[u8]) -> Result<(), Fault>
     ensures readings { OnOk result ((lines : Lines) → IsStateOf lines state.old buffer.old →
         IsFed lines (held_in state.old buffer.old) piece.now (held_in state.new buffer.new)) }
@@ -327,7 +329,8 @@ fn take_slice(state: &mut State, buffer: &mut Source, piece: &[u8]) -> Result<()
 /// Reads requests from a stream that comes in pieces of any size.
 ///
 /// What is kept once `next` has returned `None` is bounded: of a line no more than it may have, of
-/// a refused block nothing, and of a block that is to be stored no more than has arrived.
+/// a refused block nothing, and of a block that is to be stored no more than has arrived. Memory for
+/// all of a long block is asked for once its length is known.
 #[derive(Debug, Drop)]
 pub struct Reader {
     alloc: Global,

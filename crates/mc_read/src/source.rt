@@ -139,6 +139,7 @@ impl Source {
     }
 
     /// Appends a copy of a piece. Returns `Memory` if an allocation fails; nothing is appended then.
+    #[inline(always)]
     pub fn extend(&mut self, piece: &[u8]) -> Result<(), Fault>
         ensures bytes { OnOk result (self.new ≡ self.old ++ piece.now) }
         ensures memory { IsOkUnless result Fault.Memory }
@@ -162,6 +163,7 @@ impl Source {
     }
 
     /// Removes `count` bytes from the front.
+    #[inline(always)]
     pub fn advance(&mut self, count: usize)
         requires { count ≤ length self.old }
         ensures { self.new ≡ drop count self.old }
@@ -201,6 +203,7 @@ impl Source {
     }
 
     /// Searches for the end of the first line, which isn't in the first `searched` bytes.
+    #[inline(always)]
     pub fn find(&self, searched: usize) -> Sought
         requires { IsSearched searched self.now }
         ensures { IsSought self.now result }
@@ -213,6 +216,7 @@ impl Source {
 
     /// Returns what the first line asks for, which has this length. Returns `Memory` if an
     /// allocation fails.
+    #[inline(always)]
     pub fn ask(&mut self, alloc: Global, speaker: Speaker, line: usize) -> Result<Asked, Fault>
         requires { IsLineAt self.old line }
         ensures asked { IfOk result (λ asked. asked ≡ lines_spoken speaker (take line self.old)) }
