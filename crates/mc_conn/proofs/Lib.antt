@@ -1,3 +1,5 @@
+pub mod Queues
+pub mod Unqueued
 pub mod Counts
 pub mod Owings
 pub mod Answering

@@ -7,3 +7,4 @@ pub mod Ending
 pub mod Parts
 pub mod Alone
 pub mod Cited
+pub mod Queued

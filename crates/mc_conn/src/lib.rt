@@ -14,6 +14,7 @@ mod pulling;
 mod pumping;
 mod queue;
 mod responding;
+mod run;
 mod sending;
 mod taking;
 mod turning;

@@ -11,7 +11,7 @@ ghost use Rattle.mc_conn.specs.Turn.{queue_of, scene};
 use crate::conn::Conn;
 use crate::queue::Queue;
 use mc_model::Fault;
-use mc_stream::{Output, Stop, push_front};
+use mc_stream::{Output, Push, Stop};
 
 /// Pushes what is queued while the output takes it, and drops what was taken. Returns how many
 /// bytes were taken, and why no more were.
@@ -22,9 +22,19 @@ fn push_queue<O: Output>(queue: &mut Queue, output: &mut O) -> (usize, Stop)
     ensures stop { StopsAs result.1 result.0 (length queue.old) (O.tells output.old)
         (O.tells output.new) }
 {
-    let (count, stop) = push_front(queue.as_slice(), output);
-    queue.advance(count);
-    (count, stop)
+    let all = queue.len();
+    let mut sent = 0;
+    while sent < all {
+        match output.push(queue.front()) {
+            Push::Taken(count) => {
+                queue.advance(count);
+                sent += count;
+            }
+            Push::Full => return (sent, Stop::Full),
+            Push::Failed => return (sent, Stop::Failed),
+        }
+    }
+    (sent, Stop::All)
 }
 
 impl Conn {

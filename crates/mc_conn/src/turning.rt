@@ -8,6 +8,7 @@ ghost use Rattle.mc_conn.specs.Owed.{FitsLog};
 ghost use Rattle.mc_conn.specs.Turn.{queue_of, scene};
 
 use crate::conn::{Conn, PULL_BYTES, State};
+use crate::queue::Queue;
 use mc_model::{Fault, WireNo};
 use mc_stream::{Input, Output, push_while_taken};
 use mc_write::refusal_text;
@@ -15,10 +16,10 @@ use uc_worker::{Gate, Worker};
 
 /// Sends the client the refusal that memory ran out, after the queued replies, as far as the output
 /// takes them at once.
-fn tell_starved<O: Output>(queue: &[u8], output: &mut O)
+fn tell_starved<O: Output>(queue: &Queue, output: &mut O)
     ensures { TellsStarved queue.now (O.tells output.old) (O.tells output.new) }
 {
-    if push_while_taken(queue, output) {
+    if queue.push_while_taken(output) {
         push_while_taken(refusal_text(WireNo::OUT_OF_MEMORY), output);
     }
 }
@@ -80,7 +81,7 @@ impl Conn {
     {
         self.is_closed = true;
         if fault == Fault::Memory {
-            tell_starved(self.queue.as_slice(), output);
+            tell_starved(&self.queue, output);
         }
     }
 

@@ -30,6 +30,34 @@ pub fn write_reply(reply: &Reply, out: &mut Vec<u8>) -> Result<(), Fault>
     Ok(written?)
 }
 
+/// Appends the text of an item. The vector's bytes are unchanged if an allocation fails.
+pub fn write_value(value: &Value, out: &mut Vec<u8>) -> Result<(), AllocError>
+    ensures text { OnOk result (out.new.items ≡ out.old.items ++ value_text value.now) }
+    ensures kept { OnErr result (out.new.items ≡ out.old.items) }
+{
+    let len = out.len();
+    let appended = append_value(value, out);
+    if appended.is_err() {
+        out.truncate(len);
+    }
+    appended
+}
+
+/// Appends the line of an item, for a caller that has its data elsewhere. The vector's bytes are
+/// unchanged if an allocation fails.
+pub fn write_line(value: &Value, out: &mut Vec<u8>) -> Result<(), AllocError>
+    ensures text { OnOk result
+        (out.new.items ≡ out.old.items ++ (value_line value.now ++ codes "\r\n")) }
+    ensures kept { OnErr result (out.new.items ≡ out.old.items) }
+{
+    let len = out.len();
+    let appended = append_line_and_end(value, out);
+    if appended.is_err() {
+        out.truncate(len);
+    }
+    appended
+}
+
 /// Returns the text of a refusal, without allocating, for a caller that is out of memory.
 pub fn refusal_text(refusal: WireNo) -> &'static [u8]
     ensures { result.now ≡ text (Refused refusal) }
@@ -84,10 +112,31 @@ fn append_values(values: &[Value], out: &mut Vec<u8>) -> Result<(), AllocError>
     ensures capacity { vec_capacity out.old ≤ vec_capacity out.new }
 {
     for value in values {
-        append_line(value, out)?;
-        append_block(value.block.as_bytes(), out)?;
+        append_value(value, out)?;
     }
     Ok(())
+}
+
+/// Appends an item.
+fn append_value(value: &Value, out: &mut Vec<u8>) -> Result<(), AllocError>
+    ensures text { OnOk result (out.new.items ≡ out.old.items ++ value_text value.now) }
+    ensures begun { StartsWith out.new.items out.old.items }
+    ensures room { vec_len out.old + length (value_text value.now) ≤ vec_capacity out.old →
+        IsOk result }
+    ensures capacity { vec_capacity out.old ≤ vec_capacity out.new }
+{
+    append_line(value, out)?;
+    append_block(value.block.as_bytes(), out)
+}
+
+/// Appends the line of an item, with its end.
+fn append_line_and_end(value: &Value, out: &mut Vec<u8>) -> Result<(), AllocError>
+    ensures text { OnOk result
+        (out.new.items ≡ out.old.items ++ (value_line value.now ++ codes "\r\n")) }
+    ensures begun { StartsWith out.new.items out.old.items }
+{
+    append_line(value, out)?;
+    append_line_end(out)
 }
 
 /// Appends the line of an item, without its end.
