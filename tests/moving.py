@@ -40,6 +40,7 @@ class Proxy:
 
     def __init__(self, folder):
         self.folder, self.port, self.status = folder, free_port(), free_port()
+        self.process = None
 
     def start(self, server):
         file = pathlib.Path(self.folder, "proxy.yml")
@@ -49,17 +50,37 @@ class Proxy:
         wait_for(lambda: not self.process.is_running() or listens(self.port), "nutcracker")
 
     def stop(self):
-        self.process.end()
+        if self.process:
+            self.process.end()
+        self.process = None
+
+    def __enter__(self):
+        return self
+
+    def __exit__(self, *_):
+        self.stop()
 
 
 def stored(client, key, data, flags=0, expiry=0):
     return client.line(b"set %s %d %d %d\r\n%s\r\n" % (key, flags, expiry, len(data), data)) == "STORED"
 
 
+def got(replies):
+    """The bytes of one reply to a get of one key: nothing, an item, or an error."""
+    reply = replies.readline()
+    if reply.startswith(b"VALUE "):
+        reply += replies.read(int(reply.split()[3]) + 2) + replies.readline()
+    return reply
+
+
 def held(port, keys):
-    """The bytes that a get of each of these keys gives."""
-    with Client(port) as client:
-        return {key: client.ask(b"get %s\r\n" % key, b"END\r\n") for key in keys}
+    """The replies to a get of each of these keys."""
+    found = {}
+    with Client(port, seconds=SECONDS) as client, client.socket.makefile("rb") as replies:
+        for key in keys:
+            client.send(b"get %s\r\n" % key)
+            found[key] = got(replies)
+    return found
 
 
 class Writer(threading.Thread):
@@ -67,7 +88,7 @@ class Writer(threading.Thread):
 
     def __init__(self, port):
         super().__init__()
-        self.client, self.done = Client(port), 0
+        self.client, self.done = Client(port, seconds=SECONDS), 0
         self.enough = threading.Event()
 
     def run(self):
@@ -134,7 +155,8 @@ def check_move(source, server, proxy):
     check("what has changed is copied", re.search(r"^[1-9]\d* items copied, [1-9]\d* deleted; 20 with", output), output)
     check("all is the same at both", f"\n{there} items are the same at both\n" in output, (there, output))
     proxy.start(server.ports["shop"])
-    check("through the proxy all is as it was", held(proxy.port, names) == before)
+    after = held(proxy.port, names)
+    check("through the proxy all is as it was", after == before, [(key, reply) for key, reply in after.items() if reply != before[key]][:3])
     check("some items had been deleted", any(before[key] == b"END\r\n" for key in KEYS))
     check("what had an expiry is left out", set(held(proxy.port, EXPIRING).values()) == {b"END\r\n"})
     check("the tenant's older item", held(proxy.port, [b"older"])[b"older"] == b"VALUE older 0 4\r\nshop\r\nEND\r\n")
@@ -189,9 +211,9 @@ def main():
     repository.require("memcached", "nutcracker")
     tenants = {"shop": QUOTAS, "blog": QUOTAS, "small": (100, 1_100)}
     options = ["--generations", "0", "--places", "1024"]
-    with tempfile.TemporaryDirectory() as folder, Memcached() as source, Server(program, options, tenants) as server:
+    with tempfile.TemporaryDirectory() as folder, Memcached() as source, Server(program, options, tenants) as server, Proxy(folder) as proxy:
         server.addresses()
-        check_move(source, server, Proxy(folder))
+        check_move(source, server, proxy)
         check_refused(source, server)
         check_stopped(source, server)
     results.finish()
