@@ -5,7 +5,7 @@ use Rattle.std.proofs.lemmas.Bool.Decides.{eqb_tells}
 use Rattle.std.proofs.lemmas.List.{get_or-set_other, get_or-set_same, length-append, length-set}
 use Rattle.std.proofs.lemmas.List.Elements.{All-head, All-tail}
 use Rattle.fair_queue.specs.Turns.{Charges, ComesAfter, FlowState, GivesFirst, TurnGoesOn, IsFair, IsNextTurn, IsPushed, QueueState, ends, flow_at, goes_on, idle, renewed, with_flow}
-use Rattle.fair_queue.specs.Fair.{Event, EventsLead, PassesOver, WaitsForOneQuantumEach, charged_to, comes, gives}
+use Rattle.fair_queue.specs.Fair.{QueueEvent, EventsLead, PassesOver, WaitsForOneQuantumEach, charged_to, comes, gives}
 
 -- a flow after a flow was put in some place
 at_put : (P : FlowState → Type 0) (state : QueueState) (place : ℕ) (flow : FlowState) → place < length state.flows →
@@ -358,7 +358,7 @@ after_giving old between new flow key spent waiting other most bound (ends was i
     let charged = after_ending old was spent next waiting other most bound is few follows may in
     (charged.0, after_give _ new flow key waiting other most _ (subst (λ state. GivesFirst flow key state new) then given) isnt charged.1)
 
-bounded : (events : List Event) (old new : QueueState) (waiting other most bound : ℕ) → MayTake old waiting other most bound → EventsLead old events new →
+bounded : (events : List QueueEvent) (old new : QueueState) (waiting other most bound : ℕ) → MayTake old waiting other most bound → EventsLead old events new →
     All (PassesOver waiting most) events → charged_to other old.turn events ≤ bound
 bounded [] old new waiting other most bound may lead passes = omega arith
 bounded (comes flow key ∷ events) old new waiting other most bound may lead passes =

@@ -3,26 +3,26 @@ use Rattle.std.specs.Prelude.{◌≡◌, ◌≢◌, ℕ, ◌+◌, ◌<◌, ◌�
 use Rattle.fair_queue.specs.Turns.{Charges, GivesFirst, IsFair, IsPushed, QueueState, flow_at}
 
 -- what happens to a queue: a key is put into a flow, or a flow gives one, once this was spent on the one before
-pub data Event : Type 0 where
-  comes : (flow key : ℕ) → Event
-  gives : (flow key spent : ℕ) → Event
+pub data QueueEvent : Type 0 where
+  comes : (flow key : ℕ) → QueueEvent
+  gives : (flow key spent : ℕ) → QueueEvent
 
-abbrev pub HappensToQueue : Event → QueueState → QueueState → Type 0
+abbrev pub HappensToQueue : QueueEvent → QueueState → QueueState → Type 0
 HappensToQueue (comes flow key) old new = (flow < length old.flows) × IsPushed flow key old new
 HappensToQueue (gives flow key spent) old new = (between : QueueState) × Charges spent old between × GivesFirst flow key between new
 
 -- the events lead from one state to another
-abbrev pub EventsLead : QueueState → List Event → QueueState → Type 0
+abbrev pub EventsLead : QueueState → List QueueEvent → QueueState → Type 0
 EventsLead old [] new = new ≡ old
 EventsLead old (event ∷ events) new = (between : QueueState) × HappensToQueue event old between × EventsLead between events new
 
 -- the flow gives nothing, and no key costs more than that
-abbrev pub PassesOver : ℕ → ℕ → Event → Type 0
+abbrev pub PassesOver : ℕ → ℕ → QueueEvent → Type 0
 PassesOver waiting most (comes flow key) = Unit {0}
 PassesOver waiting most (gives flow key spent) = (flow ≢ waiting) × (spent ≤ most)
 
 -- what these events charge to a flow, if this one has its turn at first
-abbrev pub charged_to : ℕ → ℕ → List Event → ℕ
+abbrev pub charged_to : ℕ → ℕ → List QueueEvent → ℕ
 charged_to flow turn [] = 0
 charged_to flow turn (comes other key ∷ events) = charged_to flow turn events
 charged_to flow turn (gives other key spent ∷ events) = cond (nat_eq turn flow) spent 0 + charged_to flow other events
@@ -30,7 +30,7 @@ charged_to flow turn (gives other key spent ∷ events) = cond (nat_eq turn flow
 -- While something waits in a flow and isn't given, no other flow is charged more than a quantum and what one key costs beyond it,
 -- however many keys wait there, and whatever comes meanwhile.
 abbrev pub WaitsForOneQuantumEach : Type 0
-WaitsForOneQuantumEach = (old new : QueueState) (events : List Event) (waiting other most : ℕ) →
+WaitsForOneQuantumEach = (old new : QueueState) (events : List QueueEvent) (waiting other most : ℕ) →
     IsFair old → waiting < length old.flows → 0 < length (flow_at old waiting).ready →
     other < length old.flows → other ≢ waiting → EventsLead old events new → All (PassesOver waiting most) events →
     charged_to other old.turn events ≤ old.quantum + most
