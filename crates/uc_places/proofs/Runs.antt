@@ -1,14 +1,18 @@
 -- A run goes on by an event, which is its worker's own and no other's.
-use Rattle.std.proofs.Common.{◌≡◌, ◌≢◌, ℕ, zero, suc, Bool, true, false, if◌then◌else◌, List, [], ◌∷◌, ◌++◌, map, refl, sym, ap, ◌∙◌, subst, append-nil, eq-eqb, ne_eqb}
+use Rattle.std.proofs.Common.{◌≡◌, ◌≢◌, ℕ, zero, suc, Bool, true, false, if◌then◌else◌, List, [], ◌∷◌, ◌++◌, map, refl, sym, ap, ◌∙◌, subst, append-nil, eq-eqb, ne_eqb, arith, ◌<◌, slice_get, Some}
 use Rattle.std.proofs.lemmas.List.{map-append}
+use Rattle.std.proofs.lemmas.Option.{none-some, same_Some, slice_get_within}
 use Rattle.std.proofs.lemmas.List.Elements.{filter-append}
 use Rattle.mc_model.specs.declared.shown.LogSize.{LogSize}
 use Rattle.mc_model.specs.declared.shown.ShownState.{ShownState}
-use Rattle.mc_model.specs.Lawful.{IsReached, LeadOn, ShownEvent, announces, looks, proposes, reads, stops}
+use Rattle.mc_model.specs.declared.shown.WorkerState.{WorkerState}
+use Rattle.mc_model.specs.Lawful.{IsReached, IsWorker, LeadOn, ShownEvent, Step, announces, looks, proposes, reads, stops}
 use Rattle.mc_model.specs.Shown.{new_log}
+use Rattle.model_lemmas.proofs.Waiting.{is_lawful}
 use Rattle.uc_places.specs.declared.view.Call.{Call}
 use Rattle.uc_places.specs.declared.view.Call.TheVariants.{Announce, Look, Propose, Read}
 use Rattle.uc_places.specs.declared.view.Part.{Part}
+use Rattle.uc_places.specs.OneRun.{EachEventIsACall}
 use Rattle.uc_places.specs.Rule.{AreOfOthers, taker}
 use Rattle.uc_places.specs.Run.{AreAmong, AreOneRun, HasMade, event_of, is_of, own_events}
 
@@ -88,3 +92,55 @@ pub turned : (size other_size : LogSize) (one other : Part) (log : ShownState) �
 turned size other_size one other log named all =
     subst (λ (z : LogSize). AreOneRun z (other ∷ one ∷ []) log) (sym (all.sized 1 other refl) ∙ named)
     (among_run size (other ∷ one ∷ []) (one ∷ other ∷ []) log (among_turned other one []) all)
+
+-- an event is its taker's, who is a worker of the log
+own_taker : (event : ShownEvent) → is_of (taker event) event ≡ true
+own_taker (announces number) = eq-eqb number number refl
+own_taker (reads number) = eq-eqb number number refl
+own_taker (looks number) = eq-eqb number number refl
+own_taker (proposes number) = eq-eqb number number refl
+own_taker (stops number) = eq-eqb number number refl
+
+module _ (size : LogSize) where
+  inside : (old : ShownState) (number : ℕ) (worker : WorkerState) → IsReached size old → IsWorker old number worker → number < size.workers
+  inside old number worker there at = let within = slice_get_within old.workers number worker at in
+      let many = (is_lawful size old there).many in omega arith
+
+  taker_inside : (old new : ShownState) (event : ShownEvent) → IsReached size old → Step size old event new → taker event < size.workers
+  taker_inside old new (announces number) there step = inside old number step.0 there step.1
+  taker_inside old new (reads number) there step = inside old number step.0 there step.1
+  taker_inside old new (looks number) there step = inside old number step.0 there step.1
+  taker_inside old new (proposes number) there step = inside old number step.0 there step.1
+  taker_inside old new (stops number) there step = inside old number step.0 there step.1
+
+  takers_inside : (run : List ShownEvent) (from log : ShownState) (at : ℕ) (event : ShownEvent) → IsReached size from → LeadOn size from run log →
+      slice_get run at ≡ Some event → taker event < size.workers
+  takers_inside [] from log at event there lead is = absurd (none-some event is)
+  takers_inside (first ∷ run) from log zero event there lead is =
+      subst (λ (e : ShownEvent). taker e < size.workers) (same_Some _ _ is) (taker_inside from lead.0 first there lead.1)
+  takers_inside (first ∷ run) from log (suc at) event there lead is =
+      takers_inside run lead.0 log at event ((first ∷ there.0), (from, there.1, lead.1)) lead.2 is
+
+-- a worker's event of a run is one of its own
+among_own : (number : ℕ) (run : List ShownEvent) (at : ℕ) (event : ShownEvent) → is_of number event ≡ true → slice_get run at ≡ Some event →
+    (own : ℕ) × (slice_get (own_events number run) own ≡ Some event)
+among_own number [] at event its is = absurd (none-some event is)
+among_own number (first ∷ run) zero event its is =
+    (0, ap (λ (l : List ShownEvent). slice_get l 0) (in_front number first run true (ap (is_of number) (same_Some _ _ is) ∙ its)) ∙ is)
+among_own number (first ∷ run) (suc at) event its is = by_test (is_of number first) refl (among_own number run at event its is)
+  where
+    by_test : (own : Bool) → is_of number first ≡ own → (k : ℕ) × (slice_get (own_events number run) k ≡ Some event) →
+        (k : ℕ) × (slice_get (own_events number (first ∷ run)) k ≡ Some event)
+    by_test true own later = (suc later.0, ap (λ (l : List ShownEvent). slice_get l (suc later.0)) (in_front number first run true own) ∙ later.1)
+    by_test false own later = (later.0, ap (λ (l : List ShownEvent). slice_get l later.0) (in_front number first run false own) ∙ later.1)
+
+pub each_is_a_call : EachEventIsACall
+each_is_a_call size parts log one all at event is =
+    let seat = all (taker event) (takers_inside size one.run (new_log size) log at event ([], refl) one.lead is) in
+    let call = among_own seat.1.worker one.run at event (ap (λ (n : ℕ). is_of n event) seat.3 ∙ own_taker event) is in (
+      seat.0,
+      call.0,
+      seat.1,
+      seat.2,
+      ap (λ (l : List ShownEvent). slice_get l call.0) (sym (one.own seat.0 seat.1 seat.2)) ∙ call.1,
+    )

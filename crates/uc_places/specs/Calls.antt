@@ -45,7 +45,7 @@ IsSeatOf places desk = desk.seat.table_id ≡ places.table.shared.table_id
 abbrev pub calls_of : Desk → List Call
 calls_of desk = (known desk).calls
 
--- The call is its worker's event of the log, and gives the worker this state: the event leads from a
+-- The call is its worker's event of the log, and gives it this state: the event leads from a
 -- reachable state, in which the worker is as the seat showed it, to the seat's new last state, in
 -- which it is as the seat shows it now; only events of other workers lie between the seat's last
 -- event and this one. The call is one more of the seat's, and nothing else of it changes.

@@ -1,14 +1,16 @@
 -- The calls of a seat, one after another, as the events of one run.
-use Rattle.std.specs.Prelude.{◌≡◌, ℕ, ◌<◌, List, [], ◌∷◌, slice_get}
+use Rattle.std.specs.Prelude.{◌≡◌, ℕ, ◌<◌, List, [], ◌∷◌, map, slice_get, Some}
 use Rattle.mc_model.specs.declared.shown.LogSize.{LogSize}
 use Rattle.mc_model.specs.declared.shown.ShownState.{ShownState}
 use Rattle.mc_model.specs.declared.shown.WorkerState.{WorkerState}
 use Rattle.lists.specs.Lists.{BeginsWith}
+use Rattle.mc_model.specs.Lawful.{ShownEvent}
 use Rattle.uc_places.specs.declared.desk.Desk.{Desk}
 use Rattle.uc_places.specs.declared.view.Call.{Call}
+use Rattle.uc_places.specs.declared.view.Part.{Part}
 use Rattle.uc_places.specs.Calls.{Makes, calls_of, desk_size, known, last_of, state_of, worker_of}
 use Rattle.uc_places.specs.Rule.{OthersLead}
-use Rattle.uc_places.specs.Run.{IsOneRun}
+use Rattle.uc_places.specs.Run.{AreOneRun, IsOneRun, event_of}
 use Rattle.uc_places.specs.Told.{new_seat}
 
 -- the seat has taken no event; a list may have been shared with it
@@ -39,3 +41,16 @@ OthersLeaveIt =
     (size : LogSize) (number : ℕ) (old new : ShownState) → OthersLead size number old new →
     (slice_get new.workers number ≡ slice_get old.workers number)
     × BeginsWith new.decided old.decided
+
+-- each worker of a log of this size has its part among these
+abbrev pub AreOfAll : LogSize → List Part → Type 0
+AreOfAll size parts = (number : ℕ) → number < size.workers →
+    (place : ℕ) × (part : Part) × (slice_get parts place ≡ Some part) × (part.worker ≡ number)
+
+-- if all workers' seats are on one run, each event of the run is a call of one of them
+abbrev pub EachEventIsACall : Type 0
+EachEventIsACall = (size : LogSize) (parts : List Part) (log : ShownState) →
+    (one : AreOneRun size parts log) → AreOfAll size parts →
+    (at : ℕ) (event : ShownEvent) → slice_get one.run at ≡ Some event →
+    (place call : ℕ) × (part : Part) × (slice_get parts place ≡ Some part)
+    × (slice_get (map (event_of part.worker) part.calls) call ≡ Some event)

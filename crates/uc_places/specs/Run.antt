@@ -63,7 +63,7 @@ abbrev pub AreAmong : List Part → List Part → Type 0
 AreAmong parts all = (place : ℕ) (part : Part) → slice_get parts place ≡ Some part →
     (other : ℕ) × (slice_get all other ≡ Some part)
 
--- One run has all calls of these workers' seats, and no other events of these workers: it leads from
+-- One run has all calls of these workers' seats, and no other events of the workers: it leads from
 -- the opening to this state of the log, in which each worker is as its seat shows it, and each
 -- worker's own events in it are exactly the calls of its seat, in order.
 pub record AreOneRun (size : LogSize) (parts : List Part) (log : ShownState) : Type 0 where

@@ -20,7 +20,7 @@ use Rattle.uc_places.specs.Rule.{OthersLead}
 use Rattle.uc_places.specs.Run.{AreOneRun, all_parts, part_of}
 use Rattle.uc_places.specs.Words.{found_in, said_ticket, said_word}
 
--- a view that no event was taken with; those of a log's seats at its opening: of the spare seat that
+-- a view without any event; those of a log's seats at its opening: of the spare seat that
 -- has the workers from this one on, and of a worker's seat
 abbrev pub blank_view : LogSize → Kind → ℕ → View
 blank_view size kind worker = record {
@@ -102,7 +102,7 @@ ProposeTells at old found new =
     × (state.proposals ≤ view.size.workers + 1)
     × Happens view.size (proposes view.worker) view state new.0.last
 
--- a load of word 0 changes nothing, and shows that the calls of all workers whose seat it is are one
+-- a load of word 0 changes nothing and shows that the calls of all workers whose seat it is are one
 -- run
 abbrev pub MeetTells : TableStep → SeatState → ℕ → SeatState → Type 0
 MeetTells at old found new = (new ≡ old)
@@ -132,7 +132,7 @@ seat_again list part = record {
   joined = [];
 }
 
--- what is left of a seat once the one that was joined into it last is split off, and that one, which
+-- what is left of a seat once the one joined into it last is split off, and that one, which
 -- then knows what the seat's worker has learned
 abbrev pub parted : View → View
 parted view = record view { joined = drop 1 view.joined }

@@ -6,7 +6,7 @@ ghost use Rattle.mc_model.specs.declared.id.Ticket.{Ticket};
 ghost use Rattle.mc_model.specs.declared.shown.LogSize.{LogSize};
 ghost use Rattle.uc_places.specs.Calls.{last_of, state_of, worker_of};
 ghost use Rattle.uc_places.specs.End.{IsEnd};
-ghost use Rattle.uc_places.specs.OneRun.{CallsLieOnOneRun, OthersLeaveIt};
+ghost use Rattle.uc_places.specs.OneRun.{CallsLieOnOneRun, EachEventIsACall, OthersLeaveIt};
 ghost use Rattle.uc_places.specs.Seats.{desk_of};
 ghost use Rattle.uc_places.specs.declared.seats.Seat.{Seat};
 
@@ -18,6 +18,12 @@ pub fn calls_lie_on_one_run()
     ensures run { CallsLieOnOneRun }
     // Between two calls the worker's state stays the same, and no decided place changes.
     ensures between { OthersLeaveIt }
+{}
+
+/// The calls of all workers' seats that are on one run are all its events.
+pub fn all_calls_are_the_run()
+    // Each event of the run is a call of one of the seats.
+    ensures { EachEventIsACall }
 {}
 
 /// The log that `close` gives goes on from where its first seat was.

@@ -9,7 +9,7 @@ use crate::seats::Seat;
 use crate::steps::settled;
 
 impl Desk {
-    /// Shares what this worker has learned with another's desk, by four loads of word 0: the other's
+    /// Shares what this worker has learned with another's desk by four loads of word 0: the other's
     /// seat is joined into this one, both are compared, and the other is split off again.
     fn share(&mut self, places: &Places, other: &mut Desk)
         requires { IsSeatOf places.now self.old × IsSeatOf places.now other.old }

@@ -5,7 +5,7 @@ ghost use Rattle.uc_places.specs.Seats.{desk_of};
 use mc_model::Ticket;
 use std::test::Fail;
 use std::thread::map_vec;
-use uc_places::{Idle, Places, Seat, close, open};
+use uc_places::{Idle, Places, Seat, close_all, open};
 
 /// How many workers there are, and how many commands each announces.
 const WORKERS: u8 = 4;
@@ -78,7 +78,7 @@ fn four_threads_decide_all_their_commands(rt: HostRuntime) -> Result<(), Fail> {
                 ensures { IsSeatOf shared.entry.now (desk_of result) }
             { submit_all(shared, idle) },
         )?;
-        let log = close(rt.alloc(), places, seats)?;
+        let log = close_all(rt.alloc(), places, seats)?;
         assert_eq!(rt; log.len(), 800);
         assert!(rt; is_legal(&log));
     }
