@@ -180,6 +180,35 @@ module _ (places : ℕ) (worker : Worker) (alone : (seat_of worker).size.workers
   all_placed (Quit ∷ requests) from to bytes (rest, all, owes) even left = all_placed requests from to rest owes even left
   all_placed (TooLong ∷ requests) from to bytes (rest, all, owes) even left = all_placed requests from to rest owes even left
 
+  -- if there is a place for each command so far, each has its own
+  all_stand : (requests : List Request) (from to : Mark) (bytes : List ℕ) → Owes worker (Tenant 0) from requests bytes to → from.number ≤ from.place → from.number + length (commands_of requests) ≤ places → to.number ≤ to.place
+  all_stand [] from to bytes owes even room = omega (arith, owes.1, owes.2, even)
+  all_stand (Logged command quiet ∷ requests) from to bytes (reply, next, rest, is, all, owes) even room =
+      ⊎_elim
+      (λ (placed : IsPlaced worker 0 from command reply next).
+      let at : placed.place ≡ from.number = placed_in_order worker alone 0 from next command reply placed in
+      let number = ap (λ (mark : Mark). mark.number) placed.next in
+      let place = ap (λ (mark : Mark). mark.place) placed.next in
+      all_stand requests next to rest owes (omega (arith, at, number, place)) (omega (arith, number, room)))
+      (λ (away : IsTurnedAway worker 0 from command reply next).
+      let last = turned_away_last worker alone 0 from next command reply away in
+      absurd (omega (arith, last, long, room)))
+      is
+  all_stand (Limit name quotas quiet ∷ requests) from to bytes (rest, all, owes) even room = all_stand requests from to rest owes even room
+  all_stand (Local reply quiet ∷ requests) from to bytes (rest, all, owes) even room = all_stand requests from to rest owes even room
+  all_stand (Quit ∷ requests) from to bytes (rest, all, owes) even room = all_stand requests from to rest owes even room
+  all_stand (TooLong ∷ requests) from to bytes (rest, all, owes) even room = all_stand requests from to rest owes even room
+
+  -- so it has replayed all places once its log is closing
+  all_replayed : (requests : List Request) (bytes : List ℕ) → Owes worker (Tenant 0) first_mark requests bytes (mark_of worker) → length (commands_of requests) ≤ places → IsClosing worker → HasReplayedAll worker
+  all_replayed requests bytes owes room closing =
+      let kept = kept_alone (seat_of worker).size alone in
+      let law = worker.pass.desk.law.few in
+      let full : length (seat_of worker).state.learned ≡ (seat_of worker).size.places = omega (arith, closing, kept, law) in
+      let announced = announced_all worker alone full in
+      let stands = all_stand requests first_mark (mark_of worker) bytes owes (omega arith) (omega (arith, room)) in
+      omega (arith, full, announced, stands, worker.short, ap (λ size. size.places) worker.of.1)
+
   -- so it hasn't taken more commands than places
   few_commands : (requests : List Request) (bytes : List ℕ) → Owes worker (Tenant 0) first_mark requests bytes (mark_of worker) → ¬ (IsClosing worker) → length (commands_of requests) < places
   few_commands requests bytes owes undone =
@@ -251,15 +280,18 @@ module _ (limits : Limits) (base : List Command) (places : ℕ) (worker : Worker
       (ap (λ list. own 0 (entries list)) (sym whole) ∙ (ap (λ n. own 0 (entries (take n (history_of worker)))) (sym none) ∙ applied.1), count)
 
 -- what was taken by turns that leave commands to the next log
-module _ (limits : Limits) (base : List Command) (places : ℕ) (before after : Scene) (takes : Takes before after) (alone : IsAloneOver limits base places after.worker)
-    (role : before.conn.role ≡ Tenant 0) (mark : mark_of before.worker ≡ first_mark) (in_time : LogsInTime takes) where
+module _ (before after : Scene) (takes : Takes before after) (alone : (seat_of after.worker).size.workers ≡ 1) (role : before.conn.role ≡ Tenant 0)
+    (mark : mark_of before.worker ≡ first_mark) (in_time : LogsInTime takes) where
+  abbrev all_places : ℕ
+  all_places = (seat_of after.worker).size.places
+
   owes_first : Owes after.worker (Tenant 0) first_mark takes.taken.requests takes.taken.owed (mark_of after.worker)
   owes_first =
       subst (λ from. Owes after.worker (Tenant 0) from takes.taken.requests takes.taken.owed (mark_of after.worker)) mark
       (subst (λ role. Owes after.worker role (mark_of before.worker) takes.taken.requests takes.taken.owed (mark_of after.worker)) role takes.taken.owes)
 
-  pub taken_in_time : length (commands_of takes.taken.requests) ≤ places
-  taken_in_time =
+  taken_few : length (commands_of takes.taken.requests) ≤ all_places
+  taken_few =
       let all : count_logged before.conn.role takes.taken.requests ≡ length (commands_of takes.taken.requests) =
       ap (λ role. count_logged role takes.taken.requests) role ∙ count_commands takes.taken.requests
       in
@@ -274,7 +306,7 @@ module _ (limits : Limits) (base : List Command) (places : ℕ) (before after : 
       in
       let size = first.taken.onward.same.0 ∙ sym takes.taken.onward.same.0 in
       let below =
-      few_commands places between (ap (λ size. size.workers) size ∙ alone.workers) (ap (λ size. size.places) size ∙ alone.long) first.taken.requests first.taken.owed owes last.1.room
+      few_commands all_places between (ap (λ size. size.workers) size ∙ alone) (ap (λ size. size.places) size) first.taken.requests first.taken.owed owes last.1.room
       in
       let earlier : count_logged before.conn.role first.taken.requests ≡ length (commands_of first.taken.requests) =
       ap (λ role. count_logged role first.taken.requests) role ∙ count_commands first.taken.requests
@@ -282,14 +314,26 @@ module _ (limits : Limits) (base : List Command) (places : ℕ) (before after : 
       omega (arith, all, earlier, last.1.last, below))
       in_time
 
+  pub replayed_in_time : IsClosing after.worker → HasReplayedAll after.worker
+  replayed_in_time closing = all_replayed all_places after.worker alone refl takes.taken.requests takes.taken.owed owes_first taken_few closing
+
+-- the same of a log over a table
+module _ (limits : Limits) (base : List Command) (places : ℕ) (before after : Scene) (takes : Takes before after) (alone : IsAloneOver limits base places after.worker)
+    (role : before.conn.role ≡ Tenant 0) (mark : mark_of before.worker ≡ first_mark) (in_time : LogsInTime takes) where
+  pub taken_in_time : length (commands_of takes.taken.requests) ≤ places
+  taken_in_time = let few = taken_few before after takes alone.workers role mark in_time in omega (arith, few, alone.long)
+
+  owes_alone : Owes after.worker (Tenant 0) first_mark takes.taken.requests takes.taken.owed (mark_of after.worker)
+  owes_alone = owes_first before after takes alone.workers role mark in_time
+
   pub owes_in_time : (total : ℕ) → length base + places ≤ total → takes.taken.owed ≡ owed_after limits [] total base takes.taken.requests
   owes_in_time total enough =
-      owes_in_order limits base places after.worker alone takes.taken.requests takes.taken.owed (mark_of after.worker) owes_first
+      owes_in_order limits base places after.worker alone takes.taken.requests takes.taken.owed (mark_of after.worker) owes_alone
       ∙ (owed_in_time limits base places total [] takes.taken.requests (let few = taken_in_time in omega (arith, few)) enough
       ∙ ap (λ list. owed_after limits [] total list takes.taken.requests) (append-nil base))
 
   pub leaves_all : HasReplayedAll after.worker → (own 0 (entries (history_of after.worker)) ≡ commands_of takes.taken.requests) × (length (commands_of takes.taken.requests) ≡ places)
-  leaves_all done = has_all limits base places after.worker alone takes.taken.requests takes.taken.owed owes_first taken_in_time done
+  leaves_all done = has_all limits base places after.worker alone takes.taken.requests takes.taken.owed owes_alone taken_in_time done
 
 -- what is owed by the last log
 pub owes_last : (limits : Limits) (base : List Command) (places : ℕ) (worker : Worker) (requests : List Request) (bytes : List ℕ) (to : Mark) → IsAloneOver limits base places worker →

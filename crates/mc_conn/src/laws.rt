@@ -10,7 +10,7 @@ ghost use Rattle.mc_stream.specs.Pushing.{Pushes};
 ghost use Rattle.uc_worker.specs.declared.worker.Worker.{Worker};
 ghost use Rattle.uc_worker.specs.Going.{Continues};
 ghost use Rattle.uc_worker.specs.Cited.{entries};
-ghost use Rattle.uc_worker.specs.Worker.{HasReplayedAll, history_of, seat_of};
+ghost use Rattle.uc_worker.specs.Worker.{HasReplayedAll, IsClosing, history_of, seat_of};
 ghost use Rattle.mc_model.specs.Log.{own};
 ghost use Rattle.mc_conn.specs.declared.conn.Role.{Role};
 ghost use Rattle.mc_conn.specs.declared.conn.Role.TheVariants.{Tenant};
@@ -62,7 +62,12 @@ pub fn logs_of_a_worker_alone_add_up()
         (length (commands_of takes.taken.requests) ≤ places)
         × ((total : ℕ) → length base + places ≤ total →
         takes.taken.owed ≡ owed_after limits [] total base takes.taken.requests) }
-    // Once all places are replayed, the log is the commands of the requests, one a place.
+    // Once such a log is closing, all its places are replayed,
+    ensures done { (before after : Scene) (takes : Takes before after) →
+        (seat_of after.worker).size.workers ≡ 1 → before.conn.role ≡ Tenant 0 →
+        mark_of before.worker ≡ first_mark → LogsInTime takes →
+        IsClosing after.worker → HasReplayedAll after.worker }
+    // and then the log is the commands of the requests, one a place.
     ensures full { (limits : Limits) (base : List Command) (places : ℕ) (before after : Scene)
         (takes : Takes before after) → IsAloneOver limits base places after.worker →
         before.conn.role ≡ Tenant 0 → mark_of before.worker ≡ first_mark → LogsInTime takes →

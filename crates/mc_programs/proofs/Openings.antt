@@ -14,12 +14,12 @@ use Rattle.model_lemmas.proofs.Histories.{state_after-none}
 use Rattle.lists.proofs.Public.{appended_twice}
 use Rattle.mc_read.specs.Line.{asked}
 use Rattle.mc_read.specs.Reading.{HasReading, ReadsAs}
-use Rattle.mc_conn.specs.Alone.{commands_of}
+use Rattle.mc_conn.specs.Alone.{commands_of, first_mark}
 use Rattle.mc_conn.specs.ConnFault.{OutOfMemory, TellsStarved}
 use Rattle.mc_conn.specs.declared.conn.Conn.{Conn}
 use Rattle.mc_conn.specs.declared.conn.Role.{Role}
 use Rattle.mc_conn.specs.declared.conn.Role.TheVariants.{Tenant}
-use Rattle.mc_conn.specs.Owed.{FitsLog}
+use Rattle.mc_conn.specs.Owed.{FitsLog, mark_of}
 use Rattle.mc_conn.specs.Turn.{queue_of}
 use Rattle.mc_programs.specs.Generations.{IsForOne, IsFreshOver, IsNextForOne, LogsHaveServed}
 use Rattle.mc_programs.specs.Serving.{AnswersRequests, IsCaughtUp, NeverWaits, ServesInPart, StopsByLogs, owed_by_logs, settings_alone}
@@ -46,19 +46,22 @@ fits role worker log is same one =
     (let count = ap (λ (log : Log). length log.settings.tenants) same in omega (arith, count, one.1))
 
 -- a worker with which nothing was done
+pub fresh_mark : (log : Log) (pass : Pass) (worker : Worker) → IsNew log 0 pass → seat_of worker ≡ seat pass → history_of worker ≡ [] → mark_of worker ≡ first_mark
+fresh_mark log pass worker unused seated empty =
+    let none : length (announced_of worker) ≡ 0 = worker.pass.count ∙ ap (λ (view : View). view.state.announced) (seated ∙ unused.1) in
+    λ i. record { number = none i; place = (ap (λ (list : List Sighting). length list) empty) i }
+
 pub fresh_over : (limits : Limits) (places : ℕ) (requests : List Request) (log : Log) (pass : Pass) (worker : Worker) → log.settings ≡ settings_alone limits places → IsNew log 0 pass →
     seat_of worker ≡ seat pass → history_of worker ≡ [] → openings_of worker ≡ state_after limits (commands_of requests) ∷ [] → IsFreshOver limits places requests worker
 fresh_over limits places requests log pass worker settings unused seated empty over =
     let new : seat_of worker ≡ new_seat (size_of log) 0 = seated ∙ unused.1 in
-    let announced : (seat_of worker).state.announced ≡ 0 = ap (λ (view : View). view.state.announced) new in
-    let none : length (announced_of worker) ≡ 0 = worker.pass.count ∙ announced in
     record {
       alone = record {
         workers = ap (λ (view : View). view.size.workers) new ∙ ap (λ settings. settings.workers) settings;
         long = ap (λ (view : View). view.size.places) new ∙ ap (λ settings. settings.places) settings;
         openings = over;
       };
-      mark = λ i. record { number = none i; place = (ap (λ (list : List Sighting). length list) empty) i };
+      mark = fresh_mark log pass worker unused seated empty;
     }
 
 -- the first log's table is empty

@@ -28,7 +28,7 @@ use Rattle.mc_stream.specs.Stream.{Inflow, Streams}
 use Rattle.mc_write.specs.Text.{text}
 use Rattle.uc_cells.specs.Sighting.{entries}
 use Rattle.uc_worker.specs.declared.worker.Worker.{Worker}
-use Rattle.uc_worker.specs.Worker.{HasReplayedAll, IsClosing, history_of, tables_of}
+use Rattle.uc_worker.specs.Worker.{history_of, tables_of}
 
 -- the settings of a log with one worker, for one tenant
 abbrev pub settings_alone : Limits → ℕ → Configuration
@@ -161,8 +161,7 @@ pub record FillsLast (limits : Limits) (places logs : ℕ) (requests : List Requ
 
 -- Why these logs weren't followed by another: there was a place for each command; or once all
 -- places were taken, as many changes as another log has places couldn't all get uniques; or what
--- turns the log over was asked, and memory was refused; or the worker of the last of them has learned
--- all its places, and hasn't replayed them all.
+-- turns the log over was asked, and memory was refused.
 pub data IsNotFollowed (refused : Worker → Type 0) (limits : Limits) (places logs : ℕ)
     (requests : List Request) : Type 0 where
   not_needed : length (commands_of requests) ≤ logs * places →
@@ -171,9 +170,6 @@ pub data IsNotFollowed (refused : Worker → Type 0) (limits : Limits) (places l
       ¬ (HaveRoom (tables_of worker) places) → IsNotFollowed refused limits places logs requests
   out_of_memory : (worker : Worker) → FillsLast limits places logs requests worker →
       refused worker → IsNotFollowed refused limits places logs requests
-  not_replayed : (worker : Worker) (earlier : List Request) →
-      IsAloneOver limits (commands_of earlier) places worker → IsClosing worker →
-      ¬ (HasReplayedAll worker) → IsNotFollowed refused limits places logs requests
 
 -- A client was served to its end by logs one after another: by this many, or by fewer for a reason.
 abbrev pub ServesByLogs : (Worker → Type 0) → Limits → ℕ → ℕ → Streams → Streams → Type 0

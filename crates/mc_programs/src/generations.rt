@@ -3,7 +3,7 @@ ghost use Rattle.std.specs.Prelude.{◌≡◌, ◌⊎◌, ◌+◌, ◌≤◌, �
 ghost use Rattle.mc_model.specs.declared.settings.Limits.{Limits};
 ghost use Rattle.mc_conn.specs.declared.conn.Role.TheVariants.{Tenant};
 ghost use Rattle.mc_conn.specs.Ending.{PullsLate, Serves, Stops};
-ghost use Rattle.mc_conn.specs.Owed.{FitsLog};
+ghost use Rattle.mc_conn.specs.Owed.{FitsLog, mark_of};
 ghost use Rattle.mc_conn.specs.Turn.{scene};
 ghost use Rattle.mc_programs.specs.Generations.{FollowsOn, LogsHaveServed, IsForOne, IsFreshOver, IsNextForOne, ServesLog};
 ghost use Rattle.mc_programs.specs.Serving.{ServesByLogs, StopsByLogs, settings_alone};
@@ -11,7 +11,7 @@ ghost use Rattle.mc_stream.specs.Stream.{Streams, both};
 ghost use Rattle.uc_cells.specs.Sighting.{entries};
 ghost use Rattle.mc_model.specs.History.{state_after};
 ghost use Rattle.mc_model.specs.Replay.{EachStands, HaveRoom};
-ghost use Rattle.mc_conn.specs.Alone.{commands_of};
+ghost use Rattle.mc_conn.specs.Alone.{commands_of, first_mark};
 ghost use Rattle.uc_log.specs.Passes.{IsNew};
 ghost use Rattle.uc_worker.specs.Worker.{HasReplayedAll, history_of, openings_of, tables_of};
 
@@ -26,25 +26,21 @@ use std::sync::Wait;
 use uc_log::{Log, Pass};
 use uc_worker::{Base, Next, Worker};
 
-/// Opens the log that follows this one, all of whose places its one worker has learned.
+/// Opens the log that follows this one, all of whose places its one worker has replayed.
 ///
-/// Returns `None` if the worker hasn't replayed them all, since memory was refused to it, if the
-/// changes of a whole log couldn't all get uniques, or if memory runs out.
+/// Returns `None` if the changes of a whole log couldn't all get uniques, or if memory runs out.
 fn next_log<T: TurnOver>(alloc: Global, over: &T, log: &Log, worker: &Worker<'_>) -> Option<Next>
     requires alone { IsForOne log.now }
     requires log { worker.now.log.now ≡ log.now }
-    ensures done { IfSome result (λ _. HasReplayedAll worker.now) }
+    requires done { HasReplayedAll worker.now }
     ensures ready { IfSome result IsNextForOne }
     ensures settings { IfSome result (λ next. next.log.settings ≡ log.now.settings) }
     ensures stands { IfSome result (λ next.
         EachStands (openings_of worker.now) (entries (history_of worker.now))
         next.base.tables.items) }
-    ensures none { result ≡ None → ¬ (HasReplayedAll worker.now) ⊎ HasReplayedAll worker.now
-        × (¬ (HaveRoom (tables_of worker.now) log.now.settings.places) ⊎ T.refused worker.now) }
+    ensures none { result ≡ None →
+        ¬ (HaveRoom (tables_of worker.now) log.now.settings.places) ⊎ T.refused worker.now }
 {
-    if !worker.is_done() {
-        return None;
-    }
     if !worker.has_room(log.settings().places()) {
         return None;
     }
@@ -78,9 +74,9 @@ fn serve_to_end<R: Wait, I: Input, O: Output>(
     Ok(None)
 }
 
-/// Serves the client with this worker of this log, until the client has ended, or the log is full
-/// and the next one is opened, which is returned. The last log is never followed by another, nor
-/// is one that can't be: it serves the client to the end.
+/// Serves the client with this worker of this log, with which nothing was done yet, until the client
+/// has ended, or the log is full and the next one is opened, which is returned. The last log is never
+/// followed by another, nor is one that can't be: it serves the client to the end.
 ///
 /// Returns the errors of `pump`.
 fn serve_log<R: Wait, T: TurnOver, I: Input, O: Output>(
@@ -96,6 +92,7 @@ fn serve_log<R: Wait, T: TurnOver, I: Input, O: Output>(
 ) -> Result<Option<Next>, Fault>
     requires alone { IsForOne log.now }
     requires log { worker.old.log.now ≡ log.now }
+    requires fresh { mark_of worker.old ≡ first_mark }
     requires role { conn.old.role ≡ Tenant 0 }
     requires going { conn.old.is_closed ≡ false }
     ensures served { (limits : Limits) (places logs : ℕ) (first : Streams) →

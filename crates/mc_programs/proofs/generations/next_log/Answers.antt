@@ -4,9 +4,6 @@ use Rattle.mc_model.specs.Settings.{Configuration}
 use Rattle.uc_worker.specs.Worker.{tables_of}
 use Rattle.mc_programs.proofs.generations.next_log.Goals as goal
 
-pub returns-then-not-is_done-clause-none : goal.returns-then-not-is_done-clause-none
-returns-then-not-is_done-clause-none g c none = inl (λ done. let yes = c.is_done.ensures.1 done in let no = c.if-not-is_done.true in cc)
-
 pub turn_over-requires-clause-room : goal.turn_over-requires-clause-room
 turn_over-requires-clause-room g c =
     let places = c.places.ensures.value ∙ ap (λ (settings : Configuration). settings.places) c.settings.ensures in
@@ -15,10 +12,7 @@ turn_over-requires-clause-room g c =
 pub returns-then-not-has_room-clause-none : goal.returns-then-not-has_room-clause-none
 returns-then-not-has_room-clause-none g c none =
     let places = c.places.ensures.value ∙ ap (λ (settings : Configuration). settings.places) c.settings.ensures in
-    inr (
-      c.is_done.ensures.0 c.if-not-is_done.false,
-      inl (λ room. let yes = c.has_room.ensures.1 (subst (HaveRoom (tables_of c.args.worker.now)) (sym places) room) in let no = c.if-not-has_room.true in cc),
-    )
+    inl (λ room. let yes = c.has_room.ensures.1 (subst (HaveRoom (tables_of c.args.worker.now)) (sym places) room) in let no = c.if-not-has_room.true in cc)
 
 pub returns-clause-none : goal.returns-clause-none
-returns-clause-none g c none = inr (c.is_done.ensures.0 c.if-not-is_done.false, inr (c.turn_over.ensures.refused none))
+returns-clause-none g c none = inr (c.turn_over.ensures.refused none)

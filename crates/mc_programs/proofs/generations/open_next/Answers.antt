@@ -1,6 +1,9 @@
 use Rattle.std.proofs.Common.{◌∙◌}
-use Rattle.mc_programs.proofs.Openings.{fresh_over, unopened_next}
+use Rattle.mc_programs.proofs.Openings.{fresh_mark, fresh_over, unopened_next}
 use Rattle.mc_programs.proofs.generations.open_next.Goals as goal
+
+pub serve_log-requires-clause-fresh : goal.serve_log-requires-clause-fresh
+serve_log-requires-clause-fresh g c = fresh_mark c.args.log.now c.args.pass c.in-Ok.worker c.requires.new c.in-Ok.ensures.seat c.in-Ok.ensures.history
 
 pub returns-clause-served : goal.returns-clause-served
 returns-clause-served g c limits places logs first served settings tables some =
