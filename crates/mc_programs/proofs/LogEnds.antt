@@ -1,5 +1,5 @@
 -- How a log ends for a client: the client has ended, a fault came, or the next log goes on.
-use Rattle.std.proofs.Common.{◌≡◌, ◌⊎◌, ℕ, ◌+◌, ◌*◌, ◌≤◌, Bool, false, Option, Some, None, Result, Ok, Err, length, true, sym, refl, subst, inl, inr, ⊎_elim}
+use Rattle.std.proofs.Common.{◌≡◌, ◌⊎◌, ◌∙◌, ℕ, ◌+◌, ◌*◌, ◌≤◌, Bool, false, Option, Some, None, Result, Ok, Err, length, true, sym, refl, ap, subst, inl, inr, ⊎_elim}
 use Rattle.std.specs.Prelude.{MatchResult}
 use Rattle.mc_model.specs.declared.fault.Fault.{Fault}
 use Rattle.mc_model.specs.declared.settings.Limits.{Limits}
