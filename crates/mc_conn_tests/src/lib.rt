@@ -1,6 +1,6 @@
 //! Tests of the connection engine through what its crates make public: streams in pieces of any
-//! size, a queue above its bound, faults, two tenants on one log, quotas set by an administrator,
-//! a full log, and a command that is left to the next one. They are in a
+//! size, a queue above its bound, long blocks, faults, two tenants on one log, quotas set by an
+//! administrator, a full log, and a command that is left to the next one. They are in a
 //! crate above those that they test, since a crate with tests is proved twice.
 #![tactic(auto)]
 
@@ -20,5 +20,7 @@ mod pairs;
 mod pieces;
 #[cfg(test)]
 mod queueing;
+#[cfg(test)]
+mod runs;
 #[cfg(test)]
 mod tenants;

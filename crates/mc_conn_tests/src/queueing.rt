@@ -43,7 +43,12 @@ fn pulls(alloc: Global) -> Result<Vec<InputStep>, AllocError> {
 }
 
 /// Returns the text with this word, again and again, in the place of each `@`.
-fn filled(alloc: Global, text: &str, word: &str, times: usize) -> Result<String, AllocError> {
+pub(crate) fn filled(
+    alloc: Global,
+    text: &str,
+    word: &str,
+    times: usize,
+) -> Result<String, AllocError> {
     let words = word.repeat(alloc, times)?;
     text.replace(alloc, '@', &words)
 }
