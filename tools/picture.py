@@ -28,6 +28,7 @@ SAYS = {
     "mc_stream": "pulls and pushes",
     "stream_lemmas": "lemmas on these",
     "mc_conn": "one connection, by turns",
+    "fair_queue": "flows served in turn",
     "mc_connections": "connections, over logs",
     "mc_net": "sockets and threads",
     "mc_programs": "programs over streams",
@@ -161,7 +162,7 @@ def line(path, x, y):
 
 
 def box(name, x, y):
-    ground, ink = KINDS["program" if name in PROGRAMS else "lemmas" if name in LEMMAS else name[:2]]
+    ground, ink = KINDS["program" if name in PROGRAMS else "lemmas" if name in LEMMAS else "uc" if name.startswith("uc_") else "mc"]
     return (
         f'<rect x="{x - WIDTH / 2:.1f}" y="{y}" width="{WIDTH}" height="{HEIGHT}" rx="6" fill="{ground}" stroke="{ink}"/>'
         f'<text x="{x}" y="{y + 19}" class="name">{name}</text><text x="{x}" y="{y + 36}">{SAYS[name]}</text>'
