@@ -3,9 +3,7 @@ ghost use Rattle.std.specs.Prelude.{◌≡◌, length, OnOk};
 ghost use Rattle.mc_replica.specs.Replica.{SameCells};
 ghost use Rattle.uc_cells.specs.Cells.{HasCell};
 
-use crate::replica::{
-    QUOTAS, assert_cell, assert_unique, entry_of, opened, put, ticket_of, worker_of,
-};
+use crate::replica::{QUOTAS, assert_cell, opened, put_row, ticket_of, unique_of, worker_of};
 use mc_model::{Fault, Ticket};
 use mc_replica::Replica;
 use std::alloc::Global;
@@ -44,7 +42,7 @@ fn agree_on_three<'a>(
     cells: &'a Cells,
     one: &mut Replica<'a>,
     other: &mut Replica<'a>,
-) -> Result<(), Fail>
+) -> Result<(), Fault>
     requires long { length one.old.history ≡ length other.old.history }
     requires same { SameCells one.old.history other.old.history }
 {
@@ -61,22 +59,12 @@ fn agree_on_three<'a>(
 fn replicas_of_the_same_cells_agree(rt: HostRuntime) -> Result<(), Fail> {
     let alloc = rt.alloc();
     let cells = Cells::open(alloc, 1, 3)?;
-    put(
-        &rt,
-        alloc,
-        &cells,
-        entry_of(alloc, 0, (0, 1, "set a 0 0 1\r\nx\r\n", ""))?,
-    )?;
-    put(
-        &rt,
-        alloc,
-        &cells,
-        entry_of(alloc, 1, (0, 1, "set a 0 0 1\r\ny\r\n", ""))?,
-    )?;
+    put_row(&rt, alloc, &cells, 0, (0, 1, "set a 0 0 1\r\nx\r\n", ""))?;
+    put_row(&rt, alloc, &cells, 1, (0, 1, "set a 0 0 1\r\ny\r\n", ""))?;
     let mut one = opened(alloc, 0, &[QUOTAS, QUOTAS], 3)?;
     let mut other = opened(alloc, 1, &[QUOTAS, QUOTAS], 3)?;
     agree_on_three(&rt, alloc, &cells, &mut one, &mut other)?;
     assert!(rt; one.len() == 3 && other.len() == 3);
-    assert_unique(&rt, &one, 1, 2)?;
-    assert_unique(&rt, &other, 1, 2)
+    assert!(rt; unique_of(&one, 1) == Some(2) && unique_of(&other, 1) == Some(2));
+    Ok(())
 }

@@ -1,7 +1,7 @@
 //! The golden examples of one table, and what a fault leaves: each row is a command as a client
 //! writes it, and the reply as the client reads it.
 use crate::values::{
-    assert_text, command_of, copied, key_of, limit_of, numbered_get, numbered_set, numbered_values,
+    command_of, copied, key_of, limit_of, numbered_get, numbered_set, numbered_values, text_of,
 };
 use mc_items::Items;
 use mc_model::{Command, Fault, Item, Limits, Reply};
@@ -16,13 +16,16 @@ const QUOTAS: Limits = Limits {
 };
 
 /// Each key of these tests.
-const NAMES: [&str; 9] = ["a", "ab", "b", "c", "e", "m", "n", "p", "q"];
+const NAMES: &[&str] = &["a", "ab", "b", "c", "e", "m", "n", "p", "q"];
 
 const FULL: &str = "SERVER_ERROR out of memory storing object\r\n";
 
 const TOO_LARGE: &str = "SERVER_ERROR object too large for cache\r\n";
 
 const NON_NUMERIC: &str = "CLIENT_ERROR cannot increment or decrement non-numeric value\r\n";
+
+/// A command as a client writes it, and the reply as the client reads it.
+type Row = (&'static str, &'static str);
 
 /// A table that answers, and one next to it that is advanced.
 #[derive(Drop)]
@@ -31,17 +34,26 @@ struct Twins {
     advanced: Items,
 }
 
-fn apply(rt: &impl Abort, items: &mut Items, command: &Command) -> Result<Reply, Fault> {
-    assert!(rt; items.last_unique() < u64::MAX);
+fn apply(items: &mut Items, command: &Command) -> Result<Reply, Fault> {
+    if items.last_unique() == u64::MAX {
+        return Err(Fault::BadEvent);
+    }
     items.apply(command)
 }
 
-fn advance(rt: &impl Abort, items: &mut Items, command: &Command) -> Result<(), Fault> {
-    assert!(rt; items.last_unique() < u64::MAX);
+fn advance(items: &mut Items, command: &Command) -> Result<(), Fault> {
+    if items.last_unique() == u64::MAX {
+        return Err(Fault::BadEvent);
+    }
     items.advance(command)
 }
 
-fn is_alike_at(alloc: Global, name: &str, items: &Items, other: &Items) -> Result<bool, Fail> {
+/// Returns what a client reads for the command.
+fn answer(alloc: Global, items: &mut Items, command: &Command) -> Result<Vec<u8>, Fault> {
+    text_of(alloc, apply(items, command)?)
+}
+
+fn is_alike_at(alloc: Global, name: &str, items: &Items, other: &Items) -> Result<bool, Fault> {
     let key = key_of(alloc, name)?;
     Ok(items.get(&key) == other.get(&key))
 }
@@ -53,39 +65,36 @@ fn is_alike(items: &Items, other: &Items) -> bool {
         && items.count() == other.count()
 }
 
-fn assert_alike(rt: &impl Abort, alloc: Global, items: &Items, other: &Items) -> Result<(), Fail> {
-    assert!(rt; is_alike(items, other));
+/// Returns whether both tables are alike, and hold the same under each key of these tests.
+fn are_alike(alloc: Global, items: &Items, other: &Items) -> Result<bool, Fault> {
     for name in NAMES {
-        assert!(rt; is_alike_at(alloc, name, items, other)?, "under {name}");
+        if !is_alike_at(alloc, name, items, other)? {
+            return Ok(false);
+        }
     }
-    Ok(())
+    Ok(is_alike(items, other))
 }
 
-/// Asserts that the command gets this reply, and that a table that is advanced stays like one that
+/// Returns whether the command gets this reply, and a table that is advanced stays like one that
 /// answers.
-fn assert_effect(
-    rt: &impl Abort,
+fn is_effect(
     alloc: Global,
     twins: &mut Twins,
     command: &Command,
     want: &[u8],
-) -> Result<(), Fail> {
-    let reply = apply(rt, &mut twins.items, command)?;
-    assert_text(rt, alloc, &reply, want)?;
-    advance(rt, &mut twins.advanced, command)?;
-    assert_alike(rt, alloc, &twins.items, &twins.advanced)
+) -> Result<bool, Fault> {
+    let text = answer(alloc, &mut twins.items, command)?;
+    advance(&mut twins.advanced, command)?;
+    Ok(text.as_slice() == want && are_alike(alloc, &twins.items, &twins.advanced)?)
 }
 
-/// Does as `assert_effect` for the command that a client writes as this text.
-fn assert_answer(
-    rt: &impl Abort,
-    alloc: Global,
-    twins: &mut Twins,
-    text: &[u8],
-    want: &[u8],
-) -> Result<(), Fail> {
+/// Returns whether this is so for the command that a client writes as this text.
+fn is_answer(alloc: Global, twins: &mut Twins, text: &[u8], want: &[u8]) -> Result<bool, Fault> {
     let command = command_of(alloc, text)?;
-    assert_effect(rt, alloc, twins, &command, want)
+    let answered = is_effect(alloc, twins, &command, want);
+    // A local enum that its block drops is proved variant by variant, on each way out.
+    drop(command);
+    answered
 }
 
 fn twins_of(alloc: Global, quotas: Limits) -> Twins {
@@ -95,37 +104,38 @@ fn twins_of(alloc: Global, quotas: Limits) -> Twins {
     }
 }
 
-/// Asserts that each command in turn gets its reply.
-fn assert_next(
-    rt: &impl Abort,
+/// Returns the first command that doesn't get its reply, if any.
+fn first_wrong(
     alloc: Global,
     twins: &mut Twins,
-    rows: &[(&str, &str)],
-) -> Result<(), Fail> {
+    rows: &[Row],
+) -> Result<Option<&'static str>, Fault> {
     for (text, want) in rows {
-        assert_answer(rt, alloc, twins, text.as_bytes(), want.as_bytes())?;
+        if !is_answer(alloc, twins, text.as_bytes(), want.as_bytes())? {
+            return Ok(Some(*text));
+        }
     }
-    Ok(())
+    Ok(None)
+}
+
+/// Asserts that each command in turn gets its reply.
+fn assert_next(rt: &impl Abort, alloc: Global, twins: &mut Twins, rows: &[Row]) {
+    assert_eq!(rt; first_wrong(alloc, twins, rows), Ok(None));
 }
 
 /// Returns the table after these commands, each of which gets its reply within the quotas.
-fn answered(
-    rt: &impl Abort,
-    alloc: Global,
-    quotas: Limits,
-    rows: &[(&str, &str)],
-) -> Result<Items, Fail> {
+fn answered(rt: &impl Abort, alloc: Global, quotas: Limits, rows: &[Row]) -> Items {
     let mut twins = twins_of(alloc, quotas);
-    assert_next(rt, alloc, &mut twins, rows)?;
-    Ok(twins.items)
+    assert_next(rt, alloc, &mut twins, rows);
+    twins.items
 }
 
-fn assert_answers(rt: &impl Abort, alloc: Global, rows: &[(&str, &str)]) -> Result<(), Fail> {
-    let _ = answered(rt, alloc, QUOTAS, rows)?;
-    Ok(())
+fn assert_answers(rt: &impl Abort, alloc: Global, rows: &[Row]) {
+    let mut twins = twins_of(alloc, QUOTAS);
+    assert_next(rt, alloc, &mut twins, rows);
 }
 
-fn is_held(alloc: Global, items: &Items, name: &str) -> Result<bool, Fail> {
+fn is_held(alloc: Global, items: &Items, name: &str) -> Result<bool, Fault> {
     let key = key_of(alloc, name)?;
     Ok(items.get(&key).is_some())
 }
@@ -142,7 +152,7 @@ fn holds(
     flags: u32,
     block: &str,
     unique: u64,
-) -> Result<bool, Fail> {
+) -> Result<bool, Fault> {
     let key = key_of(alloc, name)?;
     Ok(match items.get(&key) {
         Some(item) => is_item(item, flags, block, unique),
@@ -150,31 +160,30 @@ fn holds(
     })
 }
 
-fn assert_filled(rt: &impl Abort, items: &Items, used: u64, count: u64) {
-    assert_eq!(rt; (items.used(), items.count()), (used, count));
+fn is_filled(items: &Items, used: u64, count: u64) -> bool {
+    items.used() == used && items.count() == count
 }
 
-/// Asserts what a set of one key leaves.
-fn assert_one(rt: &impl Abort, alloc: Global, items: &Items) -> Result<(), Fail> {
-    assert!(rt; holds(alloc, items, "a", 5, "abc", 1)?);
-    assert!(rt; !is_held(alloc, items, "b")?);
-    assert!(rt; items.last_unique() == 1 && items.limits() == QUOTAS);
-    Ok(())
+/// Returns whether the table is what a set of one key leaves.
+fn is_one(alloc: Global, items: &Items) -> Result<bool, Fault> {
+    let has_b = is_held(alloc, items, "b")?;
+    let has_a = holds(alloc, items, "a", 5, "abc", 1)?;
+    Ok(has_a && !has_b && items.last_unique() == 1 && items.limits() == QUOTAS)
 }
 
 #[test]
-fn set_then_get(rt: HostRuntime) -> Result<(), Fail> {
-    const ROWS: [(&str, &str); 2] = [
+fn set_then_get(rt: HostRuntime) {
+    const ROWS: [Row; 2] = [
         ("set a 5 0 3\r\nabc\r\n", "STORED\r\n"),
         ("get a\r\n", "VALUE a 5 3\r\nabc\r\nEND\r\n"),
     ];
-    let items = answered(&rt, rt.alloc(), QUOTAS, &ROWS)?;
-    assert_one(&rt, rt.alloc(), &items)
+    let items = answered(&rt, rt.alloc(), QUOTAS, &ROWS);
+    assert!(rt; is_one(rt.alloc(), &items) == Ok(true));
 }
 
 #[test]
-fn keys_in_the_order_asked(rt: HostRuntime) -> Result<(), Fail> {
-    const ROWS: [(&str, &str); 4] = [
+fn keys_in_the_order_asked(rt: HostRuntime) {
+    const ROWS: [Row; 4] = [
         ("set a 0 0 1\r\nx\r\n", "STORED\r\n"),
         ("set b 0 0 1\r\ny\r\n", "STORED\r\n"),
         ("set a 0 0 1\r\nz\r\n", "STORED\r\n"),
@@ -183,24 +192,24 @@ fn keys_in_the_order_asked(rt: HostRuntime) -> Result<(), Fail> {
             "VALUE b 0 1 2\r\ny\r\nVALUE a 0 1 3\r\nz\r\nVALUE a 0 1 3\r\nz\r\nEND\r\n",
         ),
     ];
-    assert_answers(&rt, rt.alloc(), &ROWS)
+    assert_answers(&rt, rt.alloc(), &ROWS);
 }
 
 #[test]
-fn cas_outcomes(rt: HostRuntime) -> Result<(), Fail> {
-    const ROWS: [(&str, &str); 5] = [
+fn cas_outcomes(rt: HostRuntime) {
+    const ROWS: [Row; 5] = [
         ("set a 0 0 1\r\nx\r\n", "STORED\r\n"),
         ("cas a 0 0 1 1\r\ny\r\n", "STORED\r\n"),
         ("cas a 0 0 1 1\r\nz\r\n", "EXISTS\r\n"),
         ("cas b 0 0 1 1\r\nw\r\n", "NOT_FOUND\r\n"),
         ("gets a\r\n", "VALUE a 0 1 2\r\ny\r\nEND\r\n"),
     ];
-    assert_answers(&rt, rt.alloc(), &ROWS)
+    assert_answers(&rt, rt.alloc(), &ROWS);
 }
 
 #[test]
-fn arithmetic_wraps_and_stops_at_zero(rt: HostRuntime) -> Result<(), Fail> {
-    const ROWS: [(&str, &str); 8] = [
+fn arithmetic_wraps_and_stops_at_zero(rt: HostRuntime) {
+    const ROWS: [Row; 8] = [
         ("set n 7 0 20\r\n18446744073709551615\r\n", "STORED\r\n"),
         ("incr n 1\r\n", "0\r\n"),
         ("gets n\r\n", "VALUE n 7 1 2\r\n0\r\nEND\r\n"),
@@ -210,25 +219,25 @@ fn arithmetic_wraps_and_stops_at_zero(rt: HostRuntime) -> Result<(), Fail> {
         ("decr n 1\r\n", "9\r\n"),
         ("gets n\r\n", "VALUE n 0 1 6\r\n9\r\nEND\r\n"),
     ];
-    assert_answers(&rt, rt.alloc(), &ROWS)
+    assert_answers(&rt, rt.alloc(), &ROWS);
 }
 
 /// Asserts that an increment of these data is answered like this, and one of a missing item in its
 /// own way.
-fn assert_increment(rt: &impl Abort, alloc: Global, set: &str, want: &str) -> Result<(), Fail> {
+fn assert_increment(rt: &impl Abort, alloc: Global, set: &'static str, want: &'static str) {
     let rows = [
         (set, "STORED\r\n"),
         ("incr n 1\r\n", want),
         ("incr m 1\r\n", "NOT_FOUND\r\n"),
         ("decr m 1\r\n", "NOT_FOUND\r\n"),
     ];
-    assert_answers(rt, alloc, &rows)
+    assert_answers(rt, alloc, &rows);
 }
 
 /// At most 20 digits are numeric, leading zeros among them.
 #[test]
-fn arithmetic_refusals(rt: HostRuntime) -> Result<(), Fail> {
-    const CASES: [(&str, &str); 6] = [
+fn arithmetic_refusals(rt: HostRuntime) {
+    const CASES: [Row; 6] = [
         ("set n 0 0 20\r\n18446744073709551616\r\n", NON_NUMERIC),
         ("set n 0 0 20\r\n00000000000000000041\r\n", "42\r\n"),
         ("set n 0 0 21\r\n000000000000000000041\r\n", NON_NUMERIC),
@@ -237,14 +246,13 @@ fn arithmetic_refusals(rt: HostRuntime) -> Result<(), Fail> {
         ("set n 0 0 2\r\n1 \r\n", NON_NUMERIC),
     ];
     for (set, want) in CASES {
-        assert_increment(&rt, rt.alloc(), set, want)?;
+        assert_increment(&rt, rt.alloc(), set, want);
     }
-    Ok(())
 }
 
 #[test]
-fn flush_keeps_uniques(rt: HostRuntime) -> Result<(), Fail> {
-    const ROWS: [(&str, &str); 6] = [
+fn flush_keeps_uniques(rt: HostRuntime) {
+    const ROWS: [Row; 6] = [
         ("set a 0 0 1\r\nx\r\n", "STORED\r\n"),
         ("flush_all\r\n", "OK\r\n"),
         ("gets a\r\n", "END\r\n"),
@@ -252,12 +260,12 @@ fn flush_keeps_uniques(rt: HostRuntime) -> Result<(), Fail> {
         ("set a 0 0 1\r\nz\r\n", "STORED\r\n"),
         ("gets a\r\n", "VALUE a 0 1 2\r\nz\r\nEND\r\n"),
     ];
-    assert_answers(&rt, rt.alloc(), &ROWS)
+    assert_answers(&rt, rt.alloc(), &ROWS);
 }
 
 #[test]
-fn prepend_replace_add(rt: HostRuntime) -> Result<(), Fail> {
-    const ROWS: [(&str, &str); 9] = [
+fn prepend_replace_add(rt: HostRuntime) {
+    const ROWS: [Row; 9] = [
         ("set p 4 0 2\r\nbc\r\n", "STORED\r\n"),
         ("prepend p 9 0 1\r\na\r\n", "STORED\r\n"),
         ("replace q 0 0 1\r\nx\r\n", "NOT_STORED\r\n"),
@@ -268,12 +276,12 @@ fn prepend_replace_add(rt: HostRuntime) -> Result<(), Fail> {
         ("gets p\r\n", "VALUE p 1 1 3\r\nx\r\nEND\r\n"),
         ("gets q\r\n", "VALUE q 2 1 4\r\ny\r\nEND\r\n"),
     ];
-    assert_answers(&rt, rt.alloc(), &ROWS)
+    assert_answers(&rt, rt.alloc(), &ROWS);
 }
 
 #[test]
-fn delete_takes_out(rt: HostRuntime) -> Result<(), Fail> {
-    const ROWS: [(&str, &str); 8] = [
+fn delete_takes_out(rt: HostRuntime) {
+    const ROWS: [Row; 8] = [
         ("set a 0 0 1\r\nx\r\n", "STORED\r\n"),
         ("set e 0 0 0\r\n\r\n", "STORED\r\n"),
         ("add a 0 0 1\r\ny\r\n", "NOT_STORED\r\n"),
@@ -283,12 +291,12 @@ fn delete_takes_out(rt: HostRuntime) -> Result<(), Fail> {
         ("set a 0 0 1\r\nz\r\n", "STORED\r\n"),
         ("gets a\r\n", "VALUE a 0 1 3\r\nz\r\nEND\r\n"),
     ];
-    assert_answers(&rt, rt.alloc(), &ROWS)
+    assert_answers(&rt, rt.alloc(), &ROWS);
 }
 
 #[test]
-fn fragments_joined(rt: HostRuntime) -> Result<(), Fail> {
-    const ROWS: [(&str, &str); 6] = [
+fn fragments_joined(rt: HostRuntime) {
+    const ROWS: [Row; 6] = [
         ("set n 3 0 1\r\n1\r\n", "STORED\r\n"),
         ("append n 0 0 1\r\n0\r\n", "STORED\r\n"),
         ("prepend n 0 0 1\r\n2\r\n", "STORED\r\n"),
@@ -296,7 +304,7 @@ fn fragments_joined(rt: HostRuntime) -> Result<(), Fail> {
         ("append n 0 0 2\r\nab\r\n", "STORED\r\n"),
         ("gets n\r\n", "VALUE n 3 5 5\r\n215ab\r\nEND\r\n"),
     ];
-    assert_answers(&rt, rt.alloc(), &ROWS)
+    assert_answers(&rt, rt.alloc(), &ROWS);
 }
 
 /// Returns the block between these texts.
@@ -307,72 +315,57 @@ fn framed(alloc: Global, front: &str, block: &[u8], back: &str) -> Result<Vec<u8
     Ok(text)
 }
 
-/// Asserts that the block is stored by this line.
-fn assert_large_set(
-    rt: &impl Abort,
-    alloc: Global,
-    twins: &mut Twins,
-    line: &str,
-    block: &[u8],
-) -> Result<(), Fail> {
+/// Returns whether the block is stored by this line.
+fn is_stored(alloc: Global, twins: &mut Twins, line: &str, block: &[u8]) -> Result<bool, Fault> {
     let text = framed(alloc, line, block, "\r\n")?;
-    assert_answer(rt, alloc, twins, &text, b"STORED\r\n")
+    is_answer(alloc, twins, &text, b"STORED\r\n")
 }
 
-/// Asserts that the block is shown after this line.
-fn assert_large_get(
-    rt: &impl Abort,
-    alloc: Global,
-    twins: &mut Twins,
-    line: &str,
-    block: &[u8],
-) -> Result<(), Fail> {
+/// Returns whether the block is shown after this line.
+fn is_shown(alloc: Global, twins: &mut Twins, line: &str, block: &[u8]) -> Result<bool, Fault> {
     let want = framed(alloc, line, block, "\r\nEND\r\n")?;
-    assert_answer(rt, alloc, twins, b"gets b\r\n", &want)
+    is_answer(alloc, twins, b"gets b\r\n", &want)
 }
 
-/// Asserts that a block of the greatest length is stored, and that nothing can be joined to it.
-fn assert_largest(
-    rt: &impl Abort,
-    alloc: Global,
-    twins: &mut Twins,
-    largest: &[u8],
-) -> Result<(), Fail> {
-    const REFUSED: [(&str, &str); 2] = [
+/// A block of the greatest length is stored, and nothing can be joined to it.
+fn assert_largest(rt: &impl Abort, alloc: Global, twins: &mut Twins, largest: &[u8]) {
+    const REFUSED: [Row; 2] = [
         ("append b 0 0 1\r\nz\r\n", TOO_LARGE),
         ("prepend b 0 0 1\r\nz\r\n", TOO_LARGE),
     ];
-    assert_large_set(rt, alloc, twins, "set b 0 0 1048576\r\n", largest)?;
-    assert_next(rt, alloc, twins, &REFUSED)?;
-    assert_large_get(rt, alloc, twins, "VALUE b 0 1048576 1\r\n", largest)
+    assert!(rt; is_stored(alloc, twins, "set b 0 0 1048576\r\n", largest) == Ok(true));
+    assert_next(rt, alloc, twins, &REFUSED);
+    assert!(rt; is_shown(alloc, twins, "VALUE b 0 1048576 1\r\n", largest) == Ok(true));
 }
 
-/// Asserts that a byte can be joined to a block that is a byte shorter.
+/// A byte can be joined to a block that is a byte shorter.
 fn assert_joined(
     rt: &impl Abort,
     alloc: Global,
     twins: &mut Twins,
+    smaller: &[u8],
     largest: &[u8],
-) -> Result<(), Fail> {
-    const JOINED: [(&str, &str); 1] = [("append b 0 0 1\r\nz\r\n", "STORED\r\n")];
-    let smaller = vec![in alloc; b'z'; 1_048_575]?;
-    assert_large_set(rt, alloc, twins, "set b 0 0 1048575\r\n", &smaller)?;
-    assert_next(rt, alloc, twins, &JOINED)?;
-    assert_large_get(rt, alloc, twins, "VALUE b 0 1048576 3\r\n", largest)
+) {
+    const JOINED: [Row; 1] = [("append b 0 0 1\r\nz\r\n", "STORED\r\n")];
+    assert!(rt; is_stored(alloc, twins, "set b 0 0 1048575\r\n", smaller) == Ok(true));
+    assert_next(rt, alloc, twins, &JOINED);
+    assert!(rt; is_shown(alloc, twins, "VALUE b 0 1048576 3\r\n", largest) == Ok(true));
 }
 
 #[test]
 fn object_too_large(rt: HostRuntime) -> Result<(), Fail> {
     let largest = vec![in rt.alloc(); b'z'; 1_048_576]?;
+    let smaller = vec![in rt.alloc(); b'z'; 1_048_575]?;
     let mut twins = twins_of(rt.alloc(), QUOTAS);
-    assert_largest(&rt, rt.alloc(), &mut twins, &largest)?;
-    assert_joined(&rt, rt.alloc(), &mut twins, &largest)
+    assert_largest(&rt, rt.alloc(), &mut twins, &largest);
+    assert_joined(&rt, rt.alloc(), &mut twins, &smaller, &largest);
+    Ok(())
 }
 
 /// A key that is held may be stored again even if the count is at its quota.
 #[test]
-fn quota_of_items(rt: HostRuntime) -> Result<(), Fail> {
-    const ROWS: [(&str, &str); 10] = [
+fn quota_of_items(rt: HostRuntime) {
+    const ROWS: [Row; 10] = [
         ("set a 0 0 1\r\nx\r\n", "STORED\r\n"),
         ("set b 0 0 1\r\ny\r\n", FULL),
         ("add b 0 0 1\r\ny\r\n", FULL),
@@ -388,16 +381,15 @@ fn quota_of_items(rt: HostRuntime) -> Result<(), Fail> {
         items: 1,
         bytes: 100,
     };
-    let items = answered(&rt, rt.alloc(), quotas, &ROWS)?;
-    assert_filled(&rt, &items, 4, 1);
-    Ok(())
+    let items = answered(&rt, rt.alloc(), quotas, &ROWS);
+    assert!(rt; is_filled(&items, 4, 1));
 }
 
 /// Keys and data count, before a change and after it, and a refused change leaves the item and its
 /// unique.
 #[test]
-fn quota_of_bytes(rt: HostRuntime) -> Result<(), Fail> {
-    const ROWS: [(&str, &str); 17] = [
+fn quota_of_bytes(rt: HostRuntime) {
+    const ROWS: [Row; 17] = [
         ("set n 0 0 3\r\n999\r\n", "STORED\r\n"),
         ("append n 0 0 1\r\n9\r\n", FULL),
         ("prepend n 0 0 1\r\n9\r\n", FULL),
@@ -417,9 +409,16 @@ fn quota_of_bytes(rt: HostRuntime) -> Result<(), Fail> {
         ("set a 0 0 3\r\nxyz\r\n", "STORED\r\n"),
     ];
     let quotas = Limits { items: 3, bytes: 4 };
-    let items = answered(&rt, rt.alloc(), quotas, &ROWS)?;
-    assert_filled(&rt, &items, 4, 1);
-    Ok(())
+    let items = answered(&rt, rt.alloc(), quotas, &ROWS);
+    assert!(rt; is_filled(&items, 4, 1));
+}
+
+/// Returns whether setting these quotas is answered.
+fn is_limited(alloc: Global, twins: &mut Twins, quotas: (u64, u64)) -> Result<bool, Fault> {
+    let command = limit_of(quotas.0, quotas.1);
+    let answered = is_effect(alloc, twins, &command, b"OK\r\n");
+    drop(command);
+    answered
 }
 
 /// Asserts that setting these quotas is answered, and then that each command gets its reply.
@@ -428,11 +427,10 @@ fn assert_limited(
     alloc: Global,
     twins: &mut Twins,
     quotas: (u64, u64),
-    rows: &[(&str, &str)],
-) -> Result<(), Fail> {
-    let command = limit_of(quotas.0, quotas.1);
-    assert_effect(rt, alloc, twins, &command, b"OK\r\n")?;
-    assert_next(rt, alloc, twins, rows)
+    rows: &[Row],
+) {
+    assert!(rt; is_limited(alloc, twins, quotas) == Ok(true));
+    assert_next(rt, alloc, twins, rows);
 }
 
 const BOTH_SHOWN: &str = "VALUE a 0 1 1\r\nx\r\nVALUE b 0 1 2\r\ny\r\nEND\r\n";
@@ -440,23 +438,23 @@ const BOTH_SHOWN: &str = "VALUE a 0 1 1\r\nx\r\nVALUE b 0 1 2\r\ny\r\nEND\r\n";
 /// Raised quotas let more in from then on. Lowered ones leave what is there, and refuse what would
 /// leave more than they allow.
 #[test]
-fn quotas_that_change(rt: HostRuntime) -> Result<(), Fail> {
-    const FIRST: [(&str, &str); 2] = [
+fn quotas_that_change(rt: HostRuntime) {
+    const FIRST: [Row; 2] = [
         ("set a 0 0 1\r\nx\r\n", "STORED\r\n"),
         ("set b 0 0 1\r\ny\r\n", FULL),
     ];
-    const RAISED: [(&str, &str); 3] = [
+    const RAISED: [Row; 3] = [
         ("set b 0 0 1\r\ny\r\n", "STORED\r\n"),
         ("append b 0 0 1\r\nz\r\n", FULL),
         ("gets a b\r\n", BOTH_SHOWN),
     ];
-    const LOWERED: [(&str, &str); 4] = [
+    const LOWERED: [Row; 4] = [
         ("gets a b\r\n", BOTH_SHOWN),
         ("set a 0 0 1\r\nz\r\n", FULL),
         ("delete b\r\n", "DELETED\r\n"),
         ("set a 0 0 1\r\nz\r\n", "STORED\r\n"),
     ];
-    const TIGHT: [(&str, &str); 3] = [
+    const TIGHT: [Row; 3] = [
         ("set a 0 0 0\r\n\r\n", "STORED\r\n"),
         ("set a 0 0 1\r\nx\r\n", FULL),
         ("flush_all\r\n", "OK\r\n"),
@@ -467,44 +465,35 @@ fn quotas_that_change(rt: HostRuntime) -> Result<(), Fail> {
     };
     let alloc = rt.alloc();
     let mut twins = twins_of(alloc, QUOTAS);
-    assert_next(&rt, alloc, &mut twins, &FIRST)?;
-    assert_limited(&rt, alloc, &mut twins, (2, 4), &RAISED)?;
-    assert_limited(&rt, alloc, &mut twins, (1, 4), &LOWERED)?;
-    assert_limited(&rt, alloc, &mut twins, (1, 1), &TIGHT)
+    assert_next(&rt, alloc, &mut twins, &FIRST);
+    assert_limited(&rt, alloc, &mut twins, (2, 4), &RAISED);
+    assert_limited(&rt, alloc, &mut twins, (1, 4), &LOWERED);
+    assert_limited(&rt, alloc, &mut twins, (1, 1), &TIGHT);
 }
 
 /// Advances by a copy of the command.
-fn advance_by_copy(
-    rt: &impl Abort,
-    alloc: Global,
-    items: &mut Items,
-    text: &str,
-) -> Result<(), Fail> {
-    let copy = copied(rt, alloc, text)?;
-    advance(rt, items, &copy)?;
-    Ok(())
+fn advance_by_copy(alloc: Global, items: &mut Items, text: &str) -> Result<(), Fault> {
+    let copy = copied(alloc, text)?;
+    let advanced = advance(items, &copy);
+    drop(copy);
+    advanced
 }
 
 /// Returns a table after copies of these commands.
-fn advanced_by(
-    rt: &impl Abort,
-    alloc: Global,
-    quotas: Limits,
-    texts: &[&str],
-) -> Result<Items, Fail> {
+fn advanced_by(alloc: Global, quotas: Limits, texts: &[&str]) -> Result<Items, Fault> {
     let mut items = Items::new(alloc, quotas);
     for text in texts {
-        advance_by_copy(rt, alloc, &mut items, text)?;
+        advance_by_copy(alloc, &mut items, text)?;
     }
     Ok(items)
 }
 
-/// Asserts what the run below leaves.
-fn assert_left(rt: &impl Abort, alloc: Global, items: &Items) -> Result<(), Fail> {
-    assert!(rt; holds(alloc, items, "c", 0, "yyy", 3)?);
-    assert!(rt; !is_held(alloc, items, "ab")?);
-    assert_filled(rt, items, 4, 1);
-    Ok(())
+/// Returns whether a copy of the table is like it, and what the run below leaves.
+fn is_left(alloc: Global, items: &Items) -> Result<bool, Fault> {
+    let copy = items.try_clone()?;
+    let has_ab = is_held(alloc, &copy, "ab")?;
+    let has_c = holds(alloc, &copy, "c", 0, "yyy", 3)?;
+    Ok(has_c && !has_ab && is_filled(&copy, 4, 1) && are_alike(alloc, &copy, items)?)
 }
 
 /// The golden run of the same name, by copies of its commands, and what it leaves in a copy of the
@@ -523,72 +512,74 @@ fn byte_quota(rt: HostRuntime) -> Result<(), Fail> {
         items: 1_048_576,
         bytes: 4,
     };
-    let items = advanced_by(&rt, rt.alloc(), quotas, &TEXTS)?;
-    let copy = items.try_clone()?;
-    assert_alike(&rt, rt.alloc(), &copy, &items)?;
-    assert_left(&rt, rt.alloc(), &copy)
+    let items = advanced_by(rt.alloc(), quotas, &TEXTS)?;
+    assert!(rt; is_left(rt.alloc(), &items)?);
+    Ok(())
 }
 
 /// Returns a table with an item under `a` and a number under `n`.
-fn started(rt: &impl Abort, alloc: Global) -> Result<Items, Fail> {
-    const ROWS: [(&str, &str); 2] = [
+fn started(alloc: Global) -> Result<Items, Fault> {
+    const ROWS: [Row; 2] = [
         ("set a 5 0 3\r\nold\r\n", "STORED\r\n"),
         ("set n 0 0 1\r\n7\r\n", "STORED\r\n"),
     ];
-    answered(rt, alloc, QUOTAS, &ROWS)
+    let mut twins = twins_of(alloc, QUOTAS);
+    match first_wrong(alloc, &mut twins, &ROWS)? {
+        None => Ok(twins.items),
+        Some(_) => Err(Fault::BadEvent),
+    }
 }
 
-/// Returns the reply to the command, at once or after memory ran out and nothing changed.
+/// Returns the reply to the command, at once or after memory ran out. Returns `BadEvent` if
+/// something changed then.
 fn apply_at_last(
-    rt: &impl Abort,
     alloc: Global,
     items: &mut Items,
     before: &Items,
     command: &Command,
-) -> Result<Reply, Fail> {
-    match apply(rt, items, command) {
-        Ok(reply) => Ok(reply),
-        Err(fault) => {
-            assert!(rt; fault == Fault::Memory);
-            assert_alike(rt, alloc, items, before)?;
-            Ok(apply(rt, items, command)?)
-        }
+) -> Result<Reply, Fault> {
+    match apply(items, command) {
+        Err(Fault::Memory) => {}
+        reply => return reply,
     }
+    if !are_alike(alloc, items, before)? {
+        return Err(Fault::BadEvent);
+    }
+    apply(items, command)
 }
 
-/// Advances at once or after memory ran out and no unique was taken.
-fn advance_at_last(rt: &impl Abort, items: &mut Items, command: &Command) -> Result<(), Fault> {
+/// Advances at once or after memory ran out. Returns `BadEvent` if a unique was taken then.
+fn advance_at_last(items: &mut Items, command: &Command) -> Result<(), Fault> {
     let last_unique = items.last_unique();
-    match advance(rt, items, command) {
-        Ok(()) => Ok(()),
-        Err(fault) => {
-            assert!(rt; fault == Fault::Memory && items.last_unique() == last_unique);
-            advance(rt, items, command)
-        }
+    match advance(items, command) {
+        Err(Fault::Memory) if items.last_unique() == last_unique => advance(items, command),
+        Err(Fault::Memory) => Err(Fault::BadEvent),
+        advanced => advanced,
     }
 }
 
-/// Asserts that the command is answered like this, at once or after memory ran out and nothing
+/// Returns whether the command is answered like this, at once or after memory ran out and nothing
 /// changed.
-fn assert_bears_a_fault(
-    rt: &impl Abort,
-    alloc: Global,
-    text: &str,
-    want: &str,
-) -> Result<(), Fail> {
+fn is_answered_at_last(alloc: Global, command: &Command, want: &[u8]) -> Result<bool, Fault> {
+    let mut advanced = started(alloc)?;
+    let mut items = started(alloc)?;
+    let text = text_of(alloc, apply_at_last(alloc, &mut items, &advanced, command)?)?;
+    advance_at_last(&mut advanced, command)?;
+    Ok(text.as_slice() == want && are_alike(alloc, &items, &advanced)?)
+}
+
+/// Returns whether this is so for the command that a client writes as this text.
+fn bears_a_fault(alloc: Global, text: &str, want: &str) -> Result<bool, Fault> {
     let command = command_of(alloc, text.as_bytes())?;
-    let mut advanced = started(rt, alloc)?;
-    let mut items = started(rt, alloc)?;
-    let reply = apply_at_last(rt, alloc, &mut items, &advanced, &command)?;
-    assert_text(rt, alloc, &reply, want.as_bytes())?;
-    advance_at_last(rt, &mut advanced, &command)?;
-    assert_alike(rt, alloc, &items, &advanced)
+    let answered = is_answered_at_last(alloc, &command, want.as_bytes());
+    drop(command);
+    answered
 }
 
 /// If an allocation fails in a command (`rt try --test --fail-alloc N`), the answers are the same.
 #[test]
 fn a_fault_changes_nothing(rt: HostRuntime) -> Result<(), Fail> {
-    const ROWS: [(&str, &str); 12] = [
+    const ROWS: [Row; 12] = [
         ("set a 0 0 3\r\nnew\r\n", "STORED\r\n"),
         ("set b 0 0 5\r\nother\r\n", "STORED\r\n"),
         ("add c 0 0 5\r\nother\r\n", "STORED\r\n"),
@@ -603,35 +594,49 @@ fn a_fault_changes_nothing(rt: HostRuntime) -> Result<(), Fail> {
         ("flush_all\r\n", "OK\r\n"),
     ];
     for (text, want) in ROWS {
-        assert_bears_a_fault(&rt, rt.alloc(), text, want)?;
+        assert!(rt; bears_a_fault(rt.alloc(), text, want)?, "{text}");
     }
     Ok(())
 }
 
+/// Stores one letter under a number.
+fn store_number(alloc: Global, items: &mut Items, number: u64) -> Result<(), Fault> {
+    let command = numbered_set(alloc, number)?;
+    let advanced = advance(items, &command);
+    drop(command);
+    advanced
+}
+
 /// Returns a table with `count` keys, each a number, stored in order.
-fn numbered(rt: &impl Abort, alloc: Global, count: u64) -> Result<Items, Fail> {
+fn numbered(alloc: Global, count: u64) -> Result<Items, Fault> {
     let quotas = Limits {
         items: count,
         bytes: 1_048_577,
     };
     let mut items = Items::new(alloc, quotas);
     for number in 0..count {
-        let command = numbered_set(alloc, number)?;
-        advance(rt, &mut items, &command)?;
+        store_number(alloc, &mut items, number)?;
     }
     Ok(items)
 }
 
+/// Returns what a client reads that asks for `count` numbers.
+fn numbers_in(alloc: Global, items: &mut Items, count: u64) -> Result<Vec<u8>, Fault> {
+    let command = numbered_get(alloc, count)?;
+    let text = answer(alloc, items, &command);
+    drop(command);
+    text
+}
+
+/// Returns whether a table of `count` keys shows each of them.
+fn shows_all(alloc: Global, count: u64) -> Result<bool, Fault> {
+    let mut items = numbered(alloc, count)?;
+    let text = numbers_in(alloc, &mut items, count)?;
+    Ok(text.as_slice() == numbered_values(alloc, count)?.as_bytes())
+}
+
 /// A retrieval shows each of a thousand keys that are held, in the order asked.
 #[test]
-fn a_thousand_keys(rt: HostRuntime) -> Result<(), Fail> {
-    let alloc = rt.alloc();
-    let mut items = numbered(&rt, alloc, 1_000)?;
-    let reply = apply(&rt, &mut items, &numbered_get(alloc, 1_000)?)?;
-    assert_text(
-        &rt,
-        alloc,
-        &reply,
-        numbered_values(alloc, 1_000)?.as_bytes(),
-    )
+fn a_thousand_keys(rt: HostRuntime) {
+    assert!(rt; shows_all(rt.alloc(), 1_000) == Ok(true));
 }

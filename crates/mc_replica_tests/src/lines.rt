@@ -1,16 +1,15 @@
 //! Golden event lists, and what each line means.
-use crate::event_lists::{assert_asks, assert_list};
+use crate::event_lists::{asks_for, assert_list};
 use crate::events::AMPLE;
 use crate::values::command_of;
-use mc_model::{Command, Limits};
+use mc_model::{Command, Fault, Limits};
 use mc_schedules::Action;
 use std::alloc::Global;
 use std::process::Abort;
-use std::test::Fail;
 use uc_core::Event;
 
 #[test]
-fn tenants_are_apart(rt: HostRuntime) -> Result<(), Fail> {
+fn tenants_are_apart(rt: HostRuntime) {
     let text = "core 1 8\ntenant 4 100\ntenant 4 100\nsubmit 0 0 set a 0 x\nsubmit 0 0 set a 0 x\n\
         submit 0 0 set a 0 x\nsubmit 0 1 set a 0 q\nsubmit 0 1 gets a\n";
     assert_list(
@@ -20,33 +19,33 @@ fn tenants_are_apart(rt: HostRuntime) -> Result<(), Fail> {
         (1, 8),
         &[AMPLE, AMPLE],
         &[4, 5, 6, 7, 8],
-    )
+    );
 }
 
 #[test]
-fn helped_after_stop(rt: HostRuntime) -> Result<(), Fail> {
+fn helped_after_stop(rt: HostRuntime) {
     let text = "core 2 8\ntenant 4 100\nannounce 0 0 set a 0 x\nstop 0\nsubmit 1 0 get a\n";
-    assert_list(&rt, rt.alloc(), text, (2, 8), &[AMPLE], &[3, 4, 5])
+    assert_list(&rt, rt.alloc(), text, (2, 8), &[AMPLE], &[3, 4, 5]);
 }
 
 #[test]
-fn helping_changes_the_proposal(rt: HostRuntime) -> Result<(), Fail> {
+fn helping_changes_the_proposal(rt: HostRuntime) {
     let text =
         "core 2 8\ntenant 4 100\nannounce 1 0 set a 0 x\nread 1\nlook 1\nannounce 0 0 set b 0 y\nread 0\npropose 1\n\
         submit 1 0 set a 0 z\nsubmit 1 0 get b\nlook 0\npropose 0\nlook 0\npropose 0\nlook 0\npropose 0\n\
         replay 0\nreplay 0\nreplay 0\n";
     let lines = [3, 4, 5, 6, 7, 8, 9, 10, 11, 12, 13, 14, 15, 16, 17, 18, 19];
-    assert_list(&rt, rt.alloc(), text, (2, 8), &[AMPLE], &lines)
+    assert_list(&rt, rt.alloc(), text, (2, 8), &[AMPLE], &lines);
 }
 
 #[test]
-fn the_log_gets_full(rt: HostRuntime) -> Result<(), Fail> {
+fn the_log_gets_full(rt: HostRuntime) {
     let text = "core 2 1\ntenant 4 100\nsubmit 0 0 set a 0 x\nsubmit 1 0 get a\n";
-    assert_list(&rt, rt.alloc(), text, (2, 1), &[AMPLE], &[3, 4])
+    assert_list(&rt, rt.alloc(), text, (2, 1), &[AMPLE], &[3, 4]);
 }
 
 #[test]
-fn three_workers_and_two_tenants(rt: HostRuntime) -> Result<(), Fail> {
+fn three_workers_and_two_tenants(rt: HostRuntime) {
     let text = "core 3 9\ntenant 2 50\ntenant 1 9\nsubmit 2 1 set a 0 q\nsubmit 1 0 set a 0 x\n\
         submit 0 1 set b 0 q\nsubmit 2 0 gets a\n";
     let tenants = [
@@ -56,29 +55,23 @@ fn three_workers_and_two_tenants(rt: HostRuntime) -> Result<(), Fail> {
         },
         Limits { items: 1, bytes: 9 },
     ];
-    assert_list(&rt, rt.alloc(), text, (3, 9), &tenants, &[4, 5, 6, 7])
+    assert_list(&rt, rt.alloc(), text, (3, 9), &tenants, &[4, 5, 6, 7]);
 }
 
 #[test]
-fn a_replay_that_is_not_enabled_is_read(rt: HostRuntime) -> Result<(), Fail> {
-    assert_list(
-        &rt,
-        rt.alloc(),
-        "core 1 4\ntenant 4 100\nreplay 0\n",
-        (1, 4),
-        &[AMPLE],
-        &[3],
-    )
+fn a_replay_that_is_not_enabled_is_read(rt: HostRuntime) {
+    let text = "core 1 4\ntenant 4 100\nreplay 0\n";
+    assert_list(&rt, rt.alloc(), text, (1, 4), &[AMPLE], &[3]);
 }
 
 #[test]
-fn skipped_lines_are_counted(rt: HostRuntime) -> Result<(), Fail> {
+fn skipped_lines_are_counted(rt: HostRuntime) {
     let text = "# core\r\n\n  core  1 4 \n   \n#\ntenant 4 100\n\n#read 0\nread 0\n \nlook 0";
-    assert_list(&rt, rt.alloc(), text, (1, 4), &[AMPLE], &[9, 11])
+    assert_list(&rt, rt.alloc(), text, (1, 4), &[AMPLE], &[9, 11]);
 }
 
 #[test]
-fn opening_numbers_may_be_out_of_range(rt: HostRuntime) -> Result<(), Fail> {
+fn opening_numbers_may_be_out_of_range(rt: HostRuntime) {
     let text = "core 0 18446744073709551615\ntenant 018446744073709551615 0";
     let tenant = Limits {
         items: 18_446_744_073_709_551_615,
@@ -91,100 +84,109 @@ fn opening_numbers_may_be_out_of_range(rt: HostRuntime) -> Result<(), Fail> {
         (0, 18_446_744_073_709_551_615),
         &[tenant],
         &[],
-    )
+    );
+}
+
+/// Returns whether the line asks for this.
+fn is_asked(alloc: Global, line: &str, action: Action) -> Result<bool, Fault> {
+    let asked = asks_for(alloc, line, &action);
+    // A local enum that its block drops is proved variant by variant.
+    drop(action);
+    asked
+}
+
+/// Asserts that the line asks for this event.
+fn assert_event(rt: &impl Abort, alloc: Global, line: &str, event: Event) {
+    assert_eq!(rt;
+        is_asked(alloc, line, Action::Event(event)),
+        Ok(true),
+        "{line}"
+    );
 }
 
 #[test]
-fn steps_are_events(rt: HostRuntime) -> Result<(), Fail> {
+fn steps_are_events(rt: HostRuntime) {
     let alloc = rt.alloc();
-    assert_asks(&rt, alloc, "read 0", &Action::Event(Event::Read(0)))?;
-    assert_asks(&rt, alloc, "look 255", &Action::Event(Event::Look(255)))?;
-    assert_asks(
-        &rt,
-        alloc,
-        "propose 00015",
-        &Action::Event(Event::Propose(15)),
-    )?;
-    assert_asks(
-        &rt,
-        alloc,
-        "  replay   7 ",
-        &Action::Event(Event::Replay(7)),
-    )?;
-    assert_asks(&rt, alloc, "stop 16", &Action::Event(Event::Stop(16)))
+    assert_event(&rt, alloc, "read 0", Event::Read(0));
+    assert_event(&rt, alloc, "look 255", Event::Look(255));
+    assert_event(&rt, alloc, "propose 00015", Event::Propose(15));
+    assert_event(&rt, alloc, "  replay   7 ", Event::Replay(7));
+    assert_event(&rt, alloc, "stop 16", Event::Stop(16));
 }
 
-/// Asserts that the words of a list mean the command that a memcached client writes as `sent`.
-fn assert_command(rt: &impl Abort, alloc: Global, words: &str, sent: &str) -> Result<(), Fail> {
-    let line = format!(in alloc; "submit 3 64 {words}")?;
-    let action = Action::Submit(3, 64, command_of(alloc, sent.as_bytes())?);
-    assert_asks(rt, alloc, line.as_str(), &action)?;
-    let line = format!(in alloc; "announce 3 64 {words}")?;
-    let action = Action::Event(Event::Announce(3, 64, command_of(alloc, sent.as_bytes())?));
-    assert_asks(rt, alloc, line.as_str(), &action)
+/// Returns whether the words of a list submit this command.
+fn is_submitted(alloc: Global, words: &str, command: Command) -> Result<bool, Fault> {
+    let action = Action::Submit(3, 64, command);
+    let line = format!(in alloc; "submit 3 64 {words}");
+    let asked = match line {
+        Ok(line) => asks_for(alloc, line.as_str(), &action),
+        Err(_) => Err(Fault::Memory),
+    };
+    drop(action);
+    asked
 }
 
-#[test]
-fn storage_commands_are_read(rt: HostRuntime) -> Result<(), Fail> {
-    let alloc = rt.alloc();
-    assert_command(
-        &rt,
-        alloc,
-        "set a 4294967295 x",
-        "set a 4294967295 0 1\r\nx\r\n",
-    )?;
-    assert_command(&rt, alloc, "add a 0 .", "add a 0 0 0\r\n\r\n")?;
-    assert_command(&rt, alloc, "replace a 007 ..", "replace a 7 0 2\r\n..\r\n")?;
-    assert_command(&rt, alloc, "append # 0 #!~", "append # 0 0 3\r\n#!~\r\n")?;
-    assert_command(&rt, alloc, "prepend ä 0 xyz", "prepend ä 0 0 3\r\nxyz\r\n")?;
-    assert_command(
-        &rt,
-        alloc,
-        "cas a 5 18446744073709551615 x",
-        "cas a 5 0 1 18446744073709551615\r\nx\r\n",
-    )
+/// Returns whether the words of a list announce this command.
+fn is_announced(alloc: Global, words: &str, command: Command) -> Result<bool, Fault> {
+    let action = Action::Event(Event::Announce(3, 64, command));
+    let line = format!(in alloc; "announce 3 64 {words}");
+    let asked = match line {
+        Ok(line) => asks_for(alloc, line.as_str(), &action),
+        Err(_) => Err(Fault::Memory),
+    };
+    drop(action);
+    asked
+}
+
+/// Returns whether the words of a list mean the command that a memcached client writes as `sent`.
+fn is_command(alloc: Global, words: &str, sent: &str) -> Result<bool, Fault> {
+    let submitted = is_submitted(alloc, words, command_of(alloc, sent.as_bytes())?)?;
+    let announced = is_announced(alloc, words, command_of(alloc, sent.as_bytes())?)?;
+    Ok(submitted && announced)
+}
+
+fn assert_command(rt: &impl Abort, alloc: Global, words: &str, sent: &str) {
+    assert_eq!(rt; is_command(alloc, words, sent), Ok(true), "{words}");
 }
 
 #[test]
-fn other_commands_are_read(rt: HostRuntime) -> Result<(), Fail> {
+fn storage_commands_are_read(rt: HostRuntime) {
     let alloc = rt.alloc();
-    assert_command(&rt, alloc, "get a", "get a\r\n")?;
-    assert_command(&rt, alloc, "gets a  b a", "gets a b a\r\n")?;
-    assert_command(&rt, alloc, "delete a", "delete a\r\n")?;
-    assert_command(
-        &rt,
-        alloc,
-        "incr a 18446744073709551615",
-        "incr a 18446744073709551615\r\n",
-    )?;
-    assert_command(&rt, alloc, "decr a 0", "decr a 0\r\n")?;
-    assert_command(&rt, alloc, "flush_all", "flush_all\r\n")
+    let set = "set a 4294967295 0 1\r\nx\r\n";
+    assert_command(&rt, alloc, "set a 4294967295 x", set);
+    assert_command(&rt, alloc, "add a 0 .", "add a 0 0 0\r\n\r\n");
+    assert_command(&rt, alloc, "replace a 007 ..", "replace a 7 0 2\r\n..\r\n");
+    assert_command(&rt, alloc, "append # 0 #!~", "append # 0 0 3\r\n#!~\r\n");
+    assert_command(&rt, alloc, "prepend ä 0 xyz", "prepend ä 0 0 3\r\nxyz\r\n");
+    let cas = "cas a 5 0 1 18446744073709551615\r\nx\r\n";
+    assert_command(&rt, alloc, "cas a 5 18446744073709551615 x", cas);
+}
+
+#[test]
+fn other_commands_are_read(rt: HostRuntime) {
+    let alloc = rt.alloc();
+    assert_command(&rt, alloc, "get a", "get a\r\n");
+    assert_command(&rt, alloc, "gets a  b a", "gets a b a\r\n");
+    assert_command(&rt, alloc, "delete a", "delete a\r\n");
+    let incr = "incr a 18446744073709551615\r\n";
+    assert_command(&rt, alloc, "incr a 18446744073709551615", incr);
+    assert_command(&rt, alloc, "decr a 0", "decr a 0\r\n");
+    assert_command(&rt, alloc, "flush_all", "flush_all\r\n");
 }
 
 /// Asserts that `words` are a command that sets these quotas.
-fn assert_limits(
-    rt: &impl Abort,
-    alloc: Global,
-    words: &str,
-    items: u64,
-    bytes: u64,
-) -> Result<(), Fail> {
-    let line = format!(in alloc; "submit 3 64 {words}")?;
-    let command = Command::Limit {
-        limits: Limits { items, bytes },
-    };
-    assert_asks(rt, alloc, line.as_str(), &Action::Submit(3, 64, command))
+fn assert_limits(rt: &impl Abort, alloc: Global, words: &str, limits: Limits) {
+    let command = Command::Limit { limits };
+    assert_eq!(rt; is_submitted(alloc, words, command), Ok(true), "{words}");
 }
 
 #[test]
-fn quotas_are_read(rt: HostRuntime) -> Result<(), Fail> {
-    let alloc = rt.alloc();
-    assert_limits(&rt, alloc, "limit 1 1", 1, 1)?;
-    assert_limits(
-        &rt,
-        alloc,
-        "limit  01048576 1073741824",
-        1_048_576,
-        1_073_741_824,
-    )
+fn quotas_are_read(rt: HostRuntime) {
+    let least = Limits { items: 1, bytes: 1 };
+    let most = Limits {
+        items: 1_048_576,
+        bytes: 1_073_741_824,
+    };
+    assert_limits(&rt, rt.alloc(), "limit 1 1", least);
+    assert_limits(&rt, rt.alloc(), "limit  01048576 1073741824", most);
 }

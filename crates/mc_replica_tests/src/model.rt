@@ -7,20 +7,22 @@ use std::alloc::Global;
 use std::process::Abort;
 use std::test::Fail;
 
-/// Returns whether the bytes make a key, which then has these bytes and a copy like it.
-fn is_key(rt: &impl Abort, alloc: Global, bytes: &[u8]) -> Result<bool, Fault> {
+/// Returns whether the bytes make a key. Returns `BadEvent` if it has other bytes, or a copy unlike
+/// it.
+fn is_key(alloc: Global, bytes: &[u8]) -> Result<bool, Fault> {
     let Some(key) = Key::new(alloc, bytes)? else {
         return Ok(false);
     };
-    assert!(rt; key.as_bytes() == bytes);
-    assert!(rt; key.try_clone()? == key);
-    Ok(true)
+    if key.as_bytes() == bytes && key.try_clone()? == key {
+        Ok(true)
+    } else {
+        Err(Fault::BadEvent)
+    }
 }
 
-fn assert_key(rt: &impl Abort, alloc: Global, bytes: &[u8], lawful: bool) -> Result<(), Fault> {
+fn assert_key(rt: &impl Abort, alloc: Global, bytes: &[u8], lawful: bool) {
     assert!(rt; Key::is_lawful(bytes) == lawful, "{bytes:?}");
-    assert!(rt; is_key(rt, alloc, bytes)? == lawful, "{bytes:?}");
-    Ok(())
+    assert!(rt; is_key(alloc, bytes) == Ok(lawful), "{bytes:?}");
 }
 
 #[test]
@@ -39,57 +41,73 @@ fn keys_at_their_bounds(rt: HostRuntime) -> Result<(), Fail> {
         (b"a\x1f".as_slice(), false),
     ];
     for (bytes, lawful) in cases {
-        assert_key(&rt, rt.alloc(), bytes, lawful)?;
+        assert_key(&rt, rt.alloc(), bytes, lawful);
     }
     Ok(())
 }
 
+/// Returns whether this many bytes make a block. Returns `BadEvent` if it has another length, or a
+/// copy unlike it.
+fn is_block(alloc: Global, length: usize) -> Result<bool, Fault> {
+    let Some(block) = Data::new(vec![in alloc; 7u8; length]?) else {
+        return Ok(false);
+    };
+    if block.as_bytes().len() == length && block.try_clone()? == block {
+        Ok(true)
+    } else {
+        Err(Fault::BadEvent)
+    }
+}
+
 #[test]
-fn blocks_at_their_bound(rt: HostRuntime) -> Result<(), Fail> {
-    let largest = Data::new(vec![in rt.alloc(); 7u8; 1_048_576]?).ok_or("a block")?;
-    assert!(rt; largest.as_bytes().len() == 1_048_576);
-    assert!(rt; largest.try_clone()? == largest);
-    assert!(rt; Data::new(vec![in rt.alloc(); 7u8; 1_048_577]?).is_none());
-    Ok(())
+fn blocks_at_their_bound(rt: HostRuntime) {
+    assert!(rt; is_block(rt.alloc(), 1_048_576) == Ok(true));
+    assert!(rt; is_block(rt.alloc(), 1_048_577) == Ok(false));
+}
+
+/// Returns whether blocks of these bytes are equal.
+fn are_equal_blocks(alloc: Global, one: &str, other: &str) -> Result<bool, Fault> {
+    let one = block_of(alloc, one.as_bytes())?;
+    let other = block_of(alloc, other.as_bytes())?;
+    Ok(one == other)
 }
 
 /// Blocks of one length are equal exactly if their bytes are, in order.
 #[test]
-fn blocks_compared(rt: HostRuntime) -> Result<(), Fail> {
-    let block = block_of(rt.alloc(), b"ab")?;
+fn blocks_compared(rt: HostRuntime) {
     for (bytes, alike) in [("ab", true), ("ba", false), ("ac", false), ("a", false)] {
         assert!(rt;
-            (block_of(rt.alloc(), bytes.as_bytes())? == block) == alike,
+            are_equal_blocks(rt.alloc(), bytes, "ab") == Ok(alike),
             "{bytes}"
         );
     }
-    Ok(())
 }
 
-fn two_keys(alloc: Global, first: &str, second: &str) -> Result<Vec<Key>, Fail> {
+fn two_keys(alloc: Global, first: &str, second: &str) -> Result<Vec<Key>, Fault> {
     let (first, second) = (key_of(alloc, first)?, key_of(alloc, second)?);
     Ok(vec![in alloc; first, second]?)
 }
 
 /// Returns the list of two keys.
-fn keys_of(alloc: Global, first: &str, second: &str) -> Result<KeyList, Fail> {
-    Ok(KeyList::new(two_keys(alloc, first, second)?).ok_or("no key")?)
+fn keys_of(alloc: Global, first: &str, second: &str) -> Result<KeyList, Fault> {
+    KeyList::new(two_keys(alloc, first, second)?).ok_or(Fault::BadEvent)
 }
 
-/// Asserts that the list shows these keys, has an equal copy, and gives them back.
-fn assert_keys(rt: &impl Abort, list: KeyList, keys: &[Key]) -> Result<(), Fault> {
-    assert!(rt; list.as_slice() == keys);
-    assert!(rt; list.try_clone()? == list);
-    assert!(rt; list.into_keys().as_slice() == keys);
-    Ok(())
+/// Returns whether the list shows these keys, has an equal copy, and gives them back.
+fn are_keys(list: KeyList, keys: &[Key]) -> Result<bool, Fault> {
+    let copy = list.try_clone()?;
+    let is_shown = copy == list && list.as_slice() == keys;
+    Ok(is_shown && list.into_keys().as_slice() == keys)
+}
+
+fn come_back(alloc: Global, first: &str, second: &str) -> Result<bool, Fault> {
+    let keys = two_keys(alloc, first, second)?;
+    are_keys(keys_of(alloc, first, second)?, &keys)
 }
 
 #[test]
-fn keys_there_and_back(rt: HostRuntime) -> Result<(), Fail> {
-    let list = keys_of(rt.alloc(), "a", "b")?;
-    let keys = two_keys(rt.alloc(), "a", "b")?;
-    assert_keys(&rt, list, &keys)?;
-    Ok(())
+fn keys_there_and_back(rt: HostRuntime) {
+    assert!(rt; come_back(rt.alloc(), "a", "b") == Ok(true));
 }
 
 #[test]
@@ -97,29 +115,16 @@ fn no_list_without_keys(rt: HostRuntime) {
     assert!(rt; KeyList::new(Vec::new(rt.alloc())).is_none());
 }
 
-fn is_keys(alloc: Global, list: &KeyList, first: &str, second: &str) -> Result<bool, Fail> {
-    let keys = keys_of(alloc, first, second)?;
-    Ok(*list == keys)
-}
-
-/// Asserts that two keys make a list that is equal to this one, or another.
-fn assert_key_list(
-    rt: &impl Abort,
-    alloc: Global,
-    list: &KeyList,
-    row: (&str, &str, bool),
-) -> Result<(), Fail> {
-    let (first, second, alike) = row;
-    assert!(rt;
-        is_keys(alloc, list, first, second)? == alike,
-        "{first} {second}"
-    );
-    Ok(())
+/// Returns whether two keys make a list that is equal to that of `a` and `b`.
+fn is_key_list(alloc: Global, first: &str, second: &str) -> Result<bool, Fault> {
+    let list = keys_of(alloc, "a", "b")?;
+    let other = keys_of(alloc, first, second)?;
+    Ok(list == other)
 }
 
 /// Lists of equally many keys are equal exactly if their keys are, in order.
 #[test]
-fn keys_compared(rt: HostRuntime) -> Result<(), Fail> {
+fn keys_compared(rt: HostRuntime) {
     const CASES: [(&str, &str, bool); 5] = [
         ("a", "b", true),
         ("b", "a", false),
@@ -127,43 +132,37 @@ fn keys_compared(rt: HostRuntime) -> Result<(), Fail> {
         ("c", "b", false),
         ("a", "a", false),
     ];
-    let list = keys_of(rt.alloc(), "a", "b")?;
-    for row in CASES {
-        assert_key_list(&rt, rt.alloc(), &list, row)?;
+    for (first, second, alike) in CASES {
+        assert!(rt;
+            is_key_list(rt.alloc(), first, second) == Ok(alike),
+            "{first} {second}"
+        );
     }
-    Ok(())
 }
 
-fn values_of(alloc: Global, first: Shown, second: Shown) -> Result<ValueList, Fail> {
+fn values_of(alloc: Global, first: Shown, second: Shown) -> Result<ValueList, Fault> {
     let (first, second) = (value_of(alloc, first)?, value_of(alloc, second)?);
     Ok(ValueList::new(vec![in alloc; first, second]?))
 }
 
+/// Returns whether a list of one value shows it alone, and gives it back.
+fn one_value_comes_back(alloc: Global) -> Result<bool, Fault> {
+    let value = value_of(alloc, ("a", 5, "", Some(1)))?;
+    let list = ValueList::new(vec![in alloc; value]?);
+    Ok(list.as_slice().len() == 1 && list.into_values().len() == 1)
+}
+
 #[test]
-fn values_there_and_back(rt: HostRuntime) -> Result<(), Fail> {
-    let values = vec![in rt.alloc(); value_of(rt.alloc(), ("a", 5, "", Some(1)))?]?;
-    let list = ValueList::new(values);
-    assert!(rt; list.as_slice().len() == 1);
-    assert!(rt; list.into_values().len() == 1);
+fn values_there_and_back(rt: HostRuntime) {
+    assert!(rt; one_value_comes_back(rt.alloc()) == Ok(true));
     assert!(rt; ValueList::new(Vec::new(rt.alloc())).as_slice().is_empty());
-    Ok(())
 }
 
-fn is_values(alloc: Global, list: &ValueList, first: Shown, second: Shown) -> Result<bool, Fail> {
-    let values = values_of(alloc, first, second)?;
-    Ok(*list == values)
-}
-
-/// Asserts that two values make a list that is equal to this one, or another.
-fn assert_values(
-    rt: &impl Abort,
-    alloc: Global,
-    list: &ValueList,
-    row: (Shown, Shown, bool),
-) -> Result<(), Fail> {
-    let (first, second, alike) = row;
-    assert!(rt; is_values(alloc, list, first, second)? == alike);
-    Ok(())
+/// Returns whether two values make a list that is equal to that of `FIRST` and `SECOND`.
+fn is_value_list(alloc: Global, first: Shown, second: Shown) -> Result<bool, Fault> {
+    let list = values_of(alloc, FIRST, SECOND)?;
+    let other = values_of(alloc, first, second)?;
+    Ok(list == other)
 }
 
 const FIRST: Shown = ("a", 5, "x", Some(1));
@@ -172,7 +171,7 @@ const SECOND: Shown = ("b", 6, "y", None);
 
 /// Lists of equally many values are equal exactly if each part of their values is, in order.
 #[test]
-fn values_compared(rt: HostRuntime) -> Result<(), Fail> {
+fn values_compared(rt: HostRuntime) {
     const CASES: [(Shown, Shown, bool); 8] = [
         (FIRST, SECOND, true),
         (SECOND, FIRST, false),
@@ -183,20 +182,28 @@ fn values_compared(rt: HostRuntime) -> Result<(), Fail> {
         (FIRST, ("b", 6, "y", Some(0)), false),
         (FIRST, FIRST, false),
     ];
-    let list = values_of(rt.alloc(), FIRST, SECOND)?;
-    for row in CASES {
-        assert_values(&rt, rt.alloc(), &list, row)?;
+    for (first, second, alike) in CASES {
+        assert!(rt; is_value_list(rt.alloc(), first, second) == Ok(alike));
     }
+}
+
+/// Fails if a copy of the command isn't equal to it.
+fn check_copy(alloc: Global, text: &str) -> Result<(), Fault> {
+    drop(copied(alloc, text)?);
     Ok(())
 }
 
-fn assert_copied(rt: &impl Abort, alloc: Global, text: &str) -> Result<(), Fail> {
-    let _ = copied(rt, alloc, text)?;
+/// Fails if a copy of a command that sets quotas isn't equal to it.
+fn check_copied_limit() -> Result<(), Fault> {
+    let limit = limit_of(1, 2);
+    let copy = copy_of(&limit);
+    drop(limit);
+    drop(copy?);
     Ok(())
 }
 
 #[test]
-fn each_command_copied(rt: HostRuntime) -> Result<(), Fail> {
+fn each_command_copied(rt: HostRuntime) {
     const TEXTS: [&str; 11] = [
         "cas a 1 0 1 2\r\nx\r\n",
         "gets a a\r\n",
@@ -211,21 +218,32 @@ fn each_command_copied(rt: HostRuntime) -> Result<(), Fail> {
         "prepend a 5 0 1\r\nx\r\n",
     ];
     for text in TEXTS {
-        assert_copied(&rt, rt.alloc(), text)?;
+        assert!(rt; check_copy(rt.alloc(), text) == Ok(()), "{text}");
     }
-    let _ = copy_of(&rt, &limit_of(1, 2))?;
-    Ok(())
+    assert!(rt; check_copied_limit() == Ok(()));
+}
+
+fn tenant_number(number: u8) -> Option<u8> {
+    Some(TenantId::new(number)?.number())
+}
+
+fn worker_number(number: u8) -> Option<u8> {
+    Some(WorkerId::new(number)?.number())
 }
 
 #[test]
 fn numbers_of_tenants_and_workers(rt: HostRuntime) {
     for (number, lawful) in [(0, true), (63, true), (64, false), (255, false)] {
-        let shown = TenantId::new(number).map(|id| id.number());
-        assert!(rt; shown == lawful.then_some(number), "{number}");
+        assert!(rt;
+            tenant_number(number) == lawful.then_some(number),
+            "{number}"
+        );
     }
     for (number, lawful) in [(0, true), (15, true), (16, false), (255, false)] {
-        let shown = WorkerId::new(number).map(|id| id.number());
-        assert!(rt; shown == lawful.then_some(number), "{number}");
+        assert!(rt;
+            worker_number(number) == lawful.then_some(number),
+            "{number}"
+        );
     }
 }
 
@@ -245,11 +263,10 @@ fn numbers_in_a_line(rt: HostRuntime) {
     }
 }
 
-/// Asserts what quotas two words are read as.
-fn assert_quotas(rt: &impl Abort, items: &str, bytes: &str, want: Option<(u64, u64)>) {
-    let read = Limits::read(items.as_bytes(), bytes.as_bytes());
-    let pair = read.map(|limits| (limits.items, limits.bytes));
-    assert!(rt; pair == want, "{items} {bytes}");
+/// Returns what quotas two words are read as.
+fn quotas_of(items: &str, bytes: &str) -> Option<(u64, u64)> {
+    let limits = Limits::read(items.as_bytes(), bytes.as_bytes())?;
+    Some((limits.items, limits.bytes))
 }
 
 #[test]
@@ -267,7 +284,7 @@ fn quotas_in_words(rt: HostRuntime) {
         ("+1", "1", None),
     ];
     for (items, bytes, want) in CASES {
-        assert_quotas(&rt, items, bytes, want);
+        assert!(rt; quotas_of(items, bytes) == want, "{items} {bytes}");
     }
 }
 
@@ -281,31 +298,31 @@ fn the_second_tenants_quotas_count(rt: HostRuntime) -> Result<(), Fail> {
     Ok(())
 }
 
-/// Returns whether the numbers make settings, which then show them.
+fn have(settings: &Settings, workers: u64, places: u64, tenants: usize) -> bool {
+    settings.workers() == workers
+        && settings.places() == places
+        && settings.tenants().len() == tenants
+}
+
+/// Returns whether the numbers make settings. Returns `BadEvent` if these show others.
 fn are_settings(
-    rt: &impl Abort,
     alloc: Global,
     workers: u64,
     places: u64,
     tenants: usize,
     limits: Limits,
-) -> Result<bool, Fail> {
+) -> Result<bool, Fault> {
     let quotas = vec![in alloc; limits; tenants]?;
     match Settings::check(workers, places, quotas) {
-        Ok(settings) => {
-            assert!(rt; settings.workers() == workers && settings.places() == places);
-            assert!(rt; settings.tenants().len() == tenants);
-            Ok(true)
-        }
-        Err(fault) => {
-            assert!(rt; fault == Fault::BadSettings);
-            Ok(false)
-        }
+        Ok(settings) if have(&settings, workers, places, tenants) => Ok(true),
+        Ok(_) => Err(Fault::BadEvent),
+        Err(Fault::BadSettings) => Ok(false),
+        Err(fault) => Err(fault),
     }
 }
 
 #[test]
-fn settings_at_their_bounds(rt: HostRuntime) -> Result<(), Fail> {
+fn settings_at_their_bounds(rt: HostRuntime) {
     // Workers, places, tenants, and the items and the bytes of each tenant.
     const CASES: [(u64, u64, usize, u64, u64, bool); 16] = [
         (0, 1, 1, 1, 1, false),
@@ -327,22 +344,21 @@ fn settings_at_their_bounds(rt: HostRuntime) -> Result<(), Fail> {
     ];
     for (workers, places, tenants, items, bytes, lawful) in CASES {
         let limits = Limits { items, bytes };
-        let made = are_settings(&rt, rt.alloc(), workers, places, tenants, limits)?;
+        let made = are_settings(rt.alloc(), workers, places, tenants, limits);
         assert!(rt;
-            made == lawful,
+            made == Ok(lawful),
             "{workers} {places} {tenants} {items} {bytes}"
         );
     }
-    Ok(())
 }
 
-fn is_text_of(alloc: Global, fault: Fault, text: &str) -> Result<bool, Fail> {
+fn is_text_of(alloc: Global, fault: Fault, text: &str) -> Result<bool, Fault> {
     let shown = format!(in alloc; "{fault}")?;
     Ok(shown.as_str() == text)
 }
 
 #[test]
-fn texts_of_faults(rt: HostRuntime) -> Result<(), Fail> {
+fn texts_of_faults(rt: HostRuntime) {
     const CASES: [(Fault, &str); 7] = [
         (Fault::Memory, "out of memory"),
         (Fault::LogFull, "log full"),
@@ -353,7 +369,6 @@ fn texts_of_faults(rt: HostRuntime) -> Result<(), Fail> {
         (Fault::BadSettings, "bad settings"),
     ];
     for (fault, text) in CASES {
-        assert!(rt; is_text_of(rt.alloc(), fault, text)?, "{text}");
+        assert!(rt; is_text_of(rt.alloc(), fault, text) == Ok(true), "{text}");
     }
-    Ok(())
 }

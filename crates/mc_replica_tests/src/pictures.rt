@@ -1,29 +1,31 @@
 //! Pictures of runs.
 use crate::event_lists::list_of;
-use mc_model::Settings;
+use mc_model::{Fault, Settings};
 use mc_schedules::draw_items;
 use std::alloc::Global;
 use std::process::Abort;
-use std::test::Fail;
 
 /// Returns the picture of the list's run.
-fn picture_of(alloc: Global, list: &str) -> Result<Vec<u8>, Fail> {
+fn picture_of(alloc: Global, list: &str) -> Result<Vec<u8>, Fault> {
     let schedule = list_of(alloc, list)?;
     let settings = Settings::check(schedule.workers, schedule.places, schedule.tenants)?;
     let (drawn, _) = draw_items(alloc, &settings, schedule.items)?;
     Ok(drawn)
 }
 
-/// Asserts that the list's run is drawn as this picture, and an empty line after it.
-fn assert_picture(rt: &impl Abort, alloc: Global, list: &str, picture: &str) -> Result<(), Fail> {
+/// Returns whether the list's run is drawn as this picture, and an empty line after it.
+fn is_picture(alloc: Global, list: &str, picture: &str) -> Result<bool, Fault> {
     let drawn = picture_of(alloc, list)?;
-    let drawn = String::from_utf8(drawn)?;
-    assert_eq!(rt; drawn.as_str().strip_suffix("\n\n"), Some(picture));
-    Ok(())
+    let want = format!(in alloc; "{picture}\n\n")?;
+    Ok(drawn.as_slice() == want.as_bytes())
+}
+
+fn assert_picture(rt: &impl Abort, alloc: Global, list: &str, picture: &str) {
+    assert_eq!(rt; is_picture(alloc, list, picture), Ok(true), "{picture}");
 }
 
 #[test]
-fn a_stopped_worker_is_helped(rt: HostRuntime) -> Result<(), Fail> {
+fn a_stopped_worker_is_helped(rt: HostRuntime) {
     assert_picture(
         &rt,
         rt.alloc(),
@@ -39,11 +41,11 @@ fn a_stopped_worker_is_helped(rt: HostRuntime) -> Result<(), Fail> {
       5              propose *   1 (1,0)
       5              replay
       5              replay",
-    )
+    );
 }
 
 #[test]
-fn a_worker_learns_its_command_by_reading(rt: HostRuntime) -> Result<(), Fail> {
+fn a_worker_learns_its_command_by_reading(rt: HostRuntime) {
     assert_picture(
         &rt,
         rt.alloc(),
@@ -61,11 +63,11 @@ fn a_worker_learns_its_command_by_reading(rt: HostRuntime) -> Result<(), Fail> {
       5  read *      |
       6  read        |
       7  read empty  |",
-    )
+    );
 }
 
 #[test]
-fn nobody_to_help_and_a_place_decided_before(rt: HostRuntime) -> Result<(), Fail> {
+fn nobody_to_help_and_a_place_decided_before(rt: HostRuntime) {
     assert_picture(
         &rt,
         rt.alloc(),
@@ -81,30 +83,34 @@ fn nobody_to_help_and_a_place_decided_before(rt: HostRuntime) -> Result<(), Fail
       6  replay      |
       7  |           propose
       8  |           replay",
-    )
+    );
 }
 
 #[test]
-fn nothing_happens(rt: HostRuntime) -> Result<(), Fail> {
+fn nothing_happens(rt: HostRuntime) {
     assert_picture(
         &rt,
         rt.alloc(),
         "core 1 8\ntenant 4 100\n",
         "   line  worker 0    log",
-    )
+    );
 }
 
-#[test]
-fn six_workers_fit_into_100_columns(rt: HostRuntime) -> Result<(), Fail> {
-    let list =
-        "core 6 8\ntenant 4 100\nsubmit 0 0 get a\nsubmit 1 0 get a\nsubmit 2 0 get a\nsubmit 3 0 get a\nsubmit 4 0 get a\n\
-        submit 5 0 get a\n";
-    let drawn = picture_of(rt.alloc(), list)?;
+/// Returns the length of the longest line of the list's picture.
+fn widest(alloc: Global, list: &str) -> Result<usize, Fault> {
+    let drawn = picture_of(alloc, list)?;
     let mut widest = 0;
     for line in drawn.split(|byte| *byte == b'\n') {
         widest = widest.max(line.len());
     }
+    Ok(widest)
+}
+
+#[test]
+fn six_workers_fit_into_100_columns(rt: HostRuntime) {
+    let list =
+        "core 6 8\ntenant 4 100\nsubmit 0 0 get a\nsubmit 1 0 get a\nsubmit 2 0 get a\nsubmit 3 0 get a\nsubmit 4 0 get a\n\
+        submit 5 0 get a\n";
     // The longest place and ticket have 19 columns; here they have 7.
-    assert_eq!(rt; widest, 100 - (19 - 7));
-    Ok(())
+    assert!(rt; widest(rt.alloc(), list) == Ok(100 - (19 - 7)));
 }

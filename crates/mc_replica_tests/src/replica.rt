@@ -4,7 +4,7 @@
 ghost use Rattle.std.specs.Prelude.{◌≡◌, [], IfOk};
 ghost use Rattle.uc_cells.specs.Cells.{HasCell};
 
-use crate::values::{assert_text, command_of, numbered_get, numbered_set, numbered_values};
+use crate::values::{command_of, numbered_get, numbered_set, numbered_values, reads_as};
 use mc_model::{Command, Entry, Fault, Limits, Reply, TenantId, Ticket, WorkerId};
 use mc_replica::Replica;
 use std::alloc::Global;
@@ -19,21 +19,21 @@ pub(crate) const QUOTAS: Limits = Limits {
 
 const FULL: &str = "SERVER_ERROR out of memory storing object\r\n";
 
-pub(crate) fn worker_of(number: u8) -> Result<WorkerId, Fail> {
-    Ok(WorkerId::new(number).ok_or("no worker")?)
-}
-
-fn tenant_of(number: u8) -> Result<TenantId, Fail> {
-    Ok(TenantId::new(number).ok_or("no tenant")?)
+pub(crate) fn worker_of(number: u8) -> Result<WorkerId, Fault> {
+    WorkerId::new(number).ok_or(Fault::BadEvent)
 }
 
 pub(crate) fn ticket_of(worker: WorkerId, number: u64) -> Ticket {
     Ticket { worker, number }
 }
 
+fn tenant_of(number: u8) -> Result<TenantId, Fault> {
+    TenantId::new(number).ok_or(Fault::BadEvent)
+}
+
 /// Returns cells for the tickets of three workers, as many as any test here needs.
-fn cells_of(alloc: Global) -> Result<Cells, Fail> {
-    Ok(Cells::open(alloc, 3, 1_001)?)
+fn cells_of(alloc: Global) -> Result<Cells, Fault> {
+    Cells::open(alloc, 3, 1_001)
 }
 
 pub(crate) fn assert_cell(rt: &impl Abort, cells: &Cells, ticket: Ticket)
@@ -78,85 +78,82 @@ fn seen_of<'a>(
     see(rt, alloc, cells, ticket)
 }
 
-fn replay<'a>(
-    rt: &impl Abort,
-    replica: &mut Replica<'a>,
-    seen: Seen<'a>,
-) -> Result<Option<Reply>, Fault> {
-    assert!(rt; replica.has_place());
+fn replay<'a>(replica: &mut Replica<'a>, seen: Seen<'a>) -> Result<Option<Reply>, Fault> {
+    if !replica.has_place() {
+        return Err(Fault::LogFull);
+    }
     replica.replay(seen)
 }
 
-/// Returns the unique of the latest change of a tenant's table.
-fn unique_at(rt: &impl Abort, replica: &Replica<'_>, tenant: TenantId) -> u64 {
-    assert!(rt; replica.has_tenant(tenant));
-    replica.table(tenant).last_unique()
-}
-
-pub(crate) fn assert_unique(
-    rt: &impl Abort,
-    replica: &Replica<'_>,
-    tenant: u8,
-    unique: u64,
-) -> Result<(), Fail> {
-    let tenant = tenant_of(tenant)?;
-    assert!(rt; unique_at(rt, replica, tenant) == unique);
-    Ok(())
-}
-
-/// Asserts that a client reads this text for the reply, and nothing if there is none.
-fn assert_shown(
-    rt: &impl Abort,
-    alloc: Global,
-    reply: Option<Reply>,
-    want: &str,
-) -> Result<(), Fail> {
-    match reply {
-        Some(reply) => assert_text(rt, alloc, &reply, want.as_bytes()),
-        None => {
-            assert!(rt; want.is_empty(), "{want}");
-            Ok(())
-        }
+fn unique_at(replica: &Replica<'_>, tenant: TenantId) -> Option<u64> {
+    if replica.has_tenant(tenant) {
+        Some(replica.table(tenant).last_unique())
+    } else {
+        None
     }
 }
 
-/// Asserts that what was seen is answered like this.
-fn assert_reply<'a>(
-    rt: &impl Abort,
+/// Returns the unique of the latest change of a tenant's table, if there is such a tenant.
+pub(crate) fn unique_of(replica: &Replica<'_>, tenant: u8) -> Option<u64> {
+    unique_at(replica, TenantId::new(tenant)?)
+}
+
+/// Returns whether a client reads this text for the reply, and nothing if there is none.
+fn is_shown(alloc: Global, reply: Option<Reply>, want: &str) -> Result<bool, Fault> {
+    match reply {
+        Some(reply) => reads_as(alloc, reply, want.as_bytes()),
+        None => Ok(want.is_empty()),
+    }
+}
+
+/// Returns whether what was seen is answered like this.
+fn is_answered<'a>(
     alloc: Global,
     replica: &mut Replica<'a>,
     seen: Seen<'a>,
     want: &str,
-) -> Result<(), Fail> {
-    let reply = replay(rt, replica, seen)?;
-    assert_shown(rt, alloc, reply, want)
+) -> Result<bool, Fault> {
+    is_shown(alloc, replay(replica, seen)?, want)
 }
 
 /// A worker, a tenant, what is asked and the expected answer.
 pub(crate) type Row = (u8, u8, &'static str, &'static str);
 
 /// Returns the entry of a row, with its worker's ticket of this number.
-pub(crate) fn entry_of(alloc: Global, number: u64, row: Row) -> Result<Entry, Fail> {
+pub(crate) fn entry_of(alloc: Global, number: u64, row: Row) -> Result<Entry, Fault> {
     let (worker, tenant, text, _want) = row;
+    let ticket = ticket_of(worker_of(worker)?, number);
+    let tenant = tenant_of(tenant)?;
     let command = command_of(alloc, text.as_bytes())?;
     Ok(Entry {
-        ticket: ticket_of(worker_of(worker)?, number),
-        tenant: tenant_of(tenant)?,
+        ticket,
+        tenant,
         command,
     })
 }
 
-fn assert_row<'a>(
+/// Puts the entry of a row into its ticket's cell.
+pub(crate) fn put_row(
+    rt: &impl Abort,
+    alloc: Global,
+    cells: &Cells,
+    number: u64,
+    row: Row,
+) -> Result<(), Fault> {
+    put(rt, alloc, cells, entry_of(alloc, number, row)?)
+}
+
+/// Returns whether the row is answered, once it is in its cell.
+fn is_row<'a>(
     rt: &impl Abort,
     alloc: Global,
     cells: &'a Cells,
     replica: &mut Replica<'a>,
     number: u64,
     row: Row,
-) -> Result<(), Fail> {
-    let entry = entry_of(alloc, number, row)?;
-    let seen = seen_of(rt, alloc, cells, entry)?;
-    assert_reply(rt, alloc, replica, seen, row.3)
+) -> Result<bool, Fault> {
+    let seen = seen_of(rt, alloc, cells, entry_of(alloc, number, row)?)?;
+    is_answered(alloc, replica, seen, row.3)
 }
 
 /// Asserts the answers of rows one after another.
@@ -166,11 +163,11 @@ fn assert_rows<'a>(
     cells: &'a Cells,
     replica: &mut Replica<'a>,
     rows: &[Row],
-) -> Result<(), Fail> {
+) {
     for (number, row) in rows.iter().enumerate() {
-        assert_row(rt, alloc, cells, replica, number as u64, *row)?;
+        let answered = is_row(rt, alloc, cells, replica, number as u64, *row);
+        assert_eq!(rt; answered, Ok(true), "{}", row.2);
     }
-    Ok(())
 }
 
 pub(crate) fn opened<'a>(
@@ -178,11 +175,11 @@ pub(crate) fn opened<'a>(
     worker: u8,
     limits: &[Limits],
     places: u64,
-) -> Result<Replica<'a>, Fail>
+) -> Result<Replica<'a>, Fault>
     ensures { IfOk result (λ replica. replica.history ≡ []) }
 {
-    let worker = worker_of(worker)?;
-    Ok(Replica::open(alloc, worker, limits, places)?)
+    let worker = WorkerId::new(worker).ok_or(Fault::BadEvent)?;
+    Replica::open(alloc, worker, limits, places)
 }
 
 /// Returns a replica of this worker after these rows.
@@ -193,23 +190,17 @@ fn replayed<'a>(
     worker: u8,
     limits: &[Limits],
     rows: &[Row],
-) -> Result<Replica<'a>, Fail> {
+) -> Result<Replica<'a>, Fault> {
     let mut replica = opened(alloc, worker, limits, 8)?;
-    assert_rows(rt, alloc, cells, &mut replica, rows)?;
+    assert_rows(rt, alloc, cells, &mut replica, rows);
     Ok(replica)
 }
 
-/// Asserts that this many places are replayed, and that the uniques of two tenants' tables are
-/// these.
-fn assert_stands(
-    rt: &impl Abort,
-    replica: &Replica<'_>,
-    places: usize,
-    uniques: (u64, u64),
-) -> Result<(), Fail> {
-    assert!(rt; replica.history().len() == places);
-    assert_unique(rt, replica, 0, uniques.0)?;
-    assert_unique(rt, replica, 1, uniques.1)
+/// Returns whether this many places are replayed, and the uniques of two tenants' tables are these.
+fn stands(replica: &Replica<'_>, places: usize, uniques: (u64, u64)) -> bool {
+    replica.history().len() == places
+        && unique_of(replica, 0) == Some(uniques.0)
+        && unique_of(replica, 1) == Some(uniques.1)
 }
 
 #[test]
@@ -223,43 +214,43 @@ fn tenants_are_apart(rt: HostRuntime) -> Result<(), Fail> {
     ];
     let cells = cells_of(rt.alloc())?;
     let replica = replayed(&rt, rt.alloc(), &cells, 0, &[QUOTAS, QUOTAS], &ROWS)?;
-    assert!(rt; replica.worker().number() == 0);
-    assert_stands(&rt, &replica, 5, (3, 1))
+    assert!(rt; replica.worker().number() == 0 && stands(&replica, 5, (3, 1)));
+    Ok(())
 }
 
-/// Asserts that the cell of worker 0's ticket of this number is absent, and changes nothing.
-fn assert_absent<'a>(
+/// Returns whether the cell of worker 0's ticket of this number is absent, and changes nothing.
+fn is_absent<'a>(
     rt: &impl Abort,
     alloc: Global,
     cells: &'a Cells,
     replica: &mut Replica<'a>,
     number: u64,
-) -> Result<(), Fail> {
+) -> Result<bool, Fault> {
     let ticket = ticket_of(worker_of(0)?, number);
     let seen = see(rt, alloc, cells, ticket)?;
-    assert!(rt; seen.ticket() == ticket && seen.entry().is_none());
-    let reply = replay(rt, replica, seen)?;
-    assert!(rt; reply.is_none());
-    Ok(())
+    let is_absent = seen.ticket() == ticket && seen.entry().is_none();
+    let reply = replay(replica, seen)?;
+    Ok(is_absent && reply.is_none())
 }
 
-fn knows_tenant(replica: &Replica<'_>, tenant: u8) -> Result<bool, Fail> {
-    let tenant = tenant_of(tenant)?;
-    Ok(replica.has_tenant(tenant))
+fn knows_tenant(replica: &Replica<'_>, tenant: u8) -> bool {
+    match TenantId::new(tenant) {
+        Some(tenant) => replica.has_tenant(tenant),
+        None => false,
+    }
 }
 
-/// Asserts that an absent cell, and an entry of a tenant that there isn't, change nothing.
-fn assert_nobodys<'a>(
+/// Returns whether an absent cell, and an entry of a tenant that there isn't, change nothing.
+fn are_nobodys<'a>(
     rt: &impl Abort,
     alloc: Global,
     cells: &'a Cells,
     replica: &mut Replica<'a>,
-) -> Result<(), Fail> {
+) -> Result<bool, Fault> {
     const UNKNOWN: Row = (0, 2, "set a 0 0 1\r\ny\r\n", "");
-    assert_absent(rt, alloc, cells, replica, 1)?;
-    assert_row(rt, alloc, cells, replica, 2, UNKNOWN)?;
-    assert!(rt; !knows_tenant(replica, 2)?);
-    assert_stands(rt, replica, 3, (0, 1))
+    let is_absent = is_absent(rt, alloc, cells, replica, 1)?;
+    let is_silent = is_row(rt, alloc, cells, replica, 2, UNKNOWN)?;
+    Ok(is_absent && is_silent && !knows_tenant(replica, 2) && stands(replica, 3, (0, 1)))
 }
 
 #[test]
@@ -267,7 +258,23 @@ fn nobodys_entries_change_no_table(rt: HostRuntime) -> Result<(), Fail> {
     const KNOWN: [Row; 1] = [(0, 1, "set a 0 0 1\r\nx\r\n", "STORED\r\n")];
     let cells = cells_of(rt.alloc())?;
     let mut replica = replayed(&rt, rt.alloc(), &cells, 0, &[QUOTAS, QUOTAS], &KNOWN)?;
-    assert_nobodys(&rt, rt.alloc(), &cells, &mut replica)
+    assert!(rt; are_nobodys(&rt, rt.alloc(), &cells, &mut replica) == Ok(true));
+    Ok(())
+}
+
+/// Returns whether the cell of a ticket counts as absent while those of the next ticket, and of
+/// another worker's ticket of the same number, hold entries.
+fn counts_as_absent<'a>(
+    rt: &impl Abort,
+    alloc: Global,
+    cells: &'a Cells,
+    replica: &mut Replica<'a>,
+) -> Result<bool, Fault> {
+    const STRANGE: &str = "set a 0 0 1\r\ny\r\n";
+    put_row(rt, alloc, cells, 3, (0, 0, STRANGE, ""))?;
+    put_row(rt, alloc, cells, 2, (1, 0, STRANGE, ""))?;
+    let is_absent = is_absent(rt, alloc, cells, replica, 2)?;
+    Ok(is_absent && stands(replica, 2, (0, 1)))
 }
 
 /// The contents of the cells of the next ticket, and of another worker's ticket of the same number,
@@ -275,15 +282,10 @@ fn nobodys_entries_change_no_table(rt: HostRuntime) -> Result<(), Fail> {
 #[test]
 fn an_entry_of_another_ticket_counts_as_absent(rt: HostRuntime) -> Result<(), Fail> {
     const KNOWN: [Row; 1] = [(0, 1, "set a 0 0 1\r\nx\r\n", "STORED\r\n")];
-    const STRANGE: &str = "set a 0 0 1\r\ny\r\n";
     let cells = cells_of(rt.alloc())?;
     let mut replica = replayed(&rt, rt.alloc(), &cells, 0, &[QUOTAS, QUOTAS], &KNOWN)?;
-    let next = entry_of(rt.alloc(), 3, (0, 0, STRANGE, ""))?;
-    put(&rt, rt.alloc(), &cells, next)?;
-    let others = entry_of(rt.alloc(), 2, (1, 0, STRANGE, ""))?;
-    put(&rt, rt.alloc(), &cells, others)?;
-    assert_absent(&rt, rt.alloc(), &cells, &mut replica, 2)?;
-    assert_stands(&rt, &replica, 2, (0, 1))
+    assert!(rt; counts_as_absent(&rt, rt.alloc(), &cells, &mut replica) == Ok(true));
+    Ok(())
 }
 
 #[test]
@@ -329,18 +331,18 @@ fn quotas_are_each_tenants_own(rt: HostRuntime) -> Result<(), Fail> {
     Ok(())
 }
 
-/// Asserts that two replicas of one log come to the same uniques, though only one of them answers
-/// the command.
-fn assert_both<'a>(
+/// Returns whether two replicas of one log come to the same uniques, though only one of them
+/// answers the command.
+fn are_alike<'a>(
     rt: &impl Abort,
     alloc: Global,
     cells: &'a Cells,
     short: &mut Replica<'a>,
     long: &mut Replica<'a>,
     tenant: u8,
-) -> Result<(), Fail> {
+) -> Result<bool, Fault> {
     let (number, text) = (u64::from(tenant), "set a 0 0 1\r\nx\r\n");
-    assert_row(
+    let is_stored = is_row(
         rt,
         alloc,
         cells,
@@ -348,33 +350,34 @@ fn assert_both<'a>(
         number,
         (0, tenant, text, "STORED\r\n"),
     )?;
-    assert_row(rt, alloc, cells, long, number, (0, tenant, text, ""))?;
-    assert_unique(rt, short, tenant, 1)?;
-    assert_unique(rt, long, tenant, 1)
+    let is_silent = is_row(rt, alloc, cells, long, number, (0, tenant, text, ""))?;
+    Ok(
+        is_stored
+            && is_silent
+            && unique_of(short, tenant) == Some(1)
+            && unique_of(long, tenant) == Some(1),
+    )
 }
 
-fn assert_places(rt: &impl Abort, replica: &Replica<'_>, places: u64, has_place: bool) {
-    assert!(rt; replica.places() == places && replica.has_place() == has_place);
-}
-
-fn is_same(one: &Seen<'_>, other: &Seen<'_>) -> bool {
-    one.ticket() == other.ticket() && one.entry() == other.entry()
+fn has_places(replica: &Replica<'_>, places: u64, has_place: bool) -> bool {
+    replica.places() == places && replica.has_place() == has_place
 }
 
 /// Returns whether both histories are equal, place by place.
 fn are_same(ones: &[Seen<'_>], others: &[Seen<'_>]) -> bool {
+    for (one, other) in ones.iter().zip(others) {
+        if one.ticket() != other.ticket() || one.entry() != other.entry() {
+            return false;
+        }
+    }
     ones.len() == others.len()
-        && ones
-            .iter()
-            .zip(others)
-            .all(|(one, other)| is_same(one, other))
 }
 
-/// Asserts that both have one history, in replicas of two places and of a thousand.
-fn assert_unequal(rt: &impl Abort, short: &Replica<'_>, long: &Replica<'_>) {
-    assert!(rt; are_same(short.history(), long.history()));
-    assert_places(rt, short, 2, false);
-    assert_places(rt, long, 1000, true);
+/// Returns whether both have one history, in replicas of two places and of a thousand.
+fn are_unequal(short: &Replica<'_>, long: &Replica<'_>) -> bool {
+    are_same(short.history(), long.history())
+        && has_places(short, 2, false)
+        && has_places(long, 1000, true)
 }
 
 /// Has both replay a command of each of two tenants, and asserts that they agree.
@@ -384,12 +387,10 @@ fn assert_agreed<'a>(
     cells: &'a Cells,
     short: &mut Replica<'a>,
     long: &mut Replica<'a>,
-) -> Result<(), Fail> {
-    for tenant in 0..2u8 {
-        assert_both(rt, alloc, cells, short, long, tenant)?;
-    }
-    assert_unequal(rt, short, long);
-    Ok(())
+) {
+    assert!(rt; are_alike(rt, alloc, cells, short, long, 0) == Ok(true));
+    assert!(rt; are_alike(rt, alloc, cells, short, long, 1) == Ok(true));
+    assert!(rt; are_unequal(short, long));
 }
 
 #[test]
@@ -397,41 +398,41 @@ fn replicas_of_unequal_places_agree(rt: HostRuntime) -> Result<(), Fail> {
     let cells = cells_of(rt.alloc())?;
     let mut short = opened(rt.alloc(), 0, &[QUOTAS, QUOTAS], 2)?;
     let mut long = opened(rt.alloc(), 1, &[QUOTAS, QUOTAS], 1000)?;
-    assert_agreed(&rt, rt.alloc(), &cells, &mut short, &mut long)
+    assert_agreed(&rt, rt.alloc(), &cells, &mut short, &mut long);
+    Ok(())
 }
 
 /// An owner, its ticket's number, a tenant, what is asked and what the owner is answered.
 type LogRow = (u8, u64, u8, &'static str, &'static str);
 
-/// Asserts how a worker's replica answers what is in the cell of a row's ticket: by the row's reply
-/// if the worker owns it, and otherwise by none.
-fn assert_learned<'a>(
+/// Returns what a worker answers to a row: its reply if the worker owns it, and otherwise nothing.
+fn answer_by(worker: u8, row: &LogRow) -> &'static str {
+    if row.0 == worker { row.4 } else { "" }
+}
+
+/// Returns whether a worker's replica answers like this what is in the cell of a row's ticket.
+fn is_learned<'a>(
     rt: &impl Abort,
     alloc: Global,
     cells: &'a Cells,
     replica: &mut Replica<'a>,
     row: &LogRow,
-) -> Result<(), Fail> {
-    let (owner, number, _tenant, _text, want) = row;
-    let want = if *owner == replica.worker().number() {
-        *want
-    } else {
-        ""
-    };
-    let ticket = ticket_of(worker_of(*owner)?, *number);
+) -> Result<bool, Fault> {
+    let ticket = ticket_of(worker_of(row.0)?, row.1);
     let seen = see(rt, alloc, cells, ticket)?;
-    assert_reply(rt, alloc, replica, seen, want)
+    let want = answer_by(replica.worker().number(), row);
+    is_answered(alloc, replica, seen, want)
 }
 
-/// Asserts that a worker that has replayed as much of one log as it has learned answers its own
+/// Returns whether a worker that has replayed as much of one log as it has learned answers its own
 /// commands alone. A row's reply is that to its owner; to another worker its command is silent.
-fn assert_worker(
+fn are_learned(
     rt: &impl Abort,
     alloc: Global,
     cells: &Cells,
     worker: u8,
     learned: &[LogRow],
-) -> Result<(), Fail> {
+) -> Result<bool, Fault> {
     let two_items = Limits {
         items: 2,
         bytes: 50,
@@ -439,16 +440,25 @@ fn assert_worker(
     let one_item = Limits { items: 1, bytes: 9 };
     let mut replica = opened(alloc, worker, &[two_items, one_item], 9)?;
     for row in learned {
-        assert_learned(rt, alloc, cells, &mut replica, row)?;
+        if !is_learned(rt, alloc, cells, &mut replica, row)? {
+            return Ok(false);
+        }
     }
-    assert_stands(rt, &replica, learned.len(), (1, 1))
+    Ok(stands(&replica, learned.len(), (1, 1)))
+}
+
+fn assert_worker(rt: &impl Abort, alloc: Global, cells: &Cells, worker: u8, learned: &[LogRow]) {
+    assert_eq!(rt;
+        are_learned(rt, alloc, cells, worker, learned),
+        Ok(true),
+        "{worker}"
+    );
 }
 
 /// Puts each owner's entry into its cell.
-fn put_all(rt: &impl Abort, alloc: Global, cells: &Cells, log: &[LogRow]) -> Result<(), Fail> {
+fn put_all(rt: &impl Abort, alloc: Global, cells: &Cells, log: &[LogRow]) -> Result<(), Fault> {
     for (owner, number, tenant, text, want) in log {
-        let entry = entry_of(alloc, *number, (*owner, *tenant, *text, *want))?;
-        put(rt, alloc, cells, entry)?;
+        put_row(rt, alloc, cells, *number, (*owner, *tenant, *text, *want))?;
     }
     Ok(())
 }
@@ -463,30 +473,83 @@ fn three_workers_answer_their_own_commands_of_one_log(rt: HostRuntime) -> Result
     ];
     let cells = cells_of(rt.alloc())?;
     put_all(&rt, rt.alloc(), &cells, &LOG)?;
-    assert_worker(&rt, rt.alloc(), &cells, 0, &LOG[..3])?;
-    assert_worker(&rt, rt.alloc(), &cells, 1, &LOG[..2])?;
-    assert_worker(&rt, rt.alloc(), &cells, 2, &LOG)
+    assert_worker(&rt, rt.alloc(), &cells, 0, &LOG[..3]);
+    assert_worker(&rt, rt.alloc(), &cells, 1, &LOG[..2]);
+    assert_worker(&rt, rt.alloc(), &cells, 2, &LOG);
+    Ok(())
 }
 
-/// Returns this worker's command on its tenant's table.
-fn own_entry(number: u64, command: Command) -> Result<Entry, Fail> {
+/// Returns worker 0's entry that stores one letter under a number.
+fn numbered_entry(alloc: Global, number: u64) -> Result<Entry, Fault> {
+    let ticket = ticket_of(worker_of(0)?, number);
+    let tenant = tenant_of(0)?;
+    let command = numbered_set(alloc, number)?;
     Ok(Entry {
-        ticket: ticket_of(worker_of(0)?, number),
-        tenant: tenant_of(0)?,
+        ticket,
+        tenant,
         command,
     })
 }
 
-fn assert_set<'a>(
+/// Returns worker 0's entry that asks for `count` numbers.
+fn asking_entry(alloc: Global, count: u64) -> Result<Entry, Fault> {
+    let ticket = ticket_of(worker_of(0)?, count);
+    let tenant = tenant_of(0)?;
+    let command = numbered_get(alloc, count)?;
+    Ok(Entry {
+        ticket,
+        tenant,
+        command,
+    })
+}
+
+/// Returns whether the entry is answered like this, once it is in its cell.
+fn is_entry<'a>(
     rt: &impl Abort,
     alloc: Global,
     cells: &'a Cells,
     replica: &mut Replica<'a>,
-    number: u64,
-) -> Result<(), Fail> {
-    let entry = own_entry(number, numbered_set(alloc, number)?)?;
+    entry: Entry,
+    want: &str,
+) -> Result<bool, Fault> {
     let seen = seen_of(rt, alloc, cells, entry)?;
-    assert_reply(rt, alloc, replica, seen, "STORED\r\n")
+    is_answered(alloc, replica, seen, want)
+}
+
+/// Returns whether `count` numbers are stored, one after another.
+fn are_stored<'a>(
+    rt: &impl Abort,
+    alloc: Global,
+    cells: &'a Cells,
+    replica: &mut Replica<'a>,
+    count: u64,
+) -> Result<bool, Fault> {
+    for number in 0..count {
+        let entry = numbered_entry(alloc, number)?;
+        if !is_entry(rt, alloc, cells, replica, entry, "STORED\r\n")? {
+            return Ok(false);
+        }
+    }
+    Ok(true)
+}
+
+/// Returns whether a retrieval shows `count` numbers, in order.
+fn are_shown<'a>(
+    rt: &impl Abort,
+    alloc: Global,
+    cells: &'a Cells,
+    replica: &mut Replica<'a>,
+    count: u64,
+) -> Result<bool, Fault> {
+    let want = numbered_values(alloc, count)?;
+    is_entry(
+        rt,
+        alloc,
+        cells,
+        replica,
+        asking_entry(alloc, count)?,
+        want.as_str(),
+    )
 }
 
 /// A retrieval shows each of a thousand keys that are held, in the order asked.
@@ -498,11 +561,7 @@ fn a_thousand_keys(rt: HostRuntime) -> Result<(), Fail> {
     };
     let cells = cells_of(rt.alloc())?;
     let mut replica = opened(rt.alloc(), 0, &[quotas], 1_001)?;
-    for number in 0..1_000 {
-        assert_set(&rt, rt.alloc(), &cells, &mut replica, number)?;
-    }
-    let entry = own_entry(1_000, numbered_get(rt.alloc(), 1_000)?)?;
-    let seen = seen_of(&rt, rt.alloc(), &cells, entry)?;
-    let want = numbered_values(rt.alloc(), 1_000)?;
-    assert_reply(&rt, rt.alloc(), &mut replica, seen, &want)
+    assert!(rt; are_stored(&rt, rt.alloc(), &cells, &mut replica, 1_000) == Ok(true));
+    assert!(rt; are_shown(&rt, rt.alloc(), &cells, &mut replica, 1_000) == Ok(true));
+    Ok(())
 }

@@ -1,23 +1,31 @@
 //! Reports of runs, byte for byte.
-use crate::events::{AMPLE, opened};
-use crate::values::command_of;
+use crate::events::{AMPLE, events_of, opened};
 use mc_model::{Command, Data, Fault, Key, Verb};
 use mc_schedules::Outcome;
 use std::alloc::Global;
 use std::process::Abort;
-use std::test::Fail;
 use uc_core::Event;
 
-/// Returns the outcome of these events on a core of this many workers and places.
+/// A run: a core of this many workers and places takes these events, and ends by this fault.
+#[derive(Clone, Copy)]
+struct Run {
+    size: (u64, u64),
+    events: &'static str,
+    fault: Option<(u64, Fault)>,
+}
+
+/// Returns the outcome of these events.
 fn outcome_of(
     alloc: Global,
     size: (u64, u64),
     events: &[Event],
     fault: Option<(u64, Fault)>,
-) -> Result<Outcome, Fail> {
+) -> Result<Outcome, Fault> {
     let mut core = opened(alloc, size.0, size.1, &[AMPLE])?;
     let mut replies = Vec::new(alloc);
-    core.run(events, &mut replies)?;
+    if core.run(events, &mut replies).is_err() {
+        return Err(Fault::BadEvent);
+    }
     Ok(Outcome {
         core,
         replies,
@@ -25,115 +33,126 @@ fn outcome_of(
     })
 }
 
-fn assert_report(
-    rt: &impl Abort,
+/// Returns whether the report of these events is this text.
+fn is_report_of(
     alloc: Global,
-    outcome: &Outcome,
+    run: &Run,
+    events: &[Event],
     quiet: bool,
     text: &str,
-) -> Result<(), Fail> {
+) -> Result<bool, Fault> {
+    let outcome = outcome_of(alloc, run.size, events, run.fault)?;
     let report = outcome.report(alloc, quiet)?;
-    assert_eq!(rt; report.as_slice(), text.as_bytes());
-    Ok(())
+    Ok(report.as_slice() == text.as_bytes())
 }
 
-/// Returns the outcome of a run in which a worker stops before its command is decided, and another
-/// helps it.
-fn helped_after_stop(alloc: Global) -> Result<Outcome, Fail> {
-    let set = command_of(alloc, b"set a 0 0 1\r\nx\r\n")?;
-    let get = command_of(alloc, b"get a\r\n")?;
-    let events = vec![in alloc;
-        Event::Announce(0, 0, set),
-        Event::Stop(0),
-        Event::Announce(1, 0, get),
-        Event::Read(1),
-        Event::Look(1),
-        Event::Propose(1),
-        Event::Look(1),
-        Event::Propose(1),
-        Event::Replay(1),
-        Event::Replay(1),
-    ]?;
-    outcome_of(alloc, (2, 8), &events, None)
+fn is_report(alloc: Global, run: &Run, quiet: bool, text: &str) -> Result<bool, Fault> {
+    let events = events_of(alloc, run.events)?;
+    is_report_of(alloc, run, &events, quiet, text)
 }
 
-/// Returns the events by which a worker alone gets its command decided.
-fn decided(alloc: Global, command: Command) -> Result<Vec<Event>, Fail> {
-    let events = vec![in alloc;
-        Event::Announce(0, 0, command),
-        Event::Read(0),
-        Event::Look(0),
-        Event::Propose(0),
-        Event::Replay(0),
-    ]?;
-    Ok(events)
+fn assert_report(rt: &impl Abort, alloc: Global, run: &Run, quiet: bool, text: &str) {
+    assert_eq!(rt; is_report(alloc, run, quiet, text), Ok(true), "{text}");
 }
+
+/// A worker stops before its command is decided, and another helps it.
+const HELPED: Run = Run {
+    size: (2, 8),
+    events: "announce 0 0 set a 0 0 1\r\nx\r\n/stop 0/announce 1 0 get a\r\n\
+        /read 1/look 1/propose 1/look 1/propose 1/replay 1/replay 1",
+    fault: None,
+};
 
 #[test]
-fn each_line_of_a_report(rt: HostRuntime) -> Result<(), Fail> {
-    let outcome = helped_after_stop(rt.alloc())?;
+fn each_line_of_a_report(rt: HostRuntime) {
     let text = "reply 1 1 VALUE a 0 1\\r\\nx\\r\\nEND\\r\\n\nlog (0,0) (1,0)\n\
         worker 0 stopped learned 0 replayed 0 proposals 0\n\
         worker 1 idle learned 2 replayed 2 proposals 2\n";
-    assert_report(&rt, rt.alloc(), &outcome, false, text)
+    assert_report(&rt, rt.alloc(), &HELPED, false, text);
 }
 
 #[test]
-fn a_quiet_report_has_no_replies(rt: HostRuntime) -> Result<(), Fail> {
-    let outcome = helped_after_stop(rt.alloc())?;
+fn a_quiet_report_has_no_replies(rt: HostRuntime) {
     let text = "log (0,0) (1,0)\nworker 0 stopped learned 0 replayed 0 proposals 0\n\
         worker 1 idle learned 2 replayed 2 proposals 2\n";
-    assert_report(&rt, rt.alloc(), &outcome, true, text)
+    assert_report(&rt, rt.alloc(), &HELPED, true, text);
 }
 
 #[test]
-fn the_fault_stands_before_the_log(rt: HostRuntime) -> Result<(), Fail> {
-    let alloc = rt.alloc();
-    let mut events = decided(alloc, command_of(alloc, b"set a 0 0 1\r\nx\r\n")?)?;
-    events.push(Event::Announce(1, 0, command_of(alloc, b"get a\r\n")?))?;
-    events.push(Event::Read(1))?;
-    let outcome = outcome_of(alloc, (2, 1), &events, Some((4, Fault::LogFull)))?;
+fn the_fault_stands_before_the_log(rt: HostRuntime) {
+    let run = Run {
+        size: (2, 1),
+        events: "announce 0 0 set a 0 0 1\r\nx\r\n/read 0/look 0/propose 0/replay 0\
+            /announce 1 0 get a\r\n/read 1",
+        fault: Some((4, Fault::LogFull)),
+    };
     let rest = "fault 4 log full\nlog (0,0)\nworker 0 idle learned 1 replayed 1 proposals 1\n\
         worker 1 pending learned 1 replayed 0 proposals 0\n";
-    assert_report(&rt, alloc, &outcome, true, rest)?;
-    let all = format!(in alloc; "reply 0 0 STORED\\r\\n\n{rest}")?;
-    assert_report(&rt, alloc, &outcome, false, all.as_str())
+    assert_report(&rt, rt.alloc(), &run, true, rest);
+    let all = "reply 0 0 STORED\\r\\n\nfault 4 log full\nlog (0,0)\n\
+        worker 0 idle learned 1 replayed 1 proposals 1\n\
+        worker 1 pending learned 1 replayed 0 proposals 0\n";
+    assert_report(&rt, rt.alloc(), &run, false, all);
 }
 
 #[test]
-fn nothing_has_happened(rt: HostRuntime) -> Result<(), Fail> {
-    let outcome = outcome_of(rt.alloc(), (1, 3), &[], None)?;
+fn nothing_has_happened(rt: HostRuntime) {
+    let run = Run {
+        size: (1, 3),
+        events: "",
+        fault: None,
+    };
     let text = "log\nworker 0 idle learned 0 replayed 0 proposals 0\n";
-    assert_report(&rt, rt.alloc(), &outcome, false, text)
+    let shown = is_report_of(rt.alloc(), &run, &[], false, text);
+    assert!(rt; shown == Ok(true));
 }
 
 /// Returns a data block of all bytes that aren't printed as they are, and of their neighbours.
-fn odd_data(alloc: Global) -> Result<Data, Fail> {
-    let bytes = Vec::from_slice(
-        alloc,
-        &[
-            0, 9, 10, 11, 13, 26, 31, 32, 33, 91, 92, 93, 126, 127, 128, 171, 255,
-        ],
-    )?;
-    Ok(Data::new(bytes).ok_or("too many bytes")?)
+fn odd_data(alloc: Global) -> Result<Data, Fault> {
+    let bytes = [
+        0, 9, 10, 11, 13, 26, 31, 32, 33, 91, 92, 93, 126, 127, 128, 171, 255,
+    ];
+    Data::new(Vec::from_slice(alloc, &bytes)?).ok_or(Fault::BadEvent)
+}
+
+/// Returns the event that announces a set of these data.
+fn odd_set(alloc: Global) -> Result<Event, Fault> {
+    let block = odd_data(alloc)?;
+    let key = Key::new(alloc, b"a\\b")?.ok_or(Fault::BadEvent)?;
+    let set = Command::Store {
+        verb: Verb::Set,
+        key,
+        flags: 4_294_967_295,
+        block,
+    };
+    Ok(Event::Announce(0, 0, set))
+}
+
+/// Returns the events by which a worker sets these data and gets them.
+fn odd_events(alloc: Global, rest: &str) -> Result<Vec<Event>, Fault> {
+    let mut events = Vec::new(alloc);
+    events.push(odd_set(alloc)?)?;
+    for event in events_of(alloc, rest)? {
+        events.push(event)?;
+    }
+    Ok(events)
+}
+
+fn is_odd_report(alloc: Global, run: &Run, text: &str) -> Result<bool, Fault> {
+    let events = odd_events(alloc, run.events)?;
+    is_report_of(alloc, run, &events, false, text)
 }
 
 #[test]
-fn bytes_outside_visible_ascii(rt: HostRuntime) -> Result<(), Fail> {
-    let alloc = rt.alloc();
-    let set = Command::Store {
-        verb: Verb::Set,
-        key: Key::new(alloc, b"a\\b")?.ok_or("no key")?,
-        flags: 4_294_967_295,
-        block: odd_data(alloc)?,
+fn bytes_outside_visible_ascii(rt: HostRuntime) {
+    let run = Run {
+        size: (1, 8),
+        events: "read 0/look 0/propose 0/replay 0\
+            /announce 0 0 gets a\\b\r\n/read 0/look 0/propose 0/replay 0",
+        fault: None,
     };
-    let mut events = decided(alloc, set)?;
-    for event in decided(alloc, command_of(alloc, b"gets a\\b\r\n")?)? {
-        events.push(event)?;
-    }
-    let outcome = outcome_of(alloc, (1, 8), &events, None)?;
     let text = "reply 0 0 STORED\\r\\n\n\
         reply 0 1 VALUE a\\\\b 4294967295 17 1\\r\\n\\x00\\x09\\n\\x0b\\r\\x1a\\x1f ![\\\\]~\\x7f\\x80\\xab\\xff\\r\\nEND\\r\\n\n\
         log (0,0) (0,1)\nworker 0 idle learned 2 replayed 2 proposals 1\n";
-    assert_report(&rt, alloc, &outcome, false, text)
+    assert!(rt; is_odd_report(rt.alloc(), &run, text) == Ok(true));
 }

@@ -1,10 +1,9 @@
 //! Golden runs, as single events: what is answered, and what the log and its workers show at the
 //! end. Each is taken by `step` and by `run`.
-use crate::events::{AMPLE, opened, ran, shown_by, stepped};
-use mc_model::Limits;
+use crate::events::{AMPLE, opened, ran, shows, stepped};
+use mc_model::{Fault, Limits};
 use std::alloc::Global;
 use std::process::Abort;
-use std::test::Fail;
 
 /// A golden run: a core of this many workers and places takes these events, gives these answers and
 /// shows this at the end.
@@ -17,29 +16,27 @@ struct Row<'a> {
     shows: &'a str,
 }
 
-fn assert_stepped(rt: &impl Abort, alloc: Global, row: &Row<'_>) -> Result<(), Fail> {
+/// Returns whether the row holds for its events one at a time.
+fn is_stepped(alloc: Global, row: &Row<'_>) -> Result<bool, Fault> {
     let mut core = opened(alloc, row.size.0, row.size.1, row.tenants)?;
     let said = stepped(alloc, &mut core, row.events)?;
-    assert_eq!(rt; said.as_slice(), row.replies.as_bytes());
-    assert_eq!(rt; shown_by(alloc, &core)?.as_str(), row.shows);
-    Ok(())
+    Ok(said.as_slice() == row.replies.as_bytes() && shows(alloc, &core, row.shows)?)
 }
 
-fn assert_ran(rt: &impl Abort, alloc: Global, row: &Row<'_>) -> Result<(), Fail> {
+/// Returns whether the row holds for one run of its events.
+fn is_run(alloc: Global, row: &Row<'_>) -> Result<bool, Fault> {
     let mut core = opened(alloc, row.size.0, row.size.1, row.tenants)?;
     let said = ran(alloc, &mut core, row.events)?;
-    assert_eq!(rt; said.as_slice(), row.replies.as_bytes());
-    assert_eq!(rt; shown_by(alloc, &core)?.as_str(), row.shows);
-    Ok(())
+    Ok(said.as_slice() == row.replies.as_bytes() && shows(alloc, &core, row.shows)?)
 }
 
-fn assert_row(rt: &impl Abort, alloc: Global, row: &Row<'_>) -> Result<(), Fail> {
-    assert_stepped(rt, alloc, row)?;
-    assert_ran(rt, alloc, row)
+fn assert_row(rt: &impl Abort, alloc: Global, row: &Row<'_>) {
+    assert!(rt; is_stepped(alloc, row) == Ok(true));
+    assert!(rt; is_run(alloc, row) == Ok(true));
 }
 
 #[test]
-fn tenants_are_apart(rt: HostRuntime) -> Result<(), Fail> {
+fn tenants_are_apart(rt: HostRuntime) {
     let row = Row {
         size: (1, 8),
         tenants: &[AMPLE, AMPLE],
@@ -53,11 +50,11 @@ fn tenants_are_apart(rt: HostRuntime) -> Result<(), Fail> {
         shows: "log (0,0) (0,1) (0,2) (0,3) (0,4)\n\
             worker 0 idle learned 5 replayed 5 proposals 1\n",
     };
-    assert_row(&rt, rt.alloc(), &row)
+    assert_row(&rt, rt.alloc(), &row);
 }
 
 #[test]
-fn helped_after_stop(rt: HostRuntime) -> Result<(), Fail> {
+fn helped_after_stop(rt: HostRuntime) {
     let row = Row {
         size: (2, 8),
         tenants: &[AMPLE],
@@ -68,11 +65,11 @@ fn helped_after_stop(rt: HostRuntime) -> Result<(), Fail> {
             worker 0 stopped learned 0 replayed 0 proposals 0\n\
             worker 1 idle learned 2 replayed 2 proposals 2\n",
     };
-    assert_row(&rt, rt.alloc(), &row)
+    assert_row(&rt, rt.alloc(), &row);
 }
 
 #[test]
-fn helping_changes_the_proposal(rt: HostRuntime) -> Result<(), Fail> {
+fn helping_changes_the_proposal(rt: HostRuntime) {
     let row = Row {
         size: (2, 8),
         tenants: &[AMPLE],
@@ -86,11 +83,11 @@ fn helping_changes_the_proposal(rt: HostRuntime) -> Result<(), Fail> {
             worker 0 idle learned 3 replayed 3 proposals 3\n\
             worker 1 idle learned 4 replayed 4 proposals 2\n",
     };
-    assert_row(&rt, rt.alloc(), &row)
+    assert_row(&rt, rt.alloc(), &row);
 }
 
 #[test]
-fn three_workers_two_tenants(rt: HostRuntime) -> Result<(), Fail> {
+fn three_workers_two_tenants(rt: HostRuntime) {
     let row = Row {
         size: (3, 9),
         tenants: &[
@@ -111,13 +108,13 @@ fn three_workers_two_tenants(rt: HostRuntime) -> Result<(), Fail> {
             worker 1 idle learned 2 replayed 2 proposals 1\n\
             worker 2 idle learned 4 replayed 4 proposals 1\n",
     };
-    assert_row(&rt, rt.alloc(), &row)
+    assert_row(&rt, rt.alloc(), &row);
 }
 
 /// This log agrees for its tenant with that of `three_workers_two_tenants` for the first of its
 /// two, and the replies to the tenant's commands are the same.
 #[test]
-fn agreeing_logs_answer_alike(rt: HostRuntime) -> Result<(), Fail> {
+fn agreeing_logs_answer_alike(rt: HostRuntime) {
     let row = Row {
         size: (1, 4),
         tenants: &[Limits {
@@ -129,5 +126,5 @@ fn agreeing_logs_answer_alike(rt: HostRuntime) -> Result<(), Fail> {
         replies: "0 0 STORED\r\n0 1 VALUE a 0 1 1\r\nx\r\nEND\r\n",
         shows: "log (0,0) (0,1)\nworker 0 idle learned 2 replayed 2 proposals 1\n",
     };
-    assert_row(&rt, rt.alloc(), &row)
+    assert_row(&rt, rt.alloc(), &row);
 }

@@ -5,9 +5,9 @@
 //! a path that leads to a state that was seen before goes no further. So event lists of any length
 //! are covered.
 use crate::events::{AMPLE, opened, view_of};
-use crate::values::command_of;
-use mc_model::{Key, Phase, TenantId, Ticket, WorkerId};
-use mc_write::write_reply;
+use crate::values::{command_of, key_of as key_named, text_of as reply_text};
+use mc_items::Items;
+use mc_model::{Fault, Phase, TenantId, Ticket, WorkerId};
 use std::alloc::Global;
 use std::collections::BTreeSet;
 use std::process::Abort;
@@ -78,7 +78,7 @@ impl Way {
     }
 
     /// Returns the path with one more move, and the new notes of its worker.
-    fn longer(&self, alloc: Global, made: Move, notes: Notes) -> Result<Way, Fail> {
+    fn longer(&self, alloc: Global, made: Move, notes: Notes) -> Result<Way, Fault> {
         let mut moves = Vec::from_slice(alloc, &self.moves)?;
         moves.push(made)?;
         let is_first = made.worker == 0;
@@ -92,7 +92,7 @@ impl Way {
 
 /// Returns the text of the worker's command of this number, as a client writes it: worker 0 sets a
 /// key to a digit, worker 1 gets and deletes it by turns.
-fn text_of(alloc: Global, worker: u8, number: u64) -> Result<String, Fail> {
+fn text_of(alloc: Global, worker: u8, number: u64) -> Result<String, Fault> {
     let digit = number % 10;
     let text = if worker == 0 {
         format!(in alloc; "set a 0 0 1\r\n{digit}\r\n")?
@@ -123,7 +123,7 @@ impl Plain {
     }
 
     /// Returns the answer to a ticket's command.
-    fn answer(&self, alloc: Global, ticket: &Ticket) -> Result<String, Fail> {
+    fn answer(&self, alloc: Global, ticket: &Ticket) -> Result<String, Fault> {
         let gets = ticket.number % 2 == 0;
         let text = match self.held {
             _ if ticket.worker.number() == 0 => String::from_str(alloc, "STORED\r\n")?,
@@ -139,7 +139,7 @@ impl Plain {
 }
 
 /// Returns the answer to the command at a place, after all commands before it.
-fn answer_at(alloc: Global, decided: &[Ticket], place: usize) -> Result<String, Fail> {
+fn answer_at(alloc: Global, decided: &[Ticket], place: usize) -> Result<String, Fault> {
     let mut plain = Plain {
         held: None,
         changes: 0,
@@ -147,12 +147,14 @@ fn answer_at(alloc: Global, decided: &[Ticket], place: usize) -> Result<String, 
     for ticket in decided.iter().take(place) {
         plain.take(ticket);
     }
-    let ticket = decided.get(place).ok_or("no such place")?;
-    plain.answer(alloc, ticket)
+    match decided.get(place) {
+        Some(ticket) => plain.answer(alloc, ticket),
+        None => Err(Fault::BadEvent),
+    }
 }
 
 /// Returns the event of a move by a worker that has announced this many commands.
-fn event_for(alloc: Global, announced: u64, made: Move) -> Result<Event, Fail> {
+fn event_for(alloc: Global, announced: u64, made: Move) -> Result<Event, Fault> {
     let worker = made.worker;
     Ok(match made.deed {
         Deed::Announce => {
@@ -176,7 +178,7 @@ fn announced_in(moves: &[Move], worker: u8) -> u64 {
 }
 
 /// Returns a core that has taken these moves.
-fn core_after(alloc: Global, moves: &[Move]) -> Result<Core, Fail> {
+fn core_after(alloc: Global, moves: &[Move]) -> Result<Core, Fault> {
     let mut core = opened(alloc, 2, PLACES, &[AMPLE])?;
     let mut events = Vec::new(alloc);
     for (at, made) in moves.iter().enumerate() {
@@ -184,15 +186,15 @@ fn core_after(alloc: Global, moves: &[Move]) -> Result<Core, Fail> {
         events.push(event_for(alloc, announced, *made)?)?;
     }
     let mut replies = Vec::new(alloc);
-    match core.run(&events, &mut replies) {
-        Ok(()) => Ok(core),
-        Err(_) => Err(Fail::from("a way that was taken is refused")),
+    if core.run(&events, &mut replies).is_err() {
+        return Err(Fault::BadEvent);
     }
+    Ok(core)
 }
 
 /// Returns the expected answer to a move: at a replay of the worker's own command its answer,
 /// otherwise nothing.
-fn wanted(alloc: Global, core: &Core, made: Move) -> Result<String, Fail> {
+fn wanted(alloc: Global, core: &Core, made: Move) -> Result<String, Fault> {
     let place = view_of(core, made.worker)?.replayed as usize;
     match core.decided().get(place) {
         Some(ticket) if made.deed == Deed::Replay && ticket.worker.number() == made.worker => {
@@ -203,16 +205,15 @@ fn wanted(alloc: Global, core: &Core, made: Move) -> Result<String, Fail> {
 }
 
 /// Returns what is answered to an event, as a client reads it.
-fn answered(alloc: Global, core: &mut Core, event: Event) -> Result<Vec<u8>, Fail> {
-    let mut bytes = Vec::new(alloc);
-    if let Some(reply) = core.step(event)? {
-        write_reply(&reply, &mut bytes)?;
+fn answered(alloc: Global, core: &mut Core, event: Event) -> Result<Vec<u8>, Fault> {
+    match core.step(event)? {
+        Some(reply) => reply_text(alloc, reply),
+        None => Ok(Vec::new(alloc)),
     }
-    Ok(bytes)
 }
 
 /// Returns whose turn it is at a worker's next place, as a remainder.
-fn turn_of(core: &Core, worker: u8) -> Result<u64, Fail> {
+fn turn_of(core: &Core, worker: u8) -> Result<u64, Fault> {
     Ok(view_of(core, worker)?.learned % 2)
 }
 
@@ -262,7 +263,7 @@ fn assert_helped(rt: &impl Abort, way: &Way, core: &Core, worker: u8) {
 }
 
 /// Asserts that a worker hasn't proposed too often, and has learned no more than there is.
-fn assert_bounds(rt: &impl Abort, core: &Core, worker: u8) -> Result<(), Fail> {
+fn assert_bounds(rt: &impl Abort, core: &Core, worker: u8) -> Result<(), Fault> {
     let view = view_of(core, worker)?;
     assert!(rt; view.proposals <= 3);
     assert!(rt; view.replayed <= view.learned);
@@ -270,12 +271,9 @@ fn assert_bounds(rt: &impl Abort, core: &Core, worker: u8) -> Result<(), Fail> {
     Ok(())
 }
 
-/// Returns the key's digit and unique in a worker's table.
-fn held_by(alloc: Global, core: &Core, worker: u8) -> Result<Option<(Vec<u8>, u64)>, Fail> {
-    let (worker, tenant) = (WorkerId::new(worker), TenantId::new(0));
-    let (worker, tenant) = (worker.ok_or("no worker")?, tenant.ok_or("no tenant")?);
-    let table = core.table(worker, tenant).ok_or("no table")?;
-    let key = Key::new(alloc, b"a")?.ok_or("an unlawful key")?;
+/// Returns what a table holds under the one key: its digit and its unique.
+fn held_in(alloc: Global, table: &Items) -> Result<Option<(Vec<u8>, u64)>, Fault> {
+    let key = key_named(alloc, "a")?;
     match table.get(&key) {
         Some(item) => {
             let data = Vec::from_slice(alloc, item.block.as_bytes())?;
@@ -285,15 +283,25 @@ fn held_by(alloc: Global, core: &Core, worker: u8) -> Result<Option<(Vec<u8>, u6
     }
 }
 
+/// Returns the key's digit and unique in a worker's table.
+fn held_by(alloc: Global, core: &Core, worker: u8) -> Result<Option<(Vec<u8>, u64)>, Fault> {
+    let worker = WorkerId::new(worker).ok_or(Fault::BadEvent)?;
+    let tenant = TenantId::new(0).ok_or(Fault::BadEvent)?;
+    match core.table(worker, tenant) {
+        Some(table) => held_in(alloc, table),
+        None => Err(Fault::BadEvent),
+    }
+}
+
 /// Asserts that two workers that have replayed equally many places hold the same.
-fn assert_agree(rt: &impl Abort, alloc: Global, core: &Core) -> Result<(), Fail> {
+fn assert_agree(rt: &impl Abort, alloc: Global, core: &Core) -> Result<(), Fault> {
     if view_of(core, 0)?.replayed == view_of(core, 1)?.replayed {
         assert!(rt; held_by(alloc, core, 0)? == held_by(alloc, core, 1)?);
     }
     Ok(())
 }
 
-fn assert_state(rt: &impl Abort, alloc: Global, way: &Way, core: &Core) -> Result<(), Fail> {
+fn assert_state(rt: &impl Abort, alloc: Global, way: &Way, core: &Core) -> Result<(), Fault> {
     assert_sound(rt, way, core);
     assert_helped(rt, way, core, 0);
     assert_helped(rt, way, core, 1);
@@ -312,7 +320,7 @@ fn phase_code(phase: Phase) -> u64 {
 }
 
 /// Appends what the core shows of a worker.
-fn push_worker(key: &mut Vec<u64>, core: &Core, worker: u8) -> Result<(), Fail> {
+fn push_worker(key: &mut Vec<u64>, core: &Core, worker: u8) -> Result<(), Fault> {
     let view = view_of(core, worker)?;
     key.push(phase_code(view.phase))?;
     key.push(view.learned)?;
@@ -322,18 +330,18 @@ fn push_worker(key: &mut Vec<u64>, core: &Core, worker: u8) -> Result<(), Fail> 
     Ok(())
 }
 
-fn push_notes(key: &mut Vec<u64>, notes: Notes) -> Result<(), Fail> {
+fn push_notes(key: &mut Vec<u64>, notes: Notes) -> Result<(), Fault> {
     key.extend_from_slice(&[notes.announced, notes.decided_then, notes.looked_at])?;
     Ok(())
 }
 
-fn push_ticket(key: &mut Vec<u64>, ticket: &Ticket) -> Result<(), Fail> {
+fn push_ticket(key: &mut Vec<u64>, ticket: &Ticket) -> Result<(), Fault> {
     key.extend_from_slice(&[u64::from(ticket.worker.number()), ticket.number])?;
     Ok(())
 }
 
 /// Returns a state as numbers: two states are equal exactly if their numbers are.
-fn key_of(alloc: Global, way: &Way, core: &Core) -> Result<Vec<u64>, Fail> {
+fn key_of(alloc: Global, way: &Way, core: &Core) -> Result<Vec<u64>, Fault> {
     let mut key = Vec::new(alloc);
     push_worker(&mut key, core, 0)?;
     push_worker(&mut key, core, 1)?;
@@ -345,6 +353,34 @@ fn key_of(alloc: Global, way: &Way, core: &Core) -> Result<Vec<u64>, Fail> {
     Ok(key)
 }
 
+/// Returns the event of a move at the end of a path.
+fn next_event(alloc: Global, way: &Way, made: Move) -> Result<Event, Fault> {
+    event_for(alloc, way.notes(made.worker).announced, made)
+}
+
+/// Returns whether the core takes the move.
+fn is_enabled(alloc: Global, way: &Way, core: &Core, made: Move) -> Result<bool, Fault> {
+    let event = next_event(alloc, way, made)?;
+    let checked = core.check(&event);
+    // A local enum that its block drops is proved variant by variant.
+    drop(event);
+    Ok(checked.is_ok())
+}
+
+/// Returns the path with a move that the core takes.
+fn taken(alloc: Global, way: &Way, core: &Core, made: Move) -> Result<Way, Fault> {
+    let turn = turn_of(core, made.worker)?;
+    let notes = noted(way, made, turn, core.decided().len() as u64);
+    way.longer(alloc, made, notes)
+}
+
+/// Has the core take the move. Returns whether the answer is the expected one.
+fn is_answered(alloc: Global, way: &Way, core: &mut Core, made: Move) -> Result<bool, Fault> {
+    let want = wanted(alloc, core, made)?;
+    let said = answered(alloc, core, next_event(alloc, way, made)?)?;
+    Ok(said.as_slice() == want.as_bytes())
+}
+
 /// Returns the path with one more move, if the core takes it and it leads to a state that wasn't
 /// seen before.
 fn longer(
@@ -353,18 +389,13 @@ fn longer(
     way: &Way,
     made: Move,
     seen: &mut BTreeSet<Vec<u64>>,
-) -> Result<Option<Way>, Fail> {
+) -> Result<Option<Way>, Fault> {
     let mut core = core_after(alloc, &way.moves)?;
-    let event = event_for(alloc, way.notes(made.worker).announced, made)?;
-    if core.check(&event).is_err() {
+    if !is_enabled(alloc, way, &core, made)? {
         return Ok(None);
     }
-    let turn = turn_of(&core, made.worker)?;
-    let notes = noted(way, made, turn, core.decided().len() as u64);
-    let longer = way.longer(alloc, made, notes)?;
-    let want = wanted(alloc, &core, made)?;
-    let said = answered(alloc, &mut core, event)?;
-    assert_eq!(rt; said.as_slice(), want.as_bytes());
+    let longer = taken(alloc, way, &core, made)?;
+    assert!(rt; is_answered(alloc, way, &mut core, made)?);
     assert_state(rt, alloc, &longer, &core)?;
     let is_new = seen.insert(key_of(alloc, &longer, &core)?)?;
     Ok(if is_new { Some(longer) } else { None })
@@ -376,7 +407,7 @@ fn try_moves(
     alloc: Global,
     way: &Way,
     seen: &mut BTreeSet<Vec<u64>>,
-) -> Result<Vec<Way>, Fail> {
+) -> Result<Vec<Way>, Fault> {
     let mut ways = Vec::new(alloc);
     for deed in DEEDS {
         for worker in 0..2u8 {
@@ -395,7 +426,7 @@ fn all_longer(
     alloc: Global,
     ways: &[Way],
     seen: &mut BTreeSet<Vec<u64>>,
-) -> Result<Vec<Way>, Fail> {
+) -> Result<Vec<Way>, Fault> {
     let mut all = Vec::new(alloc);
     for way in ways {
         for longer in try_moves(rt, alloc, way, seen)? {

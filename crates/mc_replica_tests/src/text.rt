@@ -1,5 +1,5 @@
 //! Each reply's text, with ample memory, and what is left if memory runs out.
-use crate::values::{assert_text, value_of};
+use crate::values::{reads_as, value_of};
 use mc_model::{Fault, Reply, ValueList, WireNo};
 use mc_write::{refusal_text, write_reply};
 use std::alloc::Global;
@@ -7,7 +7,7 @@ use std::process::Abort;
 use std::test::Fail;
 
 #[test]
-fn writes_lines(rt: HostRuntime) -> Result<(), Fail> {
+fn writes_lines(rt: HostRuntime) {
     let cases = [
         (Reply::Stored, "STORED\r\n"),
         (Reply::NotStored, "NOT_STORED\r\n"),
@@ -20,18 +20,24 @@ fn writes_lines(rt: HostRuntime) -> Result<(), Fail> {
         (Reply::Version, "VERSION 1.0.0\r\n"),
     ];
     for (reply, line) in cases {
-        assert_text(&rt, rt.alloc(), &reply, line.as_bytes())?;
+        assert!(rt;
+            reads_as(rt.alloc(), reply, line.as_bytes()) == Ok(true),
+            "{line}"
+        );
     }
-    Ok(())
 }
 
-fn assert_refusal(rt: &impl Abort, alloc: Global, refusal: WireNo, line: &str) -> Result<(), Fail> {
-    assert!(rt; refusal_text(refusal) == line.as_bytes(), "{line}");
-    assert_text(rt, alloc, &Reply::Refused(refusal), line.as_bytes())
+fn assert_refusal(rt: &impl Abort, alloc: Global, refusal: WireNo, line: &str) {
+    let text = line.as_bytes();
+    assert!(rt; refusal_text(refusal) == text, "{line}");
+    assert!(rt;
+        reads_as(alloc, Reply::Refused(refusal), text) == Ok(true),
+        "{line}"
+    );
 }
 
 #[test]
-fn writes_refusals(rt: HostRuntime) -> Result<(), Fail> {
+fn writes_refusals(rt: HostRuntime) {
     const CASES: [(WireNo, &str); 11] = [
         (WireNo::E1, "ERROR\r\n"),
         (WireNo::E2, "CLIENT_ERROR bad command line format\r\n"),
@@ -52,13 +58,12 @@ fn writes_refusals(rt: HostRuntime) -> Result<(), Fail> {
         (WireNo::E11, "SERVER_ERROR out of memory\r\n"),
     ];
     for (refusal, line) in CASES {
-        assert_refusal(&rt, rt.alloc(), refusal, line)?;
+        assert_refusal(&rt, rt.alloc(), refusal, line);
     }
-    Ok(())
 }
 
 /// Returns the reply that shows one item.
-fn one_value(alloc: Global) -> Result<Reply, Fail> {
+fn one_value(alloc: Global) -> Result<Reply, Fault> {
     let value = value_of(alloc, ("k", 1, "data", Some(2)))?;
     Ok(Reply::Values(ValueList::new(vec![in alloc; value]?)))
 }
@@ -67,32 +72,45 @@ const ONE_VALUE: &str = "VALUE k 1 4 2\r\ndata\r\nEND\r\n";
 
 const AFTER_OLD_BYTES: &str = "oldVALUE k 1 4 2\r\ndata\r\nEND\r\n";
 
+/// Writes the reply after what was there.
+fn write(reply: Reply, out: &mut Vec<u8>) -> Result<(), Fault> {
+    let written = write_reply(&reply, out);
+    drop(reply);
+    written
+}
+
 /// The reply's text stands after what was there.
 #[test]
 fn appends_to_old_bytes(rt: HostRuntime) -> Result<(), Fail> {
     let mut out = Vec::from_slice(rt.alloc(), b"STORED\r\n")?;
     let none = Reply::Values(ValueList::new(Vec::new(rt.alloc())));
-    write_reply(&none, &mut out)?;
+    assert!(rt; write(none, &mut out) == Ok(()));
     assert!(rt; out.as_slice() == b"STORED\r\nEND\r\n".as_slice());
     Ok(())
 }
 
+/// Returns the reply that shows two items.
+fn two_values(alloc: Global) -> Result<Reply, Fault> {
+    let first = value_of(alloc, ("abc", 5, "a\r\nEND\r\nb", Some(70)))?;
+    let second = value_of(alloc, ("d", u32::MAX, "", None))?;
+    Ok(Reply::Values(ValueList::new(vec![in alloc; first, second]?)))
+}
+
+fn is_written(alloc: Global, text: &str) -> Result<bool, Fault> {
+    reads_as(alloc, two_values(alloc)?, text.as_bytes())
+}
+
 #[test]
-fn writes_items(rt: HostRuntime) -> Result<(), Fail> {
-    let first = value_of(rt.alloc(), ("abc", 5, "a\r\nEND\r\nb", Some(70)))?;
-    let second = value_of(rt.alloc(), ("d", u32::MAX, "", None))?;
-    let values = vec![in rt.alloc(); first, second]?;
+fn writes_items(rt: HostRuntime) {
     let text = "VALUE abc 5 9 70\r\na\r\nEND\r\nb\r\nVALUE d 4294967295 0\r\n\r\nEND\r\n";
-    let reply = Reply::Values(ValueList::new(values));
-    assert_text(&rt, rt.alloc(), &reply, text.as_bytes())
+    assert!(rt; is_written(rt.alloc(), text) == Ok(true));
 }
 
 /// If an allocation fails (`rt try --test --fail-alloc N`), the old bytes stay.
 #[test]
 fn out_of_memory_keeps_old_bytes(rt: HostRuntime) -> Result<(), Fail> {
     let mut out = Vec::from_slice(rt.alloc(), b"old")?;
-    let reply = one_value(rt.alloc())?;
-    match write_reply(&reply, &mut out) {
+    match write(one_value(rt.alloc())?, &mut out) {
         Ok(()) => {
             assert!(rt; out.as_slice() == AFTER_OLD_BYTES.as_bytes());
         }
@@ -107,10 +125,9 @@ fn out_of_memory_keeps_old_bytes(rt: HostRuntime) -> Result<(), Fail> {
 /// here.
 #[test]
 fn room_is_enough(rt: HostRuntime) -> Result<(), Fail> {
-    let reply = one_value(rt.alloc())?;
     let mut out = Vec::with_capacity(rt.alloc(), ONE_VALUE.len())?;
-    let written = write_reply(&reply, &mut out);
-    assert!(rt; written.is_ok() && out.as_slice() == ONE_VALUE.as_bytes());
+    assert!(rt; write(one_value(rt.alloc())?, &mut out) == Ok(()));
+    assert!(rt; out.as_slice() == ONE_VALUE.as_bytes());
     assert!(rt; out.capacity() == ONE_VALUE.len());
     Ok(())
 }
