@@ -20,4 +20,3 @@ pub mod laws;
 pub mod past_connections;
 pub mod ready_queue;
 mod socket;
-mod waiting;
