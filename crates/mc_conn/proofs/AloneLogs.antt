@@ -20,7 +20,7 @@ use Rattle.uc_worker.specs.Going.{Continues}
 use Rattle.uc_worker.specs.Worker.{HasReplayedAll, IsClosing, announced_of, history_of, places_kept, seat_of}
 use Rattle.mc_conn.specs.declared.conn.Role.TheVariants.{Tenant}
 use Rattle.mc_conn.specs.Alone.{IsAloneOver, applied_with, commands_of, first_mark, logged_reply, owed_after}
-use Rattle.mc_conn.specs.Ending.{LogsInTime, LogsLast}
+use Rattle.mc_conn.specs.Ending.{AreInTime, LogsInTime, LogsLast}
 use Rattle.mc_conn.specs.Onward.{own_entry, own_sighting}
 use Rattle.mc_conn.specs.Owed.{IsPlaced, IsTurnedAway, Mark, Owes, answered, count_logged, mark_of}
 use Rattle.mc_conn.specs.Turn.{Scene, Takes}
@@ -279,6 +279,32 @@ module _ (limits : Limits) (base : List Command) (places : ℕ) (worker : Worker
       in
       (ap (λ list. own 0 (entries list)) (sym whole) ∙ (ap (λ n. own 0 (entries (take n (history_of worker)))) (sym none) ∙ applied.1), count)
 
+-- requests that a worker alone took in time: there was a place for each command
+pub few_in_time : (before : Scene) (requests : List Request) → (seat_of before.worker).size.workers ≡ 1 → before.conn.role ≡ Tenant 0 → mark_of before.worker ≡ first_mark → AreInTime before requests →
+    length (commands_of requests) ≤ (seat_of before.worker).size.places
+few_in_time before requests alone role mark in_time =
+    let all : count_logged before.conn.role requests ≡ length (commands_of requests) =
+    ap (λ role. count_logged role requests) role ∙ count_commands requests
+    in
+    ⊎_elim
+    (λ (none : count_logged before.conn.role requests ≡ 0). omega (arith, all, none))
+    (λ (last : (between : Scene) × LogsLast before between requests).
+    let between = last.0.worker in
+    let first = last.1.first in
+    let owes : Owes between (Tenant 0) first_mark first.taken.requests first.taken.owed (mark_of between) =
+    subst (λ from. Owes between (Tenant 0) from first.taken.requests first.taken.owed (mark_of between)) mark
+    (subst (λ role. Owes between role (mark_of before.worker) first.taken.requests first.taken.owed (mark_of between)) role first.taken.owes)
+    in
+    let size = first.taken.onward.same.0 in
+    let below =
+    few_commands (seat_of before.worker).size.places between (ap (λ size. size.workers) size ∙ alone) (ap (λ size. size.places) size) first.taken.requests first.taken.owed owes last.1.room
+    in
+    let earlier : count_logged before.conn.role first.taken.requests ≡ length (commands_of first.taken.requests) =
+    ap (λ role. count_logged role first.taken.requests) role ∙ count_commands first.taken.requests
+    in
+    omega (arith, all, earlier, last.1.last, below))
+    in_time
+
 -- what was taken by turns that leave commands to the next log
 module _ (before after : Scene) (takes : Takes before after) (alone : (seat_of after.worker).size.workers ≡ 1) (role : before.conn.role ≡ Tenant 0)
     (mark : mark_of before.worker ≡ first_mark) (in_time : LogsInTime takes) where
@@ -292,27 +318,9 @@ module _ (before after : Scene) (takes : Takes before after) (alone : (seat_of a
 
   taken_few : length (commands_of takes.taken.requests) ≤ all_places
   taken_few =
-      let all : count_logged before.conn.role takes.taken.requests ≡ length (commands_of takes.taken.requests) =
-      ap (λ role. count_logged role takes.taken.requests) role ∙ count_commands takes.taken.requests
-      in
-      ⊎_elim
-      (λ (none : count_logged before.conn.role takes.taken.requests ≡ 0). omega (arith, all, none))
-      (λ (last : (between : Scene) × LogsLast before between after takes).
-      let between = last.0.worker in
-      let first = last.1.first in
-      let owes : Owes between (Tenant 0) first_mark first.taken.requests first.taken.owed (mark_of between) =
-      subst (λ from. Owes between (Tenant 0) from first.taken.requests first.taken.owed (mark_of between)) mark
-      (subst (λ role. Owes between role (mark_of before.worker) first.taken.requests first.taken.owed (mark_of between)) role first.taken.owes)
-      in
-      let size = first.taken.onward.same.0 ∙ sym takes.taken.onward.same.0 in
-      let below =
-      few_commands all_places between (ap (λ size. size.workers) size ∙ alone) (ap (λ size. size.places) size) first.taken.requests first.taken.owed owes last.1.room
-      in
-      let earlier : count_logged before.conn.role first.taken.requests ≡ length (commands_of first.taken.requests) =
-      ap (λ role. count_logged role first.taken.requests) role ∙ count_commands first.taken.requests
-      in
-      omega (arith, all, earlier, last.1.last, below))
-      in_time
+      let size = takes.taken.onward.same.0 in
+      let few = few_in_time before takes.taken.requests (ap (λ size. size.workers) (sym size) ∙ alone) role mark in_time in
+      omega (arith, few, ap (λ size. size.places) size)
 
   pub replayed_in_time : IsClosing after.worker → HasReplayedAll after.worker
   replayed_in_time closing = all_replayed all_places after.worker alone refl takes.taken.requests takes.taken.owed owes_first taken_few closing

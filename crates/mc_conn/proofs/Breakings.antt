@@ -1,6 +1,7 @@
 -- A fault after parts that went well, and where it comes from.
-use Rattle.std.proofs.Common.{◌≡◌, ℕ, ◌+◌, List, [], ◌∷◌, ◌++◌, length, take, drop, slice_get, Some, sym, refl, ap, ◌∙◌, subst, inl, inr, ⊎_elim, arith, append_assoc, append-nil, length-append}
+use Rattle.std.proofs.Common.{◌≡◌, ℕ, ◌+◌, Bool, true, false, List, [], ◌∷◌, ◌++◌, length, take, drop, slice_get, Some, sym, refl, ap, ◌∙◌, subst, inl, inr, ⊎_elim, arith, append_assoc, append-nil, length-append}
 use Rattle.std.proofs.lemmas.List.{take-append-drop}
+use Rattle.std.specs.Prelude.{cond}
 use Rattle.std.specs.Io.KnownBytes.{Consumes}
 use Rattle.std.proofs.KnownBytes.{Consumes-nil}
 use Rattle.mc_model.specs.declared.fault.Fault.{Fault}
@@ -11,19 +12,19 @@ use Rattle.mc_stream.specs.Pushing.{FailsOnce, Pushes}
 use Rattle.mc_stream.specs.Stream.{Inflow, Outflow, Streams, both}
 use Rattle.uc_worker.specs.Cited.{Sighting}
 use Rattle.uc_worker.specs.declared.worker.Worker.{Worker}
-use Rattle.uc_worker.specs.Worker.{announced_of}
+use Rattle.uc_worker.specs.Worker.{IsClosing, announced_of}
 use Rattle.lists.proofs.Public.{last_at}
 use Rattle.mc_conn.specs.declared.conn.Conn.{Conn}
 use Rattle.mc_conn.specs.ConnFault.{CellTaken, ConnFault, CountsFailures, InputFailed, OutOfMemory, OutputFailed, fault_of}
-use Rattle.mc_conn.specs.Ending.{Breaks, MayStandBehind, Meets}
+use Rattle.mc_conn.specs.Ending.{AreInTime, Breaks, BreaksIn, MayStandBehind, Meets}
 use Rattle.mc_conn.specs.Held.{HoldsOn, IsRead}
 use Rattle.mc_conn.specs.Onward.{own_sighting}
 use Rattle.uc_worker.specs.Going.{Continues}
-use Rattle.mc_conn.specs.Owed.{Demand, Logs, Says, demand_of, mark_of}
-use Rattle.mc_conn.specs.Parts.{IsTakeFault, LooksForNext, MayAnnounceFor, Refuses}
+use Rattle.mc_conn.specs.Owed.{Demand, Logs, Says, count_logged, demand_of, is_logged, mark_of}
+use Rattle.mc_conn.specs.Parts.{Does, IsTakeFault, LooksForNext, MayAnnounceFor, Refuses}
 use Rattle.mc_conn.specs.Turn.{NeitherFails, Scene, Taken, Takes, holding_of, queue_of, scene}
 use Rattle.mc_conn.proofs.Owings.{same_sighting}
-use Rattle.mc_conn.proofs.Takings.{taken_none, taken_still, taken_trans}
+use Rattle.mc_conn.proofs.Takings.{in_time_on, taken_none, taken_still, taken_trans, takes_self}
 
 pub counts_later : (cause : ConnFault) (first second third : Streams) → NeitherFails first second → CountsFailures cause second third → CountsFailures cause first third
 counts_later OutOfMemory first second third one two = (two.0 ∙ one.0, two.1 ∙ one.1)
@@ -50,46 +51,58 @@ breaks_later fault a b c one two = record {
   failures = counts_later two.cause a.streams b.streams c.streams one.unfailed two.failures;
 }
 
+pub breaks_in_later : (until : Bool) (fault : Fault) (a b c : Scene) (did : Bool) → Does until a b did → BreaksIn until b c fault → BreaksIn until a c fault
+unfolding breaks_later taken_trans
+breaks_in_later until fault a b c did one two = record {
+  breaks = breaks_later fault a b c one.takes two.breaks;
+  in_time = λ is.
+      subst (AreInTime a) (sym (append_assoc one.takes.taken.requests two.breaks.taken.requests two.breaks.met))
+      (in_time_on a b one.takes (two.breaks.taken.requests ++ two.breaks.met) (one.in_time is) (two.in_time is));
+}
+
 -- no request was taken, and none met the fault
-breaks_here : (cause : ConnFault) (old new : Conn) (worker : Worker) (before after : Streams) →
+breaks_here : (until : Bool) (cause : ConnFault) (old new : Conn) (worker : Worker) (before after : Streams) →
     (taken : Taken (scene old worker before) (scene new worker after) (mark_of worker)) → taken.requests ≡ [] → CountsFailures cause before after →
-    Breaks (scene old worker before) (scene new worker after) (fault_of cause)
-breaks_here cause old new worker before after taken none counts = record {
-  cause = cause;
-  is = refl;
-  to = mark_of worker;
-  taken = taken;
-  met = [];
-  reads = λ more all reads. (all, ap (λ (list : List Request). list ++ all) (sym none));
-  meets = refl;
-  failures = counts;
+    BreaksIn until (scene old worker before) (scene new worker after) (fault_of cause)
+breaks_here until cause old new worker before after taken none counts = record {
+  breaks = record {
+    cause = cause;
+    is = refl;
+    to = mark_of worker;
+    taken = taken;
+    met = [];
+    reads = λ more all reads. (all, ap (λ (list : List Request). list ++ all) (sym none));
+    meets = refl;
+    failures = counts;
+  };
+  in_time = λ is. inl (ap (λ (list : List Request). count_logged old.role (list ++ [])) none);
 }
 
 -- while a front of the queue was pushed
-pub breaks_pushing : (old new : Conn) (worker : Worker) (input : Inflow) (before after : Outflow) (count : ℕ) → queue_of new ≡ drop count (queue_of old) → new.role ≡ old.role →
+pub breaks_pushing : (until : Bool) (old new : Conn) (worker : Worker) (input : Inflow) (before after : Outflow) (count : ℕ) → queue_of new ≡ drop count (queue_of old) → new.role ≡ old.role →
     Pushes before after (take count (queue_of old)) → FailsOnce before after → waits after.events ≡ waits before.events →
-    Breaks (scene old worker (both input before)) (scene new worker (both input after)) Output
+    BreaksIn until (scene old worker (both input before)) (scene new worker (both input after)) Output
 unfolding taken_none
-breaks_pushing old new worker input before after count left role went failed waited =
-    breaks_here OutputFailed old new worker (both input before) (both input after)
+breaks_pushing until old new worker input before after count left role went failed waited =
+    breaks_here until OutputFailed old new worker (both input before) (both input after)
     (taken_none old new worker (both input before) (both input after) [] (take count (queue_of old)) (sym (append-nil (moved input.events))) (Consumes-nil input.left) went role
     (ap (λ rest. take count (queue_of old) ++ rest) left ∙ take-append-drop count (queue_of old)) (omega (arith, waited)))
     refl (refl, failed)
 
 -- while bytes were pulled, or kept
-pub breaks_pulling : (cause : ConnFault) (old new : Conn) (worker : Worker) (before after : Inflow) (output : Outflow) (piece : List ℕ) → queue_of new ≡ queue_of old → new.role ≡ old.role →
+pub breaks_pulling : (until : Bool) (cause : ConnFault) (old new : Conn) (worker : Worker) (before after : Inflow) (output : Outflow) (piece : List ℕ) → queue_of new ≡ queue_of old → new.role ≡ old.role →
     moved after.events ≡ moved before.events ++ piece → Consumes before.left after.left piece → CountsFailures cause (both before output) (both after output) →
-    Breaks (scene old worker (both before output)) (scene new worker (both after output)) (fault_of cause)
+    BreaksIn until (scene old worker (both before output)) (scene new worker (both after output)) (fault_of cause)
 unfolding taken_none
-breaks_pulling cause old new worker before after output piece queue role pulled consumed counts =
-    breaks_here cause old new worker (both before output) (both after output)
+breaks_pulling until cause old new worker before after output piece queue role pulled consumed counts =
+    breaks_here until cause old new worker (both before output) (both after output)
     (taken_none old new worker (both before output) (both after output) piece [] pulled consumed (sym (append-nil (moved output.events))) role queue (omega arith)) refl counts
 
 -- while a request was looked for
-pub breaks_looking : (old new : Conn) (worker : Worker) (streams : Streams) → LooksForNext old new → Breaks (scene old worker streams) (scene new worker streams) Memory
+pub breaks_looking : (until : Bool) (old new : Conn) (worker : Worker) (streams : Streams) → LooksForNext old new → BreaksIn until (scene old worker streams) (scene new worker streams) Memory
 unfolding taken_still taken_none
-breaks_looking old new worker streams looks =
-    breaks_here OutOfMemory old new worker streams streams (taken_still old new worker streams looks.role looks.queue) refl (refl, refl)
+breaks_looking until old new worker streams looks =
+    breaks_here until OutOfMemory old new worker streams streams (taken_still old new worker streams looks.role looks.queue) refl (refl, refl)
 
 -- what the request that met a fault announced
 meets_one : (worker later : Worker) (demand : Demand) → Continues worker later → MayAnnounceFor worker later demand → MayStandBehind later (mark_of worker) demand
@@ -109,31 +122,44 @@ take_cause : (fault : Fault) (streams : Streams) → IsTakeFault fault → (caus
 take_cause fault streams which = ⊎_elim (λ is. (OutOfMemory, is, (refl, refl))) (λ is. (CellTaken, is, (refl, refl))) which
 
 -- while a request was taken
-pub breaks_taking : (fault : Fault) (old new : Conn) (worker later : Worker) (streams : Streams) (request : Request) → IsRead (holding_of old) [] (request ∷ []) (holding_of new) →
-    new.role ≡ old.role → Continues worker later → Refuses worker later old.role request (queue_of old) (queue_of new) fault →
-    Breaks (scene old worker streams) (scene new later streams) fault
-breaks_taking fault old new worker later streams request read role on refuses =
-    let why = take_cause fault streams refuses.is in
-    record {
-      cause = why.0;
-      is = why.1;
-      to = mark_of worker;
-      taken = record {
-        came = [];
-        requests = [];
-        owed = [];
-        sent = [];
-        pulled = sym (append-nil (moved streams.input.events));
-        consumed = Consumes-nil streams.input.left;
-        pushed = sym (append-nil (moved streams.output.events));
-        role = role;
-        onward = on;
-        owes = (refl, refl, omega arith);
-        bytes = refuses.unchanged ∙ sym (append-nil (queue_of old));
-        waited = omega arith;
-      };
-      met = request ∷ [];
-      reads = λ more all reads. let follows = (read more all).0 reads in (follows.0, follows.1);
-      meets = (refl, meets_one worker later (demand_of old.role request) on refuses.announced);
-      failures = why.2;
-    }
+module _ (fault : Fault) (old new : Conn) (worker later : Worker) (streams : Streams) (request : Request) (read : IsRead (holding_of old) [] (request ∷ []) (holding_of new))
+    (role : new.role ≡ old.role) (on : Continues worker later) (refuses : Refuses worker later old.role request (queue_of old) (queue_of new) fault) where
+  met_by : Breaks (scene old worker streams) (scene new later streams) fault
+  met_by =
+      let why = take_cause fault streams refuses.is in
+      record {
+        cause = why.0;
+        is = why.1;
+        to = mark_of worker;
+        taken = record {
+          came = [];
+          requests = [];
+          owed = [];
+          sent = [];
+          pulled = sym (append-nil (moved streams.input.events));
+          consumed = Consumes-nil streams.input.left;
+          pushed = sym (append-nil (moved streams.output.events));
+          role = role;
+          onward = on;
+          owes = (refl, refl, omega arith);
+          bytes = refuses.unchanged ∙ sym (append-nil (queue_of old));
+          waited = omega arith;
+        };
+        met = request ∷ [];
+        reads = λ more all reads. let follows = (read more all).0 reads in (follows.0, follows.1);
+        meets = (refl, meets_one worker later (demand_of old.role request) on refuses.announced);
+        failures = why.2;
+      }
+
+  -- if it is to be logged, its log wasn't closing
+  met_in_time : (logged : Bool) → is_logged (demand_of old.role request) ≡ logged → (logged ≡ true → ¬ (IsClosing worker)) → AreInTime (scene old worker streams) (request ∷ [])
+  unfolding takes_self taken_still taken_none
+  met_in_time true is room = inr (
+    scene old worker streams,
+    record { first = takes_self (scene old worker streams); room = room refl; last = ap (λ logged. cond logged 1 0 + 0) is },
+  )
+  met_in_time false is room = inl (ap (λ logged. cond logged 1 0 + 0) is)
+
+  pub breaks_taking : (until : Bool) → (until ≡ true → is_logged (demand_of old.role request) ≡ true → ¬ (IsClosing worker)) → BreaksIn until (scene old worker streams) (scene new later streams) fault
+  unfolding met_by
+  breaks_taking until room = record { breaks = met_by; in_time = λ is. met_in_time (is_logged (demand_of old.role request)) refl (room is) }

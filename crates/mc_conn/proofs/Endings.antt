@@ -1,5 +1,5 @@
 -- How the parts of a turn make up its state, and a fault what it leaves.
-use Rattle.std.proofs.Common.{◌≡◌, ◌≢◌, ◌⊎◌, ℕ, ◌+◌, ◌≤◌, ◌<◌, ◌||◌, ◌&&◌, Bool, true, false, List, [], ◌∷◌, ◌++◌, length, Option, Some, None, is_some, Result, Ok, Err, IfOk, sym, refl, ap, ◌∙◌, subst, inl, inr, ⊎_elim, arith, append-nil, length-append}
+use Rattle.std.proofs.Common.{◌≡◌, ◌≢◌, ◌⊎◌, ℕ, ◌+◌, ◌≤◌, ◌<◌, ◌||◌, ◌&&◌, Bool, true, false, List, [], ◌∷◌, ◌++◌, length, Option, Some, None, is_some, Result, Ok, Err, IfOk, sym, refl, ap, ◌∙◌, subst, inl, inr, ⊎_elim, arith, append_assoc, append-nil, length-append}
 use Rattle.std.proofs.lemmas.Bool.{ltb-false}
 use Rattle.std.specs.Bool.{MatchBool, ◌==◌}
 use Rattle.std.specs.Prelude.{MatchResult, nat_lt}
@@ -16,15 +16,15 @@ use Rattle.mc_conn.specs.declared.conn.Role.{Role}
 use Rattle.mc_conn.specs.declared.conn.State.{State}
 use Rattle.mc_conn.specs.declared.conn.State.TheVariants.{Closed, Idle, Busy, Full}
 use Rattle.mc_conn.specs.ConnFault.{CellTaken, ConnFault, InputFailed, IsTold, OutOfMemory, OutputFailed, fault_of}
-use Rattle.mc_conn.specs.Ending.{Breaks, HoldsOnlyBehind, IsDone, IsState, IsStuck, LogsInTime, Pulls, PullsAfter, PullsLate, PullsOnce, Serves, ServesUntil, Stops, Turns, TurnsUntil}
+use Rattle.mc_conn.specs.Ending.{AreInTime, Breaks, HoldsOnlyBehind, IsDone, IsState, IsStuck, LogsInTime, Pulls, PullsAfter, PullsLate, PullsOnce, Serves, ServesUntil, Stops, StopsUntil, Turns, TurnsUntil}
 use Rattle.mc_conn.specs.Held.{HoldsNone, Holding}
 use Rattle.mc_conn.specs.Owed.{Mark, Owes, mark_of}
-use Rattle.mc_conn.specs.Parts.{Does, GoesRound, IsAtRest, IsHeldBehind, IsLeft, StateIs, TellsOf}
+use Rattle.mc_conn.specs.Parts.{Does, GoesRound, IsAtRest, IsHeldBehind, IsLeft, StateIs, StopsIn, TellsOf}
 use Rattle.mc_conn.specs.Turn.{Scene, Takes, amount, holding_of, queue_of, scene}
 use Rattle.mc_conn.proofs.Breakings.{breaks_later}
 use Rattle.lists.proofs.Public.{appended_twice}
 use Rattle.mc_conn.proofs.Awaiting.{left_later, none_left}
-use Rattle.mc_conn.proofs.Takings.{does_trans, in_time_trans, sent_last, takes_trans}
+use Rattle.mc_conn.proofs.Takings.{does_trans, in_time_on, in_time_trans, sent_last, taken_trans, takes_trans}
 
 or_left : (x y : Bool) → (x || y) ≡ false → x ≡ false
 or_left true y is = is
@@ -353,7 +353,7 @@ turns a z state round =
       unfull,
     )
 
-pub never_full : (closed : Bool) (result : Result State Fault) (a z : Scene) → (closed ≡ false → MatchResult result (GoesRound false a z) (Stops a z)) → (closed ≡ true → result ≡ Ok Closed) →
+pub never_full : (closed : Bool) (result : Result State Fault) (a z : Scene) → (closed ≡ false → MatchResult result (GoesRound false a z) (StopsIn false a z)) → (closed ≡ true → result ≡ Ok Closed) →
     IfOk result (λ state. state ≢ Full)
 never_full false (Ok state) a z goes stays = (turns a z state (goes refl)).1
 never_full true (Ok state) a z goes stays = λ full. let is : Ok state ≡ Ok Closed = stays refl in cc
@@ -413,6 +413,10 @@ module _ (before : Scene) (old new : Conn) (worker : Worker) (input : Inflow) (b
     shut = shut;
   }
 
+  pub stops_in : (until : Bool) → (until ≡ true → AreInTime before (breaks.taken.requests ++ breaks.met)) → new.is_closed ≡ true → StopsIn until before (scene new worker (both input after)) fault
+  unfolding stops closed
+  stops_in until in_time shut = record { stops = stops shut; in_time = in_time }
+
   pub pulls_told : Pulls before (scene old worker (both input between)) → Pulls before (scene new worker (both input after))
   pulls_told pulls = record {
     once = pulls.once;
@@ -428,6 +432,24 @@ stops_later fault a b c one two = record {
   told = two.told;
   shut = two.shut;
 }
+
+pub stops_until : (a z : Scene) (fault : Fault) → StopsIn true a z fault → StopsUntil a z fault
+stops_until a z fault stopped = record { stops = stopped.stops; in_time = stopped.in_time refl }
+
+-- the same where commands are left to the next log
+pub stops_until_later : (fault : Fault) (a b c : Scene) (one : Takes a b) → LogsInTime one → StopsUntil b c fault → StopsUntil a c fault
+unfolding stops_later breaks_later taken_trans
+stops_until_later fault a b c one first two = record {
+  stops = stops_later fault a b c one two.stops;
+  in_time =
+      subst (AreInTime a) (sym (append_assoc one.taken.requests two.stops.breaks.taken.requests two.stops.breaks.met))
+      (in_time_on a b one (two.stops.breaks.taken.requests ++ two.stops.breaks.met) first two.in_time);
+}
+
+-- the requests that were taken up to a fault, first those of the turns before
+pub stops_after : (fault : Fault) (a b c : Scene) (one : Takes a b) (two : Stops b c fault) → (all : Stops a c fault) × (all.breaks.taken.requests ≡ one.taken.requests ++ two.breaks.taken.requests)
+unfolding stops_later breaks_later taken_trans
+stops_after fault a b c one two = (stops_later fault a b c one two, refl)
 
 -- turns that went well, and one that closes
 pub serves : (a b c : Scene) (state : State) → Takes a b → Turns b c state → state ≡ Closed → Serves a c

@@ -18,7 +18,7 @@ use Rattle.mc_conn.specs.declared.conn.Conn.{Conn}
 use Rattle.mc_conn.specs.Held.{IsRead}
 use Rattle.uc_worker.specs.Going.{Continues}
 use Rattle.mc_conn.specs.declared.conn.Role.{Role}
-use Rattle.mc_conn.specs.Ending.{LogsInTime, LogsLast}
+use Rattle.mc_conn.specs.Ending.{AreInTime, LogsInTime, LogsLast}
 use Rattle.mc_conn.specs.Owed.{Mark, Owes, count_logged, demand_of, is_logged, mark_of}
 use Rattle.mc_conn.specs.Parts.{Does, LooksForNext, Responds}
 use Rattle.mc_conn.specs.Turn.{NeitherFails, RemembersTheEnd, Scene, Taken, Takes, amount, holding_of, queue_of, scene}
@@ -163,21 +163,21 @@ unfolding takes_trans taken_trans
 amount_trans a b c one two =
     omega (arith, length-append one.taken.came two.taken.came, length-append one.taken.requests two.taken.requests, length-append one.taken.sent two.taken.sent)
 
--- no request was logged at a worker that was done, through two parts
-pub in_time_trans : (a b c : Scene) (one : Takes a b) (two : Takes b c) → LogsInTime one → LogsInTime two → LogsInTime (takes_trans a b c one two)
+-- no request was logged at a worker whose log was closing, in a part that went well and after it
+pub in_time_on : (a b : Scene) (one : Takes a b) (more : List Request) → LogsInTime one → AreInTime b more → AreInTime a (one.taken.requests ++ more)
 unfolding takes_trans taken_trans
-in_time_trans a b c one two first second =
-    let sum = count_logged-append a.conn.role one.taken.requests two.taken.requests in
-    let same : count_logged b.conn.role two.taken.requests ≡ count_logged a.conn.role two.taken.requests = ap (λ role. count_logged role two.taken.requests) one.taken.role in
+in_time_on a b one more first second =
+    let sum = count_logged-append a.conn.role one.taken.requests more in
+    let same : count_logged b.conn.role more ≡ count_logged a.conn.role more = ap (λ role. count_logged role more) one.taken.role in
     ⊎_elim
-    (λ (none : count_logged b.conn.role two.taken.requests ≡ 0). ⊎_elim
+    (λ (none : count_logged b.conn.role more ≡ 0). ⊎_elim
     (λ (nothing : count_logged a.conn.role one.taken.requests ≡ 0). inl (omega (arith, sum, same, none, nothing)))
-    (λ (last : (between : Scene) × LogsLast a between b one). inr (
+    (λ (last : (between : Scene) × LogsLast a between one.taken.requests). inr (
       last.0,
       record { first = last.1.first; room = last.1.room; last = omega (arith, sum, same, none, last.1.last) },
     ))
     first)
-    (λ (last : (between : Scene) × LogsLast b between c two).
+    (λ (last : (between : Scene) × LogsLast b between more).
     let before = count_logged-append a.conn.role one.taken.requests last.1.first.taken.requests in
     let role : count_logged b.conn.role last.1.first.taken.requests ≡ count_logged a.conn.role last.1.first.taken.requests =
     ap (λ role. count_logged role last.1.first.taken.requests) one.taken.role
@@ -187,6 +187,10 @@ in_time_trans a b c one two first second =
       record { first = takes_trans a b last.0 one last.1.first; room = last.1.room; last = omega (arith, sum, same, before, role, last.1.last) },
     ))
     second
+
+pub in_time_trans : (a b c : Scene) (one : Takes a b) (two : Takes b c) → LogsInTime one → LogsInTime two → LogsInTime (takes_trans a b c one two)
+unfolding takes_trans taken_trans
+in_time_trans a b c one two first second = in_time_on a b one two.taken.requests first second
 
 did_or : (x y : Bool) (m n k : ℕ) → k ≡ m + n → MatchBool x (0 < m) (m ≡ 0) → MatchBool y (0 < n) (n ≡ 0) → MatchBool (x || y) (0 < k) (k ≡ 0)
 did_or true y m n k sum p q = omega (arith, sum, p)

@@ -103,19 +103,23 @@ pub record Turns (before after : Scene) (state : State) : Type 0 where
   pub left : (queue_of after.conn ≡ [])
       ⊎ (waits before.streams.output.events < waits after.streams.output.events)
 
--- All requests that were logged but the last were taken before a moment at which the worker's log
--- wasn't closing yet.
-pub record LogsLast (before between after : Scene) (takes : Takes before after) : Type 0 where
+-- Of these requests, all that are logged but the last were taken before a moment at which the
+-- worker's log wasn't closing yet.
+pub record LogsLast (before between : Scene) (requests : List Request) : Type 0 where
   pub first : Takes before between
   pub room : ¬ (IsClosing between.worker)
-  pub last : count_logged before.conn.role takes.taken.requests
+  pub last : count_logged before.conn.role requests
       ≡ count_logged before.conn.role first.taken.requests + 1
+
+-- none of these requests was logged at a worker whose log was closing
+abbrev pub AreInTime : Scene → List Request → Type 0
+AreInTime before requests =
+    (count_logged before.conn.role requests ≡ 0)
+    ⊎ (between : Scene) × LogsLast before between requests
 
 -- no request was logged at a worker whose log was closing
 abbrev pub LogsInTime : {before after : Scene} → Takes before after → Type 0
-LogsInTime {before} {after} takes =
-    (count_logged before.conn.role takes.taken.requests ≡ 0)
-    ⊎ (between : Scene) × LogsLast before between after takes
+LogsInTime {before} {after} takes = AreInTime before takes.taken.requests
 
 -- A turn without a fault that leaves commands to the next log: one that is to be logged isn't taken
 -- if the worker's log is closing, and the state is then `Full`.
@@ -157,6 +161,12 @@ pub record Breaks (before after : Scene) (fault : Fault) : Type 0 where
   pub meets : Meets after.worker before.conn.role to met
   pub failures : CountsFailures cause before.streams after.streams
 
+-- a fault in a turn, which leaves commands to the next log if that is `true`: then no request was
+-- logged at a worker whose log was closing, the one that met the fault included
+pub record BreaksIn (until : Bool) (before after : Scene) (fault : Fault) : Type 0 where
+  pub breaks : Breaks before after fault
+  pub in_time : until ≡ true → AreInTime before (breaks.taken.requests ++ breaks.met)
+
 -- what a fault leaves: the connection was served up to it, then the client gets what is sent about
 -- it, and the connection is closed for good
 pub record Stops (before after : Scene) (fault : Fault) : Type 0 where
@@ -165,6 +175,12 @@ pub record Stops (before after : Scene) (fault : Fault) : Type 0 where
       (scene after.conn after.worker (both after.streams.input told_from)) fault
   pub told : IsTold breaks.cause (queue_of after.conn) told_from after.streams.output
   pub shut : after.conn.is_closed ≡ true
+
+-- what a fault leaves in a turn that leaves commands to the next log: no request was logged at a
+-- worker whose log was closing, the one that met the fault included
+pub record StopsUntil (before after : Scene) (fault : Fault) : Type 0 where
+  pub stops : Stops before after fault
+  pub in_time : AreInTime before (stops.breaks.taken.requests ++ stops.breaks.met)
 
 -- turns up to the end: all that came and was held is taken, and all that was queued and is owed is
 -- sent

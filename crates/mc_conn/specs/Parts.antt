@@ -16,7 +16,7 @@ use Rattle.mc_conn.specs.declared.conn.State.{State}
 use Rattle.mc_conn.specs.declared.conn.State.TheVariants.{Closed, Idle, Busy, Full}
 use Rattle.mc_conn.specs.declared.conn.TheConstants.{QUEUE_BYTES}
 use Rattle.mc_conn.specs.ConnFault.{TellsStarved}
-use Rattle.mc_conn.specs.Ending.{AwaitsLog, HoldsOnlyBehind, IsState, LogsInTime}
+use Rattle.mc_conn.specs.Ending.{AreInTime, AwaitsLog, HoldsOnlyBehind, IsState, LogsInTime, Stops}
 use Rattle.mc_conn.specs.Held.{HoldsNone}
 use Rattle.mc_conn.specs.Onward.{own_sighting}
 use Rattle.uc_worker.specs.Going.{Continues}
@@ -125,6 +125,12 @@ pub record GoesRound (until : Bool) (before after : Scene) (state : State) : Typ
   pub in_time : until ≡ true → LogsInTime takes
   pub left : (queue_of after.conn ≡ [])
       ⊎ (waits before.streams.output.events < waits after.streams.output.events)
+
+-- what a fault leaves in a turn, which leaves commands to the next log if that is `true`
+pub record StopsIn (until : Bool) (before after : Scene) (fault : Fault) : Type 0 where
+  pub stops : Stops before after fault
+  pub in_time : until ≡ true →
+      AreInTime before (stops.breaks.taken.requests ++ stops.breaks.met)
 
 -- what the client gets when a fault closes the connection
 abbrev pub TellsOf : Fault → List ℕ → Outflow → Outflow → Type 0

@@ -16,7 +16,7 @@ ghost use Rattle.mc_conn.specs.declared.conn.Role.{Role};
 ghost use Rattle.mc_conn.specs.declared.conn.Role.TheVariants.{Tenant};
 ghost use Rattle.mc_conn.specs.declared.conn.TheConstants.{PULL_BYTES, QUEUE_BYTES};
 ghost use Rattle.mc_conn.specs.Alone.{IsAlone, IsAloneOver, commands_of, first_mark, owed, owed_after};
-ghost use Rattle.mc_conn.specs.Ending.{LogsInTime, PullsLate, Stops};
+ghost use Rattle.mc_conn.specs.Ending.{AreInTime, LogsInTime, PullsLate, Stops};
 ghost use Rattle.mc_conn.specs.Held.{Holding, IsRead};
 ghost use Rattle.mc_conn.specs.Owed.{IsPlaced, IsTurnedAway, Mark, Owes, mark_of};
 ghost use Rattle.mc_conn.specs.Turn.{Scene, Takes};
@@ -55,7 +55,12 @@ pub fn a_worker_alone_answers_in_order()
 /// Logs of one worker, each opened over the table after the commands that the earlier ones took,
 /// owe what one log owes that has as many places as all of them.
 pub fn logs_of_a_worker_alone_add_up()
-    // A log whose commands are left to the next one takes none that it has no place for.
+    // A log whose commands are left to the next one takes none that it has no place for, up to a
+    // fault too.
+    ensures few { (before : Scene) (requests : List Request) →
+        (seat_of before.worker).size.workers ≡ 1 → before.conn.role ≡ Tenant 0 →
+        mark_of before.worker ≡ first_mark → AreInTime before requests →
+        length (commands_of requests) ≤ (seat_of before.worker).size.places }
     ensures in_time { (limits : Limits) (base : List Command) (places : ℕ) (before after : Scene)
         (takes : Takes before after) → IsAloneOver limits base places after.worker →
         before.conn.role ≡ Tenant 0 → mark_of before.worker ≡ first_mark → LogsInTime takes →
@@ -95,6 +100,10 @@ pub fn turns_add_up()
     ensures through { (a b c : Scene) → Takes a b → Takes b c → Takes a c }
     ensures stops { (fault : Fault) (a b c : Scene) → Takes a b → Stops b c fault →
         Stops a c fault }
+    // What was taken up to a fault is what was taken by the turns before, and then by the last one.
+    ensures taken { (fault : Fault) (a b c : Scene) (takes : Takes a b) (stops : Stops b c fault) →
+        (all : Stops a c fault) × (all.breaks.taken.requests
+        ≡ takes.taken.requests ++ stops.breaks.taken.requests) }
     // So do turns that pull late, if what is done after them only sends.
     ensures late { (a b c : Scene) → Takes a b → PullsLate a b → PullsLate b c → (more : List ℕ) →
         Pushes b.streams.output c.streams.output more →

@@ -2,8 +2,8 @@
 ghost use Rattle.std.specs.Prelude.{◌≡◌, ◌≢◌, true, false, IfOk, Ok, MatchResult};
 ghost use Rattle.mc_stream.specs.Stream.{both};
 ghost use Rattle.mc_conn.specs.ConnFault.{TellsStarved};
-ghost use Rattle.mc_conn.specs.Ending.{Breaks, Pulls, Stops, Turns, TurnsUntil};
-ghost use Rattle.mc_conn.specs.Parts.{GoesRound, StateIs, TellsOf};
+ghost use Rattle.mc_conn.specs.Ending.{BreaksIn, Pulls, Stops, StopsUntil, Turns, TurnsUntil};
+ghost use Rattle.mc_conn.specs.Parts.{GoesRound, StateIs, StopsIn, TellsOf};
 ghost use Rattle.mc_conn.specs.Owed.{FitsLog};
 ghost use Rattle.mc_conn.specs.Turn.{queue_of, scene};
 
@@ -57,7 +57,8 @@ impl Conn {
             (GoesRound until_done
             (scene self.old worker.old (both (I.tells input.old) (O.tells output.old)))
             (scene self.new worker.new (both (I.tells input.new) (O.tells output.new))))
-            (Breaks (scene self.old worker.old (both (I.tells input.old) (O.tells output.old)))
+            (BreaksIn until_done
+            (scene self.old worker.old (both (I.tells input.old) (O.tells output.old)))
             (scene self.new worker.new (both (I.tells input.new) (O.tells output.new)))) }
         ensures pulls { Pulls
             (scene self.old worker.old (both (I.tells input.old) (O.tells output.old)))
@@ -99,7 +100,8 @@ impl Conn {
             (GoesRound until_done
             (scene self.old worker.old (both (I.tells input.old) (O.tells output.old)))
             (scene self.new worker.new (both (I.tells input.new) (O.tells output.new))))
-            (Stops (scene self.old worker.old (both (I.tells input.old) (O.tells output.old)))
+            (StopsIn until_done
+            (scene self.old worker.old (both (I.tells input.old) (O.tells output.old)))
             (scene self.new worker.new (both (I.tells input.new) (O.tells output.new)))) }
         ensures pulls { Pulls
             (scene self.old worker.old (both (I.tells input.old) (O.tells output.old)))
@@ -179,11 +181,12 @@ impl Conn {
         buffer: &mut [u8; PULL_BYTES],
     ) -> Result<State, Fault>
         requires role { FitsLog self.old.role worker.old }
-        // As for `turn`; and no request was logged once the worker's log was closing.
+        // As for `turn`; and no request was logged once the worker's log was closing, the one that
+        // met a fault included.
         ensures outcome { self.old.is_closed ≡ false → MatchResult result
             (TurnsUntil (scene self.old worker.old (both (I.tells input.old) (O.tells output.old)))
             (scene self.new worker.new (both (I.tells input.new) (O.tells output.new))))
-            (Stops (scene self.old worker.old (both (I.tells input.old) (O.tells output.old)))
+            (StopsUntil (scene self.old worker.old (both (I.tells input.old) (O.tells output.old)))
             (scene self.new worker.new (both (I.tells input.new) (O.tells output.new)))) }
         ensures pulls { Pulls
             (scene self.old worker.old (both (I.tells input.old) (O.tells output.old)))

@@ -3,14 +3,15 @@ use Rattle.std.proofs.Common.{◌≡◌, ℕ, ◌+◌, ◌≤◌, Bool, true, fa
 use Rattle.std.specs.Prelude.{MatchResult}
 use Rattle.std.proofs.KnownBytes.{Consumes-nil}
 use Rattle.mc_model.specs.declared.fault.Fault.{Fault}
+use Rattle.mc_model.specs.declared.request.Request.{Request}
 use Rattle.mc_model.specs.declared.settings.Limits.{Limits}
 use Rattle.mc_conn.specs.declared.conn.Conn.{Conn}
 use Rattle.mc_conn.specs.declared.conn.Role.TheVariants.{Tenant}
 use Rattle.mc_conn.specs.Held.{IsRead, nothing_held}
 use Rattle.mc_conn.specs.Turn.{holding_of, queue_of}
-use Rattle.mc_programs.specs.Generations.{IsForOne, LogsHaveServed, ServesLog}
+use Rattle.mc_programs.specs.Generations.{IsEnoughOn, IsForOne, LogsHaveServed, ServesLog}
 use Rattle.mc_programs.specs.Opening.{IsOpened}
-use Rattle.mc_programs.specs.Serving.{ServesByLogs, StopsByLogs, StopsService, before_all}
+use Rattle.mc_programs.specs.Serving.{AreEnough, ServesByLogs, StopsByLogs, StopsService, before_all}
 use Rattle.mc_programs.proofs.Following.{read_refl}
 use Rattle.mc_programs.proofs.Served.{nothing_in, reads_nothing}
 use Rattle.mc_stream.specs.Event.{moved}
@@ -63,8 +64,8 @@ for_one limits places log pass opened = (ap (λ settings. settings.workers) open
 
 -- what becomes of the logs becomes of the service
 pub by_logs : (refused : Worker → Type 0) (limits : Limits) (places most : ℕ) (before after : Streams) (result : Result (Unit {0}) Fault) →
-    MatchResult result (λ _. ServesByLogs refused limits places most before after) (StopsByLogs limits places most before after) →
-    MatchResult result (λ _. ServesByLogs refused limits places most before after) (StopsService limits places most before after)
+    MatchResult result (λ _. ServesByLogs refused limits places most before after) (StopsByLogs refused limits places most before after) →
+    MatchResult result (λ _. ServesByLogs refused limits places most before after) (StopsService refused limits places most before after)
 by_logs refused limits places most before after (Ok done) is = is
 by_logs refused limits places most before after (Err fault) is = inl is
 
@@ -73,6 +74,12 @@ pub only_pass : (passes rest : List Pass) (pass : Pass) → passes ≡ rest ++ p
 only_pass passes rest pass popped one =
     let none : rest ≡ [] = nothing_in rest (omega (arith, ap length popped, length-append rest (pass ∷ []), one)) in
     ap (λ list. slice_get list 0) (popped ∙ ap (λ list. list ++ pass ∷ []) none)
+
+-- where a log is the last one only as the last of all, what is enough of it is enough of all
+pub enough_all : (refused : Worker → Type 0) (limits : Limits) (places logs most : ℕ) (is_last : Bool) → (is_last ≡ true → logs + 1 ≡ most) → (number : ℕ) (requests : List Request) →
+    IsEnoughOn refused limits places logs is_last number requests → AreEnough refused limits places most number requests
+enough_all refused limits places logs most is_last last number requests enough =
+    ⊎_elim (λ (here : (is_last ≡ true) × (number ≡ logs + 1)). inl (here.1 ∙ last here.0)) inr enough
 
 -- a log that isn't followed by another served the client to its end
 pub ended_by : (refused : Worker → Type 0) (limits : Limits) (places logs most : ℕ) (is_last : Bool) (first : Streams) (conn : Conn) (now : Streams) (after : Option Next) → logs + 1 ≤ most →

@@ -22,7 +22,7 @@ use Rattle.mc_conn.specs.declared.conn.Conn.{Conn}
 use Rattle.mc_conn.specs.declared.conn.Role.TheVariants.{Tenant}
 use Rattle.mc_read.specs.Line.{asked}
 use Rattle.mc_read.specs.Reading.{ReadsAs}
-use Rattle.mc_conn.specs.Ending.{LogsInTime, PullsLate, Serves, Stops}
+use Rattle.mc_conn.specs.Ending.{AreInTime, LogsInTime, PullsLate, Serves, Stops}
 use Rattle.mc_conn.specs.Held.{Holding, HoldsOn, IsRead}
 use Rattle.mc_conn.specs.Owed.{mark_of}
 use Rattle.mc_conn.specs.Turn.{Scene, Takes, holding_of, queue_of}
@@ -34,7 +34,7 @@ use Rattle.mc_stream.specs.Pushing.{Pushes}
 use Rattle.mc_stream.specs.Stream.{Streams}
 use Rattle.uc_cells.specs.Sighting.{entries}
 use Rattle.uc_worker.specs.declared.worker.Worker.{Worker}
-use Rattle.uc_worker.specs.Worker.{HasReplayedAll, history_of, openings_of}
+use Rattle.uc_worker.specs.Worker.{HasReplayedAll, history_of, openings_of, seat_of}
 
 commands-append : (first second : List Request) → commands_of (first ++ second) ≡ commands_of first ++ commands_of second
 commands-append [] second = refl
@@ -49,6 +49,10 @@ abbrev pub InTime : Type 0
 InTime = (limits : Limits) (base : List Command) (places : ℕ) (before after : Scene) (takes : Takes before after) → IsAloneOver limits base places after.worker →
     before.conn.role ≡ Tenant 0 → mark_of before.worker ≡ first_mark → LogsInTime takes → (length (commands_of takes.taken.requests) ≤ places)
     × ((total : ℕ) → length base + places ≤ total → takes.taken.owed ≡ owed_after limits [] total base takes.taken.requests)
+
+abbrev pub Few : Type 0
+Few = (before : Scene) (requests : List Request) → (seat_of before.worker).size.workers ≡ 1 → before.conn.role ≡ Tenant 0 → mark_of before.worker ≡ first_mark → AreInTime before requests →
+    length (commands_of requests) ≤ (seat_of before.worker).size.places
 
 abbrev pub Full : Type 0
 Full = (limits : Limits) (base : List Command) (places : ℕ) (before after : Scene) (takes : Takes before after) → IsAloneOver limits base places after.worker →
@@ -66,6 +70,16 @@ module _ (limits : Limits) (places logs : ℕ) (first : Streams) (start : Scene)
       let here = (law limits (commands_of begins.served.requests) places start after takes alone_on begins.served.role begins.fresh.mark in_time).0 in
       let commands = ap length (commands-append begins.served.requests takes.taken.requests) in
       omega (arith, here, commands, length-append (commands_of begins.served.requests) (commands_of takes.taken.requests), begins.served.full, all_places limits places logs first start begins)
+
+-- a log whose commands are left to the next one, up to a fault
+pub few_broken : (limits : Limits) (places logs : ℕ) (first : Streams) (start : Scene) (begins : Begins limits places logs first start) (requests met : List Request) → AreInTime start (requests ++ met) → Few →
+    length (commands_of (begins.served.requests ++ requests)) ≤ (logs + 1) * places
+few_broken limits places logs first start begins requests met in_time law =
+    let all = law start (requests ++ met) begins.fresh.alone.workers begins.served.role begins.fresh.mark in_time in
+    let both = ap length (commands-append requests met) in
+    let commands = ap length (commands-append begins.served.requests requests) in
+    omega (arith, all, both, begins.fresh.alone.long, length-append (commands_of requests) (commands_of met), commands, length-append (commands_of begins.served.requests) (commands_of requests), begins.served.full,
+    all_places limits places logs first start begins)
 
 module _ (limits : Limits) (places logs : ℕ) (first : Streams) (start : Scene) (begins : Begins limits places logs first start) (after : Scene) (takes : Takes start after)
     (in_time : LogsInTime takes) (done : HasReplayedAll after.worker) (in_time_law : InTime) (full_law : Full) (late : PullsLate start after) where
@@ -117,7 +131,21 @@ module _ (limits : Limits) (places logs : ℕ) (first : Streams) (start : Scene)
   unfolding served_more
   requests_more = refl
 
-  -- it is full of the last of the requests that were taken by then, of all that came in the end
+  -- it is full of the last of the requests that were taken by then
+  pub filled_by : (requests others : List Request) → requests ≡ served_more.requests ++ others → FillsLast limits places (logs + 1) requests after.worker
+  unfolding served_more
+  filled_by requests others split = record {
+    earlier = earlier.requests;
+    last = takes.taken.requests;
+    others = others;
+    split = split;
+    alone = alone_after;
+    replayed = is_full.0;
+    long = is_full.1;
+    full = served_more.full;
+  }
+
+  -- also of all that came in the end
   pub filled : (last : Streams) (comes : Comes first last) (later : List ℕ) → moved last.input.events ≡ moved after.streams.input.events ++ later → FillsLast limits places (logs + 1) comes.requests after.worker
   unfolding served_more
   filled last comes later pulled =
@@ -127,16 +155,13 @@ module _ (limits : Limits) (places logs : ℕ) (first : Streams) (start : Scene)
       ∙ (pulled ∙ (ap (λ known. known ++ later) served_more.pulled ∙ append_assoc (moved first.input.events) served_more.came later)))
       in
       let follows = (served_more.read later comes.requests).0 (subst (λ known. ReadsAs asked known comes.requests) bytes (comes.rest, comes.reads)) in
-      record {
-        earlier = earlier.requests;
-        last = takes.taken.requests;
-        others = follows.0;
-        split = follows.1;
-        alone = alone_after;
-        replayed = is_full.0;
-        long = is_full.1;
-        full = served_more.full;
-      }
+      filled_by comes.requests follows.0 follows.1
+
+  -- and of what was taken up to a fault
+  pub filled_before : (requests later : List Request) → requests ≡ takes.taken.requests ++ later → FillsLast limits places (logs + 1) (earlier.requests ++ requests) after.worker
+  unfolding served_more
+  filled_before requests later is =
+      filled_by (earlier.requests ++ requests) later (ap (λ list. earlier.requests ++ list) is ∙ sym (append_assoc earlier.requests takes.taken.requests later))
 
   -- the table that stands for the full log
   tables_one : (openings tables : List TableState) (log : List (Option Entry)) (opening : TableState) → openings ≡ opening ∷ [] → EachStands openings log tables → tables ≡ state_from opening (own 0 log) ∷ []
@@ -164,8 +189,8 @@ read_refl a more all = (λ reads. (all, refl, reads), λ (others, same, reads). 
 abbrev pub TakesThrough : Type 0
 TakesThrough = (a b c : Scene) → Takes a b → Takes b c → Takes a c
 
-abbrev pub StopsThrough : Type 0
-StopsThrough = (fault : Fault) (a b c : Scene) → Takes a b → Stops b c fault → Stops a c fault
+abbrev pub StopsAfter : Type 0
+StopsAfter = (fault : Fault) (a b c : Scene) (takes : Takes a b) (stops : Stops b c fault) → (all : Stops a c fault) × (all.breaks.taken.requests ≡ takes.taken.requests ++ stops.breaks.taken.requests)
 
 abbrev pub LateThrough : Type 0
 LateThrough = (a b c : Scene) → Takes a b → PullsLate a b → PullsLate b c → (more : List ℕ) → Pushes b.streams.output c.streams.output more →
@@ -181,9 +206,6 @@ module _ (start middle : Scene) (takes : Takes start middle) (late : PullsLate s
 
   pub serves_on_late : (after : Scene) → Serves middle after → PullsLate middle after → PullsLate start after
   serves_on_late after serves more = late_through start middle after takes late more serves.takes.taken.sent serves.takes.taken.pushed serves.takes.taken.waited
-
-  pub stops_on : StopsThrough → (fault : Fault) (after : Scene) → Stops middle after fault → Stops start after fault
-  stops_on stops fault after stopped = stops fault start middle after takes stopped
 
   pub stops_on_late : StopsSend → (fault : Fault) (after : Scene) → Stops middle after fault → PullsLate middle after → PullsLate start after
   stops_on_late sends fault after stopped more = let sent = sends fault middle after stopped in late_through start middle after takes late more sent.0 sent.1 sent.2

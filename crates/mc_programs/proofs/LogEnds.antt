@@ -1,20 +1,21 @@
 -- How a log ends for a client: the client has ended, a fault came, or the next log goes on.
-use Rattle.std.proofs.Common.{◌≡◌, ◌⊎◌, ℕ, ◌+◌, ◌*◌, ◌≤◌, Bool, false, Option, Some, None, Result, Ok, Err, length, true, sym, refl, subst, inl, inr, ⊎_elim}
+use Rattle.std.proofs.Common.{◌≡◌, ◌⊎◌, ℕ, ◌+◌, ◌*◌, ◌≤◌, Bool, false, List, ◌++◌, Option, Some, None, Result, Ok, Err, length, true, sym, refl, subst, inl, inr, ⊎_elim}
 use Rattle.std.specs.Prelude.{MatchResult}
 use Rattle.mc_model.specs.declared.fault.Fault.{Fault}
+use Rattle.mc_model.specs.declared.request.Request.{Request}
 use Rattle.mc_model.specs.declared.settings.Limits.{Limits}
 use Rattle.mc_model.specs.Replay.{EachStands, HaveRoom}
 use Rattle.mc_conn.specs.Alone.{commands_of, first_mark}
 use Rattle.mc_conn.specs.declared.conn.Conn.{Conn}
 use Rattle.mc_conn.specs.declared.conn.State.TheVariants.{Closed, Full as FullState}
 use Rattle.mc_conn.specs.declared.conn.Role.TheVariants.{Tenant}
-use Rattle.mc_conn.specs.Ending.{AwaitsLog, IsDone, LogsInTime, PullsLate, Serves, ServesUntil, Stops}
+use Rattle.mc_conn.specs.Ending.{AwaitsLog, IsDone, LogsInTime, PullsLate, Serves, ServesUntil, Stops, StopsUntil}
 use Rattle.mc_conn.specs.Owed.{mark_of}
 use Rattle.mc_conn.specs.Turn.{Scene, Takes, scene}
-use Rattle.mc_programs.specs.Generations.{IsForOne, ServesLog}
-use Rattle.mc_programs.specs.Serving.{IsNotFollowed, ServesClient, StopsByLogs, no_room, not_needed, out_of_memory, settings_alone}
+use Rattle.mc_programs.specs.Generations.{IsEnoughOn, IsForOne, ServesLog, StopsLog}
+use Rattle.mc_programs.specs.Serving.{FillsLast, IsNotFollowed, ServesClient, no_room, not_needed, out_of_memory, settings_alone}
 use Rattle.mc_programs.proofs.Served.{Begins, serves, serves_with, stops}
-use Rattle.mc_programs.proofs.Following.{Full, InTime, LateThrough, StopsSend, StopsThrough, TakesThrough, few_taken, filled, served_more, serves_on, stops_on, stops_on_late, tables_more}
+use Rattle.mc_programs.proofs.Following.{Few, Full, InTime, LateThrough, StopsAfter, StopsSend, TakesThrough, few_broken, few_taken, filled, filled_before, served_more, serves_on, stops_on_late, tables_more}
 use Rattle.mc_stream.specs.Stream.{Streams}
 use Rattle.uc_cells.specs.Sighting.{entries}
 use Rattle.uc_log.specs.declared.log.Log.{Log}
@@ -51,10 +52,17 @@ replayed a b log until of one role fresh law =
 module _ (refused : Worker → Type 0) (limits : Limits) (places logs : ℕ) (first : Streams) (start : Scene) (begins : Begins limits places logs first start) where
   -- the last log served the client to its end
   pub ends_last : (result : Result (Option Next) Fault) (is_last : Bool) (after : Scene) → is_last ≡ true → MatchResult result (λ next. (next ≡ None) × Serves start after) (Stops start after) →
-      PullsLate start after → MatchResult result (ServesLog refused limits places logs is_last first after.conn after.streams) (StopsByLogs limits places (logs + 1) first after.streams)
+      PullsLate start after → MatchResult result (ServesLog refused limits places logs is_last first after.conn after.streams) (StopsLog refused limits places logs is_last first after.streams)
   ends_last (Ok None) is_last after last is late = (serves limits places logs first start begins after is.1, inl last)
   ends_last (Ok (Some next)) is_last after last is late = let no : Some next ≡ None = is.0 in cc
-  ends_last (Err fault) is_last after last is late = stops limits places logs first start begins fault after is late
+  ends_last (Err fault) is_last after last is late = stops limits places logs first start begins (IsEnoughOn refused limits places logs is_last) fault after is (inl (last, refl)) late
+
+  -- a fault came before the client needed another one
+  pub ends_broken : (fault : Fault) (is_last : Bool) (after : Scene) → StopsUntil start after fault → PullsLate start after → Few → StopsLog refused limits places logs is_last first after.streams fault
+  ends_broken fault is_last after until late law =
+      let breaks = until.stops.breaks in
+      stops limits places logs first start begins (IsEnoughOn refused limits places logs is_last) fault after until.stops
+      (inr (not_needed (few_broken limits places logs first start begins breaks.taken.requests breaks.met until.in_time law))) late
 
   -- the client ended before it needed another one
   pub ends_closed : (is_last : Bool) (after : Scene) → ServesUntil start after Closed → InTime → ServesLog refused limits places logs is_last first after.conn after.streams None
@@ -68,23 +76,28 @@ module _ (refused : Worker → Type 0) (limits : Limits) (places logs : ℕ) (fi
   module _ (conn : Conn) (old : Worker) (streams : Streams) (until : ServesUntil start (scene conn old streams) FullState) (late : PullsLate start (scene conn old streams)) (in_time : InTime) (full : Full)
       (done : HasReplayedAll old) where
     -- it is full and isn't followed by another
-    module _ (none : ¬ (HaveRoom (tables_of old) places) ⊎ refused old) (through : TakesThrough) (late_through : LateThrough) (stops_through : StopsThrough) (sends : StopsSend) where
+    module _ (none : ¬ (HaveRoom (tables_of old) places) ⊎ refused old) (through : TakesThrough) (late_through : LateThrough) (stops_after : StopsAfter) (sends : StopsSend) where
+      why_not : (requests : List Request) → FillsLast limits places (logs + 1) requests old → IsNotFollowed refused limits places (logs + 1) requests
+      why_not requests fills = ⊎_elim (λ (no : ¬ (HaveRoom (tables_of old) places)). no_room old fills no) (λ (starved : refused old). out_of_memory old fills starved) none
+
       not_followed : (after : Scene) → Serves (scene conn old streams) after → (all : ServesClient limits places (logs + 1) first after.streams) →
           IsNotFollowed refused limits places (logs + 1) all.comes.requests
       not_followed after is all =
-          let fills =
-          filled limits places logs first start begins (scene conn old streams) until.takes until.in_time done in_time full late after.streams all.comes is.takes.taken.came is.takes.taken.pulled
-          in
-          ⊎_elim (λ (no : ¬ (HaveRoom (tables_of old) places)). no_room old fills no) (λ (starved : refused old). out_of_memory old fills starved) none
+          why_not all.comes.requests
+          (filled limits places logs first start begins (scene conn old streams) until.takes until.in_time done in_time full late after.streams all.comes is.takes.taken.came is.takes.taken.pulled)
 
       pub ends_on : (result : Result (Option Next) Fault) (is_last : Bool) (after : Scene) → MatchResult result (λ next. (next ≡ None) × Serves (scene conn old streams) after) (Stops (scene conn old streams) after) →
-          PullsLate (scene conn old streams) after → MatchResult result (ServesLog refused limits places logs is_last first after.conn after.streams) (StopsByLogs limits places (logs + 1) first after.streams)
+          PullsLate (scene conn old streams) after → MatchResult result (ServesLog refused limits places logs is_last first after.conn after.streams) (StopsLog refused limits places logs is_last first after.streams)
       ends_on (Ok None) is_last after is more =
           let all = serves limits places logs first start begins after (serves_on start (scene conn old streams) until.takes late through late_through after is.1) in
           (all, inr (not_followed after is.1 all))
       ends_on (Ok (Some next)) is_last after is more = let no : Some next ≡ None = is.0 in cc
       ends_on (Err fault) is_last after is more =
-          stops limits places logs first start begins fault after (stops_on start (scene conn old streams) until.takes late through late_through stops_through fault after is)
+          let all = stops_after fault start (scene conn old streams) after until.takes is in
+          let fills =
+          filled_before limits places logs first start begins (scene conn old streams) until.takes until.in_time done in_time full late all.0.breaks.taken.requests is.breaks.taken.requests all.1
+          in
+          stops limits places logs first start begins (IsEnoughOn refused limits places logs is_last) fault after all.0 (inr (why_not (begins.served.requests ++ all.0.breaks.taken.requests) fills))
           (stops_on_late start (scene conn old streams) until.takes late through late_through sends fault after is more)
 
     -- it is full, and the next one is opened

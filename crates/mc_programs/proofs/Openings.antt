@@ -1,5 +1,5 @@
 -- A log as it is opened for a client, over the table after the commands of earlier logs.
-use Rattle.std.proofs.Common.{◌≡◌, ℕ, Result, Ok, Err, IfOk, IfSome, ◌+◌, ◌*◌, ◌≤◌, zero, suc, All, Some, List, [], ◌∷◌, ◌++◌, length, slice_get, sym, ap, ◌∙◌, subst, inl, arith, append_assoc, append-nil}
+use Rattle.std.proofs.Common.{◌≡◌, ℕ, Result, Ok, Err, IfOk, IfSome, ◌+◌, ◌*◌, ◌≤◌, zero, suc, All, Some, List, [], ◌∷◌, ◌++◌, length, slice_get, sym, ap, ◌∙◌, subst, inl, inr, ⊎_elim, arith, append_assoc, append-nil}
 use Rattle.std.specs.Result.{result_ok}
 use Rattle.mc_model.specs.declared.fault.Fault.{Fault}
 use Rattle.mc_model.specs.declared.fault.Fault.TheVariants.{Memory}
@@ -15,14 +15,14 @@ use Rattle.lists.proofs.Public.{appended_twice}
 use Rattle.mc_read.specs.Line.{asked}
 use Rattle.mc_read.specs.Reading.{HasReading, ReadsAs}
 use Rattle.mc_conn.specs.Alone.{commands_of, first_mark}
-use Rattle.mc_conn.specs.ConnFault.{OutOfMemory, TellsStarved}
+use Rattle.mc_conn.specs.ConnFault.{CellTaken, ConnFault, InputFailed, OutOfMemory, OutputFailed, TellsStarved}
 use Rattle.mc_conn.specs.declared.conn.Conn.{Conn}
 use Rattle.mc_conn.specs.declared.conn.Role.{Role}
 use Rattle.mc_conn.specs.declared.conn.Role.TheVariants.{Tenant}
 use Rattle.mc_conn.specs.Owed.{FitsLog, mark_of}
 use Rattle.mc_conn.specs.Turn.{queue_of}
 use Rattle.mc_programs.specs.Generations.{IsForOne, IsFreshOver, IsNextForOne, LogsHaveServed}
-use Rattle.mc_programs.specs.Serving.{AnswersRequests, IsCaughtUp, NeverWaits, ServesInPart, StopsByLogs, owed_by_logs, settings_alone}
+use Rattle.mc_programs.specs.Serving.{AnswersRequests, IsCaughtUp, NeverWaits, ServesInPart, EndsBy, StopsBy, owed_by_logs, settings_alone}
 use Rattle.mc_programs.proofs.Served.{nothing_in, told_counts}
 use Rattle.mc_stream.specs.Event.{last_moved}
 use Rattle.stream_lemmas.proofs.Pushed.{same_stop}
@@ -74,7 +74,8 @@ opens_empty limits places requests log worker settings none over =
 
 -- the next log couldn't be opened, as memory ran out, which was reported to the client
 module _ (limits : Limits) (places logs : ℕ) (first : Streams) (conn : Conn) (now : Streams) (served : LogsHaveServed limits places logs first conn now)
-    (reading : (bytes : List ℕ) → HasReading asked bytes) (some : 1 ≤ logs) (output : Outflow) (told : TellsStarved (queue_of conn) now.output output) where
+    (reading : (bytes : List ℕ) → HasReading asked bytes) (some : 1 ≤ logs) (output : Outflow) (told : TellsStarved (queue_of conn) now.output output)
+    (Enough : ℕ → List Request → Type 0) (enough : Enough logs served.requests) where
   owes_is : served.owes ≡ owed_by_logs limits places logs served.requests
   owes_is = served.is_owed (logs * places) (omega arith)
 
@@ -98,7 +99,7 @@ module _ (limits : Limits) (places logs : ℕ) (first : Streams) (conn : Conn) (
         is_sent = ap (λ bytes. bytes ++ front) before.is_sent ∙ append_assoc (owed_by_logs limits places before.logs before.requests) before.later front;
       }
 
-  told_part : ServesInPart limits places logs first (both now.input output) (text (Refused OUT_OF_MEMORY))
+  told_part : ServesInPart (Enough logs) limits places logs first (both now.input output) (text (Refused OUT_OF_MEMORY))
   unfolding front
   told_part =
       let whole = reading served.came in
@@ -110,6 +111,7 @@ module _ (limits : Limits) (places logs : ℕ) (first : Streams) (conn : Conn) (
         others = follows.0;
         split = follows.1;
         answers = subst (AnswersRequests limits places logs served.requests) owes_is served.answers;
+        enough = enough;
         sent = served.sent ++ told.0.1.front;
         unsent = told.0.0;
         owes =
@@ -120,7 +122,7 @@ module _ (limits : Limits) (places logs : ℕ) (first : Streams) (conn : Conn) (
         caught_up = still_caught_up;
       }
 
-  pub unopened_next : (fault : Fault) → fault ≡ Memory → StopsByLogs limits places (logs + 1) first (both now.input output) fault
+  pub unopened_next : (fault : Fault) → fault ≡ Memory → StopsBy Enough limits places (logs + 1) first (both now.input output) fault
   unfolding told_part
   unopened_next fault is =
       let failed = told_counts told.0.0 now.output output told.0.2 in (
@@ -138,9 +140,34 @@ module _ (limits : Limits) (places logs : ℕ) (first : Streams) (conn : Conn) (
         ),
       )
 
--- what stops a service over some logs stops it over more
-pub stops_within : (limits : Limits) (places most more : ℕ) (before after : Streams) (fault : Fault) → most ≤ more → StopsByLogs limits places most before after fault → StopsByLogs limits places more before after fault
-stops_within limits places most more before after fault few (cause, is, (logs, among, ends)) = (cause, is, (logs, (among.0, omega (arith, among.1, few)), ends))
+-- what stops a service over some logs stops it over more, if these are as enough
+module _ (limits : Limits) (places : ℕ) (Enough More : List Request → Type 0) (more : (requests : List Request) → Enough requests → More requests) where
+  part_more : (logs : ℕ) (before after : Streams) (told : List ℕ) → ServesInPart Enough limits places logs before after told → ServesInPart More limits places logs before after told
+  part_more logs before after told part = record {
+    comes = part.comes;
+    answered = part.answered;
+    others = part.others;
+    split = part.split;
+    answers = part.answers;
+    enough = more part.answered part.enough;
+    sent = part.sent;
+    unsent = part.unsent;
+    owes = part.owes;
+    went = part.went;
+    caught_up = part.caught_up;
+  }
+
+  ends_more : (cause : ConnFault) (logs : ℕ) (before after : Streams) → EndsBy Enough limits places logs cause before after → EndsBy More limits places logs cause before after
+  unfolding part_more
+  ends_more OutOfMemory logs before after (starved, counts) = (⊎_elim (λ part. inl (part_more logs before after (text (Refused OUT_OF_MEMORY)) part.0, part.1)) (λ nothing. inr nothing) starved, counts)
+  ends_more CellTaken logs before after (part, counts) = (part_more logs before after [] part, counts)
+  ends_more InputFailed logs before after ((part, on), counts) = ((part_more logs before after [] part, on), counts)
+  ends_more OutputFailed logs before after (part, counts) = (part_more logs before after [] part, counts)
+
+pub stops_within : (Enough More : ℕ → List Request → Type 0) → ((logs : ℕ) (requests : List Request) → Enough logs requests → More logs requests) →
+    (limits : Limits) (places most longer : ℕ) (before after : Streams) (fault : Fault) → most ≤ longer → StopsBy Enough limits places most before after fault → StopsBy More limits places longer before after fault
+stops_within Enough More more limits places most longer before after fault few (cause, is, (logs, among, ends)) =
+    (cause, is, (logs, (among.0, omega (arith, among.1, few)), ends_more limits places (Enough logs) (More logs) (more logs) cause logs before after ends))
 
 -- the one worker of a log can turn over
 pub can_turn_over : (log : Log) (settings : Configuration) (worker : Worker) → settings ≡ log.settings → worker.log.now ≡ log → HasReplayedAll worker → HaveRoom (tables_of worker) settings.places →

@@ -28,7 +28,7 @@ use Rattle.mc_conn.specs.Owed.{Mark, Owes, mark_of}
 use Rattle.mc_conn.specs.Turn.{NeitherFails, Scene, holding_of, queue_of, scene}
 use Rattle.mc_programs.proofs.Owings.{owed-more}
 use Rattle.mc_programs.specs.Generations.{LogsHaveServed, IsFreshOver}
-use Rattle.mc_programs.specs.Serving.{AnswersRequests, Comes, EndsBy, IsCaughtUp, NeverWaits, ServesClient, ServesInPart, ServesOn, ServesUntilStarved, StopsByLogs, StopsService, owed_by_logs, then_log, settings_alone}
+use Rattle.mc_programs.specs.Serving.{AnswersRequests, Comes, EndsBy, IsCaughtUp, NeverWaits, ServesClient, ServesInPart, ServesOn, ServesUntilStarved, StopsBy, StopsService, owed_by_logs, then_log, settings_alone}
 use Rattle.mc_stream.specs.Event.{Event, Moves, Waits, Ends, Fails, ends, failures, has_ended, last_moved, moved, waits}
 use Rattle.mc_stream.specs.Pushing.{IsAllOrStopped, Pushes, PushesAtOnce}
 use Rattle.stream_lemmas.proofs.Pushed.{same_stop}
@@ -332,17 +332,18 @@ module _ (limits : Limits) (places logs : ℕ) (first : Streams) (start : Scene)
         ∙ all_owed after.worker breaks.taken.requests breaks.taken.owed breaks.to breaks.taken.onward breaks.taken.owes
 
     -- the report that follows was pushed in part
-    in_part : (output : Outflow) (told sent unsent : List ℕ) → owed_by_logs limits places (logs + 1) taken_by_all ++ told ≡ (so_far.sent ++ sent) ++ unsent → Pushes start.streams.output output sent →
+    in_part : (Enough : List Request → Type 0) → Enough taken_by_all → (output : Outflow) (told sent unsent : List ℕ) → owed_by_logs limits places (logs + 1) taken_by_all ++ told ≡ (so_far.sent ++ sent) ++ unsent → Pushes start.streams.output output sent →
         waits start.streams.output.events ≤ waits output.events → PullsLate start (scene after.conn after.worker (both after.streams.input output)) →
-        (part : ServesInPart limits places (logs + 1) first (both after.streams.input output) told) × (part.unsent ≡ unsent)
+        (part : ServesInPart Enough limits places (logs + 1) first (both after.streams.input output) told) × (part.unsent ≡ unsent)
     unfolding all_comes
-    in_part output told sent unsent owes went waited late = (
+    in_part Enough enough output told sent unsent owes went waited late = (
       record {
         comes = all_comes output;
         answered = taken_by_all;
         others = (splits all_read.0 all_read.1).0;
         split = (splits all_read.0 all_read.1).1;
         answers = all_answers after.worker breaks.taken.requests breaks.taken.owed breaks.to breaks.taken.onward breaks.taken.owes;
+        enough = enough;
         sent = so_far.sent ++ sent;
         unsent = unsent;
         owes = owes;
@@ -353,16 +354,16 @@ module _ (limits : Limits) (places logs : ℕ) (first : Streams) (start : Scene)
       refl,
     )
 
-    pub untold : PullsLate start after → ServesInPart limits places (logs + 1) first after.streams []
-    untold late =
-        (in_part after.streams.output [] breaks.taken.sent (queue_of after.conn) (append-nil (owed_by_logs limits places (logs + 1) taken_by_all) ∙ sym owed_is) breaks.taken.pushed
+    pub untold : (Enough : List Request → Type 0) → Enough taken_by_all → PullsLate start after → ServesInPart Enough limits places (logs + 1) first after.streams []
+    untold Enough enough late =
+        (in_part Enough enough after.streams.output [] breaks.taken.sent (queue_of after.conn) (append-nil (owed_by_logs limits places (logs + 1) taken_by_all) ∙ sym owed_is) breaks.taken.pushed
         breaks.taken.waited late).0
 
   -- memory ran out, and that is reported afterwards
-  starved : (fault : Fault) (after : Scene) (output : Outflow) → Breaks start after fault → NeitherFails first after.streams →
+  starved : (Enough : List Request → Type 0) (fault : Fault) (after : Scene) (output : Outflow) (breaks : Breaks start after fault) → Enough (so_far.requests ++ breaks.taken.requests) → NeitherFails first after.streams →
       PushesAtOnce (queue_of after.conn ++ text (Refused OUT_OF_MEMORY)) after.streams.output output → waits after.streams.output.events ≤ waits output.events →
-      PullsLate start (scene after.conn after.worker (both after.streams.input output)) → ServesUntilStarved limits places (logs + 1) first (both after.streams.input output)
-  starved fault after output breaks unfailed told waited late =
+      PullsLate start (scene after.conn after.worker (both after.streams.input output)) → ServesUntilStarved Enough limits places (logs + 1) first (both after.streams.input output)
+  starved Enough fault after output breaks enough unfailed told waited late =
       let sent = so_far.sent ++ breaks.taken.sent in
       let owes : owed_by_logs limits places (logs + 1) (taken_by_all fault after breaks) ++ text (Refused OUT_OF_MEMORY) ≡ (so_far.sent ++ (breaks.taken.sent ++ told.1.front)) ++ told.0 =
       ap (λ bytes. bytes ++ text (Refused OUT_OF_MEMORY)) (sym (owed_is fault after breaks))
@@ -371,7 +372,7 @@ module _ (limits : Limits) (places logs : ℕ) (first : Streams) (start : Scene)
       ∙ (sym (append_assoc sent told.1.front told.0) ∙ ap (λ bytes. bytes ++ told.0) (append_assoc so_far.sent breaks.taken.sent told.1.front))))
       in
       let went = told.1.went ∙ (ap (λ known. known ++ told.1.front) breaks.taken.pushed ∙ append_assoc (moved start.streams.output.events) breaks.taken.sent told.1.front) in
-      let part = in_part fault after breaks output (text (Refused OUT_OF_MEMORY)) (breaks.taken.sent ++ told.1.front) told.0 owes went (omega (arith, breaks.taken.waited, waited)) late in
+      let part = in_part fault after breaks Enough enough output (text (Refused OUT_OF_MEMORY)) (breaks.taken.sent ++ told.1.front) told.0 owes went (omega (arith, breaks.taken.waited, waited)) late in
       inl (part.0, subst (λ unsent. IsAllOrStopped unsent first.output output) (sym part.1) (same_stop told.0 first.output after.streams.output output unfailed.1 told.2))
 
   -- the input failed, and the output never waited
@@ -427,28 +428,28 @@ module _ (limits : Limits) (places logs : ℕ) (first : Streams) (start : Scene)
       late
 
   -- what a fault leaves if nothing was told about it
-  module _ (fault : Fault) (after : Scene) (told_from : Outflow) (breaks : Breaks start (scene after.conn after.worker (both after.streams.input told_from)) fault)
-      (late : PullsLate start after) where
+  module _ (Enough : List Request → Type 0) (fault : Fault) (after : Scene) (told_from : Outflow) (breaks : Breaks start (scene after.conn after.worker (both after.streams.input told_from)) fault)
+      (enough : Enough (so_far.requests ++ breaks.taken.requests)) (late : PullsLate start after) where
     abbrev before_told : Scene
     before_told = scene after.conn after.worker (both after.streams.input told_from)
 
     at_once : after.streams.output ≡ told_from → PullsLate start before_told
     at_once same = subst (λ output. PullsLate start (scene after.conn after.worker (both after.streams.input output))) same late
 
-    silent : after.streams.output ≡ told_from → ServesInPart limits places (logs + 1) first after.streams []
+    silent : after.streams.output ≡ told_from → ServesInPart Enough limits places (logs + 1) first after.streams []
     silent same =
-        subst (λ output. ServesInPart limits places (logs + 1) first (both after.streams.input output) []) (sym same) (untold fault before_told breaks (at_once same))
+        subst (λ output. ServesInPart Enough limits places (logs + 1) first (both after.streams.input output) []) (sym same) (untold fault before_told breaks Enough enough (at_once same))
 
     counts_silent : (cause : ConnFault) → after.streams.output ≡ told_from → CountsFailures cause start.streams before_told.streams → CountsFailures cause first after.streams
     counts_silent cause same counts =
         subst (λ output. CountsFailures cause first (both after.streams.input output)) (sym same) (counts_later cause first start.streams before_told.streams so_far.unfailed counts)
 
     ends_by : (cause : ConnFault) → CountsFailures cause start.streams before_told.streams → IsTold cause (queue_of after.conn) told_from after.streams.output →
-        EndsBy limits places (logs + 1) cause first after.streams
+        EndsBy Enough limits places (logs + 1) cause first after.streams
     ends_by OutOfMemory counts told =
         let unfailed = counts_later OutOfMemory first start.streams before_told.streams so_far.unfailed counts in
         let failed = told_counts told.0.0 told_from after.streams.output told.0.2 in
-        (starved fault before_told after.streams.output breaks unfailed told.0 told.1 late, unfailed.0, omega (arith, failed.0, unfailed.1), omega (arith, failed.1, unfailed.1))
+        (starved Enough fault before_told after.streams.output breaks enough unfailed told.0 told.1 late, unfailed.0, omega (arith, failed.0, unfailed.1), omega (arith, failed.1, unfailed.1))
     ends_by CellTaken counts told = (silent told, counts_silent CellTaken told counts)
     ends_by InputFailed counts told = (
       (
@@ -462,11 +463,12 @@ module _ (limits : Limits) (places logs : ℕ) (first : Streams) (start : Scene)
     )
     ends_by OutputFailed counts told = (silent told, counts_silent OutputFailed told counts)
 
-  pub stops : (fault : Fault) (after : Scene) → StopsSo start after fault → PullsLate start after → StopsByLogs limits places (logs + 1) first after.streams fault
-  stops fault after stopped late = (
+  pub stops : (Enough : ℕ → List Request → Type 0) (fault : Fault) (after : Scene) (stopped : StopsSo start after fault) → Enough (logs + 1) (so_far.requests ++ stopped.breaks.taken.requests) →
+      PullsLate start after → StopsBy Enough limits places (logs + 1) first after.streams fault
+  stops Enough fault after stopped enough late = (
     stopped.breaks.cause,
     stopped.breaks.is,
-    (logs + 1, (omega arith, omega arith), ends_by fault after stopped.told_from stopped.breaks late stopped.breaks.cause stopped.breaks.failures stopped.told),
+    (logs + 1, (omega arith, omega arith), ends_by (Enough (logs + 1)) fault after stopped.told_from stopped.breaks enough late stopped.breaks.cause stopped.breaks.failures stopped.told),
   )
 
 -- the pass of a log that was opened with one worker
@@ -480,10 +482,10 @@ opened_alone limits places log passes rest pass settings tenants none popped cou
     (same ∙ (is ∙ ap (λ list. record { workers = 1; places = places; tenants = list }) one), new 0 pass first)
 
 -- no log could be opened: memory ran out, which is reported, or the settings are out of range
-pub refused : (limits : Limits) (places most : ℕ) (fault answered : Fault) (input : Inflow) (before after : Outflow) → 1 ≤ most → answered ≡ fault →
+pub refused : (refuses_memory : Worker → Type 0) (limits : Limits) (places most : ℕ) (fault answered : Fault) (input : Inflow) (before after : Outflow) → 1 ≤ most → answered ≡ fault →
     (fault ≡ Memory) ⊎ (fault ≡ BadSettings) × ¬ (IsLawful (settings_alone limits places)) → RefusesToOpen fault before after →
-    StopsService limits places most (both input before) (both input after) answered
-refused limits places most fault answered input before after some same which refuses =
+    StopsService refuses_memory limits places most (both input before) (both input after) answered
+refused refuses_memory limits places most fault answered input before after some same which refuses =
     ⊎_elim
     (λ (memory : fault ≡ Memory).
     let told = refuses.0 memory in
@@ -495,9 +497,9 @@ refused limits places most fault answered input before after some same which ref
     which
 
 -- the first log couldn't be opened
-pub unopened : (limits : Limits) (places : ℕ) (fault answered : Fault) (input : Inflow) (before after : Outflow) → answered ≡ fault → fault ≡ Memory → RefusesToOpen fault before after →
-    StopsByLogs limits places 1 (both input before) (both input after) answered
-unopened limits places fault answered input before after same memory refuses =
+pub unopened : (Enough : ℕ → List Request → Type 0) (limits : Limits) (places : ℕ) (fault answered : Fault) (input : Inflow) (before after : Outflow) → answered ≡ fault → fault ≡ Memory → RefusesToOpen fault before after →
+    StopsBy Enough limits places 1 (both input before) (both input after) answered
+unopened Enough limits places fault answered input before after same memory refuses =
     let told = refuses.0 memory in
     let failed = told_counts told.0 before after told.2 in
     (OutOfMemory, same ∙ memory, (1, (omega arith, omega arith), (inr (refl, told), refl, failed.0, failed.1)))

@@ -2,6 +2,7 @@
 use Rattle.std.specs.Io.KnownBytes.{Consumes, IsAtEnd}
 use Rattle.std.specs.List.{list_any}
 use Rattle.std.specs.Prelude.{◌≡◌, ◌⊎◌, ℕ, Bool, true, false, ◌+◌, ◌*◌, ◌≤◌, List, [], ◌∷◌, ◌++◌, length, Option, Some, None, slice_get}
+use Rattle.mc_model.specs.declared.fault.Fault.{Fault}
 use Rattle.mc_model.specs.declared.request.Request.{Request}
 use Rattle.mc_model.specs.declared.settings.Limits.{Limits}
 use Rattle.mc_model.specs.History.{state_after}
@@ -13,7 +14,7 @@ use Rattle.mc_conn.specs.Alone.{IsAloneOver, commands_of, first_mark, owed}
 use Rattle.mc_conn.specs.Held.{IsRead, nothing_held}
 use Rattle.mc_conn.specs.Owed.{mark_of}
 use Rattle.mc_conn.specs.Turn.{NeitherFails, holding_of, queue_of}
-use Rattle.mc_programs.specs.Serving.{AnswersRequests, IsCaughtUp, IsNotFollowed, NeverWaits, ServesClient, settings_alone}
+use Rattle.mc_programs.specs.Serving.{AnswersRequests, IsCaughtUp, IsNotFollowed, NeverWaits, ServesClient, StopsBy, settings_alone}
 use Rattle.mc_stream.specs.Event.{has_ended, last_moved, moved, waits}
 use Rattle.mc_stream.specs.Pushing.{Pushes}
 use Rattle.mc_stream.specs.Stream.{Streams}
@@ -90,3 +91,15 @@ ServesLog refused limits places logs is_last first conn now (Some next) =
     (is_last ≡ false)
     × ((served : LogsHaveServed limits places (logs + 1) first conn now)
     × FollowsOn limits places served.requests next)
+
+-- requests that were answered by so many logs: by these and one more, the last one, or it wasn't
+-- followed for a reason
+abbrev pub IsEnoughOn : (Worker → Type 0) → Limits → ℕ → ℕ → Bool → ℕ → List Request → Type 0
+IsEnoughOn refused limits places logs is_last number requests =
+    (is_last ≡ true) × (number ≡ logs + 1) ⊎ IsNotFollowed refused limits places number requests
+
+-- a fault of the connection ended the service over one more log
+abbrev pub StopsLog : (Worker → Type 0) → Limits → ℕ → ℕ → Bool → Streams → Streams → Fault →
+    Type 0
+StopsLog refused limits places logs is_last first now fault =
+    StopsBy (IsEnoughOn refused limits places logs is_last) limits places (logs + 1) first now fault

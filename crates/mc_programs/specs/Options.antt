@@ -65,10 +65,10 @@ pub record StdinAsksFor (words : List Text) (options : StdinOptions) : Type 0 wh
 
 -- A run that failed met one fault; the client was given what that fault leaves it, the input and
 -- the output failed as it says, and it was reported.
-pub record Fails (limits : Limits) (places generations : ℕ) (before after : Streams)
-    (errors_before errors : Outflow) : Type 0 where
+pub record Fails (refused : Worker → Type 0) (limits : Limits) (places generations : ℕ)
+    (before after : Streams) (errors_before errors : Outflow) : Type 0 where
   pub fault : Fault
-  pub stops : StopsService limits places generations before after fault
+  pub stops : StopsService refused limits places generations before after fault
   pub told : PushesOrFails (fault_line (codes "mc_stdin") fault) errors_before errors
 
 -- a client was served by the numbers that the words ask for, or help or the version was shown
@@ -80,11 +80,12 @@ StdinEndsWell refused words before after =
     ⊎ ShowsHelp stdin_app words before after
 
 -- a fault ended the service, or kept the words from being read or answered, and was reported
-abbrev pub StdinEndsInFault : List Text → Streams → Streams → Outflow → Outflow → Type 0
-StdinEndsInFault words before after errors_before errors =
+abbrev pub StdinEndsInFault : (Worker → Type 0) → List Text → Streams → Streams → Outflow →
+    Outflow → Type 0
+StdinEndsInFault refused words before after errors_before errors =
     AsksInRange words
-    × Fails (limits_asked words) (places_asked words) (generations_asked words) before after
-    errors_before errors
+    × Fails refused (limits_asked words) (places_asked words) (generations_asked words) before
+    after errors_before errors
     ⊎ FailsToShow (codes "mc_stdin") stdin_app words before after errors_before errors
 
 -- a number is out of its range, or the words are a mistake, and that was reported
@@ -99,5 +100,5 @@ abbrev pub StdinEnds : (Worker → Type 0) → List Text → ℕ → Streams →
     Type 0
 StdinEnds refused words status before after errors_before errors =
     (status ≡ 0) × StdinEndsWell refused words before after × (errors ≡ errors_before)
-    ⊎ (status ≡ 1) × StdinEndsInFault words before after errors_before errors
+    ⊎ (status ≡ 1) × StdinEndsInFault refused words before after errors_before errors
     ⊎ (status ≡ 2) × StdinRefuses words errors_before errors × (after ≡ before)

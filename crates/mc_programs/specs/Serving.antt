@@ -97,55 +97,6 @@ pub record IsCaughtUp (limits : Limits) (places most : ℕ)
 abbrev pub NeverWaits : Streams → Streams → Type 0
 NeverWaits before after = waits after.output.events ≡ waits before.output.events
 
--- The first requests that came were answered, and a prefix was sent of what is owed for them
--- followed by the words that report a fault. The others are all the requests that came after
--- these; the first of them may have met the fault, and then its command may stand in the log.
-pub record ServesInPart (limits : Limits) (places logs : ℕ) (before after : Streams)
-    (told : List ℕ) : Type 0 where
-  pub comes : Comes before after
-  pub answered : List Request
-  pub others : List Request
-  pub split : comes.requests ≡ answered ++ others
-  pub answers : AnswersRequests limits places logs answered
-      (owed_by_logs limits places logs answered)
-  pub sent : List ℕ
-  pub unsent : List ℕ
-  pub owes : owed_by_logs limits places logs answered ++ told ≡ sent ++ unsent
-  pub went : Pushes before.output after.output sent
-  pub caught_up : NeverWaits before after →
-      IsCaughtUp limits places logs comes.bytes (last_moved after.input.events) sent
-
--- Memory ran out, and that was reported to the client after its replies, as far as the output took
--- it at once; or memory ran out before a log could be opened, nothing was pulled, and that report
--- alone was sent.
-abbrev pub ServesUntilStarved : Limits → ℕ → ℕ → Streams → Streams → Type 0
-ServesUntilStarved limits places logs before after =
-    ((part : ServesInPart limits places logs before after (text (Refused OUT_OF_MEMORY)))
-    × IsAllOrStopped part.unsent before.output after.output)
-    ⊎ (after.input ≡ before.input)
-    × PushesAtOnce (text (Refused OUT_OF_MEMORY)) before.output after.output
-
--- the input didn't fail between the two states
-abbrev pub IsUnfailedInput : Inflow → Inflow → Type 0
-IsUnfailedInput before after = failures after.events ≡ failures before.events
-
--- What a client was sent if a fault of its connection ended the service, and how often the input
--- and the output failed: as the fault says, except for what may fail while it is reported.
-abbrev pub EndsBy : Limits → ℕ → ℕ → ConnFault → Streams → Streams → Type 0
-EndsBy limits places logs OutOfMemory before after =
-    ServesUntilStarved limits places logs before after
-    × IsUnfailedInput before.input after.input
-    × (failures before.output.events ≤ failures after.output.events)
-    × (failures after.output.events ≤ failures before.output.events + 1)
-EndsBy limits places logs CellTaken before after =
-    ServesInPart limits places logs before after [] × CountsFailures CellTaken before after
-EndsBy limits places logs InputFailed before after =
-    (ServesInPart limits places logs before after []
-    × (NeverWaits before after → ServesOn limits places logs before after))
-    × CountsFailures InputFailed before after
-EndsBy limits places logs OutputFailed before after =
-    ServesInPart limits places logs before after [] × CountsFailures OutputFailed before after
-
 -- The worker of the last of these logs has replayed all its places: they have the commands of the
 -- last of the requests up to there, and the log was opened over the table after the earlier ones.
 pub record FillsLast (limits : Limits) (places logs : ℕ) (requests : List Request)
@@ -171,21 +122,87 @@ pub data IsNotFollowed (refused : Worker → Type 0) (limits : Limits) (places l
   out_of_memory : (worker : Worker) → FillsLast limits places logs requests worker →
       refused worker → IsNotFollowed refused limits places logs requests
 
+-- These requests were answered by as many logs as there may be, or by fewer for a reason.
+abbrev pub AreEnough : (Worker → Type 0) → Limits → ℕ → ℕ → ℕ → List Request → Type 0
+AreEnough refused limits places most logs requests =
+    (logs ≡ most) ⊎ IsNotFollowed refused limits places logs requests
+
+-- The first requests that came were answered, and a prefix was sent of what is owed for them
+-- followed by the words that report a fault. The others are all the requests that came after
+-- these; the first of them may have met the fault, and then its command may stand in the log. For
+-- the ones that were answered, so many logs were enough.
+pub record ServesInPart (Enough : List Request → Type 0) (limits : Limits) (places logs : ℕ)
+    (before after : Streams) (told : List ℕ) : Type 0 where
+  pub comes : Comes before after
+  pub answered : List Request
+  pub others : List Request
+  pub split : comes.requests ≡ answered ++ others
+  pub answers : AnswersRequests limits places logs answered
+      (owed_by_logs limits places logs answered)
+  pub enough : Enough answered
+  pub sent : List ℕ
+  pub unsent : List ℕ
+  pub owes : owed_by_logs limits places logs answered ++ told ≡ sent ++ unsent
+  pub went : Pushes before.output after.output sent
+  pub caught_up : NeverWaits before after →
+      IsCaughtUp limits places logs comes.bytes (last_moved after.input.events) sent
+
+-- Memory ran out, and that was reported to the client after its replies, as far as the output took
+-- it at once; or memory ran out before a log could be opened, nothing was pulled, and that report
+-- alone was sent.
+abbrev pub ServesUntilStarved : (List Request → Type 0) → Limits → ℕ → ℕ → Streams → Streams →
+    Type 0
+ServesUntilStarved Enough limits places logs before after =
+    ((part : ServesInPart Enough limits places logs before after (text (Refused OUT_OF_MEMORY)))
+    × IsAllOrStopped part.unsent before.output after.output)
+    ⊎ (after.input ≡ before.input)
+    × PushesAtOnce (text (Refused OUT_OF_MEMORY)) before.output after.output
+
+-- the input didn't fail between the two states
+abbrev pub IsUnfailedInput : Inflow → Inflow → Type 0
+IsUnfailedInput before after = failures after.events ≡ failures before.events
+
+-- What a client was sent if a fault of its connection ended the service, and how often the input
+-- and the output failed: as the fault says, except for what may fail while it is reported.
+abbrev pub EndsBy : (List Request → Type 0) → Limits → ℕ → ℕ → ConnFault → Streams → Streams →
+    Type 0
+EndsBy Enough limits places logs OutOfMemory before after =
+    ServesUntilStarved Enough limits places logs before after
+    × IsUnfailedInput before.input after.input
+    × (failures before.output.events ≤ failures after.output.events)
+    × (failures after.output.events ≤ failures before.output.events + 1)
+EndsBy Enough limits places logs CellTaken before after =
+    ServesInPart Enough limits places logs before after [] × CountsFailures CellTaken before after
+EndsBy Enough limits places logs InputFailed before after =
+    (ServesInPart Enough limits places logs before after []
+    × (NeverWaits before after → ServesOn limits places logs before after))
+    × CountsFailures InputFailed before after
+EndsBy Enough limits places logs OutputFailed before after =
+    ServesInPart Enough limits places logs before after [] × CountsFailures OutputFailed before after
+
 -- A client was served to its end by logs one after another: by this many, or by fewer for a reason.
 abbrev pub ServesByLogs : (Worker → Type 0) → Limits → ℕ → ℕ → Streams → Streams → Type 0
 ServesByLogs refused limits places most before after =
     (logs : ℕ) × IsBetween 1 most logs × (serves : ServesClient limits places logs before after)
-    × ((logs ≡ most) ⊎ IsNotFollowed refused limits places logs serves.comes.requests)
+    × AreEnough refused limits places most logs serves.comes.requests
 
--- A fault of the connection ended the service, over no more logs than this.
-abbrev pub StopsByLogs : Limits → ℕ → ℕ → Streams → Streams → Fault → Type 0
-StopsByLogs limits places most before after fault =
+-- A fault of the connection ended the service, over no more logs than this, which were enough for
+-- what was answered.
+abbrev pub StopsBy : (ℕ → List Request → Type 0) → Limits → ℕ → ℕ → Streams → Streams → Fault →
+    Type 0
+StopsBy Enough limits places most before after fault =
     (cause : ConnFault) × (fault ≡ fault_of cause)
-    × ((logs : ℕ) × IsBetween 1 most logs × EndsBy limits places logs cause before after)
+    × ((logs : ℕ) × IsBetween 1 most logs
+    × EndsBy (Enough logs) limits places logs cause before after)
+
+-- A fault of the connection ended the service, over this many logs, or over fewer for a reason.
+abbrev pub StopsByLogs : (Worker → Type 0) → Limits → ℕ → ℕ → Streams → Streams → Fault → Type 0
+StopsByLogs refused limits places most before after fault =
+    StopsBy (AreEnough refused limits places most) limits places most before after fault
 
 -- The faults that end a service: those of its connection; or the quotas or the number of places are
 -- out of range, and nothing was done.
-abbrev pub StopsService : Limits → ℕ → ℕ → Streams → Streams → Fault → Type 0
-StopsService limits places most before after fault =
-    StopsByLogs limits places most before after fault
+abbrev pub StopsService : (Worker → Type 0) → Limits → ℕ → ℕ → Streams → Streams → Fault → Type 0
+StopsService refused limits places most before after fault =
+    StopsByLogs refused limits places most before after fault
     ⊎ (fault ≡ BadSettings) × (after ≡ before) × ¬ (IsLawful (settings_alone limits places))

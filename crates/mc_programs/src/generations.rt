@@ -5,7 +5,7 @@ ghost use Rattle.mc_conn.specs.declared.conn.Role.TheVariants.{Tenant};
 ghost use Rattle.mc_conn.specs.Ending.{PullsLate, Serves, Stops};
 ghost use Rattle.mc_conn.specs.Owed.{FitsLog, mark_of};
 ghost use Rattle.mc_conn.specs.Turn.{scene};
-ghost use Rattle.mc_programs.specs.Generations.{FollowsOn, LogsHaveServed, IsForOne, IsFreshOver, IsNextForOne, ServesLog};
+ghost use Rattle.mc_programs.specs.Generations.{FollowsOn, LogsHaveServed, IsForOne, IsFreshOver, IsNextForOne, ServesLog, StopsLog};
 ghost use Rattle.mc_programs.specs.Serving.{ServesByLogs, StopsByLogs, settings_alone};
 ghost use Rattle.mc_stream.specs.Stream.{Streams, both};
 ghost use Rattle.uc_cells.specs.Sighting.{entries};
@@ -103,7 +103,7 @@ fn serve_log<R: Wait, T: TurnOver, I: Input, O: Output>(
         MatchResult result
         (ServesLog T.refused limits places logs is_last first conn.new
         (both (I.tells input.new) (O.tells output.new)))
-        (StopsByLogs limits places (logs + 1) first
+        (StopsLog T.refused limits places logs is_last first
         (both (I.tells input.new) (O.tells output.new))) }
     ensures ready { IfOk result
         (λ after. IfSome after (λ next. (is_last ≡ false) × IsNextForOne next)) }
@@ -154,7 +154,7 @@ fn open_first<R: Wait, T: TurnOver, I: Input, O: Output>(
         (ServesLog T.refused limits places 0 is_last
         (both (I.tells input.old) (O.tells output.old)) conn.new
         (both (I.tells input.new) (O.tells output.new)))
-        (StopsByLogs limits places 1 (both (I.tells input.old) (O.tells output.old))
+        (StopsLog T.refused limits places 0 is_last (both (I.tells input.old) (O.tells output.old))
         (both (I.tells input.new) (O.tells output.new))) }
     ensures ready { IfOk result
         (λ after. IfSome after (λ next. (is_last ≡ false) × IsNextForOne next)) }
@@ -205,7 +205,7 @@ fn serve_first<R: Wait, T: TurnOver, I: Input, O: Output>(
         (ServesLog T.refused limits places 0 is_last
         (both (I.tells input.old) (O.tells output.old)) conn.new
         (both (I.tells input.new) (O.tells output.new)))
-        (StopsByLogs limits places 1 (both (I.tells input.old) (O.tells output.old))
+        (StopsLog T.refused limits places 0 is_last (both (I.tells input.old) (O.tells output.old))
         (both (I.tells input.new) (O.tells output.new))) }
     ensures ready { IfOk result
         (λ after. IfSome after (λ next. (is_last ≡ false) × IsNextForOne next)) }
@@ -249,7 +249,7 @@ fn open_next<R: Wait, T: TurnOver, I: Input, O: Output>(
         MatchResult result
         (ServesLog T.refused limits places logs is_last first conn.new
         (both (I.tells input.new) (O.tells output.new)))
-        (StopsByLogs limits places (logs + 1) first
+        (StopsLog T.refused limits places logs is_last first
         (both (I.tells input.new) (O.tells output.new))) }
     ensures ready { IfOk result
         (λ after. IfSome after (λ next. (is_last ≡ false) × IsNextForOne next)) }
@@ -302,7 +302,7 @@ fn serve_next<R: Wait, T: TurnOver, I: Input, O: Output>(
         MatchResult result
         (ServesLog T.refused limits places logs is_last first conn.new
         (both (I.tells input.new) (O.tells output.new)))
-        (StopsByLogs limits places (logs + 1) first
+        (StopsLog T.refused limits places logs is_last first
         (both (I.tells input.new) (O.tells output.new))) }
     ensures ready { IfOk result
         (λ after. IfSome after (λ next. (is_last ≡ false) × IsNextForOne next)) }
@@ -355,7 +355,8 @@ pub(crate) fn serve_logs<R: Wait, T: TurnOver, I: Input, O: Output>(
         (λ _. ServesByLogs T.refused limits places generations
         (both (I.tells input.old) (O.tells output.old))
         (both (I.tells input.new) (O.tells output.new)))
-        (StopsByLogs limits places generations (both (I.tells input.old) (O.tells output.old))
+        (StopsByLogs T.refused limits places generations
+        (both (I.tells input.old) (O.tells output.old))
         (both (I.tells input.new) (O.tells output.new))) }
 {
     let is_last = generations == 1;

@@ -92,7 +92,8 @@ pub(crate) fn serve_and_leave<R: Wait, T: TurnOver, I: Input, O: Output>(
         (λ _. ServesByLogs T.refused limits places generations
         (both (I.tells input.old) (O.tells output.old))
         (both (I.tells input.new) (O.tells output.new)))
-        (StopsService limits places generations (both (I.tells input.old) (O.tells output.old))
+        (StopsService T.refused limits places generations
+        (both (I.tells input.old) (O.tells output.old))
         (both (I.tells input.new) (O.tells output.new))) }
 {
     let (log, pass) = match open_alone(alloc, limits, places) {
@@ -150,7 +151,8 @@ pub fn serve_client<R: Wait, T: TurnOver, I: Input, O: Output>(
         (λ _. ServesByLogs T.refused limits places generations
         (both (I.tells input.old) (O.tells output.old))
         (both (I.tells input.new) (O.tells output.new)))
-        (StopsService limits places generations (both (I.tells input.old) (O.tells output.old))
+        (StopsService T.refused limits places generations
+        (both (I.tells input.old) (O.tells output.old))
         (both (I.tells input.new) (O.tells output.new))) }
 {
     serve_and_leave(

@@ -1,4 +1,5 @@
 use Rattle.mc_programs.proofs.Openings.{fresh_mark, fresh_over, opens_empty}
+use Rattle.mc_programs.specs.Generations.{IsEnoughOn}
 use Rattle.mc_programs.proofs.Served.{unopened}
 use Rattle.mc_programs.proofs.generations.open_first.Goals as goal
 
@@ -13,4 +14,4 @@ returns-clause-served g c limits places served settings =
 
 pub returns-in-Err-clause-served : goal.returns-in-Err-clause-served
 returns-in-Err-clause-served g c limits places served settings =
-    unopened limits places c.in-Err.fault _ _ _ _ c.refuse_to_open.ensures.fault c.in-Err.ensures.memory c.refuse_to_open.ensures.told
+    unopened (IsEnoughOn g.T.TurnOver.refused limits places 0 c.args.is_last) limits places c.in-Err.fault _ _ _ _ c.refuse_to_open.ensures.fault c.in-Err.ensures.memory c.refuse_to_open.ensures.told

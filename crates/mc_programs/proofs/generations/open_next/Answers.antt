@@ -1,4 +1,6 @@
-use Rattle.std.proofs.Common.{◌∙◌}
+use Rattle.std.proofs.Common.{◌∙◌, inr, arith}
+use Rattle.mc_programs.specs.Generations.{IsEnoughOn}
+use Rattle.mc_programs.specs.Serving.{not_needed}
 use Rattle.mc_programs.proofs.Openings.{fresh_mark, fresh_over, unopened_next}
 use Rattle.mc_programs.proofs.generations.open_next.Goals as goal
 
@@ -13,4 +15,5 @@ returns-clause-served g c limits places logs first served settings tables some =
 
 pub returns-in-Err-clause-served : goal.returns-in-Err-clause-served
 returns-in-Err-clause-served g c limits places logs first served settings tables some =
-    unopened_next limits places logs first _ _ served c.every_stream_reads.ensures some _ (c.close.ensures.told.0 c.in-Err.ensures.memory) c.in-Err.fault c.in-Err.ensures.memory
+    unopened_next limits places logs first _ _ served c.every_stream_reads.ensures some _ (c.close.ensures.told.0 c.in-Err.ensures.memory)
+    (IsEnoughOn g.T.TurnOver.refused limits places logs c.args.is_last) (inr (not_needed (omega (arith, served.full)))) c.in-Err.fault c.in-Err.ensures.memory

@@ -3,9 +3,9 @@ use Rattle.std.proofs.lemmas.Result.{err_from_is_err_and}
 use Rattle.mc_model.specs.Replay.{HaveRoom}
 use Rattle.mc_model.specs.Settings.{Configuration}
 use Rattle.mc_conn.specs.Turn.{scene}
-use Rattle.mc_programs.proofs.LogEnds.{ends_closed, ends_last, ends_on, goes_on, replayed}
+use Rattle.mc_programs.proofs.LogEnds.{ends_broken, ends_closed, ends_last, ends_on, goes_on, replayed}
 use Rattle.mc_programs.proofs.Openings.{fits}
-use Rattle.mc_programs.proofs.Served.{Begins, stops}
+use Rattle.mc_programs.proofs.Served.{Begins}
 use Rattle.mc_stream.specs.Stream.{both}
 use Rattle.uc_worker.specs.Worker.{tables_of}
 use Rattle.mc_programs.proofs.generations.serve_log.Goals as goal
@@ -32,7 +32,7 @@ pub returns-in_err-pump_until-clause-served : goal.returns-in_err-pump_until-cla
 returns-in_err-pump_until-clause-served g c =
     let out = err_from_is_err_and c.from_residual.result c.from_residual.ensures.1 in
     rw (out.1, out.2) (λ limits places logs first served settings fresh.
-    stops limits places logs first _
+    ends_broken g.T.TurnOver.refused limits places logs first _
     (record {
       served = served;
       fresh = fresh;
@@ -41,7 +41,7 @@ returns-in_err-pump_until-clause-served g c =
       through = c.logs_of_a_worker_alone_add_up.ensures.through;
       reads = c.parts_add_up.ensures.read;
     })
-    c.in_err-pump_until.field-0.0 _ (c.in_err-pump_until.ensures.outcome c.requires.going) c.pump_until.ensures.late)
+    c.in_err-pump_until.field-0.0 c.args.is_last _ (c.in_err-pump_until.ensures.outcome c.requires.going) c.pump_until.ensures.late c.logs_of_a_worker_alone_add_up.ensures.few)
 
 pub returns-in-Closed-clause-served : goal.returns-in-Closed-clause-served
 returns-in-Closed-clause-served g c limits places logs first served settings fresh =
@@ -91,5 +91,5 @@ returns-in-None-clause-served g c limits places logs first served settings fresh
     let done = replayed _ _ c.args.log.now until c.requires.log c.requires.alone c.requires.role c.requires.fresh c.logs_of_a_worker_alone_add_up.ensures.done in
     let none = subst (λ n. ¬ (HaveRoom (tables_of c.pump_until.new.worker) n) ⊎ g.T.TurnOver.refused c.pump_until.new.worker) (ap (λ (it : Configuration). it.places) settings) (c.in-None.ensures.none refl) in
     ends_on g.T.TurnOver.refused limits places logs first _ begins _ c.pump_until.new.worker _ until c.pump_until.ensures.late c.logs_of_a_worker_alone_add_up.ensures.in_time
-    c.logs_of_a_worker_alone_add_up.ensures.full done none c.turns_add_up.ensures.through c.turns_add_up.ensures.late c.turns_add_up.ensures.stops c.turns_add_up.ensures.sends
+    c.logs_of_a_worker_alone_add_up.ensures.full done none c.turns_add_up.ensures.through c.turns_add_up.ensures.late c.turns_add_up.ensures.taken c.turns_add_up.ensures.sends
     c.serve_to_end-in-None.result c.args.is_last _ c.serve_to_end-in-None.ensures.outcome c.serve_to_end-in-None.ensures.late

@@ -1,7 +1,10 @@
 use Rattle.std.proofs.Common.{◌+◌, ◌≤◌, inl, inr, ⊎_elim, sym, arith}
 use Rattle.std.proofs.lemmas.Bool.{eqb-false, eqb-true}
 use Rattle.std.proofs.lemmas.Result.{err_from_is_err_and}
-use Rattle.mc_programs.proofs.Beginnings.{ended_by}
+use Rattle.std.specs.Bool.{◌==◌}
+use Rattle.mc_programs.specs.Generations.{IsEnoughOn}
+use Rattle.mc_programs.specs.Serving.{AreEnough}
+use Rattle.mc_programs.proofs.Beginnings.{ended_by, enough_all}
 use Rattle.mc_programs.proofs.Openings.{stops_within}
 use Rattle.mc_programs.proofs.generations.serve_logs.Goals as goal
 
@@ -10,7 +13,9 @@ returns-in_err-first g c =
     let out = err_from_is_err_and c.from_residual.result c.from_residual.ensures.1 in
     record {
       served = λ limits places begun settings.
-          rw (out.1, out.2) (stops_within limits places 1 c.args.generations _ _ c.in_err-first.field-0.0 c.requires.generations (c.in_err-first.ensures.served limits places begun settings));
+          rw (out.1, out.2) (stops_within (IsEnoughOn g.T.TurnOver.refused limits places 0 (c.args.generations == 1)) (AreEnough g.T.TurnOver.refused limits places c.args.generations)
+          (enough_all g.T.TurnOver.refused limits places 0 c.args.generations (c.args.generations == 1) (λ last. sym (eqb-true c.args.generations 1 last)))
+          limits places 1 c.args.generations _ _ c.in_err-first.field-0.0 c.requires.generations (c.in_err-first.ensures.served limits places begun settings));
     }
 
 pub returns-in_default : goal.returns-in_default
@@ -40,7 +45,9 @@ returns-in_err-after g c =
       served = λ limits places begun settings.
           let before = so_far.served limits places begun settings in
           let enough : c.loop-earlier.earlier + 1 ≤ c.args.generations = omega (arith, so_far.below) in
-          rw (out.1, out.2) (stops_within limits places (c.loop-earlier.earlier + 1) c.args.generations _ _ c.in_err-after.field-0.0 enough
+          rw (out.1, out.2) (stops_within (IsEnoughOn g.T.TurnOver.refused limits places c.loop-earlier.earlier (c.loop-earlier.earlier + 1 == c.args.generations)) (AreEnough g.T.TurnOver.refused limits places c.args.generations)
+          (enough_all g.T.TurnOver.refused limits places c.loop-earlier.earlier c.args.generations (c.loop-earlier.earlier + 1 == c.args.generations) (λ last. eqb-true (c.loop-earlier.earlier + 1) c.args.generations last))
+          limits places (c.loop-earlier.earlier + 1) c.args.generations _ _ c.in_err-after.field-0.0 enough
           (c.in_err-after.ensures.served limits places c.loop-earlier.earlier _ before.0 before.1 so_far.some));
     }
 

@@ -19,4 +19,4 @@ returns-in_default g c =
 
 pub returns-in-Err : goal.returns-in-Err
 returns-in-Err g c =
-    record { outcome = refused c.args.limits c.args.places c.args.generations c.in-Err.fault _ _ _ _ c.requires.generations c.refuse_to_open.ensures.fault c.in-Err.ensures.faults c.refuse_to_open.ensures.told }
+    record { outcome = refused g.T.TurnOver.refused c.args.limits c.args.places c.args.generations c.in-Err.fault _ _ _ _ c.requires.generations c.refuse_to_open.ensures.fault c.in-Err.ensures.faults c.refuse_to_open.ensures.told }

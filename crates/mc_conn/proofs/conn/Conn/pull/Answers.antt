@@ -14,8 +14,8 @@ pub returns-in_err-feed-in-Bytes-clause-outcome : goal.returns-in_err-feed-in-By
 returns-in_err-feed-in-Bytes-clause-outcome g c =
     let out = err_from_is_err_and c.from_residual.result c.from_residual.ensures.1 in
     let said = c.in-Bytes.ensures in
-    rw (out.1, out.2, c.in_err-feed-in-Bytes.ensures.memory) (λ worker output.
-    breaks_pulling OutOfMemory c.args.self.now _ worker _ _ output (take c.in-Bytes.count c.pull.new.buffer) refl refl (ap moved said.event) said.rest (ap failures said.event, refl))
+    rw (out.1, out.2, c.in_err-feed-in-Bytes.ensures.memory) (λ until worker output.
+    breaks_pulling until OutOfMemory c.args.self.now _ worker _ _ output (take c.in-Bytes.count c.pull.new.buffer) refl refl (ap moved said.event) said.rest (ap failures said.event, refl))
 
 pub returns-in_ok-feed-in-Bytes-clause-outcome : goal.returns-in_ok-feed-in-Bytes-clause-outcome
 returns-in_ok-feed-in-Bytes-clause-outcome g c until worker output =
@@ -43,6 +43,6 @@ returns-in-Ended-clause-outcome g c until worker output =
     (inr (ap has_ended said.event, said.no_more refl)) refl until refl
 
 pub returns-in-Failed-clause-outcome : goal.returns-in-Failed-clause-outcome
-returns-in-Failed-clause-outcome g c worker output =
+returns-in-Failed-clause-outcome g c until worker output =
     let said = c.in-Failed.ensures in
-    breaks_pulling InputFailed c.args.self.now _ worker _ _ output [] refl refl (ap moved said.event ∙ sym (append-nil _)) said.rest (ap failures said.event, refl)
+    breaks_pulling until InputFailed c.args.self.now _ worker _ _ output [] refl refl (ap moved said.event ∙ sym (append-nil _)) said.rest (ap failures said.event, refl)
