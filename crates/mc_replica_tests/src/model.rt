@@ -80,7 +80,7 @@ fn a_shared_block_outlives_its_buffer(rt: HostRuntime) -> Result<(), Fail> {
     assert!(rt; block != block_of(rt.alloc(), b"ba")?);
     let copy = block.try_clone()?;
     drop(block);
-    assert!(rt; copy.as_bytes() == b"ab");
+    assert!(rt; copy.as_bytes() == b"ab".as_slice());
     Ok(())
 }
 
