@@ -554,15 +554,17 @@ fn a_failing_push_ends_it(rt: HostRuntime) -> Result<(), Fault> {
     Ok(())
 }
 
-/// Asserts that a push that fails after the first ends serving a text with repeated words.
-fn check_failing_second(
+/// Asserts that a push that fails after those of one long reply, which are its line, its data and its
+/// end, ends serving a text with repeated words.
+fn check_failing_fourth(
     rt: &(impl AllocGlobal + Wait + Abort),
     sent: Text,
     pushed: Text,
 ) -> Result<(), Fault> {
     let sent = sent.filled(rt.alloc())?;
     let pushed = pushed.filled(rt.alloc())?;
-    let pushes = [OutputStep::Take(2_097_152), OutputStep::Fail];
+    let taken = OutputStep::Take(2_097_152);
+    let pushes = [taken, taken, taken, OutputStep::Fail];
     check_serves(
         rt,
         sent.as_bytes(),
@@ -577,7 +579,7 @@ fn check_failing_second(
 fn a_long_reply_is_pushed_before_the_next_request(rt: HostRuntime) -> Result<(), Fault> {
     let sent = blocks("set a 0 0 1048576\r\n@\r\nget a\r\nget a\r\n");
     let pushed = blocks("STORED\r\nVALUE a 0 1048576\r\n@\r\nEND\r\n");
-    check_failing_second(&rt, sent, pushed)
+    check_failing_fourth(&rt, sent, pushed)
 }
 
 /// What is sent to a log of two places, and the replies: a refusal takes no place, and a quiet
