@@ -7,16 +7,20 @@ ghost use Rattle.mc_model.specs.declared.item.TheConstants.{DATA_BYTES};
 
 use crate::Fault;
 use bytes::Bytes;
+use smallvec::SmallVec;
 use std::marker::Model;
 
 /// The largest number of bytes in a data block.
 pub const DATA_BYTES: usize = 1_048_576;
 
+/// How many bytes of a block's own need no allocation: as many as a shared block takes besides.
+const INLINE_BYTES: usize = 24;
+
 /// Where a block's bytes are.
 #[derive(Debug, Drop)]
 enum Octets {
     /// In a vector of the block's own.
-    Owned(Vec<u8>),
+    Owned(SmallVec<u8, INLINE_BYTES>),
     /// In a buffer that others may share.
     Shared(Bytes),
 }
@@ -47,7 +51,7 @@ impl Data {
     {
         if bytes.len() <= DATA_BYTES {
             Some(Data {
-                octets: Octets::Owned(bytes),
+                octets: Octets::Owned(SmallVec::from_vec(bytes)),
             })
         } else {
             None
@@ -85,7 +89,7 @@ impl Data {
         ensures memory { IsOkUnless result Fault.Memory }
     {
         let octets = match &self.octets {
-            Octets::Owned(bytes) => Octets::Owned(Vec::from_slice(*bytes.allocator(), bytes)?),
+            Octets::Owned(bytes) => Octets::Owned(SmallVec::from_slice(*bytes.allocator(), bytes)?),
             Octets::Shared(bytes) => Octets::Shared(bytes.clone()?),
         };
         Ok(Data { octets })

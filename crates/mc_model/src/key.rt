@@ -9,6 +9,7 @@ ghost use Rattle.mc_model.specs.Key.{is_key_byte, is_lawful_key, key_of};
 
 use crate::Fault;
 use crate::compare::compare;
+use smallvec::SmallVec;
 use std::alloc::Global;
 use std::cmp::Ordering;
 use std::marker::Model;
@@ -16,10 +17,13 @@ use std::marker::Model;
 /// The largest number of bytes in a key.
 pub const KEY_BYTES: usize = 250;
 
+/// How many bytes of a key need no allocation.
+const INLINE_BYTES: usize = 24;
+
 /// A valid key: 1 to `KEY_BYTES` bytes, none of them a control character or a space.
 #[derive(Debug, Drop)]
 pub struct Key {
-    bytes: Vec<u8>,
+    bytes: SmallVec<u8, INLINE_BYTES>,
 }
 
 impl Model for Key {
@@ -49,7 +53,7 @@ impl Key {
             return Ok(None);
         }
         Ok(Some(Key {
-            bytes: Vec::from_slice(alloc, bytes)?,
+            bytes: SmallVec::from_slice(alloc, bytes)?,
         }))
     }
 
@@ -72,7 +76,7 @@ impl Key {
         ensures memory { IsOkUnless result Fault.Memory }
     {
         Ok(Key {
-            bytes: Vec::from_slice(*self.bytes.allocator(), &self.bytes)?,
+            bytes: SmallVec::from_slice(*self.bytes.allocator(), self.as_bytes())?,
         })
     }
 }
@@ -90,7 +94,7 @@ impl PartialEq for Key {
     ghost laws = { partial_equiv_from_equiv nat_list_eq_equiv };
 
     fn eq(&self, other: &Key) -> bool {
-        self.bytes == other.bytes
+        self.as_bytes() == other.as_bytes()
     }
 }
 
@@ -119,7 +123,7 @@ impl Ord for Key {
     ghost matches_eq = { texts_ties };
 
     fn cmp(&self, other: &Key) -> Ordering {
-        compare(&self.bytes, &other.bytes)
+        compare(self.as_bytes(), other.as_bytes())
     }
 }
 

@@ -1,5 +1,6 @@
 //! Each constructor at its bounds, and each call that needs memory, with ample memory.
 use crate::values::{Shown, block_of, copied, copy_of, key_of, limit_of, value_of};
+use bytes::Bytes;
 use mc_model::{
     Data, Fault, Key, KeyList, Limits, Settings, TenantId, ValueList, WorkerId, read_number,
 };
@@ -70,6 +71,36 @@ fn are_equal_blocks(alloc: Global, one: &str, other: &str) -> Result<bool, Fault
     let one = block_of(alloc, one.as_bytes())?;
     let other = block_of(alloc, other.as_bytes())?;
     Ok(one == other)
+}
+
+/// Returns a block that shares this many bytes, if a block may have as many.
+fn shared_block(alloc: Global, len: usize) -> Result<Option<Data>, Fail> {
+    Ok(Data::from_bytes(Bytes::from_vec(vec![in alloc; 7u8; len]?)?))
+}
+
+#[test]
+fn shared_blocks_at_their_bound(rt: HostRuntime) -> Result<(), Fail> {
+    let largest = shared_block(rt.alloc(), 1_048_576)?.ok_or("a block")?;
+    assert!(rt; largest.as_bytes().len() == 1_048_576);
+    assert!(rt; largest.try_clone()? == largest);
+    assert!(rt; shared_block(rt.alloc(), 1_048_577)?.is_none());
+    assert!(rt; Data::from_bytes(Bytes::new()) == Data::new(Vec::new(rt.alloc())));
+    Ok(())
+}
+
+/// A block that shares a part of a buffer is equal to one with these bytes of its own, and its copy
+/// outlives it and the buffer.
+#[test]
+fn a_shared_block_outlives_its_buffer(rt: HostRuntime) -> Result<(), Fail> {
+    let buffer: Bytes = Bytes::copy_from_slice(rt.alloc(), b"set a 0 0 2\r\nab\r\n")?;
+    let block = Data::from_bytes(buffer.slice(13..15)?).ok_or("a block")?;
+    drop(buffer);
+    assert!(rt; block == block_of(rt.alloc(), b"ab")?);
+    assert!(rt; block != block_of(rt.alloc(), b"ba")?);
+    let copy = block.try_clone()?;
+    drop(block);
+    assert!(rt; copy.as_bytes() == b"ab".as_slice());
+    Ok(())
 }
 
 /// Blocks of one length are equal exactly if their bytes are, in order.

@@ -24,3 +24,9 @@ loop-key-preserved-in_ok-insert-3 c =
     let put_in = rw (c.in_ok-try_clone-2.ensures.key, c.in_ok-try_clone.ensures.block) at c.in_ok-insert.ensures.entries in
     copied_one c.loop-key.copy.entries c.loop-key.key-iterator c.next.new.self c.args.held.now.entries c.insert.new.self.entries c.in-Some.key.now c.in-Some.original.now
     c.into_iter-key-iterator.ensures.into_iter_gives.5 c.loop-key.invariant c.in-Some.ensures.steps put_in
+
+pub loop-key-preserved-in_ok-insert-4 : goal.loop-key-preserved-in_ok-insert-4
+loop-key-preserved-in_ok-insert-4 c =
+    let put_in = rw (c.in_ok-try_clone-2.ensures.key, c.in_ok-try_clone.ensures.block) at c.in_ok-insert.ensures.entries in
+    copied_one c.loop-key.copy.entries c.loop-key.key-iterator c.next.new.self c.args.held.now.entries c.insert.new.self.entries c.in-Some.key.now c.in-Some.original.now
+    c.into_iter-key-iterator.ensures.into_iter_gives.5 c.loop-key.invariant c.in-Some.ensures.steps put_in
