@@ -4,7 +4,7 @@ ghost use Rattle.std.specs.Cmp.Lexicographic.{lists_equiv, nat_list_cmp_total, n
 ghost use Rattle.std.specs.List.{list_all};
 ghost use Rattle.std.specs.Option.{SomeIff};
 ghost use Rattle.std.specs.Ordering.{nat_cmp};
-ghost use Rattle.std.specs.Prelude.{◌≡◌, ◌≢◌, ℕ, ◌<◌, ◌≤◌, List, length, nat_eq, vec_len, Some, refl, All, IsTrue, IfOk, OnErr, IsOkUnless};
+ghost use Rattle.std.specs.Prelude.{◌≡◌, ◌≢◌, ℕ, ◌<◌, ◌≤◌, [], ◌∷◌, List, length, nat_eq, vec_len, Some, refl, All, IsTrue, IfOk, OnErr, IsOkUnless};
 ghost use Rattle.mc_model.specs.Key.{is_key_byte, is_lawful_key, key_of};
 
 use crate::Fault;
@@ -13,6 +13,7 @@ use smallvec::SmallVec;
 use std::alloc::Global;
 use std::cmp::Ordering;
 use std::marker::Model;
+use std::slice::from_ref;
 
 /// The largest number of bytes in a key.
 pub const KEY_BYTES: usize = 250;
@@ -127,21 +128,32 @@ impl Ord for Key {
     }
 }
 
+/// Where the keys of a list are.
+#[derive(Debug, Drop)]
+enum Keys {
+    /// The only key.
+    Single(Key),
+    /// In a vector.
+    Several(Vec<Key>),
+}
+
 /// The keys of a retrieval, at least one, in the line's order.
 #[derive(Debug, Drop)]
 pub struct KeyList {
-    keys: Vec<Key>,
+    keys: Keys,
 }
 
 impl Model for KeyList {
-    ghost use Rattle.std.specs.Prelude.{◌<◌, List, vec_len};
+    ghost use Rattle.std.specs.Prelude.{◌<◌, List, length};
     ghost use Rattle.mc_model.specs.declared.key.Key.{Key};
 
     ghost Value = { List Key };
 
-    ghost view = { λ list. list.keys.items };
+    ghost use Rattle.mc_model.specs.Keys.{keys_of};
 
-    ghost invariant = { λ list. 0 < vec_len list.keys };
+    ghost view = { λ list. keys_of list.keys };
+
+    ghost invariant = { λ list. 0 < length (keys_of list.keys) };
 }
 
 impl KeyList {
@@ -152,7 +164,18 @@ impl KeyList {
         if keys.is_empty() {
             None
         } else {
-            Some(KeyList { keys })
+            Some(KeyList {
+                keys: Keys::Several(keys),
+            })
+        }
+    }
+
+    /// Returns the list of this key alone. Allocates nothing.
+    pub fn single(key: Key) -> KeyList
+        ensures { result ≡ key ∷ [] }
+    {
+        KeyList {
+            keys: Keys::Single(key),
         }
     }
 
@@ -161,7 +184,10 @@ impl KeyList {
         ensures value { result.now ≡ self.now }
         ensures some { 0 < length self.now }
     {
-        self.keys.as_slice()
+        match &self.keys {
+            Keys::Single(key) => from_ref(key),
+            Keys::Several(keys) => keys.as_slice(),
+        }
     }
 
     /// Returns a copy of the list. Returns `Memory` if an allocation fails.
@@ -169,21 +195,24 @@ impl KeyList {
         ensures keys { IfOk result (λ keys. keys ≡ self.now) }
         ensures memory { IsOkUnless result Fault.Memory }
     {
-        let mut keys = Vec::with_capacity(*self.keys.allocator(), self.keys.len())?;
-        for key in self.as_slice() {
-            keys.push(key.try_clone()?)?;
-        }
+        let keys = match &self.keys {
+            Keys::Single(key) => Keys::Single(key.try_clone()?),
+            Keys::Several(keys) => Keys::Several(copies_of(keys)?),
+        };
         Ok(KeyList { keys })
     }
+}
 
-    /// Returns the keys, in the vector that they were given in.
-    pub fn into_keys(self) -> Vec<Key>
-        ensures value { result.items ≡ self }
-        ensures some { 0 < vec_len result }
-    {
-        let Self { keys } = self;
-        keys
+/// Returns copies of the keys. Returns `Memory` if an allocation fails.
+fn copies_of(keys: &Vec<Key>) -> Result<Vec<Key>, Fault>
+    ensures keys { IfOk result (λ copies. copies.items ≡ keys.now.items) }
+    ensures memory { IsOkUnless result Fault.Memory }
+{
+    let mut copies = Vec::with_capacity(*keys.allocator(), keys.len())?;
+    for key in keys {
+        copies.push(key.try_clone()?)?;
     }
+    Ok(copies)
 }
 
 impl PartialEq for KeyList {
@@ -192,7 +221,7 @@ impl PartialEq for KeyList {
     ghost laws = { partial_equiv_from_equiv (lists_equiv nat_list_eq_equiv) };
 
     fn eq(&self, other: &KeyList) -> bool {
-        self.keys == other.keys
+        self.as_slice() == other.as_slice()
     }
 }
 

@@ -42,6 +42,36 @@ fn read_keys(alloc: Global, words: &[&[u8]]) -> Result<Option<Vec<Key>>, Fault>
     Ok(Some(keys))
 }
 
+/// Returns what the retrieval of one key asks for. Returns `Memory` if an allocation fails.
+fn ask_single(alloc: Global, uniques: bool, word: &[u8]) -> Result<Asked, Fault>
+    ensures asked { IfOk result (λ asked. asked ≡ asked_of_retrieval uniques (word.now ∷ [])) }
+    ensures memory { IsOkUnless result Fault.Memory }
+{
+    match Key::new(alloc, word)? {
+        Some(key) => {
+            let keys = KeyList::single(key);
+            Ok(logged(Command::Get { keys, uniques }, false))
+        }
+        None => Ok(malformed()),
+    }
+}
+
+/// Returns what the retrieval of any number of keys asks for; none is no command. Returns `Memory`
+/// if an allocation fails.
+fn ask_several(alloc: Global, uniques: bool, words: &[&[u8]]) -> Result<Asked, Fault>
+    ensures asked { IfOk result
+        (λ asked. asked ≡ asked_of_retrieval uniques (map (λ word. word.now) words.now)) }
+    ensures memory { IsOkUnless result Fault.Memory }
+{
+    let Some(keys) = read_keys(alloc, words)? else {
+        return Ok(malformed());
+    };
+    match KeyList::new(keys) {
+        Some(keys) => Ok(logged(Command::Get { keys, uniques }, false)),
+        None => Ok(no_command()),
+    }
+}
+
 /// Returns what a retrieval asks for, given the words after its name. Returns `Memory` if an
 /// allocation fails.
 pub fn ask_retrieval(alloc: Global, uniques: bool, arguments: &[&[u8]]) -> Result<Asked, Fault>
@@ -49,15 +79,9 @@ pub fn ask_retrieval(alloc: Global, uniques: bool, arguments: &[&[u8]]) -> Resul
         (λ asked. asked ≡ asked_of_retrieval uniques (map (λ word. word.now) arguments.now)) }
     ensures memory { IsOkUnless result Fault.Memory }
 {
-    if arguments.is_empty() {
-        return Ok(no_command());
-    }
-    let Some(keys) = read_keys(alloc, arguments)? else {
-        return Ok(malformed());
-    };
-    match KeyList::new(keys) {
-        Some(keys) => Ok(logged(Command::Get { keys, uniques }, false)),
-        None => unreachable!(),
+    match arguments {
+        [word] => ask_single(alloc, uniques, word),
+        _ => ask_several(alloc, uniques, arguments),
     }
 }
 

@@ -73,34 +73,46 @@ fn are_equal_blocks(alloc: Global, one: &str, other: &str) -> Result<bool, Fault
     Ok(one == other)
 }
 
-/// Returns a block that shares this many bytes, if a block may have as many.
-fn shared_block(alloc: Global, len: usize) -> Result<Option<Data>, Fail> {
-    Ok(Data::from_bytes(Bytes::from_vec(vec![in alloc; 7u8; len]?)?))
+/// Returns whether this many bytes make a block that shares them. Returns `BadEvent` if it has
+/// another length, or a copy unlike it.
+fn is_shared_block(alloc: Global, length: usize) -> Result<bool, Fault> {
+    let bytes = Bytes::from_vec(vec![in alloc; 7u8; length]?)?;
+    let Some(block) = Data::from_bytes(bytes) else {
+        return Ok(false);
+    };
+    if block.as_bytes().len() == length && block.try_clone()? == block {
+        Ok(true)
+    } else {
+        Err(Fault::BadEvent)
+    }
 }
 
 #[test]
-fn shared_blocks_at_their_bound(rt: HostRuntime) -> Result<(), Fail> {
-    let largest = shared_block(rt.alloc(), 1_048_576)?.ok_or("a block")?;
-    assert!(rt; largest.as_bytes().len() == 1_048_576);
-    assert!(rt; largest.try_clone()? == largest);
-    assert!(rt; shared_block(rt.alloc(), 1_048_577)?.is_none());
-    assert!(rt; Data::from_bytes(Bytes::new()) == Data::new(Vec::new(rt.alloc())));
-    Ok(())
+fn shared_blocks_at_their_bound(rt: HostRuntime) {
+    assert!(rt; is_shared_block(rt.alloc(), 1_048_576) == Ok(true));
+    assert!(rt; is_shared_block(rt.alloc(), 1_048_577) == Ok(false));
+    assert!(rt; is_shared_block(rt.alloc(), 0) == Ok(true));
+}
+
+/// Returns a block that shares a part of a buffer, which is gone.
+fn part_of_a_buffer(alloc: Global) -> Result<Data, Fault> {
+    let buffer: Bytes = Bytes::copy_from_slice(alloc, b"set a 0 0 2\r\nab\r\n")?;
+    Data::from_bytes(buffer.slice(13..15)?).ok_or(Fault::BadEvent)
+}
+
+/// Returns a copy of such a block, which is gone too.
+fn copy_of_a_part(alloc: Global) -> Result<Data, Fault> {
+    part_of_a_buffer(alloc)?.try_clone()
 }
 
 /// A block that shares a part of a buffer is equal to one with these bytes of its own, and its copy
 /// outlives it and the buffer.
 #[test]
-fn a_shared_block_outlives_its_buffer(rt: HostRuntime) -> Result<(), Fail> {
-    let buffer: Bytes = Bytes::copy_from_slice(rt.alloc(), b"set a 0 0 2\r\nab\r\n")?;
-    let block = Data::from_bytes(buffer.slice(13..15)?).ok_or("a block")?;
-    drop(buffer);
-    assert!(rt; block == block_of(rt.alloc(), b"ab")?);
-    assert!(rt; block != block_of(rt.alloc(), b"ba")?);
-    let copy = block.try_clone()?;
-    drop(block);
-    assert!(rt; copy.as_bytes() == b"ab".as_slice());
-    Ok(())
+fn a_shared_block_outlives_its_buffer(rt: HostRuntime) {
+    let own = block_of(rt.alloc(), b"ab");
+    assert!(rt; part_of_a_buffer(rt.alloc()) == own);
+    assert!(rt; copy_of_a_part(rt.alloc()) == own);
+    assert!(rt; own != block_of(rt.alloc(), b"ba"));
 }
 
 /// Blocks of one length are equal exactly if their bytes are, in order.
@@ -124,21 +136,33 @@ fn keys_of(alloc: Global, first: &str, second: &str) -> Result<KeyList, Fault> {
     KeyList::new(two_keys(alloc, first, second)?).ok_or(Fault::BadEvent)
 }
 
-/// Returns whether the list shows these keys, has an equal copy, and gives them back.
-fn are_keys(list: KeyList, keys: &[Key]) -> Result<bool, Fault> {
+/// Returns whether the list and its copy show these keys.
+fn are_keys(list: &KeyList, keys: &[Key]) -> Result<bool, Fault> {
     let copy = list.try_clone()?;
-    let is_shown = copy == list && list.as_slice() == keys;
-    Ok(is_shown && list.into_keys().as_slice() == keys)
+    Ok(copy == *list && copy.as_slice() == keys && list.as_slice() == keys)
 }
 
 fn come_back(alloc: Global, first: &str, second: &str) -> Result<bool, Fault> {
     let keys = two_keys(alloc, first, second)?;
-    are_keys(keys_of(alloc, first, second)?, &keys)
+    are_keys(&keys_of(alloc, first, second)?, &keys)
 }
 
 #[test]
 fn keys_there_and_back(rt: HostRuntime) {
     assert!(rt; come_back(rt.alloc(), "a", "b") == Ok(true));
+}
+
+/// A list made of one key is the one made of a vector of it.
+fn single_comes_back(alloc: Global) -> Result<bool, Fault> {
+    let keys = vec![in alloc; key_of(alloc, "a")?]?;
+    let list = KeyList::single(key_of(alloc, "a")?);
+    let is_shown = are_keys(&list, &keys)?;
+    Ok(is_shown && KeyList::new(keys) == Some(list))
+}
+
+#[test]
+fn one_key_there_and_back(rt: HostRuntime) {
+    assert!(rt; single_comes_back(rt.alloc()) == Ok(true));
 }
 
 #[test]
