@@ -1,7 +1,8 @@
 //! Which of a worker's connections are served next.
-ghost use Rattle.std.specs.Prelude.{◌≡◌, length, IfOk};
+ghost use Rattle.std.specs.Prelude.{◌≡◌, ◌-◌, length, IfOk};
+ghost use Rattle.mc_connections.specs.Waiting.{IsCharged};
 ghost use Rattle.mc_connections.specs.Working.{IsNewFor, Works, standing};
-ghost use Rattle.uc_worker.specs.Worker.{tenants_of};
+ghost use Rattle.uc_worker.specs.Worker.{seat_of, tenants_of};
 
 use crate::closing::{Closing, place_of};
 use crate::connections::{Connections, MOST_OF_ALL};
@@ -67,8 +68,11 @@ impl ReadyQueue {
         next: Next,
     ) -> Result<(), AllocError>
         requires { self.old.connections.tenants ≡ length (tenants_of worker.old) }
-        ensures { Works until_done (standing worker.old self.old.connections)
+        ensures works { Works until_done (standing worker.old self.old.connections)
             (standing worker.new self.new.connections) }
+        ensures charged { IsCharged
+            ((seat_of worker.new).state.announced - (seat_of worker.old).state.announced)
+            self.new.waiting }
     {
         let Next { key, stops_short } = next;
         let tenant = self.connections.tenant_of(key);

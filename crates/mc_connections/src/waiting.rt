@@ -1,4 +1,8 @@
 //! Which connections wait to be served, and whose turn it is.
+ghost use Rattle.std.specs.Prelude.{◌≡◌, ◌+◌, ◌-◌, ◌^◌, ◌↔◌, IfOk, IsTrue, MatchOption, length, min};
+ghost use Rattle.fair_queue.specs.Turns.{IsIdle};
+ghost use Rattle.mc_connections.specs.Waiting.{ComesToWait, EndsRound, TakesTurn, cost_of};
+
 use crate::connections::MOST_OF_ALL;
 use fair_queue::FairQueue;
 use std::alloc::{AllocError, Global};
@@ -39,7 +43,11 @@ impl Waiting {
     /// Returns a queue in which nobody waits, for this many tenants.
     ///
     /// Returns an error if memory runs out.
-    pub(crate) fn new(alloc: Global, tenants: usize) -> Result<Waiting, AllocError> {
+    pub(crate) fn new(alloc: Global, tenants: usize) -> Result<Waiting, AllocError>
+        ensures flows { IfOk result
+            (λ waiting. length waiting.queue.flows ≡ min (tenants + 1) (2 ^ 64 - 1)) }
+        ensures idle { IfOk result (λ waiting. IsIdle waiting.queue) }
+    {
         let flows = tenants.saturating_add(1);
         Ok(Waiting {
             queue: FairQueue::new(alloc, flows, QUANTUM, MOST_OF_ALL)?,
@@ -49,7 +57,9 @@ impl Waiting {
         })
     }
 
-    pub(crate) fn is_empty(&self) -> bool {
+    pub(crate) fn is_empty(&self) -> bool
+        ensures { IsTrue result ↔ IsIdle self.now.queue }
+    {
         self.queue.is_empty()
     }
 
@@ -57,7 +67,10 @@ impl Waiting {
     /// wait already; one that does stays where it is.
     ///
     /// Returns an error if memory runs out.
-    pub(crate) fn push(&mut self, tenant: Option<usize>, next: Next) -> Result<(), AllocError> {
+    pub(crate) fn push(&mut self, tenant: Option<usize>, next: Next) -> Result<(), AllocError>
+        ensures waits { ComesToWait tenant next.key self.old self.new }
+        ensures spent { self.new.spent ≡ self.old.spent }
+    {
         let Some(waits) = self.waits.get_mut(next.key) else {
             return Ok(());
         };
@@ -75,24 +88,42 @@ impl Waiting {
         self.spent_in_round = 0;
     }
 
+    /// Notes that the connection under a key doesn't wait any more. Returns its `stops_short`.
+    fn take_out(&mut self, key: usize) -> bool
+        ensures queue { self.new.queue ≡ self.old.queue }
+        ensures spent { self.new.spent ≡ self.old.spent }
+    {
+        match self.waits.get_mut(key) {
+            Some(waits) => waits.take().unwrap_or(false),
+            None => false,
+        }
+    }
+
     /// Takes out the connection that is to be served next, or `None` if nobody waits or the round's
     /// quantum is spent.
-    pub(crate) fn pop(&mut self) -> Option<Next> {
+    pub(crate) fn pop(&mut self) -> Option<Next>
+        ensures { MatchOption result (EndsRound self.old self.new)
+            (λ next. TakesTurn next.key self.old self.new) }
+    {
         if self.spent_in_round >= QUANTUM {
             return None;
         }
         let spent = mem::replace(&mut self.spent, 0);
-        let key = self.queue.next(spent)?.key;
-        let stops_short = match self.waits.get_mut(key) {
-            Some(waits) => waits.take().unwrap_or(false),
-            None => false,
-        };
-        Some(Next { key, stops_short })
+        match self.queue.next(spent) {
+            Some(ready) => Some(Next {
+                key: ready.key,
+                stops_short: self.take_out(ready.key),
+            }),
+            None => None,
+        }
     }
 
     /// Notes what the connection that was taken out last has cost: this many commands, and bytes that
     /// its stream gave and took.
-    pub(crate) fn charge(&mut self, commands: u64, bytes: u64) {
+    pub(crate) fn charge(&mut self, commands: u64, bytes: u64)
+        ensures queue { self.new.queue ≡ self.old.queue }
+        ensures spent { self.new.spent ≡ cost_of commands bytes }
+    {
         self.spent = BYTES_OF_A_SERVE
             .saturating_add(commands.saturating_mul(BYTES_OF_A_COMMAND))
             .saturating_add(bytes);
