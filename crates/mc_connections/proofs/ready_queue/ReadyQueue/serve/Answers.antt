@@ -15,15 +15,15 @@ returns-in_err-push-in-Busy-clause-works g c = works_serving _ _ _ c.args.next.k
 
 pub returns-in-Idle-clause-charged : goal.returns-in-Idle-clause-charged
 returns-in-Idle-clause-charged g c =
-    charged_for _ _ _ _ _ _ c.serve-served.result.bytes c.saturating_sub-commands.ensures c.announced-announced.ensures c.announced.ensures
+    charged_for c.charge.new.self _ _ _ _ _ c.serve-served.result.bytes c.saturating_sub-commands.ensures c.announced-announced.ensures c.announced.ensures
     c.charge.ensures.spent
 
 pub returns-in_ok-push-in-Busy-clause-charged : goal.returns-in_ok-push-in-Busy-clause-charged
 returns-in_ok-push-in-Busy-clause-charged g c =
-    charged_for _ _ _ _ _ _ c.serve-served.result.bytes c.saturating_sub-commands.ensures c.announced-announced.ensures c.announced.ensures
+    charged_for c.push.new.self _ _ _ _ _ c.serve-served.result.bytes c.saturating_sub-commands.ensures c.announced-announced.ensures c.announced.ensures
     (c.push.ensures.spent ∙ c.charge.ensures.spent)
 
 pub returns-in_err-push-in-Busy-clause-charged : goal.returns-in_err-push-in-Busy-clause-charged
 returns-in_err-push-in-Busy-clause-charged g c =
-    charged_for _ _ _ _ _ _ c.serve-served.result.bytes c.saturating_sub-commands.ensures c.announced-announced.ensures c.announced.ensures
+    charged_for c.push.new.self _ _ _ _ _ c.serve-served.result.bytes c.saturating_sub-commands.ensures c.announced-announced.ensures c.announced.ensures
     (c.push.ensures.spent ∙ c.charge.ensures.spent)

@@ -3,16 +3,21 @@ use Rattle.mc_connections.specs.Working.{Works, begins, standing}
 use Rattle.mc_connections.proofs.Workings.{works_known, works_trans}
 use Rattle.mc_connections.proofs.ready_queue.ReadyQueue.serve_round.Goals as goal
 
+pub returns-in_err-is_woken : goal.returns-in_err-is_woken
+returns-in_err-is_woken g c =
+    subst (λ connections. Works c.args.until_done (standing c.args.worker.now c.args.self.now.connections) (standing c.args.worker.now connections))
+    (sym c.note_events.ensures) begins
+
 pub loop-init : goal.loop-init
 loop-init g c =
     subst (λ connections. Works c.args.until_done (standing c.args.worker.now c.args.self.now.connections) (standing c.args.worker.now connections))
-    (sym c.note_events-is_woken.ensures) begins
+    (sym c.note_events.ensures) begins
 
 pub serve-requires : goal.serve-requires
 serve-requires g c = works_known _ _ c.loop.invariant c.requires
 
 pub returns-in_err-serve : goal.returns-in_err-serve
-returns-in_err-serve g c = works_trans _ _ _ c.loop.invariant c.serve.ensures
+returns-in_err-serve g c = works_trans _ _ _ c.loop.invariant c.serve.ensures.works
 
 pub loop-preserved : goal.loop-preserved
-loop-preserved g c = works_trans _ _ _ c.loop.invariant c.serve.ensures
+loop-preserved g c = works_trans _ _ _ c.loop.invariant c.serve.ensures.works
