@@ -1,4 +1,4 @@
-use Rattle.std.proofs.Common.{◌∙◌, ap, arith, refl, rules, subst, sym}
+use Rattle.std.proofs.Common.{◌∙◌, ap, arith, refl, rules, sym}
 use Rattle.std.specs.Int.{from_bool}
 use Rattle.mc_connections.specs.Counting.{is_admin}
 use Rattle.mc_connections.proofs.Counts.{counts_removed, counts_served, known_left, known_served, length_served, tenants_left}
