@@ -81,9 +81,10 @@ impl FairQueue {
         })
     }
 
-    /// Returns how many flows there are.
+    /// Returns how many flows there are: at least one.
     pub fn flows(&self) -> usize
-        ensures { result ≡ length self.now.flows }
+        ensures count { result ≡ length self.now.flows }
+        ensures some { 0 < result }
     {
         self.flows.len()
     }

@@ -3,4 +3,5 @@ pub mod Counts
 pub mod Lives
 pub mod Numbers
 pub mod Servings
+pub mod Turning
 pub mod Workings

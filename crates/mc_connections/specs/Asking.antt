@@ -1,6 +1,6 @@
 -- For whom a worker announces commands. After memcached's doc/protocol.txt, "Protocol": commands
 -- are what clients send, in order, on their connections.
-use Rattle.std.specs.Prelude.{◌≡◌, ◌⊎◌, ℕ, ◌<◌, ◌≤◌, Bool, List, [], ◌∷◌, ◌++◌, length, Some, slice_get}
+use Rattle.std.specs.Prelude.{◌≡◌, ◌⊎◌, ℕ, ◌<◌, ◌≤◌, Bool, List, ◌∷◌, ◌++◌, length, Some, slice_get}
 use Rattle.mc_conn.specs.Held.{lines_of}
 use Rattle.mc_conn.specs.Onward.{own_sighting}
 use Rattle.mc_conn.specs.Owed.{Logs, demand_of}

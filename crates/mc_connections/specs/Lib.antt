@@ -3,4 +3,5 @@ pub mod Counting
 pub mod InTurn
 pub mod Life
 pub mod Serving
+pub mod Waiting
 pub mod Working

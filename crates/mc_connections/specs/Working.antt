@@ -1,7 +1,7 @@
 -- What a worker does with its connections; this project's profile.
 use Rattle.std.specs.Prelude.{◌≡◌, ◌==◌, ◌⊎◌, ℕ, Bool, true, []}
 use Rattle.slab.specs.Slab.{slab_len}
-use Rattle.uc_worker.specs.Going.{CatchesUp, Continues}
+use Rattle.uc_worker.specs.Going.{CatchesUp}
 use Rattle.mc_conn.specs.declared.conn.State.{State}
 use Rattle.mc_connections.specs.Serving.{Admits, Becomes, IsServedLater, ChangesAt}
 use Rattle.mc_connections.specs.declared.arrival.Arrival.{Arrival}

@@ -23,7 +23,16 @@ use uc_worker::{Gate, Worker};
 
 /// How many turns a connection gets for one event at most, so that the others get theirs soon: a
 /// turn takes at most a buffer of bytes.
-const TURNS: u32 = 4;
+const TURNS: u32 = 2;
+
+/// What serving a connection came to.
+#[derive(Clone, Copy)]
+pub(crate) struct Served {
+    /// The connection's state afterwards.
+    pub state: State,
+    /// How many bytes its stream gave and took.
+    pub bytes: u64,
+}
 
 /// Makes a turn, which leaves commands to the next log if `until_done` is set.
 ///
@@ -92,7 +101,7 @@ fn turns<I: Input, O: Output, G: Gate>(
 }
 
 impl Connection {
-    /// Makes turns over the connection's stream. Returns the connection's state afterwards.
+    /// Makes turns over the connection's stream.
     fn serve<G: Gate>(
         &mut self,
         until_done: bool,
@@ -100,9 +109,9 @@ impl Connection {
         gate: &mut G,
         buffer: &mut [u8; PULL_BYTES],
         stops_short: bool,
-    ) -> State
+    ) -> Served
         requires { FitsLog self.old.conn.role worker.old }
-        ensures { IsServedLater until_done worker.old worker.new self.old self.new result }
+        ensures { IsServedLater until_done worker.old worker.new self.old self.new result.state }
     {
         let Connection {
             stream,
@@ -110,10 +119,10 @@ impl Connection {
             received,
             sent,
         } = self;
-        let reader = SocketReader::new(stream, stops_short);
-        let writer = SocketWriter::new(stream);
-        let mut input = ReadInput::resume(reader, mem::replace(received, Tape::new()));
-        let mut output = WriteOutput::resume(writer, mem::replace(sent, Tape::new()));
+        let mut reader = SocketReader::new(stream, stops_short);
+        let mut writer = SocketWriter::new(stream);
+        let mut input = ReadInput::resume(&mut reader, mem::replace(received, Tape::new()));
+        let mut output = WriteOutput::resume(&mut writer, mem::replace(sent, Tape::new()));
         let state = turns(
             until_done,
             conn,
@@ -125,7 +134,8 @@ impl Connection {
         );
         *received = input.into_tape();
         *sent = output.into_tape();
-        state
+        let bytes = reader.count.saturating_add(writer.count);
+        Served { state, bytes }
     }
 }
 
@@ -165,8 +175,8 @@ impl Connections {
         Some(self.by_key.insert_reserved(connection))
     }
 
-    /// Serves the connection under a key, if there is one, and returns its state afterwards. If it
-    /// has ended it is removed, and its stream closes.
+    /// Serves the connection under a key, if there is one. If it has ended it is removed, and its
+    /// stream closes.
     pub(crate) fn serve<G: Gate>(
         &mut self,
         until_done: bool,
@@ -176,16 +186,19 @@ impl Connections {
         key: usize,
         stops_short: bool,
         closing: &mut Closing,
-    ) -> State
+    ) -> Served
         requires { self.old.tenants ≡ length (tenants_of worker.old) }
-        ensures { ServesAt until_done key result (standing worker.old self.old)
+        ensures { ServesAt until_done key result.state (standing worker.old self.old)
             (standing worker.new self.new) }
     {
         let Some(connection) = self.by_key.get_mut(key) else {
-            return State::Idle;
+            return Served {
+                state: State::Idle,
+                bytes: 0,
+            };
         };
-        let state = connection.serve(until_done, worker, gate, buffer, stops_short);
-        if state == State::Closed {
+        let served = connection.serve(until_done, worker, gate, buffer, stops_short);
+        if served.state == State::Closed {
             let Some(connection) = self.by_key.try_remove(key) else {
                 unreachable!();
             };
@@ -193,6 +206,6 @@ impl Connections {
             self.ended = self.ended.and(&connection);
             closing.keep(connection.stream, buffer);
         }
-        state
+        served
     }
 }

@@ -87,6 +87,15 @@ impl Connections {
         })
     }
 
+    /// Returns the number of the tenant whose connection is under a key, or `None` if none is, or an
+    /// administrator's.
+    pub(crate) fn tenant_of(&self, key: usize) -> Option<usize> {
+        match self.by_key.get(key)?.conn.role() {
+            Role::Tenant(tenant) => Some(usize::from(tenant.number())),
+            Role::Admin(_) => None,
+        }
+    }
+
     pub fn is_empty(&self) -> bool
         ensures { result ≡ (slab_len self.now.by_key == 0) }
     {

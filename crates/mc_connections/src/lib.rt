@@ -20,3 +20,4 @@ pub mod laws;
 pub mod past_connections;
 pub mod ready_queue;
 mod socket;
+mod waiting;
