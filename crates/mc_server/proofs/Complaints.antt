@@ -1,11 +1,13 @@
 -- What is wrong can't be served, and where nothing is wrong all can be served.
-use Rattle.std.proofs.Common.{◌≡◌, ◌≢◌, ◌≤◌, ◌==◌, ◌∙◌, ◌↔◌, ℕ, zero, suc, Bool, true, false, List, [], ◌∷◌, ◌++◌, All, IsTrue, Option, Some, None, Contains, length, map, min, if◌then◌else◌, get_or, refl, sym, ap, arith, subst}
+use Rattle.std.proofs.Common.{◌≡◌, ◌≢◌, ◌≤◌, ◌==◌, ◌∙◌, ◌↔◌, ℕ, zero, suc, Bool, true, false, List, [], ◌∷◌, ◌++◌, All, IsTrue, Option, Some, None, Result, Ok, Err, Bor, Contains, length, map, take, ◌<◌, min, if◌then◌else◌, get_or, refl, sym, ap, arith, subst}
 use Rattle.std.proofs.Math.Nat.{min-le_left, min-le_right}
-use Rattle.std.proofs.lemmas.List.{length-map}
-use Rattle.std.proofs.lemmas.List.Elements.{All-head, All-tail, All-cons, All-nil}
+use Rattle.std.proofs.lemmas.List.{length-map, map-append, take_all}
+use Rattle.std.proofs.lemmas.List.Elements.{All-head, All-tail, All-cons, All-nil, All-push}
 use Rattle.std.proofs.lemmas.Slice.Zip.{AllZip-long}
 use Rattle.std.specs.List.{AllZip, IsDistinct}
+use Rattle.std.specs.Net.Grammar.{IsSocketV4Text, Parses}
 use Rattle.std.specs.Option.{IsSomeAnd}
+use Rattle.std.specs.Prelude.{MatchResult, is_err}
 use Rattle.std.specs.Str.{bytes_eq}
 use Rattle.std.specs.declared.net.socket_addr.SocketAddrV4.{SocketAddrV4}
 use Rattle.std.proofs.NetLemmas.Theorems.{IsSocketV4Text_unique}
@@ -22,6 +24,7 @@ use Rattle.mc_server.specs.declared.complaint.Complaint.TheVariants.{NameTaken, 
 use Rattle.mc_server.specs.declared.complaint.Counted.{Counted}
 use Rattle.mc_server.specs.declared.complaint.Counted.TheVariants.{Generations, LogBytes, Places, Tenants, Workers}
 use Rattle.mc_server.specs.declared.complaint.Part.{Part}
+use Rattle.mc_server.specs.declared.tenant_word.Parts.{Parts}
 use Rattle.mc_server.specs.declared.complaint.Part.TheVariants.{Address, Bytes, Form, Items, Name}
 use Rattle.mc_server.proofs.NameParts.{names_are_said, once}
 use Rattle.mc_server.proofs.TenantForms.{address_lacks, name_lacks, number_lacks}
@@ -90,17 +93,17 @@ more_than_none true workers places low = low
 more_than_none false workers places low = omega (arith, low, min-le_left workers places)
 
 number_in_vain : (given : NetworkGiven) (counted : Counted) (number : ℕ) → given_number given counted ≡ number → ¬ (IsBetween (least counted) (most counted) number) → AsksInVain given
-number_in_vain given Workers number is not asked asks servable =
+number_in_vain given Workers number is outside asked asks servable =
     let some = more_than_none (given.generations == 1) given.workers given.places (subst (λ count. 1 ≤ count) asks.workers servable.lawful.workers.0) in
-    not (subst (IsBetween 1 WORKERS) is (some, asks.few))
-number_in_vain given Places number is not asked asks servable = not (rw (sym is, sym asks.places) servable.lawful.places)
-number_in_vain given Generations number is not asked asks servable = not (omega arith, rw (sym is, sym asks.generations) servable.generations)
-number_in_vain given LogBytes number is not asked asks servable = not (rw (sym is, sym asks.log_bytes) servable.log_bytes)
-number_in_vain given Tenants number is not asked asks servable =
+    outside (subst (IsBetween 1 WORKERS) is (some, asks.few))
+number_in_vain given Places number is outside asked asks servable = outside (rw (sym is, sym asks.places) servable.lawful.places)
+number_in_vain given Generations number is outside asked asks servable = outside (omega arith, rw (sym is, sym asks.generations) servable.generations)
+number_in_vain given LogBytes number is outside asked asks servable = outside (rw (sym is, sym asks.log_bytes) servable.log_bytes)
+number_in_vain given Tenants number is outside asked asks servable =
     let long = AllZip-long Says given.tenants asked.tenants asks.tenants in
-    let quotas = length-map (λ (tenant : TenantAsked). tenant.limits) asked.tenants in
+    let quotas = length-map asked.tenants (λ (tenant : TenantAsked). tenant.limits) in
     let lawful = servable.lawful.tenants in
-    not (omega (arith, is, long, quotas, lawful.0), omega (arith, is, long, quotas, lawful.1))
+    outside (omega (arith, is, long, quotas, lawful.0), omega (arith, is, long, quotas, lawful.1))
 
 reserved_are : (text : Option Text) (address : Option SocketAddrV4) → SpellsAddress text address → reserved_for text ≡ reserved_names address
 reserved_are None address spells = ap reserved_names (sym spells)
@@ -111,7 +114,7 @@ pub names_are_given : (given : NetworkGiven) (asked : NetworkAsked) → Asks giv
 names_are_given given asked asks = let reserved = reserved_are given.admin asked.admin asks.admin in let names = names_are_said given.tenants asked.tenants asks.tenants in λ i. reserved i ++ names i
 
 pub in_vain : (given : NetworkGiven) (complaint : Complaint) → IsWrong given complaint → AsksInVain given
-in_vain given (OutOfBounds counted number) wrong = number_in_vain given counted number wrong.0 wrong.1
+in_vain given (OutOfBounds counted number) wrong asked asks servable = number_in_vain given counted number wrong.0 wrong.1 asked asks servable
 in_vain given (NoAddress word) wrong asked asks servable = wrong.1 asked.admin asks.admin
 in_vain given (WrongPart word part) wrong asked asks servable = wrong_among given.tenants asked.tenants word.now part wrong.0 wrong.1 asks.tenants servable.lawful.limits
 in_vain given (NameTaken name) wrong asked asks servable = once _ name.now (subst (IsDistinct bytes_eq) (sym (names_are_given given asked asks)) servable.names) wrong
@@ -160,7 +163,7 @@ can_be_served given address workers places generations log_bytes count spells fi
     } in
     let asks : Asks given asked = record { few = workers.1; workers = refl; places = refl; generations = refl; log_bytes = refl; connections = refl; admin = spells; tenants = said.say } in
     let long = AllZip-long Says given.tenants said.tenants said.say in
-    let quotas = length-map (λ (tenant : TenantAsked). tenant.limits) said.tenants in
+    let quotas = length-map said.tenants (λ (tenant : TenantAsked). tenant.limits) in
     (asked, asks, record {
       lawful = record {
         workers = serves_some (given.generations == 1) given.workers given.places workers places.0;
@@ -182,3 +185,47 @@ quota_of limit text = go (u64_of text)
     go : (read : Option ℕ) → IsSomeAnd read (IsBetween 1 limit) → (quota : ℕ) × (read ≡ Some quota) × IsBetween 1 limit quota
     go None within = absurd within
     go (Some quota) within = (quota, refl, within)
+
+-- an address that was read, or none
+pub address_read : {E : Type 0} (text : Text) (read : Result SocketAddrV4 E) → is_err read ≡ false → Parses IsSocketV4Text text read → (address : SocketAddrV4) × IsSocketV4Text text address
+address_read text (Ok address) fails parsed = (address, parsed)
+address_read text (Err error) fails parsed = absurd cc
+
+pub none_read : {E : Type 0} (text : Text) (read : Result SocketAddrV4 E) → is_err read ≡ true → Parses IsSocketV4Text text read → (address : SocketAddrV4) → ¬ (IsSocketV4Text text address)
+none_read text (Ok address) fails parsed = absurd cc
+none_read text (Err error) fails parsed = parsed
+
+-- the parts into which a word was cut
+abbrev pub parts_in : Parts → TenantParts
+parts_in parts = record { name = parts.name.now; address = parts.address.now; items = parts.items.now; bytes = parts.bytes.now }
+
+pub is_cut_into : (word : Text) (parts : Parts) → word ≡ tenant_text parts.name.now parts.address.now parts.items.now parts.bytes.now
+    → Lacks 61 parts.name.now × Lacks 44 parts.address.now × Lacks 44 parts.items.now → IsCutInto word (parts_in parts)
+is_cut_into word parts whole first = record { spelled = whole; name = first.0; address = first.1; items = first.2 }
+
+-- ---- the words in their order
+
+pub word_stands : (words : List (Bor Text)) (texts : List Text) (place : ℕ) (some : Bor Text) → place < length words → texts ≡ map (λ word. word.now) words
+    → Contains texts (get_or words place some).now
+word_stands words texts place some low e = subst (λ known. Contains known (get_or words place some).now) (sym e) (go words place some low)
+  where
+    go : (words : List (Bor Text)) (place : ℕ) (some : Bor Text) → place < length words → Contains (map (λ word. word.now) words) (get_or words place some).now
+    go [] place some low = absurd (omega (arith, low))
+    go (x ∷ xs) zero some low = (0, omega arith, refl)
+    go (x ∷ xs) (suc place) some low = let rest = go xs place some (omega (arith, low)) in (suc rest.0, omega (arith, rest.1), rest.2)
+
+pub one_more_fits : (words taken : List (Bor Text)) (word : Bor Text) → All FitsAlone (map (λ one. one.now) words) → FitsAlone word.now → taken ≡ words ++ word ∷ []
+    → All FitsAlone (map (λ one. one.now) taken)
+one_more_fits words taken word fit fits e =
+    subst (λ (list : List (Bor Text)). All FitsAlone (map (λ one. one.now) list)) (sym e)
+    (subst (All FitsAlone) (sym (map-append (λ (one : Bor Text). one.now) words (word ∷ []))) (All-push FitsAlone _ word.now fit fits))
+
+pub all_fit : (words : List (Bor Text)) (count : ℕ) → length words ≤ count → All FitsAlone (map (λ one. one.now) (take count words)) → All FitsAlone (map (λ one. one.now) words)
+all_fit words count all fit = subst (λ (list : List (Bor Text)). All FitsAlone (map (λ one. one.now) list)) (take_all count words all) fit
+
+-- ---- what the check of all words has come to
+
+pub ends : (given : NetworkGiven) (result : Result (Unit {0}) Complaint) → (IsDistinct bytes_eq (names_given given) → CanBeServed given)
+    → MatchResult result (λ _. IsDistinct bytes_eq (names_given given)) (IsWrong given) → MatchResult result (λ _. CanBeServed given) (IsWrong given)
+ends given (Ok done) serves outcome = serves outcome
+ends given (Err complaint) serves outcome = outcome

@@ -1,26 +1,31 @@
 -- The names of tenants' words: what stands before the first `=`, and which of them stand twice.
-use Rattle.std.proofs.Common.{◌≡◌, ◌≢◌, ◌≤◌, ◌<◌, ◌-◌, ◌+◌, ◌==◌, ◌||◌, ◌↔◌, Bool, true, false, not, IsTrue, ℕ, zero, suc, List, [], ◌∷◌, ◌++◌, Option, Some, None, Bor, length, map, take, drop, get_or, refl, sym, ap, ◌∙◌, arith, subst}
+use Rattle.std.proofs.Common.{◌≡◌, ◌≢◌, ◌≤◌, ◌<◌, ◌-◌, ◌+◌, ◌==◌, ◌||◌, ◌↔◌, cond, Bool, true, false, not, IsTrue, ℕ, zero, suc, List, [], ◌∷◌, ◌++◌, Option, Some, None, Result, Ok, Err, Bor, length, map, take, drop, get_or, refl, sym, ap, ◌∙◌, arith, subst}
 use Rattle.std.proofs.lemmas.Bool.{ne_eqb}
 use Rattle.std.proofs.lemmas.List.{take_all}
 use Rattle.std.proofs.lemmas.List.Elements.{All-head, All-tail}
 use Rattle.std.proofs.lemmas.Slice.Eq.{bytes_eq-Decides}
-use Rattle.std.specs.List.{AllByRecursion, AllZip, IsDistinct, list_any, slice_get}
-use Rattle.std.specs.Prelude.{before_first, position_or_len}
-use Rattle.std.specs.Option.{IsSomeAnd}
+use Rattle.std.specs.List.{AllByRecursion, AllZip, IsDistinct, before_first, list_any, position_or_len, slice_get}
+use Rattle.std.specs.Option.{option_map}
+use Rattle.std.specs.Prelude.{MatchResult}
 use Rattle.std.specs.Str.{bytes_eq}
 use Rattle.clap.specs.Walk.{Text}
-use Rattle.mc_server.specs.Complaints.{StandsTwice, name_part}
+use Rattle.mc_server.specs.Complaints.{StandsTwice, name_part, names_given, reserved_for}
+use Rattle.mc_server.specs.NetworkWords.{NetworkGiven, admin_name}
 use Rattle.mc_server.specs.TenantWord.{Lacks, Says, TenantAsked}
 use Rattle.mc_server.proofs.TenantForms.{name_lacks}
+use Rattle.mc_server.proofs.TenantLists.{mapped}
 
 -- ---- what stands before the first `=`
 
+one_further : (is : Bool) (count byte : ℕ) (text front : Text) → is ≡ false → take count text ≡ front → take (cond (not is) (1 + count) 0) (byte ∷ text) ≡ byte ∷ front
+one_further true count byte text front e stands = absurd cc
+one_further false count byte text front e stands = let more : 1 + count ≡ suc count = omega arith in ap (λ n. take n (byte ∷ text)) more ∙ ap (λ list. byte ∷ list) stands
+
 before : (name rest : Text) → Lacks 61 name → before_first (λ byte. byte == 61) (name ++ 61 ∷ rest) ≡ name
 before [] rest lacks = refl
-before (x ∷ xs) rest lacks = go (x == 61) (ne_eqb x 61 (All-head (λ byte. byte ≢ 61) x xs lacks))
-  where
-    go : (b : Bool) → (x == 61) ≡ false → before_first (λ byte. byte == 61) (x ∷ (xs ++ 61 ∷ rest)) ≡ x ∷ xs
-    go b e = rw e (ap (λ list. x ∷ list) (before xs rest (All-tail (λ byte. byte ≢ 61) x xs lacks)))
+before (x ∷ xs) rest lacks =
+    one_further (x == 61) (position_or_len (λ byte. byte == 61) (xs ++ 61 ∷ rest)) x (xs ++ 61 ∷ rest) xs
+    (ne_eqb x 61 (All-head (λ byte. byte ≢ 61) x xs lacks)) (before xs rest (All-tail (λ byte. byte ≢ 61) x xs lacks))
 
 -- it is the name of the tenant that the word says
 pub name_is : (word : Text) (tenant : TenantAsked) → Says word tenant → name_part word ≡ tenant.name
@@ -59,13 +64,11 @@ Stands names name = (place : ℕ) × (slice_get names place ≡ Some name)
 
 one_uses : (name : Text) (words : List (Bor Text)) → uses name words ≡ true → Stands (parts_of_words words) name
 one_uses name [] e = absurd (cc)
-one_uses name (x ∷ xs) e = go (bytes_eq name (part_of x)) refl
+one_uses name (x ∷ xs) e = go (bytes_eq name (part_of x)) refl (λ rest. one_uses name xs rest)
   where
-    go : (b : Bool) → bytes_eq name (part_of x) ≡ b → Stands (parts_of_words (x ∷ xs)) name
-    go true is = (0, ap Some (sym ((bytes_eq-Decides name (part_of x)).0 is)))
-    go false is =
-        let rest = one_uses name xs (ap (λ b. b || uses name xs) (sym is) ∙ e) in
-        (suc rest.0, rest.1)
+    go : (b : Bool) → bytes_eq name (part_of x) ≡ b → (uses name xs ≡ true → Stands (parts_of_words xs) name) → Stands (parts_of_words (x ∷ xs)) name
+    go true is later = (0, ap Some (sym ((bytes_eq-Decides name (part_of x)).0 is)))
+    go false is later = let rest = later (ap (λ b. b || uses name xs) (sym is) ∙ e) in (suc rest.0, rest.1)
 
 rest_is : (x : Bor Text) (xs : List (Bor Text)) → take (length (x ∷ xs) - 1) (drop 1 (x ∷ xs)) ≡ xs
 rest_is x xs = take_all (length (x ∷ xs) - 1) xs (omega arith)
@@ -116,6 +119,35 @@ reserved_twice name words has e used = let at = one_uses name words (sym e ∙ u
 
 pub twice_behind : (front : Text) (names : List Text) (name : Text) → StandsTwice names name → StandsTwice (front ∷ names) name
 twice_behind front names name twice = (suc twice.0, suc twice.1, omega (arith, twice.2), twice.3, twice.4)
+
+-- what the rest has come to, where the first's name is used by no other
+pub of_rest : (words : List (Bor Text)) (some : Bor Text) (name : Text) (has : Bool) → 1 ≤ length words
+    → has ≡ uses name (take (length words - 1) (drop 1 words)) → has ≡ false → name ≡ name_part (get_or words 0 some).now
+    → (result : Result (Unit {0}) (Bor Text))
+    → MatchResult result (λ _. IsDistinct bytes_eq (parts_of_words (take (length words - 1) (drop 1 words)))) (λ one. StandsTwice (parts_of_words (take (length words - 1) (drop 1 words))) one.now)
+    → MatchResult result (λ _. IsDistinct bytes_eq (parts_of_words words)) (λ one. StandsTwice (parts_of_words words) one.now)
+of_rest words some name has low e unused is (Ok done) rest = all_distinct words some name has low e unused is rest
+of_rest words some name has low e unused is (Err one) rest = later_stands_twice words one.now low rest
+
+-- the names of what is given, beside the one that is reserved
+pub names_given_are : (given : NetworkGiven) (words : List (Bor Text)) → given.tenants ≡ map (λ word. word.now) words → map name_part given.tenants ≡ parts_of_words words
+names_given_are given words e = ap (map name_part) e ∙ mapped (λ (word : Bor Text). word.now) name_part words
+
+pub twice_given : (admin : Option Text) (names : List Text) (name : Text) → StandsTwice names name → StandsTwice (reserved_for admin ++ names) name
+twice_given None names name twice = twice
+twice_given (Some text) names name twice = twice_behind admin_name names name twice
+
+module _ (given : NetworkGiven) (words : List (Bor Text)) (admin : Option (Bor Text)) (some : Bor Text) (asked : given.admin ≡ option_map (λ word. word.now) admin)
+    (tenants : given.tenants ≡ map (λ word. word.now) words) (are : admin ≡ Some some) (has : Bool) (found : has ≡ uses admin_name words) where
+  with_admin : names_given given ≡ admin_name ∷ parts_of_words words
+  with_admin = let text = asked ∙ ap (option_map (λ (word : Bor Text). word.now)) are in let names = names_given_are given words tenants in λ i. reserved_for (text i) ++ names i
+
+  pub admin_twice : has ≡ true → StandsTwice (names_given given) admin_name
+  admin_twice used = subst (λ names. StandsTwice names admin_name) (sym with_admin) (reserved_twice admin_name words has found used)
+
+  pub admin_free : has ≡ false → IsDistinct bytes_eq (map name_part given.tenants) → IsDistinct bytes_eq (names_given given)
+  admin_free unused distinct =
+      subst (IsDistinct bytes_eq) (sym with_admin) (reserved_beside admin_name words has found unused (subst (IsDistinct bytes_eq) (names_given_are given words tenants) distinct))
 
 -- ---- distinct names stand once
 

@@ -1,16 +1,15 @@
 -- Why what is given on wfmc's command line can't be served, and by which of its words; this project's
 -- profile.
-use Rattle.std.specs.List.{IsDistinct}
+use Rattle.std.specs.List.{before_first}
 use Rattle.std.specs.Net.Grammar.{IsSocketV4Text}
 use Rattle.std.specs.Option.{IsSomeAnd}
-use Rattle.std.specs.Prelude.{◌≡◌, ◌==◌, ◌<◌, ◌++◌, ℕ, List, [], ◌∷◌, All, Contains, IsTrue, Option, Some, None, before_first, codes, decimal, length, map, slice_get}
+use Rattle.std.specs.Prelude.{◌≡◌, ◌==◌, ◌<◌, ◌++◌, ℕ, List, [], ◌∷◌, All, Contains, IsTrue, Option, Some, None, codes, decimal, length, map, slice_get}
 use Rattle.std.specs.declared.net.socket_addr.SocketAddrV4.{SocketAddrV4}
 use Rattle.clap.specs.Walk.{Text}
 use Rattle.mc_model.specs.Name.{is_lawful_name}
 use Rattle.mc_model.specs.Settings.{AreLawfulLimits, IsBetween}
 use Rattle.mc_model.specs.declared.id.TheConstants.{TENANTS, WORKERS}
 use Rattle.mc_model.specs.declared.settings.TheConstants.{MAX_BYTES, MAX_ITEMS, MAX_PLACES}
-use Rattle.mc_programs.specs.Faults.{program_line}
 use Rattle.mc_programs.specs.Words.{u64_of}
 use Rattle.mc_server.specs.NetworkWords.{Asks, IsNoAddress, IsServable, NetworkAsked, NetworkGiven, admin_name}
 use Rattle.mc_server.specs.TenantWord.{Lacks, Says, TenantAsked, tenant_text}
@@ -127,21 +126,19 @@ part_text Address = codes "ADDR is not an IPv4 address and a port"
 part_text Items = codes "ITEMS is not from 1 to 1048576"
 part_text Bytes = codes "BYTES is not from 1 to 1073741824"
 
--- a complaint in words
-abbrev pub complaint_text : Complaint → Text
-complaint_text (OutOfBounds counted number) =
-    counted_text counted ++ (codes " " ++ (decimal number
-    ++ (codes ": not from " ++ (decimal (least counted)
-    ++ (codes " to " ++ decimal (most counted))))))
-complaint_text (NoAddress word) =
-    codes "--admin " ++ (word.now ++ (codes ": " ++ part_text Address))
-complaint_text (WrongPart word part) = word.now ++ (codes ": " ++ part_text part)
-complaint_text (NameTaken name) = codes "two listeners are named " ++ name.now
-
 -- the line that reports a complaint
 abbrev pub complaint_line : Complaint → List ℕ
-complaint_line complaint = program_line (codes "wfmc") (complaint_text complaint)
+complaint_line (OutOfBounds counted number) =
+    codes "wfmc: " ++ (counted_text counted ++ (codes " " ++ (decimal number
+    ++ (codes ": not from " ++ (decimal (least counted) ++ (codes " to "
+    ++ (decimal (most counted) ++ codes "\n")))))))
+complaint_line (NoAddress word) =
+    codes "wfmc: --admin " ++ (word.now ++ (codes ": " ++ (part_text Address ++ codes "\n")))
+complaint_line (WrongPart word part) =
+    codes "wfmc: " ++ (word.now ++ (codes ": " ++ (part_text part ++ codes "\n")))
+complaint_line (NameTaken name) =
+    codes "wfmc: two listeners are named " ++ (name.now ++ codes "\n")
 
 -- the line that says that what is given can be served
 abbrev pub passed_line : List ℕ
-passed_line = program_line (codes "wfmc") (codes "the settings can be served")
+passed_line = codes "wfmc: the settings can be served\n"

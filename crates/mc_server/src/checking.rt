@@ -46,7 +46,7 @@ impl Part {
 ///
 /// Returns an error if memory runs out.
 fn complaint_line(alloc: Global, complaint: Complaint<'_>) -> Result<String, AllocError>
-    ensures { IfOk result (λ line. string_bytes line ≡ complaint_line complaint) }
+    ensures { IfOk result (λ line. string_bytes line ≡ complaint_line complaint.entry) }
 {
     match complaint {
         Complaint::OutOfBounds(counted, number) => {

@@ -1,12 +1,12 @@
 //! Which word of wfmc's command line can't be served, and why.
 ghost use Rattle.std.specs.List.{IsDistinct, list_any};
 ghost use Rattle.std.specs.Option.{MatchOption, option_map};
-ghost use Rattle.std.specs.Prelude.{◌≡◌, ◌↔◌, All, IsTrue, MatchResult, Option, map};
+ghost use Rattle.std.specs.Prelude.{◌≡◌, ◌↔◌, All, IsTrue, MatchResult, Option, false, map};
 ghost use Rattle.std.specs.Str.{bytes_eq};
 ghost use Rattle.std.specs.declared.net.socket_addr.SocketAddrV4.{SocketAddrV4};
 ghost use Rattle.mc_model.specs.Settings.{IsBetween};
 ghost use Rattle.mc_server.specs.Complaints.{CanBeServed, FitsAlone, IsWrong, IsWrongPart, SpellsQuota, StandsTwice, given_number, least, most, name_part, names_given};
-ghost use Rattle.mc_server.specs.NetworkWords.{NetworkGiven, SpellsAddress, given_in};
+ghost use Rattle.mc_server.specs.NetworkWords.{NetworkGiven, SpellsAddress, admin_name, given_in};
 
 use crate::network_texts::ADMIN;
 use crate::network_words::{MAX_GENERATIONS, MAX_LOG_BYTES, NetworkWords};
@@ -124,8 +124,9 @@ fn check_alone<'a>(words: &[&'a str]) -> Result<(), Complaint<'a>>
         given.tenants ≡ texts → IsWrong given complaint) }
 {
     for word in words {
-        if let Some(part) = wrong_part(word) {
-            return Err(Complaint::WrongPart(word, part));
+        match wrong_part(word) {
+            Some(part) => return Err(Complaint::WrongPart(word, part)),
+            None => {}
         }
     }
     Ok(())
@@ -162,6 +163,18 @@ fn check_names<'a>(words: &[&'a str]) -> Result<(), &'a str>
     }
 }
 
+/// Returns whether administrators are served, and one of the tenants is `admin`.
+fn is_admin_taken(words: &NetworkWords) -> bool
+    ensures taken { IsTrue result → StandsTwice (names_given (given_in words.now)) admin_name }
+    ensures free { (result ≡ false) → IsDistinct bytes_eq (map name_part (given_in words.now).tenants) →
+        IsDistinct bytes_eq (names_given (given_in words.now)) }
+{
+    match words.admin {
+        Some(_) => is_taken(&words.tenants, ADMIN),
+        None => false,
+    }
+}
+
 /// Returns the complaint about a name that is used twice, if one is: with administrators none of
 /// the tenants is `admin`.
 fn check_all_names<'a>(words: &NetworkWords<'a>) -> Result<(), Complaint<'a>>
@@ -169,7 +182,7 @@ fn check_all_names<'a>(words: &NetworkWords<'a>) -> Result<(), Complaint<'a>>
         (λ _. IsDistinct bytes_eq (names_given (given_in words.now)))
         (IsWrong (given_in words.now)) }
 {
-    if words.admin.is_some() && is_taken(&words.tenants, ADMIN) {
+    if is_admin_taken(words) {
         return Err(Complaint::NameTaken(ADMIN));
     }
     match check_names(&words.tenants) {
@@ -180,14 +193,16 @@ fn check_all_names<'a>(words: &NetworkWords<'a>) -> Result<(), Complaint<'a>>
 
 /// Returns the complaint about the administrators' address, if what is written for it isn't one.
 fn check_admin<'a>(admin: Option<&'a str>) -> Result<(), Complaint<'a>>
-    ensures { let text = option_map (λ word. word.now) admin in
-        MatchResult result
-        (λ _. (address : Option SocketAddrV4) × SpellsAddress text address) (λ complaint. (given : NetworkGiven) →
-        given.admin ≡ text → IsWrong given complaint) }
+    ensures { let text = option_map (λ word. word.now) admin.entry in
+        MatchResult result (λ _. (address : Option SocketAddrV4) × SpellsAddress text address)
+        (λ complaint. (given : NetworkGiven) → given.admin ≡ text → IsWrong given complaint) }
 {
-    match admin {
-        Some(word) if word.parse::<SocketAddrV4>().is_err() => Err(Complaint::NoAddress(word)),
-        _ => Ok(()),
+    let Some(word) = admin else {
+        return Ok(());
+    };
+    match word.parse::<SocketAddrV4>() {
+        Ok(_) => Ok(()),
+        Err(_) => Err(Complaint::NoAddress(word)),
     }
 }
 
