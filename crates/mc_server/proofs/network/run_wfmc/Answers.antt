@@ -23,27 +23,27 @@ pub returns-in-Err-BadSettings : goal.returns-in-Err-BadSettings
 returns-in-Err-BadSettings g c =
     let known : (BadSettings ≡ Memory) ⊎ (BadSettings ≡ BadSettings) × AsksInVain (given_in c.in-Ok.given) = rw c.in-Err-BadSettings.field-0-is at c.in-Err-BadSettings.ensures.outcome in
     let vain : AsksInVain (given_in c.in-Ok.given) = ⊎_elim (λ (memory : BadSettings ≡ Memory). absurd cc) (λ none. none.1) known in
-    let none = subst (λ (words : List (String Global)). AsksForNone (map string_bytes words)) c.deref.ensures.value (for_none _ c.in-Ok.given c.in-Ok.ensures.outcome c.if-check.false vain) in
+    let none = subst (λ (words : List (String Global)). AsksForNone (map string_bytes words)) c.deref.ensures.value (for_none _ c.in-Ok.given c.in-Ok.ensures.outcome c.if-given.false vain) in
     inr (inr (inr (refl, inl (none, c.tell_fault.ensures), refl)))
 
 -- what they ask for was served
 pub returns-in-Ok-run_service : goal.returns-in-Ok-run_service
 returns-in-Ok-run_service g c =
     let asks : AsksForService (map string_bytes c.args.words.items) (served_by c.in-Ok-service_of.service) = subst (λ (words : List (String Global)). AsksForService (map string_bytes words) (served_by c.in-Ok-service_of.service)) c.deref.ensures.value
-    (for_service _ c.in-Ok.given c.in-Ok-service_of.service c.in-Ok.ensures.outcome c.if-check.false c.in-Ok-service_of.ensures.outcome.0 c.in-Ok-service_of.ensures.outcome.1) in
+    (for_service _ c.in-Ok.given c.in-Ok-service_of.service c.in-Ok.ensures.outcome c.if-given.false c.in-Ok-service_of.ensures.outcome.0 c.in-Ok-service_of.ensures.outcome.1) in
     inr (inl (refl, inl (served_by c.in-Ok-service_of.service, asks, c.in-Ok-run_service.ensures.outcome), refl))
 
 -- a run stopped
 pub returns : goal.returns
 returns g c =
     let asks : AsksForService (map string_bytes c.args.words.items) (served_by c.in-Ok-service_of.service) = subst (λ (words : List (String Global)). AsksForService (map string_bytes words) (served_by c.in-Ok-service_of.service)) c.deref.ensures.value
-    (for_service _ c.in-Ok.given c.in-Ok-service_of.service c.in-Ok.ensures.outcome c.if-check.false c.in-Ok-service_of.ensures.outcome.0 c.in-Ok-service_of.ensures.outcome.1) in
+    (for_service _ c.in-Ok.given c.in-Ok-service_of.service c.in-Ok.ensures.outcome c.if-given.false c.in-Ok-service_of.ensures.outcome.0 c.in-Ok-service_of.ensures.outcome.1) in
     inr (inr (inl (refl, inl (served_by c.in-Ok-service_of.service, asks, record { stop = c.in-Err-run_service.stop; stops = c.in-Err-run_service.ensures.outcome; told = c.tell_stop.ensures }))))
 
 -- they ask only to be checked
-pub returns-then-check : goal.returns-then-check
-returns-then-check g c =
+pub returns-then-given : goal.returns-then-given
+returns-then-given g c =
     let P = λ (words : List (String Global)). AsksForCheck (map string_bytes words)
         × ChecksWords (given_by_words (map string_bytes words)) c.check_words.result (g.O.Output.tells c.args.output.now) (g.O.Output.tells c.check_words.new.output) (g.E.Output.tells c.args.errors.now) (g.E.Output.tells c.check_words.new.errors)
     in
-    inl (subst P c.deref.ensures.value (for_check _ c.in-Ok.given _ _ _ _ _ c.in-Ok.ensures.outcome c.if-check.true c.check_words.ensures))
+    inl (subst P c.deref.ensures.value (for_check _ c.in-Ok.given _ _ _ _ _ c.in-Ok.ensures.outcome c.if-given.true c.check_words.ensures))
