@@ -7,9 +7,9 @@ Prints a line `GROUP: CASE: WHAT<TAB>VALUE<TAB>UNIT` for each measurement. GROUP
 - waits: one client, 1 or 32 requests at a time, over tables of 1,000 to 1,000,000 items, with 1, 2 and 4 workers. The longest waits are taken
   for those at turn overs, as many as there were, so where they are no longer than others these figures are upper bounds;
 - turns: the same client, and what can be seen of a turn over from outside, by the number of the process's threads and by the processor time of
-  its first one, which accepts connections: how long it takes until the workers' threads have ended (joining), then until the first of them
-  begins again (closing: catching up, meeting and copying, and opening), until the last of them has begun (starting), and the processor time of the
-  first thread from then on, while the others serve (dropping);
+  its first one, which accepts connections: how long it takes until the workers' threads have ended (joining), then until there is a second
+  thread again (closing: catching up, meeting and copying, and with one worker also opening), until the last worker's thread has begun (opening,
+  side by side in threads of their own, and starting), and the processor time of the first thread from then on, while the others serve (dropping);
 - memory: a client sets 1,000 items again and again, over logs of 64 places;
 - bytes: a client sets 1,000 items of 10,000 bytes again and again, 2 GB in total, over logs that are closed by their bytes;
 - time: processor time of a request, with the kernel's and with what turn overs take, next to memcached's, by turns: 50 connections with one
@@ -103,7 +103,8 @@ class Phases:
                 ending, alone, beginning = None, None, None
             elif ending is None:
                 ending = last
-            if threads == 1:
+            # Once the workers are opened, the first thread is alone for a moment again.
+            if threads == 1 and beginning is None:
                 alone = now
         return found
 
@@ -247,7 +248,7 @@ def show_turns_of(case, turns):
     """The median of each part of the turn overs that were seen, and the longest standstill, from the first thread's end to the last one's begin."""
     print_figure(f"{case}: turn overs that were seen", len(turns), "count")
     if turns:
-        for part, spans in zip(("joining", "closing and opening", "starting", "dropping"), zip(*turns)):
+        for part, spans in zip(("joining", "closing", "opening and starting", "dropping"), zip(*turns)):
             print_figure(f"{case}: {part}", statistics.median(spans), "ms")
         print_figure(f"{case}: longest standstill", max(sum(spans[:3]) for spans in turns), "ms")
 

@@ -93,7 +93,7 @@ example_is_true() {
 }
 
 # Runs wfmc with a word in the place of one of its own: what it says, and its status. No address of 192.0.2.0/24 can be bound, so that words
-# that are right are followed by that failure.
+# that are right are followed by that failure. A third argument comes before these words.
 said_of() {
     local name=shop address=192.0.2.1:11211 items=1000 bytes=1048576 status=0 words=()
     case $1 in
@@ -105,7 +105,7 @@ said_of() {
     esac
     words+=("$name=$address,$items,$bytes")
     [ "$1" != TENANT ] || words=("$2")
-    timeout 20 crates/wfmc/out/wfmc "${words[@]}" >"$folder/output" 2>&1 || status=$?
+    timeout 20 crates/wfmc/out/wfmc ${3:-} "${words[@]}" >"$folder/output" 2>&1 || status=$?
     echo "$(head -n 1 "$folder/output") $status"
 }
 
@@ -119,9 +119,11 @@ try_words() {
         word=$(words_of "$word")
         while IFS= read -r it; do
             check "$word may be $it: $(said_of "$word" "$it")" eval '[[ "$(said_of "$word" "$it")" == "wfmc: cannot listen "*" 1" ]]'
+            check "$word may be $it, says --check" test "$(said_of "$word" "$it" --check)" = "wfmc: the settings can be served 0"
         done < <(words_of "$right")
         while IFS= read -r it; do
             check "$word may not be $it: $(said_of "$word" "$it")" test "$(said_of "$word" "$it")" = "wfmc: bad settings 2"
+            check "$word may not be $it, says --check" eval '[[ "$(said_of "$word" "$it" --check)" == "wfmc: "*"$it"*": "*"not "*" 2" ]]'
         done < <(words_of "$wrong")
     done < <(sed -n '/^### Which word is bad/,/^Numbers are/p' docs/OPERATING.md | grep '^| `')
 }

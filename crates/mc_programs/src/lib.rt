@@ -17,7 +17,9 @@ pub use serving::serve_client;
 pub use stdin::run_stdin;
 pub use turning_over::{TurnOver, TurnOverAlone};
 pub use waiting::push_all;
-pub use words::{answer_words, number, number_option, refuse_words, words_after_name};
+pub use words::{
+    answer_words, flag, flag_option, number, number_option, refuse_words, words_after_name,
+};
 
 mod faults;
 mod generations;

@@ -44,7 +44,7 @@ pub fn number(matches: &ArgMatches, name: &str) -> Option<u64>
 }
 
 /// Returns an option `--name` without a value.
-pub(crate) fn flag_option<'a>(alloc: Global, name: &'a str, help: &'a str) -> Arg<'a>
+pub fn flag_option<'a>(alloc: Global, name: &'a str, help: &'a str) -> Arg<'a>
     ensures rule { rule_of result ≡ flag_rule name.now }
     ensures local { result.global ≡ false }
 {
@@ -55,7 +55,7 @@ pub(crate) fn flag_option<'a>(alloc: Global, name: &'a str, help: &'a str) -> Ar
 }
 
 /// Returns whether an option without a value was given.
-pub(crate) fn flag(matches: &ArgMatches, name: &str) -> bool
+pub fn flag(matches: &ArgMatches, name: &str) -> bool
     ensures { result ≡ flag_given (found_of matches.now) name.now }
 {
     // `get_flag` does the same, but its contract covers only the texts `true` and `false`.

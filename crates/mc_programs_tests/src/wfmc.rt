@@ -64,6 +64,7 @@ Options:
       --generations <N>  How many logs, one after another, up to 65536; 0 for no end [default: 1]
       --log-bytes <N>    After how many bytes of commands the next log follows, up to 1099511627776 [default: 1073741824]
       --connections <N>  After how many connections of tenants it ends; 0 for never [default: 0]
+      --check            Says whether the words can be served, or which can't and why, and serves nothing
       --admin <ADDR>     At which IPv4 address and port administrators connect; without it there are none
   -h, --help             Print help
   -V, --version          Print version
@@ -75,6 +76,7 @@ Each TENANT is NAME=ADDR,ITEMS,BYTES:
   ITEMS  how many items the tenant may hold, from 1 to 1048576
   BYTES  how many bytes their keys and data may have, from 1 to 1073741824
 Where a word is of another form, a number out of its range, or a name used twice: wfmc: bad settings.
+With --check wfmc says which word that is, and serves nothing.
 
 With --admin, whoever connects at ADDR may set a tenant's quotas: limit NAME ITEMS BYTES.
 
@@ -161,53 +163,209 @@ fn mistakes_are_told_by_clap(rt: HostRuntime) -> Result<(), AllocError> {
     Ok(())
 }
 
-const REFUSED: [&str; 37] = [
-    "a=127.0.0.1:0,0,1",
-    "a=127.0.0.1:0,1,0",
-    "a=127.0.0.1:0,1048577,1",
-    "a=127.0.0.1:0,1,1073741825",
-    "a=127.0.0.1:0,1,1 a=127.0.0.1:0,1,1",
-    "a=127.0.0.1:0,1,1 b=127.0.0.1:0,1,1 a=127.0.0.1:0,1,1",
-    "A=127.0.0.1:0,1,1",
-    "=127.0.0.1:0,1,1",
-    "abcdefghijklmnopqrstuvwxyz0123456=127.0.0.1:0,1,1",
-    "a=127.0.0.1,1,1",
-    "a=127.0.0.256:0,1,1",
-    "a=[::1]:0,1,1",
-    "a=localhost:0,1,1",
-    "a=127.0.0.1:65536,1,1",
-    "a=127.0.0.1:0,1",
-    "a=127.0.0.1:0,1,1,1",
-    "a=127.0.0.1:0,1,x",
-    "a=127.0.0.1:0,-1,1",
-    "a=127.0.0.1:0,18446744073709551616,1",
-    "a",
-    "--workers 0 a=127.0.0.1:0,1,1",
-    "--workers 17 a=127.0.0.1:0,1,1",
-    "--places 0 a=127.0.0.1:0,1,1",
-    "--places 1048577 a=127.0.0.1:0,1,1",
-    "--generations 65537 a=127.0.0.1:0,1,1",
-    "--generations=18446744073709551615 a=127.0.0.1:0,1,1",
-    "--log-bytes 0 a=127.0.0.1:0,1,1",
-    "--log-bytes=1099511627777 a=127.0.0.1:0,1,1",
-    "--generations 0 --log-bytes 0 a=127.0.0.1:0,1,1",
+/// Words that ask for nothing that can be served, and what `--check` says of them.
+const REFUSED: [(&str, &str); 37] = [
+    (
+        "a=127.0.0.1:0,0,1",
+        "wfmc: a=127.0.0.1:0,0,1: ITEMS is not from 1 to 1048576\n",
+    ),
+    (
+        "a=127.0.0.1:0,1,0",
+        "wfmc: a=127.0.0.1:0,1,0: BYTES is not from 1 to 1073741824\n",
+    ),
+    (
+        "a=127.0.0.1:0,1048577,1",
+        "wfmc: a=127.0.0.1:0,1048577,1: ITEMS is not from 1 to 1048576\n",
+    ),
+    (
+        "a=127.0.0.1:0,1,1073741825",
+        "wfmc: a=127.0.0.1:0,1,1073741825: BYTES is not from 1 to 1073741824\n",
+    ),
+    (
+        "a=127.0.0.1:0,1,1 a=127.0.0.1:0,1,1",
+        "wfmc: two listeners are named a\n",
+    ),
+    (
+        "a=127.0.0.1:0,1,1 b=127.0.0.1:0,1,1 a=127.0.0.1:0,1,1",
+        "wfmc: two listeners are named a\n",
+    ),
+    (
+        "A=127.0.0.1:0,1,1",
+        "wfmc: A=127.0.0.1:0,1,1: NAME is not 1 to 32 of a to z, 0 to 9, - and _\n",
+    ),
+    (
+        "=127.0.0.1:0,1,1",
+        "wfmc: =127.0.0.1:0,1,1: NAME is not 1 to 32 of a to z, 0 to 9, - and _\n",
+    ),
+    (
+        "abcdefghijklmnopqrstuvwxyz0123456=127.0.0.1:0,1,1",
+        "wfmc: abcdefghijklmnopqrstuvwxyz0123456=127.0.0.1:0,1,1: NAME is not 1 to 32 of a to z, 0 to 9, - and _\n",
+    ),
+    (
+        "a=127.0.0.1,1,1",
+        "wfmc: a=127.0.0.1,1,1: ADDR is not an IPv4 address and a port\n",
+    ),
+    (
+        "a=127.0.0.256:0,1,1",
+        "wfmc: a=127.0.0.256:0,1,1: ADDR is not an IPv4 address and a port\n",
+    ),
+    (
+        "a=[::1]:0,1,1",
+        "wfmc: a=[::1]:0,1,1: ADDR is not an IPv4 address and a port\n",
+    ),
+    (
+        "a=localhost:0,1,1",
+        "wfmc: a=localhost:0,1,1: ADDR is not an IPv4 address and a port\n",
+    ),
+    (
+        "a=127.0.0.1:65536,1,1",
+        "wfmc: a=127.0.0.1:65536,1,1: ADDR is not an IPv4 address and a port\n",
+    ),
+    (
+        "a=127.0.0.1:0,1",
+        "wfmc: a=127.0.0.1:0,1: not NAME=ADDR,ITEMS,BYTES\n",
+    ),
+    (
+        "a=127.0.0.1:0,1,1,1",
+        "wfmc: a=127.0.0.1:0,1,1,1: BYTES is not from 1 to 1073741824\n",
+    ),
+    (
+        "a=127.0.0.1:0,1,x",
+        "wfmc: a=127.0.0.1:0,1,x: BYTES is not from 1 to 1073741824\n",
+    ),
+    (
+        "a=127.0.0.1:0,-1,1",
+        "wfmc: a=127.0.0.1:0,-1,1: ITEMS is not from 1 to 1048576\n",
+    ),
+    (
+        "a=127.0.0.1:0,18446744073709551616,1",
+        "wfmc: a=127.0.0.1:0,18446744073709551616,1: ITEMS is not from 1 to 1048576\n",
+    ),
+    (
+        "a",
+        "wfmc: a: not NAME=ADDR,ITEMS,BYTES\n",
+    ),
+    (
+        "--workers 0 a=127.0.0.1:0,1,1",
+        "wfmc: --workers 0: not from 1 to 16\n",
+    ),
+    (
+        "--workers 17 a=127.0.0.1:0,1,1",
+        "wfmc: --workers 17: not from 1 to 16\n",
+    ),
+    (
+        "--places 0 a=127.0.0.1:0,1,1",
+        "wfmc: --places 0: not from 1 to 1048576\n",
+    ),
+    (
+        "--places 1048577 a=127.0.0.1:0,1,1",
+        "wfmc: --places 1048577: not from 1 to 1048576\n",
+    ),
+    (
+        "--generations 65537 a=127.0.0.1:0,1,1",
+        "wfmc: --generations 65537: not from 0 to 65536\n",
+    ),
+    (
+        "--generations=18446744073709551615 a=127.0.0.1:0,1,1",
+        "wfmc: --generations 18446744073709551615: not from 0 to 65536\n",
+    ),
+    (
+        "--log-bytes 0 a=127.0.0.1:0,1,1",
+        "wfmc: --log-bytes 0: not from 1 to 1099511627776\n",
+    ),
+    (
+        "--log-bytes=1099511627777 a=127.0.0.1:0,1,1",
+        "wfmc: --log-bytes 1099511627777: not from 1 to 1099511627776\n",
+    ),
+    (
+        "--generations 0 --log-bytes 0 a=127.0.0.1:0,1,1",
+        "wfmc: --log-bytes 0: not from 1 to 1099511627776\n",
+    ),
     // Fewer workers serve than are asked for, but no more may be asked for.
-    "--generations 0 --places 2 --workers 17 a=127.0.0.1:0,1,1",
-    "--generations 0 --places 0 --workers 2 a=127.0.0.1:0,1,1",
-    "--generations 0 --places 2 --workers 0 a=127.0.0.1:0,1,1",
-    "--admin 127.0.0.1:0 admin=127.0.0.1:0,1,1",
-    "--admin 127.0.0.1:0 a=127.0.0.1:0,1,1 admin=127.0.0.1:0,1,1",
-    "--admin 127.0.0.1 a=127.0.0.1:0,1,1",
-    "--admin localhost:1 a=127.0.0.1:0,1,1",
-    "--admin=127.0.0.1:65536 a=127.0.0.1:0,1,1",
+    (
+        "--generations 0 --places 2 --workers 17 a=127.0.0.1:0,1,1",
+        "wfmc: --workers 17: not from 1 to 16\n",
+    ),
+    (
+        "--generations 0 --places 0 --workers 2 a=127.0.0.1:0,1,1",
+        "wfmc: --places 0: not from 1 to 1048576\n",
+    ),
+    (
+        "--generations 0 --places 2 --workers 0 a=127.0.0.1:0,1,1",
+        "wfmc: --workers 0: not from 1 to 16\n",
+    ),
+    (
+        "--admin 127.0.0.1:0 admin=127.0.0.1:0,1,1",
+        "wfmc: two listeners are named admin\n",
+    ),
+    (
+        "--admin 127.0.0.1:0 a=127.0.0.1:0,1,1 admin=127.0.0.1:0,1,1",
+        "wfmc: two listeners are named admin\n",
+    ),
+    (
+        "--admin 127.0.0.1 a=127.0.0.1:0,1,1",
+        "wfmc: --admin 127.0.0.1: ADDR is not an IPv4 address and a port\n",
+    ),
+    (
+        "--admin localhost:1 a=127.0.0.1:0,1,1",
+        "wfmc: --admin localhost:1: ADDR is not an IPv4 address and a port\n",
+    ),
+    (
+        "--admin=127.0.0.1:65536 a=127.0.0.1:0,1,1",
+        "wfmc: --admin 127.0.0.1:65536: ADDR is not an IPv4 address and a port\n",
+    ),
 ];
 
 #[test]
 fn what_cannot_be_served_is_refused(rt: HostRuntime) -> Result<(), AllocError> {
-    for given in &REFUSED {
-        check_told(&rt, given, 2, "wfmc: bad settings\n")?;
+    for row in &REFUSED {
+        check_told(&rt, row.0, 2, "wfmc: bad settings\n")?;
     }
     Ok(())
+}
+
+/// Asserts that a run with these words, and `--check` before them, ends with this status, and prints
+/// and reports this.
+fn check_checked<R: Threads + Wait + Net + Sync + AllocGlobal + Abort>(
+    rt: &R,
+    given: &str,
+    wanted: Wanted,
+) -> Result<(), AllocError> {
+    let words = format!(in rt.alloc(); "--check {given}")?;
+    check_steps(rt, &words, &[], &[], wanted)
+}
+
+#[test]
+fn a_check_says_which_word_cannot_be_served(rt: HostRuntime) -> Result<(), AllocError> {
+    for row in &REFUSED {
+        let wanted = Wanted {
+            status: 2,
+            output: b"",
+            errors: row.1.as_bytes(),
+        };
+        check_checked(&rt, row.0, wanted)?;
+    }
+    Ok(())
+}
+
+#[test]
+fn a_check_listens_nowhere(rt: HostRuntime) -> Result<(), AllocError> {
+    for row in &UNREACHABLE {
+        let wanted = Wanted {
+            status: 0,
+            output: b"wfmc: the settings can be served\n",
+            errors: b"",
+        };
+        check_checked(&rt, row.0, wanted)?;
+    }
+    let words = "--check a=192.0.2.1:0,1,1";
+    let pushes = [OutputStep::Take(5), OutputStep::Fail];
+    let wanted = Wanted {
+        status: 1,
+        output: b"wfmc:",
+        errors: b"wfmc: output failed\n",
+    };
+    check_steps(&rt, words, &pushes, &[], wanted)
 }
 
 /// Addresses for documents, which no machine has.

@@ -1,7 +1,9 @@
+pub mod Complaints
 pub mod Crews
 pub mod LogRuns
 pub mod Meetings
 pub mod NetworkRuns
+pub mod NameParts
 pub mod Numbered
 mod NetworkRows
 pub mod TenantForms

@@ -10,8 +10,11 @@ use Rattle.clap.specs.Faults.{fault_of}
 use Rattle.clap.specs.declared.error.kind.ErrorKind.TheVariants as kind
 use Rattle.clap.proofs.OnLiterals.{clap_on_literals}
 use Rattle.mc_model.specs.Name.{is_lawful_name}
-use Rattle.mc_server.specs.NetworkWords.{given_by_words, network_app, tenant_words}
+use Rattle.mc_server.specs.Complaints.{complaint_line, name_part}
+use Rattle.mc_server.specs.NetworkWords.{asks_check, given_by_words, network_app, tenant_words}
 use Rattle.mc_server.specs.TenantWord.{Says}
+use Rattle.mc_server.specs.declared.complaint.Complaint.TheVariants.{OutOfBounds}
+use Rattle.mc_server.specs.declared.complaint.Counted.TheVariants.{Tenants, Workers}
 
 -- ---- what words give
 
@@ -68,6 +71,27 @@ help = refl
 version : fault_of network_app (codes "-V" ∷ []) ≡ kind.DisplayVersion ∷ []
 unfolding clap_on_literals
 version = refl
+
+a_check : asks_check (codes "a" ∷ codes "--check" ∷ []) ≡ true
+unfolding clap_on_literals
+a_check = refl
+
+no_check : asks_check (codes "a" ∷ codes "--workers" ∷ codes "3" ∷ []) ≡ false
+unfolding clap_on_literals
+no_check = refl
+
+-- ---- complaints
+
+too_many : complaint_line (OutOfBounds Workers 17) ≡ codes "wfmc: --workers 17: not from 1 to 16\n"
+unfolding digits
+too_many = refl
+
+too_few : complaint_line (OutOfBounds Tenants 0) ≡ codes "wfmc: tenants 0: not from 1 to 64\n"
+unfolding digits
+too_few = refl
+
+its_name : name_part (codes "shop=127.0.0.1:0,1,1=") ≡ codes "shop"
+its_name = refl
 
 -- ---- what a tenant's word says
 

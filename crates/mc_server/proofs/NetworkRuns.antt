@@ -1,5 +1,5 @@
 -- What is printed while tenants are served adds up, and the workers that come back are of the log.
-use Rattle.std.proofs.Common.{◌≡◌, ◌∙◌, ℕ, ◌+◌, ◌<◌, inl, inr, ⊎_elim, refl, Contains, List, [], ◌∷◌, All, Result, Ok, Err, length, map, ap, sym, subst, arith}
+use Rattle.std.proofs.Common.{◌≡◌, ◌∙◌, ℕ, ◌+◌, ◌<◌, true, false, inl, inr, ⊎_elim, refl, Contains, List, [], ◌∷◌, All, Result, Ok, Err, length, map, ap, sym, subst, arith}
 use Rattle.std.proofs.lemmas.List.{length-map}
 use Rattle.std.proofs.lemmas.List.Elements.{All-cons, All-head, All-nil, All-tail}
 use Rattle.std.proofs.lemmas.Slice.Zip.{AllZip-long}
@@ -21,7 +21,8 @@ use Rattle.mc_server.specs.Crew.{AreOf, AreWorkersOf, number_of}
 use Rattle.mc_server.specs.Network.{IsReady, IsServed, StopsRun, StopsServing, names_of}
 use Rattle.mc_server.specs.Logs.{WereServed}
 use Rattle.mc_server.specs.NetworkTexts.{done_line, ready_text}
-use Rattle.mc_server.specs.NetworkWords.{Asks, WordsGive, AsksForNone, AsksForService, AsksInVain, IsChecked, NetworkAsked, NetworkGiven, given_in, served_by}
+use Rattle.mc_server.specs.Checking.{ChecksWords}
+use Rattle.mc_server.specs.NetworkWords.{Asks, WordsGive, AsksForCheck, AsksForNone, AsksForService, AsksInVain, IsChecked, NetworkAsked, NetworkGiven, given_by_words, given_in, served_by}
 use Rattle.mc_server.specs.declared.listeners.Listeners.{Listeners}
 use Rattle.mc_server.specs.declared.network_words.NetworkWords.{NetworkWords}
 use Rattle.mc_server.specs.declared.network_words.Service.{Service}
@@ -105,9 +106,17 @@ listening_stops names asked (CannotListen name) before e stops = (subst (λ (kno
 listening_stops names asked (Failed fault) before e stops = inl (stops, refl)
 
 -- what the words that were read ask for is what the words ask for
-pub for_service : (words : List Text) (read : NetworkWords) (service : Service) → WordsGive words read → Asks (given_in read) (served_by service) → IsChecked service
+pub for_service : (words : List Text) (read : NetworkWords) (service : Service) → WordsGive words read → read.check ≡ false → Asks (given_in read) (served_by service) → IsChecked service
     → AsksForService words (served_by service)
-for_service words read service reads asks checked = (reads.taken, subst (λ (known : NetworkGiven). Asks known (served_by service)) reads.given asks, checked.servable)
+for_service words read service reads serve asks checked =
+    (reads.taken, sym reads.check ∙ serve, subst (λ (known : NetworkGiven). Asks known (served_by service)) reads.given asks, checked.servable)
 
-pub for_none : (words : List Text) (read : NetworkWords) → WordsGive words read → AsksInVain (given_in read) → AsksForNone words
-for_none words read reads vain = (reads.taken, subst AsksInVain reads.given vain)
+pub for_none : (words : List Text) (read : NetworkWords) → WordsGive words read → read.check ≡ false → AsksInVain (given_in read) → AsksForNone words
+for_none words read reads serve vain = (reads.taken, sym reads.check ∙ serve, subst AsksInVain reads.given vain)
+
+-- what a check of the words that were read says is said of the words
+pub for_check : (words : List Text) (read : NetworkWords) (status : ℕ) (before after errors_before errors : Outflow) → WordsGive words read → read.check ≡ true
+    → ChecksWords (given_in read) status before after errors_before errors
+    → AsksForCheck words × ChecksWords (given_by_words words) status before after errors_before errors
+for_check words read status before after errors_before errors reads check says =
+    ((reads.taken, sym reads.check ∙ check), subst (λ (known : NetworkGiven). ChecksWords known status before after errors_before errors) reads.given says)

@@ -37,7 +37,7 @@ all_lack (x ∷ xs) h =
     let both = parts_hold (is_name_byte x) (list_all is_name_byte xs) h in
     All-cons (λ byte. byte ≢ 61) x xs (byte_lacks x both.0) (all_lack xs both.1)
 
-name_lacks : (name : List ℕ) → IsTrue (is_lawful_name name) → Lacks 61 name
+pub name_lacks : (name : List ℕ) → IsTrue (is_lawful_name name) → Lacks 61 name
 name_lacks name h = all_lack name (parts_hold _ (list_all is_name_byte name) h).1
 
 digits_lack : (digits : List ℕ) → AllDigits 10 digits → Lacks 44 digits
@@ -60,7 +60,7 @@ dotted_lacks text octets h =
     let all : Lacks 44 (dotted_text h.a h.b h.c h.d) = both_lack _ _ (both_lack _ _ second dot) (octet_lacks h.d h.fit.3) in
     subst (Lacks 44) (sym h.spelled) all
 
-address_lacks : (text : List ℕ) (address : SocketAddrV4) → IsSocketV4Text text address → Lacks 44 text
+pub address_lacks : (text : List ℕ) (address : SocketAddrV4) → IsSocketV4Text text address → Lacks 44 text
 address_lacks text address h =
     let port : Lacks 44 (58 ∷ h.4.0) = both_lack (58 ∷ []) h.4.0 (one_lacks 58 (λ e. omega arith)) (digits_lack h.4.0 h.4.2.0.1) in
     let whole : Lacks 44 (h.0 ++ h.1) = both_lack h.0 h.1 (dotted_lacks h.0 _ h.3) (subst (Lacks 44) (sym h.4.1) port) in
@@ -70,7 +70,7 @@ numeral_digits : (limit number : ℕ) (digits : List ℕ) → number_up_to limit
 numeral_digits limit number digits =
     cond_both _ _ _ (λ (o : Option ℕ). o ≡ Some number → AllDigits 10 digits) (λ e _. ((number_test limit digits).0 e).0.1) (λ _ none. absurd (cc))
 
-number_lacks : (text : List ℕ) (number : ℕ) → u64_of text ≡ Some number → Lacks 44 text
+pub number_lacks : (text : List ℕ) (number : ℕ) → u64_of text ≡ Some number → Lacks 44 text
 number_lacks [] number e = All-nil (λ byte. byte ≢ 44)
 number_lacks (x ∷ xs) number e = go (x == 43) refl
   where

@@ -1,3 +1,5 @@
+pub mod Checking
+pub mod Complaints
 pub mod Crew
 pub mod Listeners
 pub mod Logs

@@ -2,11 +2,13 @@
 -- (Wait-Free Synchronization, TOPLAS 1991) has one log without an end; that it is cut into logs of a
 -- fixed number of places is this project's profile.
 use Rattle.std.specs.List.{AllZip}
-use Rattle.std.specs.Prelude.{◌≡◌, ◌⊎◌, ◌<◌, ⊤, ℕ, ◌+◌, Bool, false, List, All, Option, None, Some, length, slice_get, vec_len}
+use Rattle.std.specs.Prelude.{◌≡◌, ◌⊎◌, ◌<◌, ⊤, ℕ, ◌+◌, Bool, false, List, [], All, MatchResult, Option, None, Result, Some, length, slice_get, vec_len}
 use Rattle.mc_connections.specs.Asking.{HaveBeenAsked}
 use Rattle.mc_connections.specs.InTurn.{InTurn, nobody}
 use Rattle.mc_connections.specs.Life.{WasAnswered}
 use Rattle.mc_connections.specs.declared.connections.Connection.{Connection}
+use Rattle.mc_model.specs.declared.fault.Fault.{Fault}
+use Rattle.mc_model.specs.declared.fault.Fault.TheVariants.{Memory}
 use Rattle.mc_model.specs.Replay.{EachStands, HaveRoom, empty_tables}
 use Rattle.mc_model.specs.Settings.{Configuration}
 use Rattle.mc_model.specs.State.{TableState}
@@ -18,10 +20,10 @@ use Rattle.mc_server.specs.declared.generations.Served.TheVariants.{Done, Full}
 use Rattle.uc_worker.specs.Cited.{entries}
 use Rattle.uc_log.specs.declared.log.Log.{Log}
 use Rattle.uc_log.specs.declared.pass.Pass.{Pass}
-use Rattle.uc_log.specs.Passes.{IsNew, IsUnusedPass}
+use Rattle.uc_log.specs.Passes.{IsNew, IsUnusedPass, seat}
 use Rattle.uc_worker.specs.Going.{Continues, FillsUp}
 use Rattle.uc_worker.specs.TurningOver.{HaveOneHistory}
-use Rattle.uc_worker.specs.Worker.{HasReplayedAll, history_of, openings_of, tables_of}
+use Rattle.uc_worker.specs.Worker.{HasReplayedAll, history_of, openings_of, seat_of, tables_of}
 use Rattle.uc_worker.specs.declared.turning_over.Base.{Base}
 use Rattle.uc_worker.specs.declared.turning_over.Next.{Next}
 use Rattle.uc_worker.specs.declared.worker.Worker.{Worker}
@@ -43,6 +45,14 @@ abbrev pub FitsOver : Log → Option Base → Type 0
 FitsOver log None = ⊤
 FitsOver log (Some base) = (length base.tables.items ≡ length log.settings.tenants)
     × HaveRoom base.tables.items log.settings.places
+
+-- a worker with this pass of the log was opened over these tables, and has done nothing; or memory
+-- ran out
+abbrev pub OpensOver : Log → List TableState → Pass → Result Worker Fault → Type 0
+OpensOver log tables pass result = MatchResult result
+    (λ worker. (worker.log.now ≡ log) × (seat_of worker ≡ seat pass) × (history_of worker ≡ [])
+    × (openings_of worker ≡ tables))
+    (λ fault. fault ≡ Memory)
 
 -- A log is closed: its workers, later on, have replayed all its places and have one history. All that
 -- they have announced meanwhile are no-ops, which fill the places that were left. So each command that

@@ -10,7 +10,8 @@ use Rattle.mc_programs.specs.Faults.{fault_line}
 use Rattle.mc_server.specs.Listeners.{IsListeningFor, listeners_asked}
 use Rattle.mc_server.specs.Logs.{WereServed}
 use Rattle.mc_server.specs.NetworkTexts.{cannot_listen_line, done_line, ready_text}
-use Rattle.mc_server.specs.NetworkWords.{AsksForNone, AsksForService, NetworkAsked, network_app, settings_asked}
+use Rattle.mc_server.specs.Checking.{ChecksWords}
+use Rattle.mc_server.specs.NetworkWords.{AsksForCheck, AsksForNone, AsksForService, NetworkAsked, given_by_words, network_app, settings_asked}
 use Rattle.mc_programs.specs.Waiting.{FailsToPush, PushesAll}
 use Rattle.mc_programs.specs.Words.{FailsToShow, ShowsHelp, TellsMistake}
 use Rattle.mc_server.specs.declared.listeners.Stop.{Stop}
@@ -101,6 +102,8 @@ WfmcRefuses words errors_before errors =
 -- how a run of wfmc ends, by its status
 abbrev pub WfmcEnds : List Text → ℕ → Outflow → Outflow → Outflow → Outflow → Type 0
 WfmcEnds words status before after errors_before errors =
-    (status ≡ 0) × WfmcEndsWell words before after × (errors ≡ errors_before)
+    AsksForCheck words
+    × ChecksWords (given_by_words words) status before after errors_before errors
+    ⊎ (status ≡ 0) × WfmcEndsWell words before after × (errors ≡ errors_before)
     ⊎ (status ≡ 1) × WfmcEndsInFault words before after errors_before errors
     ⊎ (status ≡ 2) × WfmcRefuses words errors_before errors × (after ≡ before)

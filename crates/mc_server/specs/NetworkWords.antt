@@ -1,7 +1,7 @@
 -- What the words after the program's name ask for on wfmc's command line, by clap's own definitions
 -- of a command; this project's profile.
 use Rattle.std.specs.List.{AllZip, IsDistinct}
-use Rattle.std.specs.Prelude.{◌≡◌, ◌≢◌, ◌==◌, ◌≤◌, ℕ, List, [], ◌∷◌, ◌++◌, All, IsTrue, Option, Some, None, codes, if◌then◌else◌, map, min, option_and_then, slice_get, true, unwrap_or}
+use Rattle.std.specs.Prelude.{◌≡◌, ◌≢◌, ◌==◌, ◌≤◌, ℕ, Bool, List, [], ◌∷◌, ◌++◌, All, IsTrue, Option, Some, None, codes, false, if◌then◌else◌, map, min, option_and_then, slice_get, true, unwrap_or}
 use Rattle.std.specs.Net.Grammar.{IsSocketV4Text}
 use Rattle.std.specs.Option.{IsSomeAnd, option_map}
 use Rattle.std.specs.Str.{bytes_eq}
@@ -14,7 +14,7 @@ use Rattle.mc_model.specs.Name.{is_lawful_name}
 use Rattle.mc_model.specs.Settings.{Configuration, IsBetween, IsLawful}
 use Rattle.mc_model.specs.declared.id.TheConstants.{WORKERS}
 use Rattle.mc_server.specs.TenantWord.{Says, TenantAsked, asked_of}
-use Rattle.mc_programs.specs.Words.{bare_app, number_asked, number_rule}
+use Rattle.mc_programs.specs.Words.{bare_app, flag_asked, flag_rule, number_asked, number_rule}
 use Rattle.mc_server.specs.declared.network_words.NetworkWords.{NetworkWords}
 use Rattle.mc_server.specs.declared.network_words.Service.{Service}
 use Rattle.mc_server.specs.declared.network_words.TheConstants.{MAX_GENERATIONS, MAX_LOG_BYTES}
@@ -48,9 +48,9 @@ numbers_app =
     with_rule (with_rule logs_app (number_rule (codes "log-bytes")))
     (number_rule (codes "connections"))
 
--- the options: these, and `--admin`
+-- the options: these, `--check` and `--admin`
 abbrev pub options_app : App
-options_app = with_rule numbers_app admin_rule
+options_app = with_rule (with_rule numbers_app (flag_rule (codes "check"))) admin_rule
 
 -- the command: the options and the tenants' words
 abbrev pub network_app : App
@@ -163,14 +163,25 @@ pub record IsServable (asked : NetworkAsked) : Type 0 where
 abbrev pub AsksInVain : NetworkGiven → Type 0
 AsksInVain given = (asked : NetworkAsked) → Asks given asked → ¬ (IsServable asked)
 
+-- the words ask only to be checked
+abbrev pub asks_check : List Text → Bool
+asks_check words = flag_asked network_app (codes "check") words
+
 -- the command takes the words, and they ask for this, which can be served
 abbrev pub AsksForService : List Text → NetworkAsked → Type 0
 AsksForService words asked =
-    (fault_of network_app words ≡ []) × Asks (given_by_words words) asked × IsServable asked
+    (fault_of network_app words ≡ []) × (asks_check words ≡ false)
+    × Asks (given_by_words words) asked × IsServable asked
 
 -- the command takes the words, and they ask for nothing that can be served
 abbrev pub AsksForNone : List Text → Type 0
-AsksForNone words = (fault_of network_app words ≡ []) × AsksInVain (given_by_words words)
+AsksForNone words =
+    (fault_of network_app words ≡ []) × (asks_check words ≡ false)
+    × AsksInVain (given_by_words words)
+
+-- the command takes the words, and they ask only to be checked
+abbrev pub AsksForCheck : List Text → Type 0
+AsksForCheck words = (fault_of network_app words ≡ []) × (asks_check words ≡ true)
 
 -- what contracts see of the words that were read, and of what is to be served
 abbrev pub given_in : NetworkWords → NetworkGiven
@@ -198,6 +209,7 @@ served_by service = record {
 -- The command takes the words, and they give this.
 pub record WordsGive (words : List Text) (read : NetworkWords) : Type 0 where
   pub taken : fault_of network_app words ≡ []
+  pub check : read.check ≡ asks_check words
   pub given : given_in read ≡ given_by_words words
 
 -- The settings are those of what is to be served, and it can be served; where a log may follow

@@ -1,15 +1,18 @@
 //! The workers of wfmc, before and after they serve.
 ghost use Rattle.std.specs.List.{AllZip};
-ghost use Rattle.std.specs.Prelude.{◌≡◌, [], IfOk, IsOkUnless, MatchResult, length, slice_get, Some, ℕ};
+ghost use Rattle.std.specs.Prelude.{◌≡◌, [], All, IfOk, IsOkUnless, MatchResult, Ok, length, map, slice_get, Some, ℕ};
 ghost use Rattle.mc_model.specs.declared.fault.Fault.TheVariants as faults;
 ghost use Rattle.mc_server.specs.Crew.{AreOf, HaveMet, IsCrew, MeetsAnother};
-ghost use Rattle.mc_server.specs.Logs.{AreOpenedOver, FitsOver, tables_over};
+ghost use Rattle.mc_server.specs.Logs.{AreOpenedOver, FitsOver, OpensOver, tables_over};
 ghost use Rattle.uc_worker.specs.Going.{CatchesUp};
+ghost use Rattle.uc_worker.specs.declared.worker.Worker.{Worker};
 ghost use Rattle.uc_worker.specs.Worker.{IsUpToDate, history_of, openings_of, seat_of};
 ghost use Rattle.uc_log.specs.Passes.{IsNew, IsUnusedPass, seat};
 
 use mc_model::Fault;
 use std::alloc::Global;
+use std::thread;
+use std::thread::Threads;
 use uc_log::{Log, Pass};
 use uc_worker::{Base, Open, Worker};
 
@@ -37,11 +40,32 @@ fn open_worker<'a>(
     }
 }
 
+/// Returns the workers in order, if each was opened.
+///
+/// Returns `Memory` if one wasn't, or memory runs out.
+fn all_opened<'a>(
+    alloc: Global,
+    opened: Vec<Result<Worker<'a>, Fault>>,
+) -> Result<Vec<Worker<'a>>, Fault>
+    requires faults { All (λ one. IsOkUnless one faults.Memory) opened.items }
+    ensures outcome { MatchResult result
+        (λ workers. opened.entry.items ≡ map (λ (worker : Worker). Ok worker) workers.items)
+        (λ fault. fault ≡ faults.Memory) }
+{
+    let mut workers = Vec::with_capacity(alloc, opened.len())?;
+    for one in opened {
+        workers.push(one?)?;
+    }
+    Ok(workers)
+}
+
 /// Returns a worker for each pass of the log, in the passes' order: over the tables of the base if
-/// there is one, and with empty tables otherwise.
+/// there is one, and with empty tables otherwise. They are opened side by side, since each copies
+/// the tables of the base, in threads of their own where these can be made.
 ///
 /// Returns `Memory` if memory runs out.
-pub(crate) fn open_workers<'a>(
+pub(crate) fn open_workers<'a, R: Threads + Sync>(
+    rt: &R,
     alloc: Global,
     log: &'a Log,
     passes: Vec<Pass>,
@@ -57,11 +81,15 @@ pub(crate) fn open_workers<'a>(
         (λ workers. AreOpenedOver log.now.settings log.now (tables_over log.now base.now) workers.items)
         (λ fault. fault ≡ faults.Memory) }
 {
-    let mut workers = Vec::with_capacity(alloc, passes.len())?;
-    for pass in passes {
-        workers.push(open_worker(alloc, log, pass, base)?)?;
-    }
-    Ok(workers)
+    let opened = thread::map_vec(
+        rt,
+        passes,
+        &|pass: Pass| -> Result<Worker<'_>, Fault>
+            requires { IsUnusedPass log.now pass × FitsOver log.now base.now }
+            ensures { OpensOver log.entry.now (tables_over log.entry.now base.entry.now) pass result }
+        { open_worker(alloc, log, pass, base) },
+    )?;
+    all_opened(alloc, opened)
 }
 
 /// Lets a worker meet the others, one after another, and returns those.

@@ -196,7 +196,7 @@ fn serve_opened<R: Threads + Wait + Sync, B: Begin<S>, S>(
     ensures outcome { MatchResult result (λ _. B.done begin.now state.old state.new)
         (HaltsServing (B.done begin.now) (B.stopped begin.now) state.old state.new) }
 {
-    let workers = open_workers(alloc, &log, passes, &base)?;
+    let workers = open_workers(rt, alloc, &log, passes, &base)?;
     let served = serve_log(rt, alloc, front, &log, workers, is_last, begin, state)?;
     Ok((served, Closed { log, base }))
 }

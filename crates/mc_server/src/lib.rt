@@ -10,6 +10,8 @@ pub use mc_programs::{
 pub use network::run_wfmc;
 
 mod announcement;
+mod checking;
+mod complaint;
 mod crew;
 pub mod generations;
 mod listeners;

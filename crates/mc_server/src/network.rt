@@ -6,6 +6,7 @@ ghost use Rattle.mc_server.specs.NetworkWords.{IsChecked, served_by, settings_as
 ghost use Rattle.mc_stream.specs.Pushing.{PushesOrFails};
 
 use crate::announcement::Announcement;
+use crate::checking::check_words;
 use crate::generations::serve_logs;
 use crate::listeners::{Listeners, Stop, bind_all};
 use crate::network_texts::{ready_text, tell_cannot_listen, tell_done};
@@ -123,6 +124,9 @@ fn tell_stop<R: Wait, E: Output>(rt: &R, stop: Stop, errors: &mut E)
 /// runs out, a worker's loop doesn't begin within about ten seconds, waiting for connections fails,
 /// or the output fails, that is reported as `wfmc: TEXT`, with status 1.
 ///
+/// With `--check` it serves nothing. It prints that the words can be served, with status 0, or
+/// reports on `errors` the first of them that can't and why, with status 2.
+///
 /// Help and the version go to the output, with status 0, and a mistake in the words to `errors`,
 /// with status 2, as clap's text. A failure of `errors` is ignored.
 pub fn run_wfmc<R: Threads + Wait + Net + Sync, O: Output, E: Output>(
@@ -140,6 +144,9 @@ pub fn run_wfmc<R: Threads + Wait + Net + Sync, O: Output, E: Output>(
         Ok(given) => given,
         Err(error) => return answer_words(rt, alloc, NAME, &error, output, errors),
     };
+    if given.check {
+        return check_words(rt, alloc, &given, output, errors);
+    }
     let service = match service_of(alloc, &given) {
         Ok(service) => service,
         Err(Fault::BadSettings) => {

@@ -14,7 +14,7 @@ use crate::tenant_word::{Tenant, read_tenant};
 use clap::{Arg, Command, Error};
 use mc_model::id::WORKERS;
 use mc_model::{Fault, Limits, Settings};
-use mc_programs::{number, number_option};
+use mc_programs::{flag, flag_option, number, number_option};
 use std::alloc::{AllocError, Global};
 use std::net::SocketAddrV4;
 
@@ -49,6 +49,7 @@ Each TENANT is NAME=ADDR,ITEMS,BYTES:
   ITEMS  how many items the tenant may hold, from 1 to 1048576
   BYTES  how many bytes their keys and data may have, from 1 to 1073741824
 Where a word is of another form, a number out of its range, or a name used twice: wfmc: bad settings.
+With --check wfmc says which word that is, and serves nothing.
 
 With --admin, whoever connects at ADDR may set a tenant's quotas: limit NAME ITEMS BYTES.
 
@@ -65,6 +66,8 @@ pub(crate) struct NetworkWords<'a> {
     pub log_bytes: u64,
     pub connections: u64,
     pub admin: Option<&'a str>,
+    /// They are only to be checked.
+    pub check: bool,
     pub tenants: Vec<&'a str>,
 }
 
@@ -147,7 +150,10 @@ fn numbers_command<'a>(alloc: Global) -> Result<Command<'a>, AllocError>
 fn options_command<'a>(alloc: Global) -> Result<Command<'a>, AllocError>
     ensures { IfOk result (λ command. app_of command ≡ options_app) }
 {
-    numbers_command(alloc)?.arg(admin_option(alloc))
+    let check = "Says whether the words can be served, or which can't and why, and serves nothing";
+    numbers_command(alloc)?
+        .arg(flag_option(alloc, "check", check))?
+        .arg(admin_option(alloc))
 }
 
 /// Returns the command line that wfmc takes.
@@ -176,6 +182,7 @@ pub(crate) fn read_words(alloc: Global, words: &[String]) -> Result<NetworkWords
         log_bytes: number(&matches, "log-bytes").unwrap_or(DEFAULT_LOG_BYTES),
         connections: number(&matches, "connections").unwrap_or(DEFAULT_CONNECTIONS),
         admin: matches.get_str("admin"),
+        check: flag(&matches, "check"),
         tenants,
     })
 }

@@ -18,15 +18,15 @@ pub(crate) struct Tenant<'a> {
 
 /// The parts of a tenant's word.
 #[derive(Clone, Copy)]
-struct Parts<'a> {
-    name: &'a str,
-    address: &'a str,
-    items: &'a str,
-    bytes: &'a str,
+pub(crate) struct Parts<'a> {
+    pub name: &'a str,
+    pub address: &'a str,
+    pub items: &'a str,
+    pub bytes: &'a str,
 }
 
 /// Returns the number of 64 bits that a text spells. The text may begin with a plus.
-fn read_number(text: &str) -> Option<u64>
+pub(crate) fn read_number(text: &str) -> Option<u64>
     ensures { result ≡ u64_of text.now }
 {
     text.parse::<u64>().ok()
@@ -34,10 +34,12 @@ fn read_number(text: &str) -> Option<u64>
 
 /// Cuts a word at its first `=`, and what follows at its first two commas. Returns `None` if one of
 /// these is missing.
-fn cut(word: &str) -> Option<Parts<'_>>
+pub(crate) fn cut(word: &str) -> Option<Parts<'_>>
     ensures whole { IfSome result
         (λ parts. word.now
         ≡ tenant_text parts.name.now parts.address.now parts.items.now parts.bytes.now) }
+    ensures first { IfSome result
+        (λ parts. Lacks 61 parts.name.now × Lacks 44 parts.address.now × Lacks 44 parts.items.now) }
     ensures only { (name address items bytes : List ℕ) → Lacks 61 name → Lacks 44 address →
         Lacks 44 items → word.now ≡ tenant_text name address items bytes
         → IsSomeAnd result

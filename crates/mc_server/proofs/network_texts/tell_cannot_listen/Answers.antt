@@ -1,16 +1,7 @@
-use Rattle.std.proofs.Common.{inl, inr, Result, Ok, Err, List, ℕ, ◌++◌, codes, subst}
-use Rattle.std.specs.Prelude.{MatchResult}
-use Rattle.mc_model.specs.declared.fault.Fault.{Fault}
-use Rattle.mc_programs.specs.Waiting.{FailsToPush, PushesAll}
+use Rattle.std.proofs.Common.{List, ℕ, ◌++◌, codes, subst}
 use Rattle.mc_stream.specs.Pushing.{PushesOrFails}
-use Rattle.mc_stream.specs.Stream.{Outflow}
+use Rattle.mc_server.proofs.Waited.{told}
 use Rattle.mc_server.proofs.network_texts.tell_cannot_listen.Goals as goal
-
--- the bytes were pushed, as far as the output took them
-pub told : (result : Result (Unit {0}) Fault) (bytes : List ℕ) (before after : Outflow) → MatchResult result (λ _. PushesAll bytes before after) (FailsToPush bytes before after)
-    → PushesOrFails bytes before after
-told (Ok done) bytes before after all = inl (all.went, all.unfailed)
-told (Err fault) bytes before after fails = inr (fails.front, fails.failed)
 
 pub returns : goal.returns
 returns g c =

@@ -1,7 +1,8 @@
-use Rattle.std.proofs.Common.{ap, refl, subst, sym, codes, true, map, string_bytes, ◌≡◌, ◌∙◌, ◌∷◌, List, [], Option, Some, None, Bor}
+use Rattle.std.proofs.Common.{ap, refl, subst, sym, codes, true, false, map, string_bytes, ◌≡◌, ◌∙◌, ◌∷◌, ℕ, Bool, List, [], Option, Some, None, Bor}
 use Rattle.std.proofs.lemmas.Result.{err_from_is_err_and}
-use Rattle.std.specs.Option.{option_map}
+use Rattle.std.specs.Option.{option_map, option_map_or}
 use Rattle.std.specs.Prelude.{option_and_then, slice_get, unwrap_or}
+use Rattle.std.specs.Str.{bytes_eq}
 use Rattle.clap.specs.Words.{HasKind, Text, all_of, app_of, fault_of, found_of, is_simple, matched_of, raw_values, is_simple_and_free, matches_of, one_of}
 use Rattle.clap.specs.declared.parser.matches.MatchedArg.{MatchedArg}
 use Rattle.clap.proofs.OnLiterals.{clap_on_literals}
@@ -32,6 +33,10 @@ first_of : (matched : Option MatchedArg) → option_and_then (λ (a : MatchedArg
 first_of None = refl
 first_of (Some a) = first_text a.vals.items
 
+-- whether a flag was given, by its text
+abbrev says_given : Option (List ℕ) → Bool
+says_given text = option_map_or (λ (text : List ℕ). bytes_eq text (codes "true")) text false
+
 pub returns-in_err-matches : goal.returns-in_err-matches
 returns-in_err-matches c =
     let app_is : app_of c.in_ok-network_command.field-0 ≡ network_app = c.in_ok-network_command.ensures in
@@ -53,6 +58,7 @@ returns c =
     let connections = c.unwrap_or-5.ensures ∙ ap (λ o. unwrap_or o 0) (c.number-5.ensures ∙ number_of (codes "connections")) in
     let first = λ (name : Text). first_of (matched_of (found_of c.in_ok-matches.matches) name) ∙ ap (option_and_then (λ texts. slice_get texts 0)) (raw_values-rows (found_of c.in_ok-matches.matches) name ∙ ap (all_of name) rows) in
     let admin = c.get_str.ensures ∙ first (codes "admin") in
+    let check = c.flag.ensures ∙ ap says_given (one_text-rows (found_of c.in_ok-matches.matches) (codes "check") ∙ ap (one_of (codes "check")) rows) in
     let raw = c.get_raw.ensures ∙ raw_values-rows (found_of c.in_ok-matches.matches) (codes "tenants") ∙ ap (all_of (codes "tenants")) rows in
     let tenants = ap (map (λ word. word.now)) (c.in_ok-tenants.ensures.items ∙ ap (λ lent. lent.now) c.unwrap_or-tenants.ensures) ∙ lent_words c.get_raw.result _ refl ∙ ap (λ o. unwrap_or o []) raw in
-    record { outcome = record { taken = taken; given = λ i. record { workers = workers i; places = places i; generations = generations i; log_bytes = log_bytes i; connections = connections i; admin = admin i; tenants = tenants i } } }
+    record { outcome = record { taken = taken; check = check; given = λ i. record { workers = workers i; places = places i; generations = generations i; log_bytes = log_bytes i; connections = connections i; admin = admin i; tenants = tenants i } } }
