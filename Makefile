@@ -84,8 +84,8 @@ linearizability: kit ## tests for three times MINUTES (2) that the histories of 
 	@python3 tests/linearizability.py $$(($(MINUTES) * 60)) --generations
 	@python3 tests/linearizability.py $$(($(MINUTES) * 60)) --generations --log-bytes $(LOG_BYTES)
 
-allocation-failures: kit ## runs the programs, and the tests of the cells and of a turn over, with each allocation refused in turn, and mc_stdin with less and less memory
-	@tools/prove.sh wfmc mc_stdin mc_schedule >&2
+allocation-failures: kit ## runs the programs, calls of workers, and the tests of the cells and of a turn over, with each allocation refused in turn, and mc_stdin with less and less memory
+	@tools/prove.sh wfmc mc_stdin mc_schedule refusals >&2
 	@python3 tests/memory_limits.py
 	@python3 tests/allocation_failures.py
 

@@ -1,5 +1,6 @@
 #!/usr/bin/env python3
-"""Injects allocation failures: allocation_failures.py [CASE...] [--every N], with the cases mc_stdin, mc_schedule, wfmc, cells and workers.
+"""Injects allocation failures: allocation_failures.py [CASE...] [--every N], with the cases mc_stdin, rows, mc_schedule, wfmc, calls, cells and
+workers.
 
 A program is run over and over, each allocation refused in turn, alone and with all later ones (tests/refuse.c, which needs gcc); --every N
 refuses one allocation in N. How a run may end is said at the `judge` of its case. A hang, a signal or a wrong byte is a failure. Prints how the runs
@@ -19,6 +20,7 @@ from harness.client import Exchange, connect
 from harness.results import Results
 from harness.servers import Server
 from oracle import protocol
+from oracle import refusals as scenes
 from oracle.replies import prefixes
 from oracle.schedule import expected
 from oracle.table import Table
@@ -118,15 +120,15 @@ def by_turns(environment):
     return program.returncode, received + output, errors
 
 
-def judge_stdin(ended, _mode):
+def judge_stdin(ended, _mode, replies=tuple(REPLIES)):
     """A run ends well, with all replies; or it writes the first of them, complete and in order, then "SERVER_ERROR out of memory", reports
     the fault on standard error and ends with status 1; or it ends with status 1 and no reply, while it reads its words."""
     status, received, errors = ended
-    if ended == (0, REPLIES[-1], b""):
+    if ended == (0, replies[-1], b""):
         return "ended well", True
     if status == 1 and errors == b"mc_stdin: out of memory\n" and received.endswith(protocol.STARVED):
         before = received[: -len(protocol.STARVED)]
-        return ("refused after replies" if before else "refused before any reply"), before in REPLIES
+        return ("refused after replies" if before else "refused before any reply"), before in replies
     if status == 1 and received == b"":
         return "refused in its words", True
     return f"another end: {status}, {received[-200:]!r}, {errors!r}", False
@@ -143,6 +145,79 @@ def try_stdin(environment, every):
             results.check(f"{what}: the client is answered from the opening on, {mode}", "refused in its words" not in later)
             results.check(f"{what}: a refusal after replies, {mode}", "refused after replies" in later)
             results.check(f"{what}: nothing refused, {mode}", ends[count + 1] == "ended well", ends[count + 1])
+
+
+ROWS = ("arithmetic-wraps-and-stops-at-zero", "item-quota", "fragments-joined")
+LARGE = b"set k 5 0 300000\r\n" + 300_000 * b"z" + b"\r\nget k k k k k\r\nappend k 0 0 1\r\n>\r\ngets k\r\nget k nothing k\r\n"
+
+
+def try_stream(environment, every, name, words, stream, wanted):
+    """A client whose stream comes whole: from the allocation on that reserves the history it is answered, and some run is refused after replies."""
+    items = int(words[words.index("--items") + 1]) if "--items" in words else protocol.MOST_ITEMS
+    replies = list(prefixes(Table(items, protocol.MOST_BYTES), protocol.requests(stream)))
+    results.check(f"{name}: the oracle's replies", replies[-1] == wanted)
+
+    def run(environment):
+        return fed([STDIN[0], *words], stream, environment)
+
+    count, opening = counts_of(run({**environment, "COUNTED": "1"})[2])
+    numbers = sorted({*range(1, count + 2, every), opening, count + 1})
+    for mode, ends in sweep(name, run, functools.partial(judge_stdin, replies=replies), environment, numbers):
+        later = {end for number, end in ends.items() if number >= opening}
+        results.check(f"{name}: the client is answered from the opening on, {mode}", "refused in its words" not in later)
+        results.check(f"{name}: a refusal after replies, {mode}", "refused after replies" in later)
+        results.check(f"{name}: nothing refused, {mode}", ends[count + 1] == "ended well", ends[count + 1])
+
+
+def try_rows(environment, every):
+    """Golden tests of mc_stdin, and replies that are larger than all before."""
+    for name in ROWS:
+        row = repository.ROOT / "tests/rows/mc_stdin" / name
+        stream, wanted = (row / "input").read_bytes(), (row / "output").read_bytes()
+        try_stream(environment, every, name, (row / "words").read_text(encoding="utf-8").split(), stream, wanted)
+    whole = list(prefixes(Table(protocol.MOST_ITEMS, protocol.MOST_BYTES), protocol.requests(LARGE)))[-1]
+    try_stream(environment, every, "large replies", [], LARGE, whole)
+
+
+CALLS = repository.program("refusals")
+
+# What some refused run of a word must print: a submit whose command wasn't announced, and one whose command took effect; two workers that don't
+# meet, and meet then; a log that isn't followed, and is then.
+TELLING = {
+    "submit": [
+        b"fault out of memory\nsettled\nplace 0\nEND\r\n\nsettled\n",
+        b"fault out of memory\nunsettled 0 0\nplace 1\nVALUE a 0 1 1\r\nx\r\nEND\r\n\nsettled\n",
+    ],
+    "meet": [b"\nsettled\nfault out of memory\n0 0\n0 1\nand\n0 0\n0 1\n1 0\n1 1\n1 2\nmet\n"],
+    "turn-over": [b"\nsettled\nfault out of memory\nplace 0\nSTORED\r\n\nsettled\nplace 1\nVALUE a 5 2 3\r\nxz\r\n"],
+}
+
+
+def judge_calls(word, ended, mode):
+    """A run prints what tests/oracle/refusals.py allows, and ends with status 1 exactly if it says so."""
+    status, output, errors = ended
+    holds = output in scenes.allowed(word, mode != "one") and errors == b"" and status == (b"ended: " in output)
+    if not holds:
+        return f"another end: {status}, {output!r}, {errors!r}", False
+    if output == scenes.wanted(word):
+        return "ended well", True
+    return ("ended" if b"ended: " in output else "reported") + ": " + output.decode(), True
+
+
+def try_calls(environment, _every):
+    """Submits, a meeting of two workers, and a log that is followed by another; each allocation is tried, since there are few."""
+    for word in TELLING:
+
+        def run(environment, word=word):
+            return fed([CALLS, word], b"", environment)
+
+        count = counts_of(run({**environment, "COUNTED": "1"})[2])[0]
+        what = f"calls, {word}"
+        for mode, ends in sweep(what, run, functools.partial(judge_calls, word), environment, range(1, count + 2)):
+            results.check(f"{what}: nothing refused, {mode}", ends[count + 1] == "ended well", ends[count + 1])
+            if mode == "one":
+                for telling in TELLING[word]:
+                    results.check(f"{what}: some run prints {telling!r}", any(telling.decode() in end for end in ends.values()))
 
 
 SCHEDULE = repository.program("mc_schedule")
@@ -383,7 +458,16 @@ def try_workers(_environment, _every):
     try_tests(WORKERS)
 
 
-CASES = {"mc_stdin": try_stdin, "mc_schedule": try_schedule, "wfmc": try_wfmc, "cells": try_cells, "workers": try_workers}
+# Each case, and the program that it runs, if it is one that was built.
+CASES = {
+    "mc_stdin": (try_stdin, "mc_stdin"),
+    "rows": (try_rows, "mc_stdin"),
+    "mc_schedule": (try_schedule, "mc_schedule"),
+    "wfmc": (try_wfmc, "wfmc"),
+    "calls": (try_calls, "refusals"),
+    "cells": (try_cells, None),
+    "workers": (try_workers, None),
+}
 
 
 def main():
@@ -394,10 +478,10 @@ def main():
     cases = asked.cases or list(CASES)
     if unknown := set(cases) - set(CASES):
         parser.error(f"no case {unknown.pop()}")
-    repository.enter(*(repository.program(case) for case in cases if case not in ("cells", "workers")))
+    repository.enter(*(repository.program(program) for _, program in map(CASES.get, cases) if program))
     with preload.library(preload.REFUSE) as environment:
         for case in cases:
-            CASES[case](environment, asked.every)
+            CASES[case][0](environment, asked.every)
     results.finish()
 
 
