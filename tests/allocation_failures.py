@@ -1,6 +1,6 @@
 #!/usr/bin/env python3
-"""Injects allocation failures: allocation_failures.py [CASE...] [--every N], with the cases mc_stdin, rows, mc_schedule, wfmc, calls, cells and
-workers.
+"""Injects allocation failures: allocation_failures.py [CASE...] [--every N], with the cases mc_stdin, rows, mc_schedule, wfmc, generations,
+calls, cells and workers.
 
 A program is run over and over, each allocation refused in turn, alone and with all later ones (tests/refuse.c, which needs gcc); --every N
 refuses one allocation in N. How a run may end is said at the `judge` of its case. A hang, a signal or a wrong byte is a failure. Prints how the runs
@@ -16,12 +16,12 @@ import re
 import subprocess
 
 from harness import preload, repository
-from harness.client import Exchange, connect
+from harness.client import Exchange, connect, exchange
 from harness.results import Results
 from harness.servers import Server
 from oracle import protocol
 from oracle import refusals as scenes
-from oracle.replies import prefixes
+from oracle.replies import Replies, prefixes
 from oracle.schedule import expected
 from oracle.table import Table
 
@@ -349,16 +349,16 @@ def judge_client(number, received, ending):
     return f"{ending}, {len(received)} bytes, the last {received[-80:]!r}"
 
 
-def serve_clients(environment):
+def serve_clients(environment, options=OPTIONS, ask=client, judge=judge_client):
     """Two workers serve clients of two tenants at once, one connection each, until as many as --connections says have come and gone. Returns how
     wfmc ended, and how each of its clients was served; the last client comes when the others have left."""
-    with Server(WFMC, OPTIONS, {"a": QUOTAS, "b": QUOTAS}, environment=environment) as server:
+    with Server(WFMC, options, {"a": QUOTAS, "b": QUOTAS}, environment=environment) as server:
         served = []
         if len(server.ports) == 2:
             with concurrent.futures.ThreadPoolExecutor(CLIENTS) as pool:
-                answers = list(pool.map(lambda number: client(server.ports["ab"[number % 2]], number), range(CLIENTS)))
-            answers.append(client(server.ports["a"], CLIENTS))
-            served = [judge_client(number, *answer) for number, answer in enumerate(answers)]
+                answers = list(pool.map(lambda number: ask(server.ports["ab"[number % 2]], number), range(CLIENTS)))
+            answers.append(ask(server.ports["a"], CLIENTS))
+            served = [judge(number, *answer) for number, answer in enumerate(answers)]
         try:
             return server.wait(SECONDS), served
         except subprocess.TimeoutExpired:
@@ -368,14 +368,16 @@ def serve_clients(environment):
 def judge_wfmc(ended, mode):
     """Either wfmc ends by itself, with the one line `wfmc: out of memory` on standard error and status 1; or it goes on, and ends well: then
     each client received complete replies in order, up to its end or to `SERVER_ERROR out of memory`, or it was closed without a byte. Where
-    one allocation was refused, at most one client was refused or closed. Threads allocate in another order in each run, so no more is asked."""
+    one allocation was refused, at most one client was refused or closed. Where logs follow one another, a log that isn't followed may be full for
+    any of them. Threads allocate in another order in each run, so no more is asked."""
     (status, output, errors), served = ended
-    wrong = [one for one in served if one not in ("served", "refused", "closed")]
+    wrong = [one for one in served if one not in ("served", "full", "refused", "closed")]
     if status == 1 and errors == b"wfmc: out of memory\n":
         return "ended by itself", all(one.startswith(("no connection", "late", "reset", "end")) for one in wrong)
     if status == 0 and output.startswith(b"done ") and not errors:
-        few = sum(one != "served" for one in served) <= 1 or mode != "one"
-        return ("ended well" if all(one == "served" for one in served) else "refused a client"), few and not wrong
+        few = sum(one in ("refused", "closed") for one in served) <= 1 or mode != "one"
+        ends = [end for end in ("refused", "closed", "full") if end in served]
+        return ("ended well" if not ends else "told a client of a full log" if ends == ["full"] else "refused a client"), few and not wrong
     return f"another end: {status}, {output!r}, {errors!r}, {served}", False
 
 
@@ -385,6 +387,59 @@ def try_wfmc(environment, every):
     results.check("wfmc: all clients are served", status == 0 and count > 100 and served == ["served"] * (CLIENTS + 1), served)
     for _ in sweep("wfmc", serve_clients, judge_wfmc, environment, range(1, count + 20, every), threads=6):
         pass
+
+
+# The log is followed by one more once its 32 places are taken, but for one that is kept for the other worker, and both have room for all commands.
+TWO_LOGS = ["--workers", "2", "--places", "32", "--generations", "2", "--connections", str(CLIENTS + 1)]
+
+
+def client_at_once(port, number):
+    """Sends all requests at once; what was received, and how it ended."""
+    try:
+        return exchange(port, [b"".join(stream_of(number))], SECONDS)
+    except OSError as error:
+        return b"", f"no connection: {error}"
+
+
+def answered(number, received):
+    """How many of a client's requests these bytes are the whole replies to, in order; `None` where they are no such. From some command on, the log
+    may be full."""
+    requests = protocol.requests(b"".join(stream_of(number)))
+    replies = Replies(Table(*QUOTAS), received)
+    for index, request in enumerate(requests):
+        if replies.at == len(received):
+            return index
+        if not replies.answers(request):
+            return None
+    return len(requests) if replies.at == len(received) else None
+
+
+def judge_over_logs(number, received, ending):
+    """As `judge_client`, or "full": from some command on, it was told that the log is full."""
+    is_refused = received.endswith(protocol.STARVED)
+    count = answered(number, received[: -len(protocol.STARVED)] if is_refused else received)
+    if count is None or ending not in ("end", "reset"):
+        return f"{ending}, {len(received)} bytes, the last {received[-80:]!r}"
+    if is_refused:
+        return "refused"
+    if count < len(stream_of(number)):
+        return "closed"
+    return "full" if protocol.LOG_FULL in received else "served"
+
+
+def try_generations(environment, every):
+    """wfmc over two logs, the second of which is opened over the tables of the first while clients wait."""
+
+    def run(environment):
+        return serve_clients(environment, TWO_LOGS, client_at_once, judge_over_logs)
+
+    (status, output, counted), served = run({**environment, "COUNTED": "1"})
+    count = counts_of(counted)[0]
+    length = int(output.split()[1]) if status == 0 else 0
+    results.check("wfmc over two logs: all clients are served", served == ["served"] * (CLIENTS + 1), served)
+    results.check("wfmc over two logs: both are used", 32 < length <= 64, output)
+    for mode, ends in sweep("wfmc over two logs", run, judge_wfmc, environment, range(1, count + 20, every), threads=6):
+        results.check(f"wfmc over two logs: some turn over is refused, {mode}", every > 1 or "told a client of a full log" in ends.values())
 
 
 @dataclasses.dataclass
@@ -464,6 +519,7 @@ CASES = {
     "rows": (try_rows, "mc_stdin"),
     "mc_schedule": (try_schedule, "mc_schedule"),
     "wfmc": (try_wfmc, "wfmc"),
+    "generations": (try_generations, "wfmc"),
     "calls": (try_calls, "refusals"),
     "cells": (try_cells, None),
     "workers": (try_workers, None),

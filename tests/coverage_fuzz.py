@@ -1,14 +1,16 @@
 #!/usr/bin/env python3
-"""Fuzzes the reader guided by coverage: coverage_fuzz.py [--runs N] [--keep FOLDER].
+"""Fuzzes the reader guided by coverage: coverage_fuzz.py [--minutes M | --runs N] [--keep].
 
 Builds the reader as a static library whose code is instrumented: `rt lib` on a copy of the crates below it, with the kit's clang behind a script
-that adds -fsanitize-coverage. libFuzzer (Debian's clang) runs it over N inputs (1,000,000), from the inputs of tests/coverage/corpus on, and a crash
-is a reader whose requests depend on the pieces in which the bytes come. Then each input that reached new code is read by the oracle, which has to
-find as many requests, and as many to be logged. With --keep the inputs are written there, as few as reach the same code. The last line is
-'N passed, M failed'.
+that adds -fsanitize-coverage. Both stay in ~/.cache/wovengalena-coverage, so that later runs prove only what has changed. libFuzzer (Debian's
+clang) runs it for M minutes (2), or over N inputs, from the golden tests of mc_stdin and the inputs of tests/coverage/inputs.txt on; a crash is a
+reader whose requests depend on the pieces in which the bytes come. Then each input that reached new code is read by the oracle, which has to find
+as many requests, and as many to be logged. With --keep, inputs.txt is written anew: as few of all these inputs as reach the same code. The last
+line is 'N passed, M failed'.
 """
 
 import argparse
+import ast
 import os
 import pathlib
 import shutil
@@ -21,6 +23,9 @@ from oracle.protocol import requests
 
 CRATES = ("lists", "mc_model", "model_lemmas", "mc_read")
 SOURCES = repository.ROOT / "tests/coverage"
+INPUTS = SOURCES / "inputs.txt"
+# The kit's gate reads each folder of the repository, and wants no sources beside those of its crates.
+BUILT = pathlib.Path(os.environ.get("XDG_CACHE_HOME") or pathlib.Path.home() / ".cache", "wovengalena-coverage")
 INSTRUMENTED = "-fsanitize-coverage=inline-8bit-counters,pc-table,trace-cmp"
 MOST_BYTES = 160
 results = Results()
@@ -33,6 +38,7 @@ def kit():
 
 def instrumenting_kit(folder):
     """A folder that looks like the kit, but whose clang instruments what it compiles."""
+    shutil.rmtree(folder, ignore_errors=True)
     (folder / "bin").mkdir(parents=True)
     (folder / "toolchain/bin").mkdir(parents=True)
     for path in kit().iterdir():
@@ -52,11 +58,14 @@ def instrumenting_kit(folder):
 
 
 def copy_crates(folder):
-    """The crates below the reader, with what was proved of them, and the one that exports it to C."""
+    """The crates below the reader, and the one that exports it to C. What an earlier run has proved of them stays."""
     for name in CRATES:
-        shutil.copytree(repository.ROOT / "crates" / name, folder / "crates" / name, symlinks=True)
+        for part in ("src", "specs", "proofs"):
+            shutil.rmtree(folder / "crates" / name / part, ignore_errors=True)
+            if (theirs := repository.ROOT / "crates" / name / part).exists():
+                shutil.copytree(theirs, folder / "crates" / name / part)
     source = folder / "crates/reader_c/src/lib.rt"
-    source.parent.mkdir(parents=True)
+    source.parent.mkdir(parents=True, exist_ok=True)
     shutil.copy(SOURCES / "reader_c.txt", source)
     shutil.copy(repository.ROOT / "HANDLES", folder)
     lines = (repository.ROOT / "crates.txt").read_text(encoding="utf-8").splitlines(keepends=True)
@@ -94,25 +103,45 @@ def compare(program, corpus):
             results.check(f"{stream!r}", counts == wanted, f"{counts}, not {wanted}")
 
 
+def write_seeds(folder):
+    """The inputs to begin with: short golden tests, and those that were kept."""
+    folder.mkdir()
+    rows = [path.read_bytes() for path in repository.ROOT.glob("tests/rows/mc_stdin/*/input")]
+    kept = [ast.literal_eval(line) for line in INPUTS.read_text(encoding="ascii").splitlines()]
+    for number, stream in enumerate([row for row in rows if len(row) <= MOST_BYTES] + kept):
+        (folder / str(number)).write_bytes(stream)
+
+
+def keep(program, folder):
+    """Writes as few inputs as reach the same code."""
+    few = folder / "few"
+    few.mkdir()
+    subprocess.run([program, "-set_cover_merge=1", few, folder / "seeds", folder / "corpus"], capture_output=True, check=True)
+    streams = sorted((path.read_bytes() for path in few.iterdir()), key=lambda stream: (len(stream), stream))
+    INPUTS.write_text("".join(f"{stream!r}\n" for stream in streams), encoding="ascii")
+
+
 def main():
     parser = argparse.ArgumentParser(description=__doc__.split("\n")[0])
-    parser.add_argument("--runs", type=int, default=1_000_000, metavar="N", help="how many inputs")
-    parser.add_argument("--keep", type=pathlib.Path, metavar="FOLDER", help="where few inputs that reach the same code are written")
+    parser.add_argument("--minutes", type=float, default=2, metavar="M", help="how long it runs")
+    parser.add_argument("--runs", type=int, metavar="N", help="over how many inputs, in the place of a time")
+    parser.add_argument("--keep", action="store_true", help="writes tests/coverage/inputs.txt anew")
     asked = parser.parse_args()
     repository.require("rt", "clang")
+    program = build(BUILT)
     with tempfile.TemporaryDirectory() as name:
         folder = pathlib.Path(name)
-        program, corpus = build(folder), folder / "corpus"
-        corpus.mkdir()
-        words = [program, f"-runs={asked.runs}", f"-max_len={MOST_BYTES}", "-print_final_stats=1", corpus, SOURCES / "corpus"]
-        ended = subprocess.run(words, cwd=folder, capture_output=True, text=True, check=False)
-        print("\n".join(line for line in ended.stderr.splitlines() if line.startswith(("stat::", "Done", "#" + str(asked.runs)))))
+        write_seeds(folder / "seeds")
+        (folder / "corpus").mkdir()
+        bound = f"-runs={asked.runs}" if asked.runs else f"-max_total_time={round(60 * asked.minutes)}"
+        words = [program, bound, f"-max_len={MOST_BYTES}", "-print_final_stats=1", folder / "corpus", folder / "seeds"]
+        ended = subprocess.run(words, cwd=folder, capture_output=True, text=True, errors="replace", check=False)
+        print("\n".join(line for line in ended.stderr.splitlines() if line.startswith(("stat::", "Done"))), flush=True)
         results.check("no crash", ended.returncode == 0, ended.stderr[-2000:])
-        compare(program, corpus)
-        compare(program, SOURCES / "corpus")
+        compare(program, folder / "corpus")
+        compare(program, folder / "seeds")
         if asked.keep:
-            asked.keep.mkdir(exist_ok=True)
-            subprocess.run([program, "-merge=1", asked.keep, corpus], capture_output=True, check=True)
+            keep(program, folder)
     results.finish()
 
 
