@@ -3,4 +3,4 @@ use Rattle.std.specs.Prelude.{◌≡◌}
 use Rattle.refusals.proofs.scenes.ask_all.Given as goal
 
 abbrev pub invariant-loop-line : goal.invariant-loop-line
-invariant-loop-line l = l.client.log ≡ l.initial.client.log
+invariant-loop-line g l = l.client.log ≡ l.initial.client.log
