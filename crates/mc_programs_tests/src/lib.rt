@@ -1,15 +1,13 @@
-//! Tests of the reader, of the serving loop, of hostile streams, of whole runs of mc_stdin and
-//! mc_schedule, and of runs of wfmc that end before it serves, through what their crates make
-//! public. They are in one crate of their own: a crate with tests is proved twice, and each crate of
-//! tests loads its libraries anew.
+//! Tests of the reader, of the serving loop, of whole runs of mc_stdin and mc_schedule, and of runs
+//! of wfmc that end before it serves, through what their crates make public. They are in one crate
+//! of their own: a crate with tests is proved twice, and each crate of tests loads its libraries
+//! anew.
 #![tactic(auto)]
 
 #[cfg(test)]
 mod administering;
 #[cfg(test)]
 mod counting;
-#[cfg(test)]
-mod hostile;
 #[cfg(test)]
 mod programs;
 #[cfg(test)]
