@@ -29,7 +29,7 @@ const VALUES: &str = "VALUE a 0 1\r\nx\r\nVALUE b 0 1\r\ny\r\nEND\r\n";
 enum Work {
     /// The first submits one command, and the other `BESIDE`.
     Submit,
-    /// The first submits one command, and the other as many as there are places before the log closes.
+    /// The first submits one command, and the other as many as it may until the log closes.
     Close,
     /// Both fill the places that are left.
     Fill,
@@ -300,11 +300,12 @@ fn held_around<R: Threads + Sync>(rt: &R, alloc: Global, left: u32) -> Result<bo
 
 #[test]
 fn held_at_each_step_around_a_turn_over(rt: HostRuntime) -> Result<(), Fail> {
-    let mut steps = 0;
-    while steps < MOST && held_around(&rt, rt.alloc(), steps)? {
-        steps += 1;
+    for left in 0..MOST {
+        if !held_around(&rt, rt.alloc(), left)? {
+            // Filling takes the most: a read, an announcement, a read, a look, a proposal, a replay.
+            assert_eq!(rt; left, 6);
+            return Ok(());
+        }
     }
-    // Filling takes the most: a read, an announcement, a read, a look, a proposal and a replay.
-    assert_eq!(rt; steps, 6);
-    Ok(())
+    Err(Fail::from("there is always one step more"))
 }
