@@ -1,6 +1,6 @@
 # `make run` and `make test` do all set-up on a machine that has the kit (`rt` on the PATH).
 .PHONY: help try try-stdin serve run schedule build install uninstall package test mutants golden network compatibility proxy moving fuzz \
-	linearizability allocation-failures differential wrong-definitions core-states manual trying packaging bench picture documents layers definitions kit
+	coverage-fuzz linearizability allocation-failures differential wrong-definitions core-states manual trying packaging bench picture documents layers definitions kit
 
 help: ## prints this list
 	@awk -F ':.*## ' '/^[a-z-]+:.*## / { printf "make %-20s %s\n", $$1, $$2 }' Makefile
@@ -77,6 +77,9 @@ fuzz: linearizability ## fuzzes wfmc over sockets for three times MINUTES (2), o
 	@python3 tests/fuzz.py $$(($(MINUTES) * 60)) --generations
 	@python3 tests/fuzz.py $$(($(MINUTES) * 60)) --generations --log-bytes $(LOG_BYTES)
 
+coverage-fuzz: kit ## fuzzes the reader for MINUTES (2), guided by the code that it reaches, after proving and building it with counters
+	@python3 tests/coverage_fuzz.py --minutes $(MINUTES)
+
 linearizability: kit ## tests for three times MINUTES (2) that the histories of wfmc's clients are linearizable, over one log and over logs closed by places and by bytes
 	@tools/prove.sh wfmc >&2
 	@python3 tests/linearizability.py --self-test
@@ -84,8 +87,8 @@ linearizability: kit ## tests for three times MINUTES (2) that the histories of 
 	@python3 tests/linearizability.py $$(($(MINUTES) * 60)) --generations
 	@python3 tests/linearizability.py $$(($(MINUTES) * 60)) --generations --log-bytes $(LOG_BYTES)
 
-allocation-failures: kit ## runs the programs, and the tests of the cells and of a turn over, with each allocation refused in turn, and mc_stdin with less and less memory
-	@tools/prove.sh wfmc mc_stdin mc_schedule >&2
+allocation-failures: kit ## runs the programs, calls of workers, and the tests of the cells and of a turn over, with each allocation refused in turn, and mc_stdin with less and less memory
+	@tools/prove.sh wfmc mc_stdin mc_schedule refusals >&2
 	@python3 tests/memory_limits.py
 	@python3 tests/allocation_failures.py
 

@@ -1,5 +1,6 @@
 #!/usr/bin/env python3
-"""Injects allocation failures: allocation_failures.py [CASE...] [--every N], with the cases mc_stdin, mc_schedule, wfmc, cells and workers.
+"""Injects allocation failures: allocation_failures.py [CASE...] [--every N], with the cases mc_stdin, rows, mc_schedule, wfmc, generations,
+calls, cells and workers.
 
 A program is run over and over, each allocation refused in turn, alone and with all later ones (tests/refuse.c, which needs gcc); --every N
 refuses one allocation in N. How a run may end is said at the `judge` of its case. A hang, a signal or a wrong byte is a failure. Prints how the runs
@@ -15,11 +16,12 @@ import re
 import subprocess
 
 from harness import preload, repository
-from harness.client import Exchange, connect
+from harness.client import Exchange, connect, exchange
 from harness.results import Results
 from harness.servers import Server
 from oracle import protocol
-from oracle.replies import prefixes
+from oracle import refusals as scenes
+from oracle.replies import Replies, prefixes
 from oracle.schedule import expected
 from oracle.table import Table
 
@@ -118,15 +120,15 @@ def by_turns(environment):
     return program.returncode, received + output, errors
 
 
-def judge_stdin(ended, _mode):
+def judge_stdin(ended, _mode, replies=tuple(REPLIES)):
     """A run ends well, with all replies; or it writes the first of them, complete and in order, then "SERVER_ERROR out of memory", reports
     the fault on standard error and ends with status 1; or it ends with status 1 and no reply, while it reads its words."""
     status, received, errors = ended
-    if ended == (0, REPLIES[-1], b""):
+    if ended == (0, replies[-1], b""):
         return "ended well", True
     if status == 1 and errors == b"mc_stdin: out of memory\n" and received.endswith(protocol.STARVED):
         before = received[: -len(protocol.STARVED)]
-        return ("refused after replies" if before else "refused before any reply"), before in REPLIES
+        return ("refused after replies" if before else "refused before any reply"), before in replies
     if status == 1 and received == b"":
         return "refused in its words", True
     return f"another end: {status}, {received[-200:]!r}, {errors!r}", False
@@ -143,6 +145,79 @@ def try_stdin(environment, every):
             results.check(f"{what}: the client is answered from the opening on, {mode}", "refused in its words" not in later)
             results.check(f"{what}: a refusal after replies, {mode}", "refused after replies" in later)
             results.check(f"{what}: nothing refused, {mode}", ends[count + 1] == "ended well", ends[count + 1])
+
+
+ROWS = ("arithmetic-wraps-and-stops-at-zero", "item-quota", "fragments-joined")
+LARGE = b"set k 5 0 300000\r\n" + 300_000 * b"z" + b"\r\nget k k k k k\r\nappend k 0 0 1\r\n>\r\ngets k\r\nget k nothing k\r\n"
+
+
+def try_stream(environment, every, name, words, stream, wanted):
+    """A client whose stream comes whole: from the allocation on that reserves the history it is answered, and some run is refused after replies."""
+    items = int(words[words.index("--items") + 1]) if "--items" in words else protocol.MOST_ITEMS
+    replies = list(prefixes(Table(items, protocol.MOST_BYTES), protocol.requests(stream)))
+    results.check(f"{name}: the oracle's replies", replies[-1] == wanted)
+
+    def run(environment):
+        return fed([STDIN[0], *words], stream, environment)
+
+    count, opening = counts_of(run({**environment, "COUNTED": "1"})[2])
+    numbers = sorted({*range(1, count + 2, every), opening, count + 1})
+    for mode, ends in sweep(name, run, functools.partial(judge_stdin, replies=replies), environment, numbers):
+        later = {end for number, end in ends.items() if number >= opening}
+        results.check(f"{name}: the client is answered from the opening on, {mode}", "refused in its words" not in later)
+        results.check(f"{name}: a refusal after replies, {mode}", "refused after replies" in later)
+        results.check(f"{name}: nothing refused, {mode}", ends[count + 1] == "ended well", ends[count + 1])
+
+
+def try_rows(environment, every):
+    """Golden tests of mc_stdin, and replies that are larger than all before."""
+    for name in ROWS:
+        row = repository.ROOT / "tests/rows/mc_stdin" / name
+        stream, wanted = (row / "input").read_bytes(), (row / "output").read_bytes()
+        try_stream(environment, every, name, (row / "words").read_text(encoding="utf-8").split(), stream, wanted)
+    whole = list(prefixes(Table(protocol.MOST_ITEMS, protocol.MOST_BYTES), protocol.requests(LARGE)))[-1]
+    try_stream(environment, every, "large replies", [], LARGE, whole)
+
+
+CALLS = repository.program("refusals")
+
+# What some refused run of a word must print: a submit whose command wasn't announced, and one whose command took effect; two workers that don't
+# meet, and meet then; a log that isn't followed, and is then.
+TELLING = {
+    "submit": [
+        b"fault out of memory\nsettled\nplace 0\nEND\r\n\nsettled\n",
+        b"fault out of memory\nunsettled 0 0\nplace 1\nVALUE a 0 1 1\r\nx\r\nEND\r\n\nsettled\n",
+    ],
+    "meet": [b"\nsettled\nfault out of memory\n0 0\n0 1\nand\n0 0\n0 1\n1 0\n1 1\n1 2\nmet\n"],
+    "turn-over": [b"\nsettled\nfault out of memory\nplace 0\nSTORED\r\n\nsettled\nplace 1\nVALUE a 5 2 3\r\nxz\r\n"],
+}
+
+
+def judge_calls(word, ended, mode):
+    """A run prints what tests/oracle/refusals.py allows, and ends with status 1 exactly if it says so."""
+    status, output, errors = ended
+    holds = output in scenes.allowed(word, mode != "one") and errors == b"" and status == (b"ended: " in output)
+    if not holds:
+        return f"another end: {status}, {output!r}, {errors!r}", False
+    if output == scenes.wanted(word):
+        return "ended well", True
+    return ("ended" if b"ended: " in output else "reported") + ": " + output.decode(), True
+
+
+def try_calls(environment, _every):
+    """Submits, a meeting of two workers, and a log that is followed by another; each allocation is tried, since there are few."""
+    for word in TELLING:
+
+        def run(environment, word=word):
+            return fed([CALLS, word], b"", environment)
+
+        count = counts_of(run({**environment, "COUNTED": "1"})[2])[0]
+        what = f"calls, {word}"
+        for mode, ends in sweep(what, run, functools.partial(judge_calls, word), environment, range(1, count + 2)):
+            results.check(f"{what}: nothing refused, {mode}", ends[count + 1] == "ended well", ends[count + 1])
+            if mode == "one":
+                for telling in TELLING[word]:
+                    results.check(f"{what}: some run prints {telling!r}", any(telling.decode() in end for end in ends.values()))
 
 
 SCHEDULE = repository.program("mc_schedule")
@@ -274,16 +349,16 @@ def judge_client(number, received, ending):
     return f"{ending}, {len(received)} bytes, the last {received[-80:]!r}"
 
 
-def serve_clients(environment):
+def serve_clients(environment, options=OPTIONS, ask=client, judge=judge_client):
     """Two workers serve clients of two tenants at once, one connection each, until as many as --connections says have come and gone. Returns how
     wfmc ended, and how each of its clients was served; the last client comes when the others have left."""
-    with Server(WFMC, OPTIONS, {"a": QUOTAS, "b": QUOTAS}, environment=environment) as server:
+    with Server(WFMC, options, {"a": QUOTAS, "b": QUOTAS}, environment=environment) as server:
         served = []
         if len(server.ports) == 2:
             with concurrent.futures.ThreadPoolExecutor(CLIENTS) as pool:
-                answers = list(pool.map(lambda number: client(server.ports["ab"[number % 2]], number), range(CLIENTS)))
-            answers.append(client(server.ports["a"], CLIENTS))
-            served = [judge_client(number, *answer) for number, answer in enumerate(answers)]
+                answers = list(pool.map(lambda number: ask(server.ports["ab"[number % 2]], number), range(CLIENTS)))
+            answers.append(ask(server.ports["a"], CLIENTS))
+            served = [judge(number, *answer) for number, answer in enumerate(answers)]
         try:
             return server.wait(SECONDS), served
         except subprocess.TimeoutExpired:
@@ -293,14 +368,16 @@ def serve_clients(environment):
 def judge_wfmc(ended, mode):
     """Either wfmc ends by itself, with the one line `wfmc: out of memory` on standard error and status 1; or it goes on, and ends well: then
     each client received complete replies in order, up to its end or to `SERVER_ERROR out of memory`, or it was closed without a byte. Where
-    one allocation was refused, at most one client was refused or closed. Threads allocate in another order in each run, so no more is asked."""
+    one allocation was refused, at most one client was refused or closed. Where logs follow one another, a log that isn't followed may be full for
+    any of them. Threads allocate in another order in each run, so no more is asked."""
     (status, output, errors), served = ended
-    wrong = [one for one in served if one not in ("served", "refused", "closed")]
+    wrong = [one for one in served if one not in ("served", "full", "refused", "closed")]
     if status == 1 and errors == b"wfmc: out of memory\n":
         return "ended by itself", all(one.startswith(("no connection", "late", "reset", "end")) for one in wrong)
     if status == 0 and output.startswith(b"done ") and not errors:
-        few = sum(one != "served" for one in served) <= 1 or mode != "one"
-        return ("ended well" if all(one == "served" for one in served) else "refused a client"), few and not wrong
+        few = sum(one in ("refused", "closed") for one in served) <= 1 or mode != "one"
+        ends = [end for end in ("refused", "closed", "full") if end in served]
+        return ("ended well" if not ends else "told a client of a full log" if ends == ["full"] else "refused a client"), few and not wrong
     return f"another end: {status}, {output!r}, {errors!r}, {served}", False
 
 
@@ -310,6 +387,59 @@ def try_wfmc(environment, every):
     results.check("wfmc: all clients are served", status == 0 and count > 100 and served == ["served"] * (CLIENTS + 1), served)
     for _ in sweep("wfmc", serve_clients, judge_wfmc, environment, range(1, count + 20, every), threads=6):
         pass
+
+
+# The log is followed by one more once its 32 places are taken, but for one that is kept for the other worker, and both have room for all commands.
+TWO_LOGS = ["--workers", "2", "--places", "32", "--generations", "2", "--connections", str(CLIENTS + 1)]
+
+
+def client_at_once(port, number):
+    """Sends all requests at once; what was received, and how it ended."""
+    try:
+        return exchange(port, [b"".join(stream_of(number))], SECONDS)
+    except OSError as error:
+        return b"", f"no connection: {error}"
+
+
+def answered(number, received):
+    """How many of a client's requests these bytes are the whole replies to, in order; `None` where they are no such. From some command on, the log
+    may be full."""
+    requests = protocol.requests(b"".join(stream_of(number)))
+    replies = Replies(Table(*QUOTAS), received)
+    for index, request in enumerate(requests):
+        if replies.at == len(received):
+            return index
+        if not replies.answers(request):
+            return None
+    return len(requests) if replies.at == len(received) else None
+
+
+def judge_over_logs(number, received, ending):
+    """As `judge_client`, or "full": from some command on, it was told that the log is full."""
+    is_refused = received.endswith(protocol.STARVED)
+    count = answered(number, received[: -len(protocol.STARVED)] if is_refused else received)
+    if count is None or ending not in ("end", "reset"):
+        return f"{ending}, {len(received)} bytes, the last {received[-80:]!r}"
+    if is_refused:
+        return "refused"
+    if count < len(stream_of(number)):
+        return "closed"
+    return "full" if protocol.LOG_FULL in received else "served"
+
+
+def try_generations(environment, every):
+    """wfmc over two logs, the second of which is opened over the tables of the first while clients wait."""
+
+    def run(environment):
+        return serve_clients(environment, TWO_LOGS, client_at_once, judge_over_logs)
+
+    (status, output, counted), served = run({**environment, "COUNTED": "1"})
+    count = counts_of(counted)[0]
+    length = int(output.split()[1]) if status == 0 else 0
+    results.check("wfmc over two logs: all clients are served", served == ["served"] * (CLIENTS + 1), served)
+    results.check("wfmc over two logs: both are used", 32 < length <= 64, output)
+    for mode, ends in sweep("wfmc over two logs", run, judge_wfmc, environment, range(1, count + 20, every), threads=6):
+        results.check(f"wfmc over two logs: some turn over is refused, {mode}", every > 1 or "told a client of a full log" in ends.values())
 
 
 @dataclasses.dataclass
@@ -383,7 +513,17 @@ def try_workers(_environment, _every):
     try_tests(WORKERS)
 
 
-CASES = {"mc_stdin": try_stdin, "mc_schedule": try_schedule, "wfmc": try_wfmc, "cells": try_cells, "workers": try_workers}
+# Each case, and the program that it runs, if it is one that was built.
+CASES = {
+    "mc_stdin": (try_stdin, "mc_stdin"),
+    "rows": (try_rows, "mc_stdin"),
+    "mc_schedule": (try_schedule, "mc_schedule"),
+    "wfmc": (try_wfmc, "wfmc"),
+    "generations": (try_generations, "wfmc"),
+    "calls": (try_calls, "refusals"),
+    "cells": (try_cells, None),
+    "workers": (try_workers, None),
+}
 
 
 def main():
@@ -394,10 +534,10 @@ def main():
     cases = asked.cases or list(CASES)
     if unknown := set(cases) - set(CASES):
         parser.error(f"no case {unknown.pop()}")
-    repository.enter(*(repository.program(case) for case in cases if case not in ("cells", "workers")))
+    repository.enter(*(repository.program(program) for _, program in map(CASES.get, cases) if program))
     with preload.library(preload.REFUSE) as environment:
         for case in cases:
-            CASES[case](environment, asked.every)
+            CASES[case][0](environment, asked.every)
     results.finish()
 
 

@@ -1,8 +1,8 @@
 #!/usr/bin/env bash
 # The gate: the kit's own (every proof from nothing, the mutants of must-fail/, the tests, the programs on their stored runs), and then the
 # built programs on their golden tests, wfmc over sockets, whether its clients' histories are linearizable, a round of the fuzzer (these two
-# over one log, and over one after another), that no crate cites another's proofs but those of a crate of lemmas, and that the picture of the
-# crates and the generated documents are up to date.
+# over one log, and over one after another), calls of workers with each allocation refused, that no crate cites another's proofs but those of
+# a crate of lemmas, and that the picture of the crates and the generated documents are up to date.
 # The last line is 'N passed, M failed', in total.
 set -euo pipefail
 cd "$(dirname "$0")/.."
@@ -42,6 +42,12 @@ echo "a round of the fuzzer on wfmc"
 count python3 tests/fuzz.py --seed 77 --round 3
 count python3 tests/fuzz.py --seed 77 --round 2 --generations
 count python3 tests/fuzz.py --seed 77 --round 1 --generations --log-bytes 4000
+if command -v gcc >/dev/null; then
+    echo "calls of workers, with each allocation refused in turn"
+    count python3 tests/allocation_failures.py calls
+else
+    echo "gcc is missing, so no allocation is refused"
+fi
 echo "names, layers, the picture of the crates, and the generated documents"
 count passes python3 tools/layers.py
 count passes tools/picture.py --check

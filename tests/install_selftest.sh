@@ -6,24 +6,10 @@
 set -euo pipefail
 cd "$(dirname "$0")/.."
 
-folder=$(mktemp -d)
+. tests/harness/checks.sh
 server=
 trap 'kill $server 2>/dev/null || true; rm -rf "$folder"' EXIT
-passed=0
-failed=0
 programs=(wfmc mc_stdin mc_schedule)
-
-# Counts a check by the status of the command after its name.
-check() {
-    local what=$1
-    shift
-    if "$@"; then
-        passed=$((passed + 1))
-    else
-        failed=$((failed + 1))
-        echo "wrong: $where: $what"
-    fi
-}
 
 # The next checks are of this installation.
 where= dest= prefix= sysconf= root=
@@ -190,5 +176,4 @@ for prefix in relative "/a'quote" '/a$dollar'; do
     check "nothing was installed" test ! -e "$dest"
 done
 
-echo "$passed passed, $failed failed"
-[ "$failed" -eq 0 ] && [ "$passed" -gt 0 ]
+finish

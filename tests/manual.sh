@@ -7,22 +7,8 @@
 set -euo pipefail
 cd "$(dirname "$0")/.."
 
-folder=$(mktemp -d)
+. tests/harness/checks.sh
 trap 'rm -rf "$folder"' EXIT
-passed=0
-failed=0
-
-# Counts a check by the status of the command after its name.
-check() {
-    local what=$1
-    shift
-    if "$@"; then
-        passed=$((passed + 1))
-    else
-        failed=$((failed + 1))
-        echo "wrong: $what"
-    fi
-}
 
 # The page as plain text, without breaks of words and of lines.
 text_of() { MANWIDTH=400 man -E ascii --nh --nj -l "$1" 2>/dev/null | col -bx; }
@@ -151,5 +137,4 @@ for page in man/*.[1-8]; do
     [ "$name" = wfmc ] || check "$page: its example" example_is_true "$page"
 done
 
-echo "$passed passed, $failed failed"
-[ "$failed" -eq 0 ] && [ "$passed" -gt 0 ]
+finish

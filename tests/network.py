@@ -4,7 +4,8 @@
 Every golden test of mc_stdin that a server can answer (tests/rows/mc_stdin): its input over one connection, whole and, where it is short, a
 byte at a time, by 1 and by 4 workers; the bytes that come back must be the same. Then clients that others must not notice: one that closes
 in the middle of a block, one that resets, one that never reads, more connections than a worker takes, two tenants with the same key, 500
-commands of 8 clients at once, all places of the longest log, and logs that follow one another once their places are taken, or their bytes.
+commands of 8 clients at once, all places of the longest log, and logs that follow one another once their places are taken, or their bytes,
+while clients are cut off around each turn over.
 An administrator, whose quotas are in force at every worker, and whom no tenant locks out. And clients that nobody may forget: the process
 is stopped until many have connected, asked or left, and then goes on, while a worker is busy, or descriptors are scarce. Where no client is
 left, everything is given back, and no thread wakes. Clients that send more behind their last request, and read late, get all their replies;
@@ -14,6 +15,7 @@ Prints a line for each failure; the last line is 'N passed, M failed'.
 
 import concurrent.futures
 import contextlib
+import itertools
 import os
 import pathlib
 import random
@@ -555,6 +557,25 @@ def check_logs_in_turn(workers, commands):
         check("the length of all logs", server.wait() == (0, b"done 40\n", b""))
 
 
+def check_cuts_around_turn_overs():
+    """A client counts over logs of four places, while others close or reset in the middle of a block, before each of its commands and after each:
+    before, at and behind every turn over. Nothing of theirs is there, and no number is missing."""
+    for workers in ("1", "2"):
+        with Server(PROGRAM, ["--workers", workers, "--places", "4", "--generations", "0"], {"a": LARGE}) as server:
+            with server.client() as client:
+                replies = [client.line(b"set n 0 0 1\r\n0\r\n")]
+                for end, is_behind, _ in itertools.product((socket.socket.close, reset), (False, True), range(12)):
+                    cut = server.connect("a")
+                    cut.sendall(b"set k 0 0 5\r\nab")
+                    if not is_behind:
+                        end(cut)
+                    replies.append(client.line(b"incr n 1\r\n"))
+                    if is_behind:
+                        end(cut)
+                check(f"the client that stays, {workers} workers", replies == ["STORED", *map(str, range(1, 49))], replies)
+                check(f"nothing of those that were cut, {workers} workers", client.line(b"get k\r\n") == "END")
+
+
 def check_logs_closed_by_bytes():
     """100 items of 1,000 bytes, set one after another, over logs that keep 4,000: two logs of three are closed by them, and the only log isn't."""
     for generations, least, most in (("3", 2_001, 2_098), ("1", 100, 100)):
@@ -669,6 +690,7 @@ def main():
     # The last place of a log but the last is left to no command of one worker while there is another.
     check_logs_in_turn(workers=1, commands=40)
     check_logs_in_turn(workers=2, commands=37)
+    check_cuts_around_turn_overs()
     check_logs_closed_by_bytes()
     check_workers_and_places()
     check_late_readers()

@@ -8,26 +8,12 @@
 set -euo pipefail
 cd "$(dirname "$0")/.."
 
-folder=$(mktemp -d)
+. tests/harness/checks.sh
 server=
 trap 'kill $server 2>/dev/null || true; rm -rf "$folder"' EXIT
 chmod 755 "$folder"
-passed=0
-failed=0
 root=$folder/root
 programs=(wfmc mc_stdin mc_schedule)
-
-# Counts a check by the status of the command after its name.
-check() {
-    local what=$1
-    shift
-    if "$@"; then
-        passed=$((passed + 1))
-    else
-        failed=$((failed + 1))
-        echo "wrong: $what"
-    fi
-}
 
 nobody=()
 [ "$(id -u)" != 0 ] || nobody=(--reuid 65534 --regid 65534 --clear-groups --bounding-set=-all --inh-caps=-all)
@@ -215,5 +201,4 @@ else
     echo "no namespaces are granted, or ip is missing: the image's command isn't run"
 fi
 
-echo "$passed passed, $failed failed"
-[ "$failed" -eq 0 ] && [ "$passed" -gt 0 ]
+finish

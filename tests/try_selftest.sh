@@ -5,24 +5,10 @@
 set -euo pipefail
 cd "$(dirname "$0")/.."
 
-folder=$(mktemp -d)
+. tests/harness/checks.sh
 tried=
 trap '[ -z "$tried" ] || kill "$tried" 2>/dev/null || true; rm -rf "$folder"' EXIT
 mkdir "$folder/temporary"
-passed=0
-failed=0
-
-# Counts a check by the status of the command after its name.
-check() {
-    local what=$1
-    shift
-    if "$@"; then
-        passed=$((passed + 1))
-    else
-        failed=$((failed + 1))
-        echo "wrong: $what"
-    fi
-}
 
 # A port of loopback that is free, with the next one.
 free_ports() {
@@ -109,5 +95,4 @@ check "make try-stdin prints what the first run must" diff crates/mc_stdin/stdou
 check "and says what wasn't proved" says "$folder/output" "Nothing was proved: make run proves mc_stdin"
 check "no file is left by it" leaves_nothing
 
-echo "$passed passed, $failed failed"
-[ "$failed" -eq 0 ] && [ "$passed" -gt 0 ]
+finish
