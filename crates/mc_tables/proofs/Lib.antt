@@ -1,0 +1,3 @@
+mod Stands
+mod Totals
+mod Layering
