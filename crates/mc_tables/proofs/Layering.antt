@@ -1,26 +1,24 @@
 -- Entries of hash maps as tables, marks on them, and what lies over them.
-use Rattle.std.proofs.Common.{◌≡◌, ◌≢◌, ℕ, ◌+◌, ◌<◌, Bool, true, false, cond, not, List, [], ◌∷◌, length, get_or, set, replicate, position, Option, Some, None, Result, Ok, Err, OnOk, OnErr, refl, sym, ap, subst, ◌∙◌, true≢false, arith, Bor}
+use Rattle.std.proofs.Common.{◌≡◌, ◌≢◌, ℕ, ◌+◌, ◌<◌, Bool, true, false, cond, not, List, [], ◌∷◌, length, get_or, set, replicate, position, Option, Some, None, Result, Ok, Err, OnOk, OnErr, refl, sym, ap, ◌∙◌, true≢false, arith, Bor}
 use Rattle.std.proofs.lemmas.List.{get_or-set_same, get_or-set_other, get_or-replicate}
 use Rattle.std.proofs.lemmas.List.Quantifiers.{position-Some}
 use Rattle.std.proofs.lemmas.Grind.{common_steps}
-use Rattle.std.proofs.lemmas.Option.{none-some, same_Some, slice_get-get_or}
+use Rattle.std.proofs.lemmas.Option.{same_Some, slice_get-get_or}
 use Rattle.std.specs.List.{position_or_len}
 use Rattle.std.specs.Prelude.{nat_eq, nat_lt, suc, Vec}
 use Rattle.indexmap.proofs.MapLemmas.{some_index}
 use Rattle.std.specs.Cmp.{eq_by_cmp_equiv}
-use Rattle.std.specs.Cmp.Lexicographic.{bytes_decides, pointwise, texts_ties}
+use Rattle.std.specs.Cmp.Lexicographic.{pointwise, texts_ties}
 use Rattle.std.specs.FinMap as map
-use Rattle.std.specs.FinMap.{find, get-empty, get-insert, get-remove, get-retain_keys, same_map}
-use Rattle.std.specs.HashMap as hash
+use Rattle.std.specs.FinMap.{get-empty, get-insert, get-remove, get-retain_keys, same_map}
 use Rattle.std.specs.HashMap.{HashMap, UpdatesBy}
-use Rattle.std_collections.specs.Map.{KeepsOthers}
+use Rattle.std.specs.Map.{KeepsOthers}
 use Rattle.std.specs.Map.{keys_of, lookup}
 use Rattle.std.specs.Option.{is_some, option_map}
 use Rattle.mc_model.specs.declared.item.Item.{Item}
 use Rattle.mc_model.specs.declared.key.Key.{Key}
 use Rattle.mc_model.specs.Table.{Table, is_tied, key_cmp, key_cmp_exact, key_cmp_total, tied_itself, tied_keys}
-use Rattle.mc_tables.specs.declared.cell_item.CellItem.{CellItem}
-use Rattle.mc_tables.specs.Entries.{is_marked, item_of_cell, laid_over, owned_entries, same_item, text_of_slice, text_of_vec, texts_of, unmarked}
+use Rattle.mc_tables.specs.Entries.{is_marked, laid_over, owned_entries, same_item, text_of_vec, texts_of, unmarked}
 
 -- the two tests of keys
 abbrev pub same : Key → Key → Bool

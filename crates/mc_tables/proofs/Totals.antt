@@ -1,5 +1,5 @@
 -- What a table counts for in total, and what its quotas allow.
-use Rattle.std.proofs.Common.{◌≡◌, ℕ, ◌+◌, ◌-◌, ◌^◌, ◌<◌, ◌≤◌, ◌&&◌, true, Bool, cond, nat_le, length, Option, Some, None, refl, sym, ap, subst, ◌∙◌, arith}
+use Rattle.std.proofs.Common.{◌≡◌, ℕ, ◌+◌, ◌-◌, ◌≤◌, ◌&&◌, true, Bool, cond, nat_le, length, Option, Some, None, refl, sym, ap, subst, ◌∙◌, arith}
 use Rattle.std.proofs.lemmas.Option.{none-some, same_Some}
 use Rattle.std.specs.FinMap as map
 use Rattle.std.specs.FinMap.{len-empty, len-insert, len-remove}
@@ -7,7 +7,7 @@ use Rattle.std.specs.Option.{is_some, option_map}
 use Rattle.mc_model.specs.declared.item.Item.{Item}
 use Rattle.mc_model.specs.declared.key.Key.{Key}
 use Rattle.mc_model.specs.declared.settings.Limits.{Limits}
-use Rattle.mc_model.specs.Table.{Table, count_of, is_within, key_cmp, key_cmp_total, use_of, weight}
+use Rattle.mc_model.specs.Table.{Table, count_of, is_within, key_cmp, key_cmp_total, use_of}
 use Rattle.mc_model.specs.Use.{use_under, weight_of}
 use Rattle.model_lemmas.proofs.Uses.{removed, restored, use-empty, use-insert, use-remove, within_parts}
 use Rattle.mc_tables.specs.declared.storage.Found.{Found}

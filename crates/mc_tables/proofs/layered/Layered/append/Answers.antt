@@ -6,7 +6,7 @@ use Rattle.mc_model.specs.declared.item.Item.{Item}
 use Rattle.mc_tables.specs.declared.cell_item.CellItem.{CellItem}
 use Rattle.mc_tables.specs.declared.storage.Change.TheVariants.{Append}
 use Rattle.mc_tables.specs.Changes.{block_under, changed_item, flags_under}
-use Rattle.mc_tables.specs.Entries.{is_marked, item_of_cell, laid_over, text_of_slice, unmarked}
+use Rattle.mc_tables.specs.Entries.{item_of_cell, laid_over, text_of_slice}
 use Rattle.mc_tables.specs.Layers.{below, layers}
 use Rattle.mc_tables.proofs.Layering.{held_over, held_under, insert_same, laid-put, on_err, on_ok, entry_at}
 use Rattle.mc_tables.proofs.layered.Layered.append.Goals as goal

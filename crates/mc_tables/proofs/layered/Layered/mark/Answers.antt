@@ -1,13 +1,12 @@
-use Rattle.std.proofs.Common.{◌≡◌, ℕ, ◌<◌, Bool, true, false, cond, List, [], length, get_or, set, Option, Some, None, Bor, refl, sym, ap, subst, ◌∙◌, rules}
+use Rattle.std.proofs.Common.{◌≡◌, ℕ, ◌<◌, true, length, set, Option, Some, None, Bor, sym, ap, subst, ◌∙◌, rules}
 use Rattle.std.specs.FinMap as map
 use Rattle.std.specs.FinMap.{get-empty}
 use Rattle.mc_model.specs.Table.{key_cmp}
-use Rattle.std.specs.Option.{option_copied, option_map}
+use Rattle.std.specs.Option.{option_map}
 use Rattle.mc_model.specs.declared.item.Item.{Item}
 use Rattle.mc_tables.specs.declared.owned.Owned.{Owned}
-use Rattle.mc_tables.specs.Entries.{is_marked, item_of_cell, laid_over, text_of_slice, unmarked}
-use Rattle.mc_tables.specs.Layers.{below, layers}
-use Rattle.mc_tables.proofs.Layering.{get-unmarked, held_over, held_under, laid-removed, marked, needs_no_mark, nothing_there, entry_at, place_of, under_at}
+use Rattle.mc_tables.specs.Layers.{below}
+use Rattle.mc_tables.proofs.Layering.{marked, needs_no_mark, nothing_there, place_of}
 use Rattle.mc_tables.proofs.layered.Layered.mark.Goals as goal
 
 pub returns-in-Some-place-clause-marked : goal.returns-in-Some-place-clause-marked
