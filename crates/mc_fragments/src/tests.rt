@@ -1,18 +1,26 @@
-//! Tests of what no clause says: data that are joined with ample memory are as long as their parts.
+//! Tests of what no clause says: with ample memory data are joined.
 use crate::fragments::Fragments;
-use mc_model::Data;
+use mc_model::{Data, Fault};
+use std::alloc::Global;
+use std::test::Fail;
 
-/// Returns a block of these bytes.
-fn block(rt: &HostRuntime, bytes: &[u8]) -> Data {
-    Data::new(Vec::from_slice(rt.alloc(), bytes).unwrap()).unwrap()
+fn block_of(alloc: Global, text: &str) -> Result<Data, Fault> {
+    Data::new(Vec::from_slice(alloc, text.as_bytes())?).ok_or(Fault::BadEvent)
 }
 
 #[test]
-fn appends_and_prepends_with_ample_memory(rt: HostRuntime) {
-    let (one, two, three) = (block(&rt, b"ab"), block(&rt, b"c"), block(&rt, b"def"));
-    let mut data = Fragments::new(&two);
-    data.append(rt.alloc(), &three).unwrap();
-    data.prepend(rt.alloc(), &one).unwrap();
-    assert_eq!(rt; data.to_data(rt.alloc()).unwrap().as_bytes(), b"abcdef");
-    assert_eq!(rt; data.len(), 6);
+fn joins_with_ample_memory(rt: HostRuntime) -> Result<(), Fail> {
+    let one = block_of(rt.alloc(), "ab")?;
+    let two = block_of(rt.alloc(), "c")?;
+    let three = block_of(rt.alloc(), "def")?;
+    let want = block_of(rt.alloc(), "abcdef")?;
+    let mut joined = Fragments::new(&two);
+    if joined.len() + three.as_bytes().len() <= 100 {
+        joined.append(rt.alloc(), &three)?;
+    }
+    if joined.len() + one.as_bytes().len() <= 100 {
+        joined.prepend(rt.alloc(), &one)?;
+    }
+    assert!(rt; joined.to_data(rt.alloc())? == want);
+    Ok(())
 }

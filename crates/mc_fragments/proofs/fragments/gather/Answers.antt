@@ -1,7 +1,7 @@
-use Rattle.std.proofs.Common.{◌≡◌, ◌+◌, ◌≤◌, ◌<◌, length, get_or, take, ap, sym, subst, ◌∙◌, arith, rules}
+use Rattle.std.proofs.Common.{◌≡◌, ◌≤◌, ◌<◌, length, get_or, ap, ◌∙◌, arith, rules}
 use Rattle.std.specs.Prelude.{flat_map}
 use Rattle.std.proofs.lemmas.List.Folds.{length-flat_map-take}
-use Rattle.mc_fragments.specs.Joined.{fragment_bytes, joined_pieces}
+use Rattle.mc_fragments.specs.Joined.{fragment_bytes}
 use Rattle.mc_fragments.proofs.fragments.gather.Goals as goal
 
 pub put_at-at-requires : goal.put_at-at-requires
