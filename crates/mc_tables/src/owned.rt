@@ -2,9 +2,10 @@
 ghost use Rattle.std.specs.Cmp.Lexicographic.{pointwise};
 ghost use Rattle.std.specs.FinMap as map;
 ghost use Rattle.std.specs.Option.{option_copied, option_map};
-ghost use Rattle.std.specs.Prelude.{◌≡◌, [], ◌<◌, ◌≤◌, ◌++◌, decimal, length, nat_eq, position, IfOk, IfSome, OnOk, OnErr, IsOkUnless};
+ghost use Rattle.std.specs.Prelude.{◌≡◌, [], ◌+◌, ◌<◌, ◌≤◌, ◌++◌, cond, decimal, drop, length, nat_eq, position, IfOk, IfSome, OnOk, OnErr, IsOkUnless};
 ghost use Rattle.std.specs.Map.{lookup};
 ghost use Rattle.mc_model.specs.declared.item.TheConstants.{DATA_BYTES};
+ghost use Rattle.mc_model.specs.declared.key.Key.{Key};
 ghost use Rattle.mc_model.specs.History.{StandsFor};
 ghost use Rattle.mc_model.specs.State.{empty_table};
 ghost use Rattle.mc_tables.specs.Changes.{block_under, flags_under};
@@ -37,6 +38,15 @@ impl Metered<Owned> {
         ensures stands { StandsFor limits [] result }
     {
         Metered::open(alloc, limits, Owned::new(alloc, hashing))
+    }
+
+    /// Returns a copy of the table. Returns `Memory` if an allocation fails.
+    pub fn try_clone(&self) -> Result<OwnedItems, Fault>
+        ensures same { IfOk result (λ items. items ≡ self.now) }
+        ensures memory { IsOkUnless result Fault.Memory }
+    {
+        let copy = self.storage.try_clone()?;
+        Ok(self.with_storage(copy))
     }
 }
 
@@ -92,6 +102,53 @@ impl Owned {
             return Ok(());
         }
         let text = Vec::from_slice(self.alloc, key.as_bytes())?;
+        self.held.insert(text, item)?;
+        Ok(())
+    }
+
+    /// Returns a copy of the items, in the same places. Returns `Memory` if an allocation fails.
+    pub fn try_clone(&self) -> Result<Owned, Fault>
+        ensures same { IfOk result (λ copy. owned_table copy ≡ owned_table self.now) }
+        ensures memory { IsOkUnless result Fault.Memory }
+    {
+        let mut copy = Owned::new(self.alloc, *self.held.hasher());
+        for place in 0..self.held.len() {
+            let (text, item) = self.entry(place);
+            copy.put_copy(text, item)?;
+        }
+        Ok(copy)
+    }
+
+    /// Returns the key and the item at a place.
+    fn entry(&self, place: usize) -> (&[u8], &Item)
+        requires { place < length self.now.held.entries }
+        ensures item { lookup (λ held. pointwise nat_eq result.0.now (text_of_vec held))
+            self.now.held.entries ≡ Some result.1.now }
+        ensures first { (key : Key) →
+            lookup (λ held. pointwise nat_eq key (text_of_vec held)) (drop place self.now.held.entries)
+            ≡ cond (pointwise nat_eq key result.0.now) (Some result.1.now)
+                (lookup (λ held. pointwise nat_eq key (text_of_vec held))
+                    (drop (place + 1) self.now.held.entries)) }
+    {
+        match self.held.get_index(place) {
+            Some((text, item)) => (text.as_slice(), item),
+            None => unreachable!(),
+        }
+    }
+
+    /// Puts a copy of an item under a key that is made of these bytes. Returns `Memory` if an
+    /// allocation fails.
+    fn put_copy(&mut self, text: &[u8], original: &Item) -> Result<(), Fault>
+        ensures table { OnOk result
+            (owned_table self.new ≡ map.insert (owned_table self.old) text.now original.now) }
+        ensures memory { IsOkUnless result Fault.Memory }
+    {
+        let item = Item {
+            flags: original.flags,
+            block: original.block.try_clone()?,
+            unique: original.unique,
+        };
+        let text = Vec::from_slice(self.alloc, text)?;
         self.held.insert(text, item)?;
         Ok(())
     }
