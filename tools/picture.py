@@ -16,6 +16,8 @@ SAYS = {
     "model_lemmas": "lemmas on these",
     "mc_laws": "what follows from them",
     "mc_items": "one table, by its quotas",
+    "mc_fragments": "data that borrow",
+    "mc_tables": "tables that borrow",
     "uc_cells": "contents, set once",
     "mc_replica": "each tenant's table",
     "uc_core": "the theorem, on a machine",

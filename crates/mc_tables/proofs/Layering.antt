@@ -1,0 +1,247 @@
+-- Entries of hash maps as tables, marks on them, and what lies over them.
+use Rattle.std.proofs.Common.{◌≡◌, ◌≢◌, ℕ, ◌+◌, ◌<◌, Bool, true, false, cond, not, List, [], ◌∷◌, length, get_or, set, replicate, position, Option, Some, None, Result, Ok, Err, OnOk, OnErr, refl, sym, ap, ◌∙◌, true≢false, arith, Bor}
+use Rattle.std.proofs.lemmas.List.{get_or-set_same, get_or-set_other, get_or-replicate}
+use Rattle.std.proofs.lemmas.List.Quantifiers.{position-Some}
+use Rattle.std.proofs.lemmas.Grind.{common_steps}
+use Rattle.std.proofs.lemmas.Option.{same_Some, slice_get-get_or}
+use Rattle.std.specs.List.{position_or_len}
+use Rattle.std.specs.Prelude.{nat_eq, nat_lt, suc, Vec}
+use Rattle.indexmap.proofs.MapLemmas.{some_index}
+use Rattle.std.specs.Cmp.{eq_by_cmp_equiv}
+use Rattle.std.specs.Cmp.Lexicographic.{pointwise, texts_ties}
+use Rattle.std.specs.FinMap as map
+use Rattle.std.specs.FinMap.{get-empty, get-insert, get-remove, get-retain_keys, same_map}
+use Rattle.std.specs.HashMap.{HashMap, UpdatesBy}
+use Rattle.std.specs.Map.{KeepsOthers}
+use Rattle.std.specs.Map.{keys_of, lookup}
+use Rattle.std.specs.Option.{is_some, option_map}
+use Rattle.mc_model.specs.declared.item.Item.{Item}
+use Rattle.mc_model.specs.declared.key.Key.{Key}
+use Rattle.mc_model.specs.Table.{Table, is_tied, key_cmp, key_cmp_exact, key_cmp_total, tied_itself, tied_keys}
+use Rattle.mc_tables.specs.Entries.{is_marked, laid_over, owned_entries, same_item, text_of_vec, texts_of, unmarked}
+
+-- the two tests of keys
+abbrev pub same : Key → Key → Bool
+same = pointwise nat_eq
+
+same_tied : (q k : Key) → is_tied q k ≡ same q k
+same_tied q k = sym (texts_ties q k)
+
+is_same : (q k : Key) → same q k ≡ true → q ≡ k
+is_same q k is = tied_keys q k (same_tied q k ∙ is)
+
+same_symm : (q k : Key) → same q k ≡ is_tied k q
+same_symm q k = sym (same_tied q k) ∙ (eq_by_cmp_equiv key_cmp_total).symm q k
+
+same_itself : (key : Key) → same key key ≡ true
+same_itself key = sym (same_tied key key) ∙ tied_itself key
+
+same_turned : (q k : Key) → same q k ≡ same k q
+same_turned q k = same_symm q k ∙ same_tied k q
+
+-- ENTRIES OVER A TABLE
+abbrev pub or_else : Option Item → Option Item → Option Item
+or_else None below = below
+or_else (Some item) below = Some item
+
+-- what the entries hold under a key
+abbrev pub entry_at : {K V : Type 0} → (K → Key) → List (K × V) → Key → Option V
+entry_at text entries q = lookup (λ k. same q (text k)) entries
+
+first_counts : {V : Type 0} (item : V → Item) (b : Bool) (kept : V) (rest : Option V) (below : Option Item) →
+    or_else (option_map item (cond b (Some kept) rest)) below ≡ cond b (Some (item kept)) (or_else (option_map item rest) below)
+first_counts item true kept rest below = refl
+first_counts item false kept rest below = refl
+
+pub get-laid_over : {K V : Type 0} (text : K → Key) (item : V → Item) (table : Table) (entries : List (K × V)) (q : Key) →
+    map.get (laid_over text item table entries) q ≡ or_else (option_map item (entry_at text entries q)) (map.get table q)
+get-laid_over text item table [] q = refl
+get-laid_over text item table (entry ∷ entries) q =
+    get-insert key_cmp_total (laid_over text item table entries) (text entry.0) (item entry.1) q
+    ∙ ap (λ b. cond b (Some (item entry.1)) (map.get (laid_over text item table entries) q)) (same_tied q (text entry.0))
+    ∙ ap (cond (same q (text entry.0)) (Some (item entry.1))) (get-laid_over text item table entries q)
+    ∙ sym (first_counts item (same q (text entry.0)) entry.1 (entry_at text entries q) (map.get table q))
+
+-- the test of two keys that are kept
+abbrev pub same_texts : {K : Type 0} → (K → Key) → K → K → Bool
+same_texts text one other = same (text one) (text other)
+
+-- a look-up after a change at a key
+entry_at-updated : {K V : Type 0} (text : K → Key) (old new : List (K × V)) (key : Key) (w : Option V) →
+    lookup (λ k. same key (text k)) new ≡ w → KeepsOthers (same_texts text) (λ k. same key (text k)) old new →
+    (q : Key) → entry_at text new q ≡ cond (is_tied q key) w (entry_at text old q)
+unfolding KeepsOthers
+entry_at-updated {K} {V} text old new key w there others q = by (is_tied q key) refl
+  where
+    by : (tied : Bool) → is_tied q key ≡ tied → entry_at text new q ≡ cond tied w (entry_at text old q)
+    by true is = ap (entry_at text new) (tied_keys q key is) ∙ there
+    by false is = others (λ k. same q (text k))
+        (λ x y here. ap (λ (k : Key). same k (text y)) (is_same q (text x) here))
+        (λ k here. ap (same q) (sym (is_same key (text k) here)) ∙ sym (same_tied q key) ∙ is)
+
+pub laid-put : {K V S : Type 0} (text : K → Key) (item : V → Item) (table : Table) (old new : HashMap K V S) (key : Key) (kept : V) →
+    UpdatesBy (same_texts text) (λ k. same key (text k)) old new (Some kept) →
+    laid_over text item table new.entries ≡ map.insert (laid_over text item table old.entries) key (item kept)
+laid-put text item table old new key kept updates = same_map key_cmp_total key_cmp_exact _ _ (λ q.
+    get-laid_over text item table new.entries q
+    ∙ ap (λ (o : Option _). or_else (option_map item o) (map.get table q)) (entry_at-updated text old.entries new.entries key (Some kept) updates.1 updates.3 q)
+    ∙ first_counts item (is_tied q key) kept (entry_at text old.entries q) (map.get table q)
+    ∙ sym (get-insert key_cmp_total (laid_over text item table old.entries) key (item kept) q ∙ ap (cond (is_tied q key) (Some (item kept))) (get-laid_over text item table old.entries q)))
+
+both_gone : {V : Type 0} (item : V → Item) (b : Bool) (over : Option V) (below : Option Item) →
+    or_else (option_map item (cond b None over)) (cond b None below) ≡ cond b None (or_else (option_map item over) below)
+both_gone item true over below = refl
+both_gone item false over below = refl
+
+pub laid-removed : {K V S : Type 0} (text : K → Key) (item : V → Item) (table less : Table) (old new : HashMap K V S) (key : Key) →
+    UpdatesBy (same_texts text) (λ k. same key (text k)) old new None →
+    less ≡ map.remove table key → laid_over text item less new.entries ≡ map.remove (laid_over text item table old.entries) key
+laid-removed text item table less old new key updates is = same_map key_cmp_total key_cmp_exact _ _ (λ q.
+    get-laid_over text item less new.entries q
+    ∙ ap (λ (o : Option _). or_else (option_map item o) (map.get less q)) (entry_at-updated text old.entries new.entries key None updates.1 updates.3 q)
+    ∙ ap (or_else (option_map item (cond (is_tied q key) None (entry_at text old.entries q)))) (ap (λ (t : Table). map.get t q) is ∙ get-remove key_cmp_total table key q)
+    ∙ both_gone item (is_tied q key) (entry_at text old.entries q) (map.get table q)
+    ∙ sym (get-remove key_cmp_total (laid_over text item table old.entries) key q ∙ ap (cond (is_tied q key) None) (get-laid_over text item table old.entries q)))
+
+-- what is found over a table, and what below
+pub held_over : {K V : Type 0} (text : K → Key) (item : V → Item) (table : Table) (over : List (K × V)) (q : Key) (kept : V) →
+    entry_at text over q ≡ Some kept → map.get (laid_over text item table over) q ≡ Some (item kept)
+held_over text item table over q kept is = get-laid_over text item table over q ∙ ap (λ (o : Option _). or_else (option_map item o) (map.get table q)) is
+
+pub held_under : {K V : Type 0} (text : K → Key) (item : V → Item) (table : Table) (over : List (K × V)) (q : Key) →
+    entry_at text over q ≡ None → map.get (laid_over text item table over) q ≡ map.get table q
+held_under text item table over q is = get-laid_over text item table over q ∙ ap (λ (o : Option _). or_else (option_map item o) (map.get table q)) is
+
+-- ITEMS OF THEIR OWN
+alone : (there : Option Item) → or_else (option_map same_item there) None ≡ there
+alone None = refl
+alone (Some item) = refl
+
+pub get-owned : {Z : Type 0} (entries : List (Vec ℕ Z × Item)) (q : Key) → map.get (owned_entries entries) q ≡ entry_at text_of_vec entries q
+get-owned entries q =
+    get-laid_over text_of_vec same_item map.empty entries q
+    ∙ ap (or_else (option_map same_item (entry_at text_of_vec entries q))) (get-empty key_cmp q)
+    ∙ alone (entry_at text_of_vec entries q)
+
+-- MARKS
+abbrev pub place_of : {Z : Type 0} → List (Vec ℕ Z × Item) → Key → Option ℕ
+place_of held q = position (same q) (texts_of held)
+
+turned : {A : Type 0} (b : Bool) (x y : A) → cond (not b) x y ≡ cond b y x
+turned true x y = refl
+turned false x y = refl
+
+pub get-unmarked : {Z : Type 0} (held : List (Vec ℕ Z × Item)) (marks : List Bool) (q : Key) →
+    map.get (unmarked held marks) q ≡ cond (is_marked marks (place_of held q)) None (entry_at text_of_vec held q)
+get-unmarked held marks q =
+    get-retain_keys (owned_entries held) (λ key. not (is_marked marks (place_of held key))) q (λ x tied. ap (λ key. not (is_marked marks (place_of held key))) (sym (key_cmp_exact q x tied)))
+    ∙ turned (is_marked marks (place_of held q)) _ _ ∙ ap (cond (is_marked marks (place_of held q)) None) (get-owned held q)
+
+-- the place of a key by its bytes is that by its entry
+before_it : {Z : Type 0} (held : List (Vec ℕ Z × Item)) (q : Key) → position_or_len (λ k. same q (text_of_vec k)) (keys_of held) ≡ position_or_len (same q) (texts_of held)
+before_it [] q = refl
+before_it (entry ∷ held) q = ap (λ n. cond (not (same q (text_of_vec entry.0))) (1 + n) 0) (before_it held q)
+
+as_many : {Z : Type 0} (held : List (Vec ℕ Z × Item)) → length (keys_of held) ≡ length (texts_of held)
+as_many [] = refl
+as_many (entry ∷ held) = ap suc (as_many held)
+
+pub place_is : {Z : Type 0} (held : List (Vec ℕ Z × Item)) (q : Key) → position (λ k. same q (text_of_vec k)) (keys_of held) ≡ place_of held q
+place_is held q = λ i. cond (nat_lt (before_it held q i) (as_many held i)) (Some (before_it held q i)) None
+
+some_place : {Z : Type 0} (held : List (Vec ℕ Z × Item)) (q : Key) → is_some (place_of held q) ≡ is_some (entry_at text_of_vec held q)
+some_place held q = ap (λ (o : Option ℕ). is_some o) (sym (place_is held q)) ∙ some_index (λ k. same q (text_of_vec k)) held
+
+not_found : {Z : Type 0} (held : List (Vec ℕ Z × Item)) (q : Key) → place_of held q ≡ None → entry_at text_of_vec held q ≡ None
+not_found held q none = by (entry_at text_of_vec held q) refl
+  where
+    by : (there : Option Item) → entry_at text_of_vec held q ≡ there → there ≡ None
+    by None is = refl
+    by (Some item) is = absurd (true≢false (sym (ap (λ (o : Option Item). is_some o) is) ∙ sym (some_place held q) ∙ ap (λ (o : Option ℕ). is_some o) none))
+
+marked_other : (marks : List Bool) (i : ℕ) (there : Option ℕ) → ((j : ℕ) → there ≡ Some j → j ≢ i) → is_marked (set marks i true) there ≡ is_marked marks there
+marked_other marks i None apart = refl
+marked_other marks i (Some j) apart = get_or-set_other marks i j true false (apart j refl)
+
+-- places of two keys that are apart
+apart_places : {Z : Type 0} (held : List (Vec ℕ Z × Item)) (key q : Key) (i j : ℕ) → is_tied q key ≡ false → place_of held key ≡ Some i → place_of held q ≡ Some j → j ≢ i
+apart_places held key q i j apart at there is =
+    let one = (position-Some (same key) (texts_of held) i key at).1 in
+    let other = (position-Some (same q) (texts_of held) j key there).1 in
+    let key_is : key ≡ get_or (texts_of held) i key = is_same key _ one in
+    let q_is : q ≡ get_or (texts_of held) j key = is_same q _ other in
+    let both : q ≡ key = q_is ∙ ap (λ n. get_or (texts_of held) n key) is ∙ sym key_is in
+    true≢false (sym (tied_itself key) ∙ ap (λ k. is_tied k key) (sym both) ∙ apart)
+
+pub marked : {Z : Type 0} (held : List (Vec ℕ Z × Item)) (marks : List Bool) (key : Key) (i : ℕ) → place_of held key ≡ Some i → i < length marks →
+    unmarked held (set marks i true) ≡ map.remove (unmarked held marks) key
+marked held marks key i at inside = same_map key_cmp_total key_cmp_exact _ _ (λ q.
+    get-unmarked held (set marks i true) q ∙ by q (is_tied q key) refl
+    ∙ sym (get-remove key_cmp_total (unmarked held marks) key q ∙ ap (cond (is_tied q key) None) (get-unmarked held marks q)))
+  where
+    by : (q : Key) (tied : Bool) → is_tied q key ≡ tied → cond (is_marked (set marks i true) (place_of held q)) None (entry_at text_of_vec held q)
+        ≡ cond tied None (cond (is_marked marks (place_of held q)) None (entry_at text_of_vec held q))
+    by q true is =
+        let here : place_of held q ≡ Some i = ap (place_of held) (tied_keys q key is) ∙ at in
+        ap (λ (o : Option ℕ). cond (is_marked (set marks i true) o) None (entry_at text_of_vec held q)) here
+        ∙ ap (λ b. cond b None (entry_at text_of_vec held q)) (get_or-set_same marks i true false inside)
+    by q false is = ap (λ b. cond b None (entry_at text_of_vec held q)) (marked_other marks i (place_of held q) (λ j there. apart_places held key q i j is at there))
+
+-- removing a key that isn't there changes nothing
+pub nothing_there : (table : Table) (key : Key) → map.get table key ≡ None → table ≡ map.remove table key
+nothing_there table key none = same_map key_cmp_total key_cmp_exact _ _ (λ q. by q (is_tied q key) refl ∙ sym (get-remove key_cmp_total table key q))
+  where
+    by : (q : Key) (tied : Bool) → is_tied q key ≡ tied → map.get table q ≡ cond tied None (map.get table q)
+    by q true is = ap (map.get table) (tied_keys q key is) ∙ none
+    by q false is = refl
+
+nothing : {A : Type 0} (b : Bool) (there : Option A) → there ≡ None → cond b None there ≡ None
+nothing true there is = refl
+nothing false there is = is
+
+-- a key that isn't there needs no mark
+pub needs_no_mark : {Z : Type 0} (held : List (Vec ℕ Z × Item)) (marks : List Bool) (key : Key) → place_of held key ≡ None → unmarked held marks ≡ map.remove (unmarked held marks) key
+needs_no_mark held marks key none =
+    nothing_there (unmarked held marks) key (get-unmarked held marks key ∙ nothing (is_marked marks (place_of held key)) _ (not_found held key none))
+
+-- no mark is set
+unset : (n i : ℕ) → get_or (replicate n false) i false ≡ false
+unset n i = grind (arith, common_steps, get_or-replicate)
+
+pub no_marks : {Z : Type 0} (held : List (Vec ℕ Z × Item)) (n : ℕ) → unmarked held (replicate n false) ≡ owned_entries held
+no_marks held n = same_map key_cmp_total key_cmp_exact _ _ (λ q.
+    get-unmarked held (replicate n false) q ∙ ap (λ b. cond b None (entry_at text_of_vec held q)) (none (place_of held q)) ∙ sym (get-owned held q))
+  where
+    none : (there : Option ℕ) → is_marked (replicate n false) there ≡ false
+    none None = refl
+    none (Some i) = unset n i
+
+-- what was found in a base, by its place
+pub under_at : {Z : Type 0} (held : List (Vec ℕ Z × Item)) (marks : List Bool) (q : Key) (found : Option (ℕ × Bor Item)) →
+    option_map (λ (p : ℕ × Bor Item). p.0) found ≡ place_of held q → option_map (λ (p : ℕ × Bor Item). p.1.now) found ≡ entry_at text_of_vec held q →
+    map.get (unmarked held marks) q ≡ cond (is_marked marks (option_map (λ (p : ℕ × Bor Item). p.0) found)) None (option_map (λ (p : ℕ × Bor Item). p.1.now) found)
+under_at held marks q found place item =
+    get-unmarked held marks q ∙ ap (λ (o : Option ℕ). cond (is_marked marks o) None (entry_at text_of_vec held q)) (sym place)
+    ∙ ap (cond (is_marked marks (option_map (λ (p : ℕ × Bor Item). p.0) found)) None) (sym item)
+
+-- nothing changes if what is kept is put again
+put_again : (tied : Bool) (there here : Option Item) → (tied ≡ true → there ≡ here) → cond tied here there ≡ there
+put_again true there here same = sym (same refl)
+put_again false there here same = refl
+
+pub insert_same : (table : Table) (key : Key) (item : Item) → map.get table key ≡ Some item → map.insert table key item ≡ table
+insert_same table key item is = same_map key_cmp_total key_cmp_exact _ _ (λ q.
+    get-insert key_cmp_total table key item q ∙ put_again (is_tied q key) (map.get table q) (Some item) (λ tied. ap (map.get table) (tied_keys q key tied) ∙ is))
+
+-- what is read within a list needs no default
+pub any_default : (xs : List Bool) (i : ℕ) (d e : Bool) → i < length xs → get_or xs i d ≡ get_or xs i e
+any_default xs i d e inside = sym (same_Some _ _ (sym (slice_get-get_or xs i e inside) ∙ slice_get-get_or xs i d inside))
+
+-- what follows from what a call that succeeded, or failed, left
+pub on_ok : {A E P Q : Type 0} (result : Result A E) → (P → Q) → OnOk result P → OnOk result Q
+on_ok (Ok value) follows holds = follows holds
+on_ok (Err error) follows holds = tt
+
+pub on_err : {A E P Q : Type 0} (result : Result A E) → (P → Q) → OnErr result P → OnErr result Q
+on_err (Ok value) follows holds = tt
+on_err (Err error) follows holds = follows holds

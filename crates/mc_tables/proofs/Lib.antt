@@ -1,0 +1,4 @@
+mod Stands
+mod Totals
+mod Layering
+mod Copying

@@ -1,0 +1,33 @@
+use Rattle.std.proofs.Common.{◌≡◌, ℕ, ◌<◌, true, length, set, Option, Some, None, Bor, sym, ap, subst, ◌∙◌, rules}
+use Rattle.std.specs.FinMap as map
+use Rattle.std.specs.FinMap.{get-empty}
+use Rattle.mc_model.specs.Table.{key_cmp}
+use Rattle.std.specs.Option.{option_map}
+use Rattle.mc_model.specs.declared.item.Item.{Item}
+use Rattle.mc_tables.specs.declared.owned.Owned.{Owned}
+use Rattle.mc_tables.specs.Layers.{below}
+use Rattle.mc_tables.proofs.Layering.{marked, needs_no_mark, nothing_there, place_of}
+use Rattle.mc_tables.proofs.layered.Layered.mark.Goals as goal
+
+pub returns-in-Some-place-clause-marked : goal.returns-in-Some-place-clause-marked
+returns-in-Some-place-clause-marked c =
+    let marks = c.args.self.now.marks.items in
+    let key = c.args.key.now in
+    let held = c.in-Some.base.now.held.entries in
+    let at : place_of held key ≡ Some c.in-Some-place.place = sym c.place.ensures.place ∙ ap (option_map (λ (p : ℕ × Bor Item). p.0)) c.in-Some-place.is in
+    let inside : c.in-Some-place.place < length marks = search rules in
+    subst (λ (b : Option (Bor Owned)). below b (set marks c.in-Some-place.place true) ≡ map.remove (below b marks) key) (sym c.in-Some.is) (marked held marks key c.in-Some-place.place at inside)
+
+pub returns-in_default-place-clause-marked : goal.returns-in_default-place-clause-marked
+returns-in_default-place-clause-marked c =
+    let marks = c.args.self.now.marks.items in
+    let key = c.args.key.now in
+    let held = c.in-Some.base.now.held.entries in
+    let none : place_of held key ≡ None = sym c.place.ensures.place ∙ ap (option_map (λ (p : ℕ × Bor Item). p.0)) c.in_default-place.is in
+    subst (λ (b : Option (Bor Owned)). below b marks ≡ map.remove (below b marks) key) (sym c.in-Some.is) (needs_no_mark held marks key none)
+
+pub returns-in_default-clause-marked : goal.returns-in_default-clause-marked
+returns-in_default-clause-marked c =
+    let marks = c.args.self.now.marks.items in
+    let key = c.args.key.now in
+    subst (λ (b : Option (Bor Owned)). below b marks ≡ map.remove (below b marks) key) (sym c.in_default.is) (nothing_there map.empty key (get-empty key_cmp key))

@@ -1,0 +1,4 @@
+pub mod Changes
+pub mod Entries
+pub mod Found
+pub mod Layers

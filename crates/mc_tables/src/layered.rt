@@ -1,0 +1,335 @@
+//! Items that borrow from commands, over a table that was there before.
+ghost use Rattle.std.specs.FinMap as map;
+ghost use Rattle.std.specs.Option.{option_copied};
+ghost use Rattle.std.specs.Prelude.{◌≡◌, [], ◌+◌, ◌≤◌, ◌++◌, length, IfOk, OnOk, OnErr, IsOkUnless};
+ghost use Rattle.mc_model.specs.declared.item.TheConstants.{DATA_BYTES};
+ghost use Rattle.mc_model.specs.History.{StandsFor};
+ghost use Rattle.mc_model.specs.State.{empty_table};
+ghost use Rattle.mc_tables.specs.Changes.{block_under, data_after, flags_under, with_change};
+ghost use Rattle.mc_tables.specs.declared.storage.Change.TheVariants.{Append, Prepend};
+ghost use Rattle.mc_tables.specs.Entries.{item_of_cell};
+ghost use Rattle.mc_tables.specs.Layers.{AreMarked, below, layers, owned_table};
+
+use crate::cell_item::CellItem;
+use crate::metered::Metered;
+use crate::owned::{Owned, OwnedItems};
+use crate::storage::{Change, Found, Storage, StorageFor};
+use mc_fragments::Fragments;
+use mc_model::{Data, Fault, Item, Key, Limits, Value};
+use std::alloc::Global;
+use std::collections::HashMap;
+use std::collections::hash_map::RandomState;
+
+/// Items that borrow from commands, in a hash map with a keyed hash, over a base. A mark for each
+/// item of the base says that it was removed, so a removal allocates nothing.
+#[derive(Drop)]
+pub struct Layered<'a> {
+    alloc: Global,
+    base: Option<&'a Owned>,
+    marks: Vec<bool>,
+    over: HashMap<&'a [u8], CellItem<'a>, RandomState>,
+    ghost marked: { AreMarked base marks.items },
+}
+
+/// A tenant's table whose keys and data are borrowed: from the commands that it was given, and from
+/// the table that it was opened over.
+pub type CellItems<'a> = Metered<Layered<'a>>;
+
+impl<'a> Metered<Layered<'a>> {
+    /// Returns an empty table, whose hash has these keys. Allocates nothing.
+    pub fn new(alloc: Global, limits: Limits, hashing: RandomState) -> CellItems<'a>
+        ensures state { result ≡ empty_table limits }
+        ensures stands { StandsFor limits [] result }
+    {
+        Metered::open(alloc, limits, Layered::new(alloc, hashing))
+    }
+
+    /// Returns the same table, which borrows its items from that one; its hash has these keys.
+    /// Returns `Memory` if the allocation of the marks fails.
+    pub fn over(base: &'a OwnedItems, hashing: RandomState) -> Result<CellItems<'a>, Fault>
+        ensures same { IfOk result (λ table. table ≡ base.now) }
+        ensures memory { IsOkUnless result Fault.Memory }
+    {
+        let layered = Layered::over(base.alloc, &base.storage, hashing)?;
+        Ok(base.with_storage(layered))
+    }
+}
+
+impl<'a> Layered<'a> {
+    /// Returns no items. Allocates nothing.
+    pub fn new(alloc: Global, hashing: RandomState) -> Layered<'a>
+        ensures { layers result.base result.marks.items result.over ≡ map.empty }
+    {
+        Layered {
+            alloc,
+            base: None,
+            marks: Vec::new(alloc),
+            over: HashMap::with_hasher(alloc, hashing),
+        }
+    }
+
+    /// Returns the items of a base, which it borrows. Returns `Memory` if the allocation of the
+    /// marks fails.
+    pub fn over(alloc: Global, base: &'a Owned, hashing: RandomState) -> Result<Layered<'a>, Fault>
+        ensures same { IfOk result
+            (λ items. layers items.base items.marks.items items.over ≡ owned_table base.now) }
+        ensures memory { IsOkUnless result Fault.Memory }
+    {
+        let marks = Vec::from_elem(alloc, false, base.len())?;
+        Ok(Layered {
+            alloc,
+            base: Some(base),
+            marks,
+            over: HashMap::with_hasher(alloc, hashing),
+        })
+    }
+
+    /// Returns what is left of the base under a key.
+    fn under(&self, key: &Key) -> Option<&'a Item>
+        ensures { option_copied result ≡ map.get (below self.now.base self.now.marks.items) key.now }
+    {
+        match self.base {
+            None => None,
+            Some(base) => match base.place(key) {
+                None => None,
+                Some((place, item)) => { if self.marks[place] { None } else { Some(item) } }
+            },
+        }
+    }
+
+    /// Puts an item under a key, over what it held. Returns `Memory` if an allocation fails; nothing
+    /// changes then.
+    fn put(&mut self, key: &'a Key, kept: CellItem<'a>) -> Result<(), Fault>
+        ensures put { OnOk result (layers self.new.base self.new.marks.items self.new.over
+            ≡ map.insert (layers self.old.base self.old.marks.items self.old.over) key.now
+            (item_of_cell kept.entry)) }
+        ensures memory { IsOkUnless result Fault.Memory }
+        ensures unchanged { OnErr result (layers self.new.base self.new.marks.items self.new.over
+            ≡ layers self.old.base self.old.marks.items self.old.over) }
+    {
+        self.over.insert(key.as_bytes(), kept)?;
+        Ok(())
+    }
+
+    /// Marks a key of the base, if it has it.
+    fn mark(&mut self, key: &Key)
+        ensures base { self.new.base ≡ self.old.base }
+        ensures over { self.new.over ≡ self.old.over }
+        ensures marked { below self.new.base self.new.marks.items
+            ≡ map.remove (below self.old.base self.old.marks.items) key.now }
+    {
+        if let Some(base) = self.base {
+            if let Some((place, _)) = base.place(key) {
+                self.marks[place] = true;
+            }
+        }
+    }
+
+    /// Returns the flags under a key; 0 if it isn't held.
+    fn flags(&self, key: &Key) -> u32
+        ensures { result ≡ flags_under
+            (map.get (layers self.now.base self.now.marks.items self.now.over) key.now) }
+    {
+        match self.find(key) {
+            Some(found) => found.flags,
+            None => 0,
+        }
+    }
+
+    /// Appends a block to a key's data, without copying either.
+    fn append(&mut self, key: &'a Key, block: &'a Data, unique: u64) -> Result<(), Fault>
+        requires { length (data_after
+            (map.get (layers self.old.base self.old.marks.items self.old.over) key.now)
+            (Append block)) ≤ DATA_BYTES }
+        ensures joined { OnOk result (layers self.new.base self.new.marks.items self.new.over
+            ≡ with_change (layers self.old.base self.old.marks.items self.old.over) key.now
+            (Append block.entry) unique) }
+        ensures memory { IsOkUnless result Fault.Memory }
+        ensures unchanged { OnErr result (layers self.new.base self.new.marks.items self.new.over
+            ≡ layers self.old.base self.old.marks.items self.old.over) }
+    {
+        let alloc = self.alloc;
+        if let Some(kept) = self.over.get_mut(key.as_bytes()) {
+            return push_back(alloc, kept, block, unique);
+        }
+        let mut kept = self.borrowed(key, unique);
+        kept.block.append(alloc, block)?;
+        self.put(key, kept)
+    }
+
+    /// Prepends a block to a key's data, without copying either.
+    fn prepend(&mut self, key: &'a Key, block: &'a Data, unique: u64) -> Result<(), Fault>
+        requires { length (data_after
+            (map.get (layers self.old.base self.old.marks.items self.old.over) key.now)
+            (Prepend block)) ≤ DATA_BYTES }
+        ensures joined { OnOk result (layers self.new.base self.new.marks.items self.new.over
+            ≡ with_change (layers self.old.base self.old.marks.items self.old.over) key.now
+            (Prepend block.entry) unique) }
+        ensures memory { IsOkUnless result Fault.Memory }
+        ensures unchanged { OnErr result (layers self.new.base self.new.marks.items self.new.over
+            ≡ layers self.old.base self.old.marks.items self.old.over) }
+    {
+        let alloc = self.alloc;
+        if let Some(kept) = self.over.get_mut(key.as_bytes()) {
+            return push_front(alloc, kept, block, unique);
+        }
+        let mut kept = self.borrowed(key, unique);
+        kept.block.prepend(alloc, block)?;
+        self.put(key, kept)
+    }
+
+    /// Returns what is left of the base under a key, borrowed from it and with this unique; no data
+    /// if the base hasn't the key.
+    fn borrowed(&self, key: &Key, unique: u64) -> CellItem<'a>
+        ensures flags { result.flags
+            ≡ flags_under (map.get (below self.now.base self.now.marks.items) key.now) }
+        ensures block { result.block
+            ≡ block_under (map.get (below self.now.base self.now.marks.items) key.now) }
+        ensures unique { result.unique ≡ unique }
+    {
+        match self.under(key) {
+            Some(item) => CellItem {
+                flags: item.flags,
+                unique,
+                block: Fragments::new(&item.block),
+            },
+            None => CellItem {
+                flags: 0,
+                unique,
+                block: Fragments::empty(),
+            },
+        }
+    }
+}
+
+impl<'a> Storage for Layered<'a> {
+    ghost table = { λ items. layers items.base items.marks.items items.over };
+
+    fn find(&self, key: &Key) -> Option<Found> {
+        if let Some(kept) = self.over.get(key.as_bytes()) {
+            return Some(Found {
+                flags: kept.flags,
+                len: kept.block.len() as u32,
+                unique: kept.unique,
+            });
+        }
+        match self.under(key) {
+            Some(item) => Some(Found {
+                flags: item.flags,
+                len: item.block.as_bytes().len() as u32,
+                unique: item.unique,
+            }),
+            None => None,
+        }
+    }
+
+    fn number(&self, key: &Key) -> Option<u64> {
+        if let Some(kept) = self.over.get(key.as_bytes()) {
+            return kept.block.number();
+        }
+        match self.under(key) {
+            Some(item) => Fragments::new(&item.block).number(),
+            None => None,
+        }
+    }
+
+    fn show(&self, key: &Key, uniques: bool) -> Result<Option<Value>, Fault> {
+        if let Some(kept) = self.over.get(key.as_bytes()) {
+            return Ok(Some(Value {
+                key: key.try_clone()?,
+                flags: kept.flags,
+                block: kept.block.to_data(self.alloc)?,
+                unique: if uniques { Some(kept.unique) } else { None },
+            }));
+        }
+        match self.under(key) {
+            Some(item) => Ok(Some(Value {
+                key: key.try_clone()?,
+                flags: item.flags,
+                block: item.block.try_clone()?,
+                unique: if uniques { Some(item.unique) } else { None },
+            })),
+            None => Ok(None),
+        }
+    }
+
+    fn remove(&mut self, key: &Key) {
+        self.over.remove(key.as_bytes());
+        self.mark(key);
+    }
+
+    fn clear(&mut self) {
+        self.over.clear();
+        self.base = None;
+    }
+}
+
+impl<'a> StorageFor<'a> for Layered<'a> {
+    fn change(&mut self, key: &'a Key, change: &Change<'a>, unique: u64) -> Result<(), Fault> {
+        match change {
+            Change::Put(flags, block) => self.put(
+                key,
+                CellItem {
+                    flags: *flags,
+                    unique,
+                    block: Fragments::new(*block),
+                },
+            ),
+            Change::Number(number) => {
+                let flags = self.flags(key);
+                self.put(
+                    key,
+                    CellItem {
+                        flags,
+                        unique,
+                        block: Fragments::from_number(*number),
+                    },
+                )
+            }
+            Change::Append(block) => self.append(key, *block, unique),
+            Change::Prepend(block) => self.prepend(key, *block, unique),
+        }
+    }
+}
+
+/// Appends a block to what is kept. Returns `Memory` if an allocation fails; nothing changes then.
+fn push_back<'a>(
+    alloc: Global,
+    kept: &mut CellItem<'a>,
+    block: &'a Data,
+    unique: u64,
+) -> Result<(), Fault>
+    requires { length kept.old.block + length block.now ≤ DATA_BYTES }
+    ensures joined { OnOk result (kept.new ≡ record {
+      flags = kept.old.flags;
+      unique = unique;
+      block = kept.old.block ++ block.now;
+    }) }
+    ensures memory { IsOkUnless result Fault.Memory }
+    ensures unchanged { OnErr result (kept.new ≡ kept.old) }
+{
+    kept.block.append(alloc, block)?;
+    kept.unique = unique;
+    Ok(())
+}
+
+/// Prepends a block to what is kept. Returns `Memory` if an allocation fails; nothing changes then.
+fn push_front<'a>(
+    alloc: Global,
+    kept: &mut CellItem<'a>,
+    block: &'a Data,
+    unique: u64,
+) -> Result<(), Fault>
+    requires { length kept.old.block + length block.now ≤ DATA_BYTES }
+    ensures joined { OnOk result (kept.new ≡ record {
+      flags = kept.old.flags;
+      unique = unique;
+      block = block.now ++ kept.old.block;
+    }) }
+    ensures memory { IsOkUnless result Fault.Memory }
+    ensures unchanged { OnErr result (kept.new ≡ kept.old) }
+{
+    kept.block.prepend(alloc, block)?;
+    kept.unique = unique;
+    Ok(())
+}

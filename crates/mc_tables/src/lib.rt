@@ -1,0 +1,18 @@
+//! Tenants' tables, by one core for all commands over whatever keeps the items: in memory of its
+//! own (`OwnedItems`), or borrowed from commands and from a table below (`CellItems`). The replies
+//! are those that the definitions of `mc_model` give. Begin with `Table::apply`.
+#![tactic(auto)]
+
+pub use layered::CellItems;
+pub use owned::OwnedItems;
+pub use table::Table;
+
+pub mod cell_item;
+pub mod layered;
+pub mod metered;
+pub mod owned;
+pub mod storage;
+pub mod table;
+#[cfg(test)]
+mod tests;
+mod weights;

@@ -1,0 +1,366 @@
+//! The one core for all commands: quotas, totals and uniques, over whatever keeps the items.
+ghost use Rattle.std.specs.FinMap as map;
+ghost use Rattle.std.specs.List.{filter_map};
+ghost use Rattle.std.specs.Option.{option_map};
+ghost use Rattle.std.specs.Prelude.{◌≡◌, ℕ, ◌+◌, ◌-◌, ◌^◌, ◌<◌, ◌≤◌, true, false, [], length, IfOk, OnOk, OnErr, IsOk, IsOkUnless, if◌then◌else◌};
+ghost use Rattle.mc_model.specs.declared.command.Command.TheVariants.{Store, Cas, Get, Delete, Incr, Decr, Flush, Limit};
+ghost use Rattle.mc_model.specs.declared.item.Item.{Item};
+ghost use Rattle.mc_model.specs.declared.item.TheConstants.{DATA_BYTES};
+ghost use Rattle.mc_model.specs.declared.reply.Reply.TheVariants.{Number, Refused, Stored};
+ghost use Rattle.mc_model.specs.declared.reply.TheConstants.WireNo.{NO_ROOM};
+ghost use Rattle.mc_model.specs.Effect.{is_refusal, shown_at};
+ghost use Rattle.mc_model.specs.History.{StandsFor};
+ghost use Rattle.mc_model.specs.State.{empty_table, next_reply, next_state};
+ghost use Rattle.mc_model.specs.Table.{count_of, is_within, use_of};
+ghost use Rattle.mc_tables.specs.Changes.{changed_if, data_after, with_change};
+ghost use Rattle.mc_tables.specs.Found.{found_of};
+
+use crate::storage::{Change, Found, Storage, StorageFor};
+use crate::weights::{count_of_digits, count_with, has_place, has_room, weight_found, weight_with};
+use mc_model::item::DATA_BYTES;
+use mc_model::{Data, Fault, Key, KeyList, Limits, Reply, Value, ValueList, Verb, WireNo};
+use std::alloc::Global;
+use std::marker::Model;
+
+/// A tenant's table over a storage of its items, with the totals that the quotas are for. What would
+/// take it above the tenant's quotas is refused; it is above them only after they were lowered.
+#[derive(Drop)]
+pub struct Metered<S: Storage> {
+    pub(crate) alloc: Global,
+    limits: Limits,
+    /// The bytes of all keys and data in total.
+    used: u64,
+    /// The number of items.
+    count: u64,
+    /// The unique of the latest change, or 0 before the first.
+    last_unique: u64,
+    pub(crate) storage: S,
+}
+
+impl<S: Storage> Model for Metered<S> {
+    ghost use Rattle.std.specs.Prelude.{◌≡◌};
+    ghost use Rattle.mc_model.specs.State.{TableState, coded_state};
+    ghost use Rattle.mc_model.specs.Table.{count_of, use_of};
+
+    ghost Value = { TableState };
+
+    ghost coded = { coded_state };
+
+    ghost view = { λ s. record { limits = s.limits; table = S.table s.storage; last_unique = s.last_unique } };
+
+    ghost invariant = { λ s. (s.used ≡ use_of (S.table s.storage)) × (s.count ≡ count_of (S.table s.storage)) };
+}
+
+impl<S: Storage> Metered<S> {
+    /// Returns an empty table over a storage that holds nothing. Allocates nothing.
+    pub(crate) fn open(alloc: Global, limits: Limits, storage: S) -> Metered<S>
+        requires { S.table storage ≡ map.empty }
+        ensures state { result ≡ empty_table limits }
+        ensures stands { StandsFor limits [] result }
+    {
+        Metered {
+            alloc,
+            limits,
+            used: 0,
+            count: 0,
+            last_unique: 0,
+            storage,
+        }
+    }
+
+    /// Returns the same table over another storage that holds the same. Allocates nothing.
+    pub(crate) fn with_storage<T: Storage>(&self, storage: T) -> Metered<T>
+        requires { T.table storage ≡ self.now.table }
+        ensures { result ≡ self.now }
+    {
+        Metered {
+            alloc: self.alloc,
+            limits: self.limits,
+            used: self.used,
+            count: self.count,
+            last_unique: self.last_unique,
+            storage,
+        }
+    }
+
+    /// Stores as the verb says. The checks are in order: whether the key is held, the size of
+    /// joined data, the quotas.
+    pub(crate) fn store<'a>(
+        &mut self,
+        verb: Verb,
+        key: &'a Key,
+        flags: u32,
+        block: &'a Data,
+    ) -> Result<Reply, Fault>
+    where
+        S: StorageFor<'a>,
+        requires { self.old.last_unique < 2 ^ 64 - 1 }
+        ensures reply { IfOk result
+            (λ reply. reply ≡ next_reply self.old (Store verb key.now flags block.now)) }
+        ensures state { OnOk result
+            (self.new ≡ next_state self.old (Store verb key.now flags block.now)) }
+        ensures granted { OnErr result
+            (is_refusal (next_reply self.old (Store verb key.now flags block.now)) ≡ false) }
+        ensures memory { IsOkUnless result Fault.Memory }
+        ensures unchanged { OnErr result (self.new ≡ self.old) }
+    {
+        let len = block.as_bytes().len();
+        let Some(old) = self.storage.find(key) else {
+            return match verb {
+                Verb::Set | Verb::Add => {
+                    let fits = self.make(key, None, &Change::Put(flags, block), len)?;
+                    Ok(stored_if(fits))
+                }
+                Verb::Replace | Verb::Append | Verb::Prepend => Ok(Reply::NotStored),
+            };
+        };
+        let (change, len) = match verb {
+            Verb::Set | Verb::Replace => (Change::Put(flags, block), len),
+            Verb::Add => return Ok(Reply::NotStored),
+            Verb::Append => (Change::Append(block), old.len as usize + len),
+            Verb::Prepend => (Change::Prepend(block), old.len as usize + len),
+        };
+        if len > DATA_BYTES {
+            return Ok(Reply::Refused(WireNo::TOO_LARGE));
+        }
+        let fits = self.make(key, Some(old), &change, len)?;
+        Ok(stored_if(fits))
+    }
+
+    /// Stores under a key if its item still has the unique that was seen.
+    pub(crate) fn check_and_set<'a>(
+        &mut self,
+        key: &'a Key,
+        flags: u32,
+        block: &'a Data,
+        seen: u64,
+    ) -> Result<Reply, Fault>
+    where
+        S: StorageFor<'a>,
+        requires { self.old.last_unique < 2 ^ 64 - 1 }
+        ensures reply { IfOk result
+            (λ reply. reply ≡ next_reply self.old (Cas key.now flags block.now seen)) }
+        ensures state { OnOk result
+            (self.new ≡ next_state self.old (Cas key.now flags block.now seen)) }
+        ensures granted { OnErr result
+            (is_refusal (next_reply self.old (Cas key.now flags block.now seen)) ≡ false) }
+        ensures memory { IsOkUnless result Fault.Memory }
+        ensures unchanged { OnErr result (self.new ≡ self.old) }
+    {
+        let Some(old) = self.storage.find(key) else {
+            return Ok(Reply::NotFound);
+        };
+        if old.unique != seen {
+            return Ok(Reply::Exists);
+        }
+        let len = block.as_bytes().len();
+        let fits = self.make(key, Some(old), &Change::Put(flags, block), len)?;
+        Ok(stored_if(fits))
+    }
+
+    /// Returns the items under these keys.
+    pub(crate) fn retrieve(&self, keys: &KeyList, uniques: bool) -> Result<Reply, Fault>
+        ensures reply { IfOk result (λ reply. reply ≡ next_reply self.now (Get keys.now uniques)) }
+        ensures memory { IsOkUnless result Fault.Memory }
+    {
+        let values = self.shown(keys.as_slice(), uniques)?;
+        Ok(Reply::Values(ValueList::new(values)))
+    }
+
+    /// Returns what a retrieval shows of these keys, in their order; a key that isn't held is left
+    /// out.
+    fn shown(&self, keys: &[Key], uniques: bool) -> Result<Vec<Value>, Fault>
+        ensures values { IfOk result (λ values.
+            values.items ≡ filter_map (shown_at self.now.table uniques) keys.now) }
+        ensures memory { IsOkUnless result Fault.Memory }
+    {
+        let mut values = Vec::new(self.alloc);
+        for key in keys {
+            if let Some(value) = self.storage.show(key, uniques)? {
+                values.push(value)?;
+            }
+        }
+        Ok(values)
+    }
+
+    /// Adds to the number under a key, modulo 2^64.
+    pub(crate) fn incr<'a>(&mut self, key: &'a Key, by: u64) -> Result<Reply, Fault>
+    where
+        S: StorageFor<'a>,
+        requires { self.old.last_unique < 2 ^ 64 - 1 }
+        ensures reply { IfOk result (λ reply. reply ≡ next_reply self.old (Incr key.now by)) }
+        ensures state { OnOk result (self.new ≡ next_state self.old (Incr key.now by)) }
+        ensures granted { OnErr result
+            (is_refusal (next_reply self.old (Incr key.now by)) ≡ false) }
+        ensures memory { IsOkUnless result Fault.Memory }
+        ensures unchanged { OnErr result (self.new ≡ self.old) }
+    {
+        let Some(old) = self.storage.find(key) else {
+            return Ok(Reply::NotFound);
+        };
+        let Some(number) = self.storage.number(key) else {
+            return Ok(Reply::Refused(WireNo::NOT_A_NUMBER));
+        };
+        let next = number.wrapping_add(by);
+        let fits = self.make(key, Some(old), &Change::Number(next), count_of_digits(next))?;
+        Ok(number_if(fits, next))
+    }
+
+    /// Subtracts from the number under a key, stopping at 0.
+    pub(crate) fn decr<'a>(&mut self, key: &'a Key, by: u64) -> Result<Reply, Fault>
+    where
+        S: StorageFor<'a>,
+        requires { self.old.last_unique < 2 ^ 64 - 1 }
+        ensures reply { IfOk result (λ reply. reply ≡ next_reply self.old (Decr key.now by)) }
+        ensures state { OnOk result (self.new ≡ next_state self.old (Decr key.now by)) }
+        ensures granted { OnErr result
+            (is_refusal (next_reply self.old (Decr key.now by)) ≡ false) }
+        ensures memory { IsOkUnless result Fault.Memory }
+        ensures unchanged { OnErr result (self.new ≡ self.old) }
+    {
+        let Some(old) = self.storage.find(key) else {
+            return Ok(Reply::NotFound);
+        };
+        let Some(number) = self.storage.number(key) else {
+            return Ok(Reply::Refused(WireNo::NOT_A_NUMBER));
+        };
+        let next = number.saturating_sub(by);
+        let fits = self.make(key, Some(old), &Change::Number(next), count_of_digits(next))?;
+        Ok(number_if(fits, next))
+    }
+
+    /// Removes a key. Allocates nothing.
+    pub(crate) fn delete(&mut self, key: &Key) -> Reply
+        ensures reply { result ≡ next_reply self.old (Delete key.now) }
+        ensures state { self.new ≡ next_state self.old (Delete key.now) }
+    {
+        let Some(old) = self.storage.find(key) else {
+            return Reply::NotFound;
+        };
+        self.storage.remove(key);
+        self.used -= weight_found(key, Some(old));
+        self.count -= 1;
+        Reply::Deleted
+    }
+
+    /// Removes all keys. Allocates nothing.
+    pub(crate) fn flush(&mut self) -> Reply
+        ensures reply { result ≡ next_reply self.old Flush }
+        ensures state { self.new ≡ next_state self.old Flush }
+    {
+        self.storage.clear();
+        self.used = 0;
+        self.count = 0;
+        Reply::Ok
+    }
+
+    /// Sets the quotas. Items stay, even if there are more than these allow. Allocates nothing.
+    pub(crate) fn set_limits(&mut self, limits: Limits) -> Reply
+        ensures reply { result ≡ next_reply self.old (Limit limits) }
+        ensures state { self.new ≡ next_state self.old (Limit limits) }
+    {
+        self.limits = limits;
+        Reply::Ok
+    }
+
+    /// Returns the bytes of all keys and data in total.
+    pub(crate) fn bytes_used(&self) -> u64
+        ensures { result ≡ use_of self.now.table }
+    {
+        let Metered { used, .. } = self;
+        *used
+    }
+
+    /// Returns the number of items.
+    pub(crate) fn items_held(&self) -> u64
+        ensures { result ≡ count_of self.now.table }
+    {
+        let Metered { count, .. } = self;
+        *count
+    }
+
+    /// Returns the unique of the latest change, or 0 before the first.
+    pub(crate) fn latest_unique(&self) -> u64
+        ensures { result ≡ self.now.last_unique }
+    {
+        let Metered { last_unique, .. } = self;
+        *last_unique
+    }
+
+    /// Returns the tenant's quotas.
+    pub(crate) fn quotas(&self) -> Limits
+        ensures { result ≡ self.now.limits }
+    {
+        let Metered { limits: quotas, .. } = self;
+        *quotas
+    }
+
+    /// Makes a change that gets the next unique, if the quotas allow it, and returns whether they
+    /// do. `old` is what is under the key, and `len` the length of its data after the change.
+    fn make<'a>(
+        &mut self,
+        key: &'a Key,
+        old: Option<Found>,
+        change: &Change<'a>,
+        len: usize,
+    ) -> Result<bool, Fault>
+    where
+        S: StorageFor<'a>,
+        requires next { self.old.last_unique < 2 ^ 64 - 1 }
+        requires old { old ≡ option_map found_of (map.get self.old.table key.now) }
+        requires len { len ≡ length (data_after (map.get self.old.table key.now) change.now) }
+        requires few { len ≤ DATA_BYTES }
+        ensures fits { IfOk result (λ fits. fits ≡ is_within self.old.limits
+            (with_change self.old.table key.now change.now (self.old.last_unique + 1))) }
+        ensures state { IfOk result
+            (λ fits. self.new ≡ changed_if fits self.old key.now change.now) }
+        ensures granted { OnErr result (is_within self.old.limits
+            (with_change self.old.table key.now change.now (self.old.last_unique + 1)) ≡ true) }
+        ensures memory { IsOkUnless result Fault.Memory }
+        ensures unchanged { OnErr result (self.new ≡ self.old) }
+    {
+        if !self.fits(key, old, len) {
+            return Ok(false);
+        }
+        let unique = self.last_unique + 1;
+        self.storage.change(key, change, unique)?;
+        self.used = self.used - weight_found(key, old) + weight_with(key, len);
+        self.count = count_with(self.count, old);
+        self.last_unique = unique;
+        Ok(true)
+    }
+
+    /// Returns whether the quotas allow a block of this length under the key, which holds `old`.
+    fn fits(&self, key: &Key, old: Option<Found>, len: usize) -> bool
+        requires few { len ≤ DATA_BYTES }
+        requires old { old ≡ option_map found_of (map.get self.now.table key.now) }
+        ensures { (item : Item) → length item.block ≡ len →
+            result ≡ is_within self.now.limits (map.insert self.now.table key.now item) }
+    {
+        let others = self.used - weight_found(key, old);
+        has_room(others, weight_with(key, len), self.limits.bytes)
+            && has_place(self.count, old, self.limits.items)
+    }
+}
+
+/// Returns the reply to a storage command, by whether the quotas allow it.
+fn stored_if(fits: bool) -> Reply
+    ensures { result ≡ (if fits then Stored else Refused NO_ROOM) }
+{
+    if fits {
+        Reply::Stored
+    } else {
+        Reply::Refused(WireNo::NO_ROOM)
+    }
+}
+
+/// Returns the reply to an arithmetic command, by whether the quotas allow it.
+fn number_if(fits: bool, number: u64) -> Reply
+    ensures { result ≡ (if fits then Number number else Refused NO_ROOM) }
+{
+    if fits {
+        Reply::Number(number)
+    } else {
+        Reply::Refused(WireNo::NO_ROOM)
+    }
+}

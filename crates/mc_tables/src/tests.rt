@@ -1,0 +1,103 @@
+//! Tests of what no clause says: with ample memory each kind of table answers, and keeps what it was
+//! given.
+use crate::layered::CellItems;
+use crate::owned::OwnedItems;
+use crate::table::Table;
+use mc_model::{Command, Data, Fault, Key, KeyList, Limits, Reply, Value, ValueList, Verb};
+use std::alloc::Global;
+use std::collections::hash_map::RandomState;
+use std::test::Fail;
+
+const QUOTAS: Limits = Limits {
+    items: 3,
+    bytes: 1_048_577,
+};
+
+fn key_of(alloc: Global, name: &str) -> Result<Key, Fault> {
+    Key::new(alloc, name.as_bytes())?.ok_or(Fault::BadEvent)
+}
+
+fn block_of(alloc: Global, text: &str) -> Result<Data, Fault> {
+    Data::new(Vec::from_slice(alloc, text.as_bytes())?).ok_or(Fault::BadEvent)
+}
+
+fn store(alloc: Global, verb: Verb, text: &str) -> Result<Command, Fault> {
+    let key = key_of(alloc, "n")?;
+    let block = block_of(alloc, text)?;
+    Ok(Command::Store {
+        verb,
+        key,
+        flags: 3,
+        block,
+    })
+}
+
+fn gets(alloc: Global) -> Result<Command, Fault> {
+    let mut keys = Vec::new(alloc);
+    keys.push(key_of(alloc, "n")?)?;
+    let keys = KeyList::new(keys).ok_or(Fault::BadEvent)?;
+    Ok(Command::Get {
+        keys,
+        uniques: true,
+    })
+}
+
+/// Returns what a `gets` shows after the commands of `joining`.
+fn shown(alloc: Global) -> Result<Reply, Fault> {
+    let key = key_of(alloc, "n")?;
+    let block = block_of(alloc, "215ab")?;
+    let mut values = Vec::new(alloc);
+    values.push(Value {
+        key,
+        flags: 3,
+        block,
+        unique: Some(5),
+    })?;
+    Ok(Reply::Values(ValueList::new(values)))
+}
+
+/// Returns commands that join a key's data: 1, 10, 210, 215, 215ab.
+fn joining(alloc: Global) -> Result<Vec<Command>, Fault> {
+    let mut commands = Vec::new(alloc);
+    commands.push(store(alloc, Verb::Set, "1")?)?;
+    commands.push(store(alloc, Verb::Append, "0")?)?;
+    commands.push(store(alloc, Verb::Prepend, "2")?)?;
+    let key = key_of(alloc, "n")?;
+    commands.push(Command::Incr { key, by: 5 })?;
+    commands.push(store(alloc, Verb::Append, "ab")?)?;
+    Ok(commands)
+}
+
+fn answer<'a, T: Table<'a>>(table: &mut T, command: &'a Command) -> Result<Reply, Fault> {
+    if table.last_unique() == u64::MAX {
+        return Err(Fault::BadEvent);
+    }
+    table.apply(command)
+}
+
+fn answer_all<'a, T: Table<'a>>(table: &mut T, commands: &'a [Command]) -> Result<(), Fault> {
+    for command in commands {
+        answer(table, command)?;
+    }
+    Ok(())
+}
+
+#[test]
+fn joins_data_of_its_own(rt: HostRuntime) -> Result<(), Fail> {
+    let commands = joining(rt.alloc())?;
+    let gets = gets(rt.alloc())?;
+    let mut items = OwnedItems::new(rt.alloc(), QUOTAS, RandomState::new(&rt)?);
+    answer_all(&mut items, commands.as_slice())?;
+    assert!(rt; answer(&mut items, &gets)? == shown(rt.alloc())?);
+    Ok(())
+}
+
+#[test]
+fn joins_data_of_commands(rt: HostRuntime) -> Result<(), Fail> {
+    let commands = joining(rt.alloc())?;
+    let gets = gets(rt.alloc())?;
+    let mut items = CellItems::new(rt.alloc(), QUOTAS, RandomState::new(&rt)?);
+    answer_all(&mut items, commands.as_slice())?;
+    assert!(rt; answer(&mut items, &gets)? == shown(rt.alloc())?);
+    Ok(())
+}
