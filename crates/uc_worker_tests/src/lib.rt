@@ -25,8 +25,6 @@ mod full;
 #[cfg(test)]
 mod generations;
 #[cfg(test)]
-mod held;
-#[cfg(test)]
 mod helping;
 #[cfg(test)]
 mod hundred;
