@@ -138,7 +138,7 @@ pub(crate) fn workers_of<'a>(
 }
 
 /// Opens the clients of worker 0 and worker 1 over the base.
-fn both_over<'a>(
+pub(crate) fn both_over<'a>(
     alloc: Global,
     log: &'a Log,
     passes: Vec<Pass>,

@@ -1,11 +1,12 @@
 //! Workers that stop between two steps are helped.
-ghost use Rattle.std.specs.Prelude.{◌≡◌};
+ghost use Rattle.std.specs.Prelude.{◌≡◌, ◌∷◌, [], IfOk};
 ghost use Rattle.uc_log.specs.Passes.{IsUnusedPass};
 
 use crate::clients::{
     Client, are_equal, both_clients, both_passes, has_tickets, is_answer, opened,
 };
 use crate::flags::comes;
+use crate::generations::{Opened, both_over, is_ready};
 use crate::texts::{QUOTAS, command_of};
 use mc_model::{Fault, TenantId};
 use std::alloc::Global;
@@ -14,7 +15,7 @@ use std::test::Fail;
 use std::thread;
 use std::thread::Threads;
 use uc_log::{Log, Pass};
-use uc_worker::{Answer, Gate, Open, Step};
+use uc_worker::{Answer, Gate, Next, Open, Step, Worker, turn_over};
 
 /// Announces a command for the first tenant through the pass, and takes no other step.
 fn announce(log: &Log, alloc: Global, pass: &mut Pass, text: &str) -> Result<(), Fault>
@@ -49,6 +50,66 @@ fn announced_and_left(rt: HostRuntime) -> Result<(), Fail> {
     let (first, second) = both_passes(&log, passes).ok_or("no passes")?;
     let answer = get_beside(alloc, &log, first, second)?;
     assert!(rt; is_answer(alloc, answer, 1, "VALUE a 0 1\r\nx\r\nEND\r\n") == Ok(true));
+    Ok(())
+}
+
+/// Returns the client's worker alone.
+fn worker_of<'a>(alloc: Global, client: Client<'a>) -> Result<Vec<Worker<'a>>, Fault>
+    ensures { IfOk result (λ workers. workers.items ≡ client.entry.worker ∷ []) }
+{
+    let mut workers = Vec::new(alloc);
+    workers.push(client.worker)?;
+    Ok(workers)
+}
+
+/// Turns the log over by one of its workers, which has replayed all of it. Returns `BadEvent` if it
+/// hasn't, or has no room for as many places again.
+fn turned_over_by<'a>(alloc: Global, log: &'a Log, client: Client<'a>) -> Result<Opened, Fault>
+    requires { client.log.now ≡ log.now }
+{
+    let settings = log.settings();
+    if !is_ready(&client.worker, settings.places()) {
+        return Err(Fault::BadEvent);
+    }
+    let mut workers = worker_of(alloc, client)?;
+    let next = turn_over(alloc, &mut workers, settings)?;
+    Ok(Opened { next })
+}
+
+/// Turns the log over by the second worker, which has filled it after the first has announced a set
+/// and done nothing else.
+fn turned_over_beside(
+    alloc: Global,
+    log: &Log,
+    mut first: Pass,
+    second: Pass,
+) -> Result<Opened, Fault>
+    requires one { IsUnusedPass log.now first }
+    requires two { IsUnusedPass log.now second }
+{
+    announce(log, alloc, &mut first, "set a 0 0 1\r\nx\r\n")?;
+    let mut client = Client::open(alloc, log, second)?;
+    client.fill(&mut Open)?;
+    turned_over_by(alloc, log, client)
+}
+
+/// Returns whether both workers of the log that follows give the item.
+fn give_the_item(alloc: Global, opened: Opened) -> Result<bool, Fault> {
+    let Opened { next } = opened;
+    let Next { log, passes, base } = next;
+    let (mut first, mut second) = both_over(alloc, &log, passes, &base)?;
+    let value = "VALUE a 0 1\r\nx\r\nEND\r\n";
+    Ok(first.says(alloc, "get a\r\n", value)? && second.says(alloc, "get a\r\n", value)?)
+}
+
+/// The log is followed without the worker that announced, and its command counts.
+#[test]
+fn announced_and_left_before_a_turn_over(rt: HostRuntime) -> Result<(), Fail> {
+    let alloc = rt.alloc();
+    let (log, passes) = opened(alloc, 2, 4, &[QUOTAS])?;
+    let (first, second) = both_passes(&log, passes).ok_or("no passes")?;
+    let opened = turned_over_beside(alloc, &log, first, second)?;
+    assert!(rt; give_the_item(alloc, opened) == Ok(true));
     Ok(())
 }
 

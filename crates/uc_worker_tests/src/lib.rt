@@ -25,6 +25,8 @@ mod full;
 #[cfg(test)]
 mod generations;
 #[cfg(test)]
+mod held;
+#[cfg(test)]
 mod helping;
 #[cfg(test)]
 mod hundred;
