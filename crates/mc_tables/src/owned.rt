@@ -127,8 +127,8 @@ impl Owned {
         ensures first { (key : Key) →
             lookup (λ held. pointwise nat_eq key (text_of_vec held)) (drop place self.now.held.entries)
             ≡ cond (pointwise nat_eq key result.0.now) (Some result.1.now)
-                (lookup (λ held. pointwise nat_eq key (text_of_vec held))
-                    (drop (place + 1) self.now.held.entries)) }
+            (lookup (λ held. pointwise nat_eq key (text_of_vec held))
+            (drop (place + 1) self.now.held.entries)) }
     {
         match self.held.get_index(place) {
             Some((text, item)) => (text.as_slice(), item),

@@ -32,6 +32,11 @@ fn store(alloc: Global, verb: Verb, text: &str) -> Result<Command, Fault> {
     })
 }
 
+fn delete(alloc: Global) -> Result<Command, Fault> {
+    let key = key_of(alloc, "n")?;
+    Ok(Command::Delete { key })
+}
+
 fn gets(alloc: Global) -> Result<Command, Fault> {
     let mut keys = Vec::new(alloc);
     keys.push(key_of(alloc, "n")?)?;
@@ -82,6 +87,40 @@ fn answer_all<'a, T: Table<'a>>(table: &mut T, commands: &'a [Command]) -> Resul
     Ok(())
 }
 
+/// Returns a copy of the table that the commands lead to.
+fn copied<'a>(
+    alloc: Global,
+    hashing: RandomState,
+    commands: &'a [Command],
+) -> Result<OwnedItems, Fault> {
+    let mut items = OwnedItems::new(alloc, QUOTAS, hashing);
+    answer_all(&mut items, commands)?;
+    items.try_clone()
+}
+
+/// Returns whether a table that borrows from that one answers so.
+fn answers_over<'a>(
+    below: &'a OwnedItems,
+    hashing: RandomState,
+    command: &'a Command,
+    want: &Reply,
+) -> Result<bool, Fault> {
+    let mut items = CellItems::over(below, hashing)?;
+    let reply = answer(&mut items, command)?;
+    Ok(reply == *want)
+}
+
+/// Returns how many items a table that borrows from that one has after the command.
+fn left_over<'a>(
+    below: &'a OwnedItems,
+    hashing: RandomState,
+    command: &'a Command,
+) -> Result<u64, Fault> {
+    let mut items = CellItems::over(below, hashing)?;
+    answer(&mut items, command)?;
+    Ok(items.count())
+}
+
 #[test]
 fn joins_data_of_its_own(rt: HostRuntime) -> Result<(), Fail> {
     let commands = joining(rt.alloc())?;
@@ -99,5 +138,25 @@ fn joins_data_of_commands(rt: HostRuntime) -> Result<(), Fail> {
     let mut items = CellItems::new(rt.alloc(), QUOTAS, RandomState::new(&rt)?);
     answer_all(&mut items, commands.as_slice())?;
     assert!(rt; answer(&mut items, &gets)? == shown(rt.alloc())?);
+    Ok(())
+}
+
+#[test]
+fn shows_what_a_copied_table_holds(rt: HostRuntime) -> Result<(), Fail> {
+    let commands = joining(rt.alloc())?;
+    let below = copied(rt.alloc(), RandomState::new(&rt)?, commands.as_slice())?;
+    let gets = gets(rt.alloc())?;
+    let want = shown(rt.alloc())?;
+    assert!(rt; answers_over(&below, RandomState::new(&rt)?, &gets, &want) == Ok(true));
+    Ok(())
+}
+
+#[test]
+fn deletes_over_a_table_that_stays(rt: HostRuntime) -> Result<(), Fail> {
+    let commands = joining(rt.alloc())?;
+    let below = copied(rt.alloc(), RandomState::new(&rt)?, commands.as_slice())?;
+    let delete = delete(rt.alloc())?;
+    assert!(rt; left_over(&below, RandomState::new(&rt)?, &delete) == Ok(0));
+    assert!(rt; below.count() == 1);
     Ok(())
 }

@@ -1,4 +1,4 @@
-use Rattle.std.proofs.Common.{◌≡◌, ◌+◌, List, ℕ, Some, cond, drop, slice_get, sym, ap, ◌∙◌}
+use Rattle.std.proofs.Common.{◌+◌, List, ℕ, Some, cond, drop, sym, ap, ◌∙◌}
 use Rattle.mc_tables.specs.Entries.{text_of_vec}
 use Rattle.mc_tables.proofs.Copying.{entry_at-from}
 use Rattle.mc_tables.proofs.Layering.{entry_at, same}
