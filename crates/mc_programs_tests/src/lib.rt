@@ -9,6 +9,8 @@ mod administering;
 #[cfg(test)]
 mod counting;
 #[cfg(test)]
+mod hostile;
+#[cfg(test)]
 mod programs;
 #[cfg(test)]
 mod reading;
