@@ -241,10 +241,7 @@ const REFUSED: [(&str, &str); 37] = [
         "a=127.0.0.1:0,18446744073709551616,1",
         "wfmc: a=127.0.0.1:0,18446744073709551616,1: ITEMS is not from 1 to 1048576\n",
     ),
-    (
-        "a",
-        "wfmc: a: not NAME=ADDR,ITEMS,BYTES\n",
-    ),
+    ("a", "wfmc: a: not NAME=ADDR,ITEMS,BYTES\n"),
     (
         "--workers 0 a=127.0.0.1:0,1,1",
         "wfmc: --workers 0: not from 1 to 16\n",

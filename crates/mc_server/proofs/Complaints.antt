@@ -163,18 +163,21 @@ can_be_served given address workers places generations log_bytes count spells fi
     } in
     let asks : Asks given asked = record { few = workers.1; workers = refl; places = refl; generations = refl; log_bytes = refl; connections = refl; admin = spells; tenants = said.say } in
     let long = AllZip-long Says given.tenants said.tenants said.say in
-    let quotas = length-map said.tenants (λ (tenant : TenantAsked). tenant.limits) in
-    (asked, asks, record {
-      lawful = record {
-        workers = serves_some (given.generations == 1) given.workers given.places workers places.0;
-        places = places;
-        tenants = (omega (arith, count.0, long, quotas), omega (arith, count.1, long, quotas));
-        limits = said.lawful;
-      };
-      generations = generations.1;
-      log_bytes = log_bytes;
-      names = subst (IsDistinct bytes_eq) (names_are_given given asked asks) distinct;
-    })
+    let quotas = length-map said.tenants (λ (tenant : TenantAsked). tenant.limits) in (
+      asked,
+      asks,
+      record {
+        lawful = record {
+          workers = serves_some (given.generations == 1) given.workers given.places workers places.0;
+          places = places;
+          tenants = (omega (arith, count.0, long, quotas), omega (arith, count.1, long, quotas));
+          limits = said.lawful;
+        };
+        generations = generations.1;
+        log_bytes = log_bytes;
+        names = subst (IsDistinct bytes_eq) (names_are_given given asked asks) distinct;
+      },
+    )
 
 -- ---- the parts of one word
 

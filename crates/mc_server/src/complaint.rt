@@ -11,9 +11,9 @@ ghost use Rattle.mc_server.specs.NetworkWords.{NetworkGiven, SpellsAddress, admi
 use crate::network_texts::ADMIN;
 use crate::network_words::{MAX_GENERATIONS, MAX_LOG_BYTES, NetworkWords};
 use crate::tenant_word::{cut, read_number};
+use mc_model::Name;
 use mc_model::id::{TENANTS, WORKERS};
 use mc_model::settings::{MAX_BYTES, MAX_ITEMS, MAX_PLACES};
-use mc_model::Name;
 use std::net::SocketAddrV4;
 
 /// What a number of the command line counts.

@@ -44,6 +44,6 @@ returns g c =
 pub returns-then-given : goal.returns-then-given
 returns-then-given g c =
     let P = λ (words : List (String Global)). AsksForCheck (map string_bytes words)
-        × ChecksWords (given_by_words (map string_bytes words)) c.check_words.result (g.O.Output.tells c.args.output.now) (g.O.Output.tells c.check_words.new.output) (g.E.Output.tells c.args.errors.now) (g.E.Output.tells c.check_words.new.errors)
+    × ChecksWords (given_by_words (map string_bytes words)) c.check_words.result (g.O.Output.tells c.args.output.now) (g.O.Output.tells c.check_words.new.output) (g.E.Output.tells c.args.errors.now) (g.E.Output.tells c.check_words.new.errors)
     in
     inl (subst P c.deref.ensures.value (for_check _ c.in-Ok.given _ _ _ _ _ c.in-Ok.ensures.outcome c.if-given.true c.check_words.ensures))
