@@ -20,9 +20,9 @@ use uc_worker::{Gate, Worker};
 /// How many events a poll of a worker reports at most.
 const EVENTS: usize = 256;
 
-/// How many arrivals a worker admits between two polls: fewer than a poll reports events, so that
+/// How many arrivals a worker admits between two polls: fewer than a round serves, so that
 /// connections whose clients are already gone make room for later ones.
-const ARRIVALS: u32 = 64;
+const ARRIVALS: u32 = 8;
 
 /// Each time that a worker's history has grown past a multiple of this many places in a round, the
 /// others are woken to catch up. A worker catches up with at most as many between two polls.
