@@ -188,7 +188,7 @@ TELLING = {
         b"fault out of memory\nsettled\nplace 0\nEND\r\n\nsettled\n",
         b"fault out of memory\nunsettled 0 0\nplace 1\nVALUE a 0 1 1\r\nx\r\nEND\r\n\nsettled\n",
     ],
-    "meet": [b"\nsettled\nfault out of memory\n0 0\n0 1\nand\n0 0\n0 1\n1 0\n1 1\n1 2\nmet\n"],
+    "meet": [b"\nsettled\nfault out of memory\n0 0\n0 1\n"],
     "turn-over": [b"\nsettled\nfault out of memory\nplace 0\nSTORED\r\n\nsettled\nplace 1\nVALUE a 5 2 3\r\nxz\r\n"],
 }
 
