@@ -13,7 +13,7 @@ cost_of commands bytes =
 abbrev pub IsCharged : ℕ → Waiting → Type 0
 IsCharged commands waiting = (bytes : ℕ) × (waiting.spent ≡ cost_of commands bytes)
 
--- of so many flows that of a tenant, or the last one, which is the administrators'
+-- of this many flows that of a tenant, or the last one, which is the administrators'
 abbrev pub flow_of : ℕ → Option ℕ → ℕ
 flow_of flows tenant = min (unwrap_or tenant (flows - 1)) (flows - 1)
 

@@ -64,7 +64,7 @@ Options:
       --generations <N>  How many logs, one after another, up to 65536; 0 for no end [default: 1]
       --log-bytes <N>    After how many bytes of commands the next log follows, up to 1099511627776 [default: 1073741824]
       --connections <N>  After how many connections of tenants it ends; 0 for never [default: 0]
-      --check            Says whether the words can be served, or which can't and why, and serves nothing
+      --check            Checks whether the words can be served, reports the first that can't, and serves nothing
       --admin <ADDR>     At which IPv4 address and port administrators connect; without it there are none
   -h, --help             Print help
   -V, --version          Print version

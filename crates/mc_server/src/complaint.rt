@@ -166,7 +166,8 @@ fn check_names<'a>(words: &[&'a str]) -> Result<(), &'a str>
 /// Returns whether administrators are served, and one of the tenants is `admin`.
 fn is_admin_taken(words: &NetworkWords) -> bool
     ensures taken { IsTrue result → StandsTwice (names_given (given_in words.now)) admin_name }
-    ensures free { (result ≡ false) → IsDistinct bytes_eq (map name_part (given_in words.now).tenants) →
+    ensures free { (result ≡ false) →
+        IsDistinct bytes_eq (map name_part (given_in words.now).tenants) →
         IsDistinct bytes_eq (names_given (given_in words.now)) }
 {
     match words.admin {

@@ -150,7 +150,8 @@ fn numbers_command<'a>(alloc: Global) -> Result<Command<'a>, AllocError>
 fn options_command<'a>(alloc: Global) -> Result<Command<'a>, AllocError>
     ensures { IfOk result (λ command. app_of command ≡ options_app) }
 {
-    let check = "Says whether the words can be served, or which can't and why, and serves nothing";
+    let check =
+        "Checks whether the words can be served, reports the first that can't, and serves nothing";
     numbers_command(alloc)?
         .arg(flag_option(alloc, "check", check))?
         .arg(admin_option(alloc))

@@ -292,7 +292,7 @@ fn held_on<R: Threads + Sync>(
     }
 }
 
-/// Returns whether a worker was held after so many steps before a turn over, at it, or after it.
+/// Returns whether a worker was held after this many steps before a turn over, at it, or after it.
 fn held_around<R: Threads + Sync>(rt: &R, alloc: Global, left: u32) -> Result<bool, Fault> {
     let (opened, was_held) = closed(rt, alloc, left)?;
     Ok(held_on(rt, alloc, opened, left)? || was_held)
