@@ -1,0 +1,188 @@
+#!/usr/bin/env python3
+"""Measures what a tenant notices of another: tenant `quiet` has one connection, with one request at a time, while tenant `noisy` does what
+each case says; with 1 and 2 workers, and next to memcached, where both are clients of one instance with as many threads.
+
+Prints a line `SERVER: CASE: WHAT<TAB>VALUE<TAB>UNIT` for each measurement: the median, the 99th and the 99.9th percentile of the quiet
+tenant's times to a reply, and how many requests or rounds the noisy one did in a second. `nobody` is the quiet tenant alone. A flush isn't
+measured at memcached, where it takes the quiet client's item too.
+
+Usage: bench/neighbours.py [BINARY [CASE...]] [--seconds N] [--workers W] [--no-memcached] [--option WORD]; the binary is
+crates/wfmc/out/wfmc and all cases are measured where none is named, for N (5) seconds each. The logs follow one another, each of 1,048,576
+places or 256 MiB. Takes some minutes and up to 4 GB of memory; needs gcc, and memcached unless told otherwise.
+"""
+
+import argparse
+import contextlib
+import pathlib
+import subprocess
+import sys
+import tempfile
+import threading
+import time
+
+sys.path.insert(0, str(pathlib.Path(__file__).parents[1] / "tests"))
+from harness import repository
+from harness.client import Client
+from harness.measures import figures_of, print_figure, print_load
+from harness.servers import LARGE, Memcached, Server
+from wfmc import build_load
+
+ENDLESS = ("--places", "1048576", "--generations", "0", "--log-bytes", str(256 << 20))
+MEBIBYTE = 1 << 20
+MOST_REQUESTS = 100_000_000
+QUIET_REQUESTS = 2_000_000
+FLUSHED = 400_000
+# As many names of one letter as a line of 65,536 bytes has.
+NAMES = 32_766
+
+
+class Loaded:
+    """Requests of some connections by bench/load.c, for longer than the quiet tenant is measured."""
+
+    def __init__(self, *words):
+        self.words = words
+
+    def start(self, load, port, seconds):
+        words = [load, "-s", str(seconds + 2), *self.words[:-2], str(port), *self.words[-2:], str(MOST_REQUESTS)]
+        self.process = subprocess.Popen(words, stdout=subprocess.PIPE, text=True)
+
+    def stop(self):
+        """Its requests a second."""
+        printed, _ = self.process.communicate()
+        return next(value for name, value, _ in figures_of(printed) if name == "requests")
+
+
+class Rounds:
+    """The same requests again and again, by threads with a connection each, until they are stopped."""
+
+    def __init__(self, do, clients=1, before=None):
+        self.do, self.clients, self.before = do, clients, before
+
+    def start(self, _, port, __):
+        if self.before:
+            with Client(port) as client:
+                self.before(client)
+        self.is_stopped, self.done, self.began = False, 0, time.monotonic()
+        self.threads = [threading.Thread(target=self._run, args=(port,)) for _ in range(self.clients)]
+        for thread in self.threads:
+            thread.start()
+
+    def _run(self, port):
+        with contextlib.suppress(OSError):
+            while not self.is_stopped:
+                with Client(port) as client:
+                    while not self.is_stopped and self.do(client):
+                        self.done += 1
+                self.done += 1
+
+    def stop(self):
+        """Its rounds a second."""
+        self.is_stopped = True
+        for thread in self.threads:
+            thread.join()
+        return self.done / (time.monotonic() - self.began)
+
+
+def data(size):
+    return b"v" * size
+
+
+def a_set(key, size):
+    return b"set %b 0 0 %d\r\n%b\r\n" % (key, size, data(size))
+
+
+def gets_many_names(client):
+    client.ask(b"get" + b" n" * NAMES + b"\r\n", b"END\r\n")
+    return True
+
+
+def appends(client):
+    """A byte more, of an item that is made anew once it is full."""
+    if client.line(b"append long 0 0 1\r\nx\r\n") != "STORED":
+        client.line(a_set(b"long", MEBIBYTE - 1000))
+    return True
+
+
+def fills_and_flushes(client):
+    """Sets many items, and flushes them."""
+    for first in range(0, FLUSHED, 1000):
+        text = b"".join(b"set f%06d 0 0 1 noreply\r\nx\r\n" % at for at in range(first, first + 1000))
+        client.ask(text + b"version\r\n", b"\r\n")
+    client.line(b"flush_all\r\n")
+    return True
+
+
+def closes(client):
+    """One reply of a connection that is closed then."""
+    client.line(b"version\r\n")
+    return False
+
+
+FLUSHES = f"{FLUSHED:,} items are set and flushed"
+CASES = {
+    "nobody": None,
+    "8 connections of depth 16": Loaded("8", "16"),
+    "400 connections of depth 16": Loaded("400", "16"),
+    "8 connections with items of 1 MB, half of them sets": Loaded("-d", "1000000", "-g", "50", "-k", "20", "8", "1"),
+    f"a get of {NAMES:,} names": Rounds(gets_many_names, before=lambda client: client.line(a_set(b"n", 100))),
+    "appends to an item of 1 MiB": Rounds(appends, before=lambda client: client.line(a_set(b"long", MEBIBYTE - 1000))),
+    FLUSHES: Rounds(fills_and_flushes),
+    "connections that are made and closed": Rounds(closes, clients=4),
+}
+
+
+def wfmc(program, workers, options):
+    """A server with the tenants' quotas, and the ports of the quiet and of the noisy one."""
+    server = Server(program, ("--workers", str(workers), *ENDLESS, *options), {"quiet": LARGE, "noisy": LARGE})
+    server.await_workers("quiet")
+    return server, server.ports["quiet"], server.ports["noisy"]
+
+
+def memcached(threads):
+    server = Memcached("-t", str(threads), "-m", "2048", "-c", "2048", "-I", "2m")
+    return server, server.port, server.port
+
+
+def measure(load, seconds, started, noise):
+    """The quiet tenant's times while the noisy one does this: name, value and unit."""
+    server, quiet, noisy = started
+    with server:
+        if noise:
+            noise.start(load, noisy, seconds)
+            time.sleep(1)
+        words = [load, "-k", "1", "-s", str(seconds), str(quiet), "1", "1", str(QUIET_REQUESTS)]
+        printed = subprocess.run(words, capture_output=True, text=True, check=True).stdout
+        done = [("the noisy one's requests or rounds", noise.stop(), "1/s")] if noise else []
+    return [*((name, value, unit) for name, value, unit in figures_of(printed) if "percentile" in name), *done]
+
+
+def main():
+    parser = argparse.ArgumentParser(description=__doc__, formatter_class=argparse.RawDescriptionHelpFormatter)
+    parser.add_argument("program", nargs="?", default=None)
+    parser.add_argument("cases", nargs="*")
+    parser.add_argument("--seconds", type=int, default=5)
+    parser.add_argument("--workers", type=int, action="append")
+    parser.add_argument("--no-memcached", action="store_true")
+    parser.add_argument("--option", action="append", default=[], help="a word more for wfmc")
+    words = parser.parse_args()
+    program = words.program or repository.program("wfmc")
+    repository.enter(program)
+    repository.require("gcc", *([] if words.no_memcached else ["memcached"]))
+    wanted = words.cases or list(CASES)
+    print_load("start")
+    with tempfile.TemporaryDirectory() as folder:
+        load = build_load(folder)
+        for workers in words.workers or (1, 2):
+            servers = {f"wfmc, {workers} workers": lambda workers=workers: wfmc(program, workers, words.option)}
+            if not words.no_memcached:
+                servers[f"memcached, {workers} threads"] = lambda workers=workers: memcached(workers)
+            for case in wanted:
+                for name, start in servers.items():
+                    if case == FLUSHES and name.startswith("memcached"):
+                        continue
+                    for what, value, unit in measure(load, words.seconds, start(), CASES[case]):
+                        print_figure(f"{name}: {case}: {what}", value, unit)
+    print_load("end")
+
+
+main()
