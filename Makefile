@@ -122,6 +122,7 @@ bench: kit ## measures the built programs; the figures of docs/BENCHMARKS.md com
 	@bench/benches.sh places 31
 	@python3 bench/submits.py
 	@python3 bench/wfmc.py
+	@python3 bench/neighbours.py
 	@python3 bench/operating.py
 	@python3 bench/generations.py
 	@python3 bench/schedule.py

@@ -2,11 +2,11 @@
  * there. Prints requests a second, and the median and the 99th and 99.9th percentiles of the time from a send to its last reply, each as a
  * line of its name, its value and its unit with tabs between them.
  *
- * load [-k KEYS] [-o] [-d BYTES] [-g PERCENT] [-l COUNT] [-s SECONDS] PORT[,PORT...] CONNECTIONS DEPTH REQUESTS: the connections go to the
- * ports in turn. PERCENT (95) in 100 requests are gets of one of KEYS (1,000) keys, the others sets, with data of BYTES (100). The keys are
- * set before the clock starts, with -o by an earlier run. Every reply has a known length, by which it is counted, and the last bytes of each
- * batch are compared. With -l it prints the COUNT longest of the times too, the longest first. With -s it ends after this many seconds, if
- * it hasn't sent all requests before, and prints how many were answered in each. */
+ * load [-k KEYS] [-p PREFIX] [-o] [-d BYTES] [-g PERCENT] [-l COUNT] [-s SECONDS] PORT[,PORT...] CONNECTIONS DEPTH REQUESTS: the connections
+ * go to the ports in turn. PERCENT (95) in 100 requests are gets of one of KEYS (1,000) keys, which begin with PREFIX (key), the others
+ * sets, with data of BYTES (100). The keys are set before the clock starts, with -o by an earlier run. Every reply has a known length, by
+ * which it is counted, and the last bytes of each batch are compared. With -l it prints the COUNT longest of the times too, the longest
+ * first. With -s it ends after this many seconds, if it hasn't sent all requests before, and prints how many were answered in each. */
 #define _GNU_SOURCE
 #include <arpa/inet.h>
 #include <errno.h>
@@ -21,7 +21,7 @@
 #include <time.h>
 #include <unistd.h>
 
-enum { MOST = 64, MOST_DATA = 1 << 20, WORDS = 60, MOST_SECONDS = 3600, PATIENCE = 60000 };
+enum { MOST = 64, MOST_DATA = 1 << 20, WORDS = 60, MOST_PREFIX = 16, MOST_SECONDS = 3600, PATIENCE = 60000 };
 
 struct client {
     int socket;
@@ -35,6 +35,7 @@ struct client {
 };
 
 static unsigned keys = 1000;
+static const char *prefix = "key";
 static int digits = 5;  /* of a key's number */
 static size_t size = 100;
 static unsigned gets = 95;  /* of 100 requests */
@@ -84,11 +85,11 @@ static void send_on(struct client *client) {
 /* A request, and how many bytes its reply has. */
 static size_t ask(char *to, int is_get, unsigned key, size_t *wanted) {
     if (is_get) {
-        *wanted += (size_t)snprintf(NULL, 0, "VALUE key%0*u 0 %zu\r\n", digits, key, size) + size + strlen("\r\nEND\r\n");
-        return (size_t)sprintf(to, "get key%0*u\r\n", digits, key);
+        *wanted += (size_t)snprintf(NULL, 0, "VALUE %s%0*u 0 %zu\r\n", prefix, digits, key, size) + size + strlen("\r\nEND\r\n");
+        return (size_t)sprintf(to, "get %s%0*u\r\n", prefix, digits, key);
     }
     *wanted += strlen("STORED\r\n");
-    size_t count = (size_t)sprintf(to, "set key%0*u 0 0 %zu\r\n", digits, key, size);
+    size_t count = (size_t)sprintf(to, "set %s%0*u 0 0 %zu\r\n", prefix, digits, key, size);
     memcpy(to + count, data, size);
     memcpy(to + count + size, "\r\n", 2);
     return count + size + 2;
@@ -158,8 +159,9 @@ static double percentile(const double *times, long done, double share) {
 int main(int count, char **words) {
     int option, are_set = 0;
     long longest = 0, seconds = 0;
-    while ((option = getopt(count, words, "k:od:g:l:s:")) != -1) {
+    while ((option = getopt(count, words, "k:p:od:g:l:s:")) != -1) {
         if (option == 'k') keys = (unsigned)atol(optarg);
+        if (option == 'p') prefix = optarg;
         if (option == 'o') are_set = 1;
         if (option == 'd') size = (size_t)atol(optarg);
         if (option == 'g') gets = (unsigned)atol(optarg);
@@ -168,11 +170,11 @@ int main(int count, char **words) {
         if (option == '?') return 2;
     }
     words += optind - 1, count -= optind - 1;
-    if (count != 5) return fprintf(stderr, "load [-k KEYS] [-o] [-d BYTES] [-g PERCENT] [-l COUNT] [-s SECONDS] PORT[,PORT...] CONNECTIONS DEPTH REQUESTS\n"), 2;
+    if (count != 5) return fprintf(stderr, "load [-k KEYS] [-p PREFIX] [-o] [-d BYTES] [-g PERCENT] [-l COUNT] [-s SECONDS] PORT[,PORT...] CONNECTIONS DEPTH REQUESTS\n"), 2;
     int connections = atoi(words[2]), depth = atoi(words[3]), ports[MOST], known = 0;
     long requests = atol(words[4]), batches = requests / depth, begun = 0, done = 0;
     for (char *word = strtok(words[1], ","); word && known < MOST; word = strtok(NULL, ",")) ports[known++] = atoi(word);
-    if (depth < 1 || depth > MOST || connections < 1 || !known || !keys || seconds < 0 || seconds > MOST_SECONDS || size > MOST_DATA || gets > 100) return fprintf(stderr, "numbers out of range\n"), 2;
+    if (depth < 1 || depth > MOST || connections < 1 || !known || !keys || seconds < 0 || seconds > MOST_SECONDS || size > MOST_DATA || gets > 100 || strlen(prefix) > MOST_PREFIX) return fprintf(stderr, "numbers out of range\n"), 2;
     if (keys > 100000) digits = 7;
     memset(data, 'v', size);
     poll = epoll_create1(0);

@@ -2,8 +2,8 @@
 """Measures what a tenant notices of another: tenant `quiet` has one connection, with one request at a time, while tenant `noisy` does what
 each case says; with 1 and 2 workers, and next to memcached, where both are clients of one instance with as many threads.
 
-Prints a line `SERVER: CASE: WHAT<TAB>VALUE<TAB>UNIT` for each measurement: the median, the 99th and the 99.9th percentile of the quiet
-tenant's times to a reply, and how many requests or rounds the noisy one did in a second. `nobody` is the quiet tenant alone. A flush isn't
+Prints a line `SERVER: CASE: WHAT<TAB>VALUE<TAB>UNIT` for each measurement: the median, the 99th and the 99.9th percentile and the longest of
+the quiet tenant's times to a reply, and how many requests or rounds the noisy one did in a second. `nobody` is the quiet tenant alone. A flush isn't
 measured at memcached, where it takes the quiet client's item too.
 
 Usage: bench/neighbours.py [BINARY [CASE...]] [--seconds N] [--workers W] [--no-memcached] [--option WORD]; the binary is
@@ -43,7 +43,7 @@ class Loaded:
         self.words = words
 
     def start(self, load, port, seconds):
-        words = [load, "-s", str(seconds + 2), *self.words[:-2], str(port), *self.words[-2:], str(MOST_REQUESTS)]
+        words = [load, "-p", "noisy", "-s", str(seconds + 2), *self.words[:-2], str(port), *self.words[-2:], str(MOST_REQUESTS)]
         self.process = subprocess.Popen(words, stdout=subprocess.PIPE, text=True)
 
     def stop(self):
@@ -150,10 +150,10 @@ def measure(load, seconds, started, noise):
         if noise:
             noise.start(load, noisy, seconds)
             time.sleep(1)
-        words = [load, "-k", "1", "-s", str(seconds), str(quiet), "1", "1", str(QUIET_REQUESTS)]
+        words = [load, "-k", "1", "-l", "1", "-s", str(seconds), str(quiet), "1", "1", str(QUIET_REQUESTS)]
         printed = subprocess.run(words, capture_output=True, text=True, check=True).stdout
         done = [("the noisy one's requests or rounds", noise.stop(), "1/s")] if noise else []
-    return [*((name, value, unit) for name, value, unit in figures_of(printed) if "percentile" in name), *done]
+    return [*((name, value, unit) for name, value, unit in figures_of(printed) if "times to a reply" in name), *done]
 
 
 def main():
