@@ -439,7 +439,9 @@ def try_generations(environment, every):
     results.check("wfmc over two logs: all clients are served", served == ["served"] * (CLIENTS + 1), served)
     results.check("wfmc over two logs: both are used", 32 < length <= 64, output)
     for mode, ends in sweep("wfmc over two logs", run, judge_wfmc, environment, range(1, count + 20, every), threads=6):
-        results.check(f"wfmc over two logs: some turn over is refused, {mode}", every > 1 or "told a client of a full log" in ends.values())
+        # Where all later ones are refused too, no thread can be started to serve on, and wfmc ends by itself.
+        if mode == "one" and every == 1:
+            results.check("wfmc over two logs: some turn over is refused", "told a client of a full log" in ends.values())
 
 
 @dataclasses.dataclass
