@@ -3,8 +3,9 @@ ghost use Rattle.std.specs.Prelude.{◌≡◌, ◌≢◌, ◌⊎◌, ◌<◌, �
 ghost use Rattle.mc_model.specs.declared.fault.Fault.TheVariants as faults;
 ghost use Rattle.mc_model.specs.declared.shown.Phase.TheVariants as phase;
 ghost use Rattle.mc_model.specs.Lawful.{HasRoom};
-ghost use Rattle.uc_log.specs.Passes.{IsOf, Keeps, desk, learned, next_no_op, next_sighting, own_sightings, row_of, size, state, worker};
-ghost use Rattle.uc_places.specs.Calls.{Announces, Looks, Proposes, ReadsPlace, ShareOneRun, Tells};
+ghost use Rattle.uc_log.specs.Passes.{IsOf, Keeps, desk, learned, next_no_op, next_sighting, own_sightings, row_of, seat, size, state, worker};
+ghost use Rattle.uc_places.specs.Calls.{Announces, Looks, Proposes, ReadsPlace, ShareOneRun, Tells, WitnessWith, Witnesses};
+ghost use Rattle.uc_places.specs.Run.{part_of};
 
 use crate::log::Log;
 use crate::pass::Pass;
@@ -169,5 +170,27 @@ impl Log {
         ensures run { ShareOneRun (desk one.new) (desk other.new) }
     {
         one.desk.tell(&self.places, &mut other.desk);
+    }
+
+    /// Keeps the run of the log up to now in the worker's seat.
+    pub fn witness(&self, pass: &mut Pass)
+        requires { IsOf self.now pass.old }
+        // The run goes on from the one that the seat kept, and has exactly its calls of its worker.
+        ensures run { Witnesses (desk pass.old) (desk pass.new) (part_of (seat pass.old) ∷ []) }
+        ensures kept { Keeps self.now pass.old pass.new }
+    {
+        pass.desk.witness(&self.places);
+    }
+
+    /// Keeps the run of the log up to now in the first worker's seat, and shares what that worker has
+    /// learned with the other.
+    pub fn witness_with(&self, one: &mut Pass, other: &mut Pass)
+        requires { IsOf self.now one.old × IsOf self.now other.old }
+        // The run goes on from the one that the first seat kept. It has all calls of both seats, and
+        // no other events of their workers.
+        ensures run { WitnessWith (desk one.old) (desk other.old) (desk one.new) (desk other.new) }
+        ensures kept { Keeps self.now one.old one.new × Keeps self.now other.old other.new }
+    {
+        one.desk.witness_with(&self.places, &mut other.desk);
     }
 }

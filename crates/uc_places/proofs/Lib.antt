@@ -8,3 +8,4 @@ pub mod Closing
 pub mod Mirroring
 pub mod Spelled
 pub mod OwnEvents
+pub mod Between

@@ -21,10 +21,11 @@ use Rattle.uc_places.specs.declared.desk.Numbers.{Numbers}
 use Rattle.uc_places.specs.declared.view.Call.{Call}
 use Rattle.uc_places.specs.declared.view.Call.TheVariants.{Look, Propose, Read}
 use Rattle.uc_places.specs.declared.view.View.{View}
+use Rattle.uc_places.specs.declared.view.Witnessed.{Witnessed}
 use Rattle.uc_places.specs.Calls.{Makes, known, last_of, state_of, worker_of}
 use Rattle.uc_places.specs.Desk.{Mirrors, learned_one, owns, ticket_for}
 use Rattle.uc_places.specs.SeatLaw.{SeatLaw}
-use Rattle.uc_places.specs.Told.{Happens, IsTicketOf, ReadTells, SeatState, TableStep, moved_on, told_list}
+use Rattle.uc_places.specs.Told.{Happens, IsTicketOf, ReadTells, SeatState, TableStep, keeping, moved_on, told_list}
 use Rattle.uc_places.specs.Words.{found_in, said_ticket, said_word}
 use Rattle.uc_places.proofs.Wording.{decoded}
 
@@ -204,6 +205,31 @@ proposed_inside view ticket found law same = law.inside (length view.state.learn
 -- a list that is shared with a seat is no number of it
 pub mirrors_told : (view : View) (list : List Ticket) (numbers : Numbers) → Mirrors view numbers → Mirrors (told_list view list) numbers
 mirrors_told view list numbers m = record {
+  seated = m.seated;
+  small = m.small;
+  workers = m.workers;
+  places = m.places;
+  worker = m.worker;
+  inside = m.inside;
+  learned = m.learned;
+  few = m.few;
+  announced = m.announced;
+  announced_few = m.announced_few;
+  proposals = m.proposals;
+  proposals_few = m.proposals_few;
+  proposals_helped = m.proposals_helped;
+  mark = m.mark;
+  phase = m.phase;
+  word = m.word;
+  proposes = m.proposes;
+  room = m.room;
+  wide = m.wide;
+  counts = m.counts;
+}
+
+-- a run that the seat keeps is none either
+pub mirrors_keeping : (view : View) (events : List Witnessed) (numbers : Numbers) → Mirrors view numbers → Mirrors (keeping view events) numbers
+mirrors_keeping view events numbers m = record {
   seated = m.seated;
   small = m.small;
   workers = m.workers;

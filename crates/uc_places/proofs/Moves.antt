@@ -1,5 +1,5 @@
 -- Each operation of a worker's seat on a word keeps the invariant, and is its event.
-use Rattle.std.proofs.Common.{◌≡◌, ◌≢◌, ◌⊎◌, ℕ, zero, suc, ◌+◌, ◌%◌, ◌^◌, ◌<◌, ◌==◌, Bool, List, [], ◌∷◌, ◌++◌, length, get_or, set, sym, refl, ap, ◌∙◌, subst, inl, inr, ⊎_elim, arith, eq-eqb, ne_eqb, slice_get, unwrap_or, Option, Some, None}
+use Rattle.std.proofs.Common.{◌≡◌, ◌≢◌, ◌⊎◌, ℕ, zero, suc, ◌+◌, ◌%◌, ◌^◌, ◌<◌, ◌==◌, Bool, List, [], ◌∷◌, ◌++◌, length, map, get_or, set, sym, refl, ap, ◌∙◌, subst, inl, inr, ⊎_elim, arith, eq-eqb, ne_eqb, slice_get, unwrap_or, Option, Some, None}
 use Rattle.std.proofs.lemmas.List.Sums.{count_by-le-length}
 use Rattle.std.proofs.lemmas.Option.{none-some, same_Some, slice_get_within}
 use mathlib.Core.Option.{none, some}
@@ -17,7 +17,7 @@ use Rattle.lists.specs.Lists.{BeginsWith}
 use Rattle.mc_model.specs.Helping.{LogLaw}
 use Rattle.mc_model.specs.Lawful.{HasRoom, IsReached, IsWorker, ShownEvent, Step, announced_by, announces, decided_with, looks, next, proposes, reads, turn, with_worker}
 use Rattle.mc_model.specs.Shown.{announce, look, new_log, new_worker, proposal, propose, read}
-use Rattle.lists.proofs.Public.{at_seam, begins_self, begins_through, nothing_next, set_elsewhere, set_here}
+use Rattle.lists.proofs.Public.{at_seam, begins_same, begins_self, begins_through, nothing_next, set_elsewhere, set_here}
 use Rattle.model_lemmas.proofs.Waiting.{is_lawful}
 use Rattle.uc_places.specs.declared.view.Call.{Call}
 use Rattle.uc_places.specs.declared.view.Call.TheVariants.{Announce, Look, Propose, Read}
@@ -26,11 +26,11 @@ use Rattle.uc_places.specs.declared.view.Kind.TheVariants.{Spare, Seated, Spent}
 use Rattle.uc_places.specs.declared.view.Part.{Part}
 use Rattle.uc_places.specs.declared.view.View.{View}
 use Rattle.uc_places.specs.Rule.{Fits, IsKept, Knows, OthersLead, Plays, PlaysAll, taker}
-use Rattle.uc_places.specs.Run.{AreOneRun, HasMade, event_of, part_of}
-use Rattle.uc_places.specs.Told.{AnnounceTells, Happens, IsTicketOf, LookTells, MeetTells, ProposeTells, ReadTells, SeatState, moved_on}
+use Rattle.uc_places.specs.Run.{AreOneRun, HasMade, event_in, event_of, part_of, witnessed_by}
+use Rattle.uc_places.specs.Told.{AnnounceTells, Happens, IsTicketOf, LookTells, MeetTells, ProposeTells, ReadTells, SeatState, WitnessTells, keeping, moved_on}
 use Rattle.uc_places.specs.Words.{Shows, found_in, place_word, said_word}
 use Rattle.uc_places.proofs.Followed.{none_lead, one_more, others_lead_on}
-use Rattle.uc_places.proofs.Runs.{made_else, made_on, reached, taken}
+use Rattle.uc_places.proofs.Runs.{as_witnessed, events_again, made_else, made_on, reached, taken}
 use Rattle.uc_places.proofs.Wording.{announced_in, found, same_counts, shows_count, shows_place, shows_same, ticket_found}
 
 abbrev pub TableState : Type 0
@@ -52,9 +52,9 @@ module _ (size : LogSize) where
   pub seated : (s : TableState) (kept : IsKept size s) (id : ℕ) (view : View) → get_elem? s.views id ≡ some view → view.kind ≡ Seated →
       (kept.owner view.worker ≡ id) × IsWorker kept.log view.worker view.state × BeginsWith kept.log.decided view.told
       × OthersLead size view.worker view.last kept.log × HasMade kept.run view.worker view.calls
-      × PlaysAll size kept.log kept.run kept.owner id (part_of view ∷ view.joined)
+      × PlaysAll size kept.log kept.run kept.owner id (part_of view ∷ view.joined) × BeginsWith kept.run (witnessed_by view)
   seated s kept id view at is = let its = subst (Knows size kept.log kept.run kept.owner id view) is (kept.fits id view at).1 in
-      let play = its.0.1 in (play.0, play.1, its.1, play.2, play.3, its.0)
+      let play = its.0.1 in (play.0, play.1, its.1, play.2, play.3, its.0, its.2)
 
   -- another seat keeps what the invariant says of it
   module _ (old new : ShownState) (run : List ShownEvent) (event : ShownEvent) (owner : ℕ → ℕ) (number id other : ℕ) (state : WorkerState)
@@ -85,6 +85,7 @@ module _ (size : LogSize) where
     others view Seated knows = (
       all_play_on (part_of view ∷ view.joined) knows.0,
       begins_through new.decided old.decided view.told longer knows.1,
+      begins_through later run (witnessed_by view) (event ∷ [], refl) knows.2,
     )
     others view Spent knows = tt
 
@@ -122,6 +123,7 @@ module _ (size : LogSize) where
                   tt,
                 ),
                 begins_through decided kept.log.decided view.told longer mine.2,
+                begins_through later kept.run (witnessed_by view) (event ∷ [], refl) mine.6,
               ),
             ))
             (λ (apart : (other ≢ id) × (get_elem? s.views other ≡ some some_view)). let fits = kept.fits other some_view apart.1 in (
@@ -190,6 +192,45 @@ module _ (slots id : ℕ) (me : SeatState) (is : me.0.kind ≡ Seated) where
             (sym (table_lists.set_again s.views id me.0 at)) kept),
         (refl, (kept.log, one_run me.0.size s kept at)),
       )
+
+  -- a seat that keeps the run
+  kept_by : (size : LogSize) (s : TableState) (kept : IsKept size s) → get_elem? s.views id ≡ some me.0 →
+      IsKept size record { words = s.words; homes = s.homes; views = set s.views id (keeping me.0 (map as_witnessed kept.run)) }
+  kept_by size s kept at = let events = map as_witnessed kept.run in let new = keeping me.0 events in
+      let mine = seated size s kept id me.0 at is in record {
+        small = kept.small;
+        run = kept.run;
+        log = kept.log;
+        leads = kept.leads;
+        shows = kept.shows;
+        owner = kept.owner;
+        fits = λ other some_view there. ⊎_elim
+            (λ (same : (other ≡ id) × (new ≡ some_view)). subst
+            (λ (z : ℕ × View). Fits size kept.log kept.run kept.owner z.0 z.1) (λ i. (sym same.0 i, same.1 i)) (
+              (kept.fits id me.0 at).0,
+              subst (Knows size kept.log kept.run kept.owner id new) (sym is) (mine.5, mine.2, begins_same kept.run (map event_in events) (sym (events_again kept.run))),
+            ))
+            (λ (apart : (other ≢ id) × (get_elem? s.views other ≡ some some_view)). kept.fits other some_view apart.1)
+            (table_lists.at_set s.views id other new some_view there);
+      }
+
+  pub witnesses_word : (size : LogSize) → Allows (IsKept size) slots id me 0 (λ n. n) (WitnessTells (step slots 0 0 0 none) me)
+  unfolding one_run
+  witnesses_word size = at_size size slots id me is 0 (λ n. n) (WitnessTells (step slots 0 0 0 none) me) body
+    where
+      body : Allows (IsKept me.0.size) slots id me 0 (λ n. n) (WitnessTells (step slots 0 0 0 none) me)
+      body s kept long at _ = let events = map as_witnessed kept.run in let new = keeping me.0 events in
+          let again = events_again kept.run in (
+            new,
+            keeps,
+            tt,
+            loads s 0 new (kept_by me.0.size s kept at),
+            (
+              refl,
+              subst (λ (run : List ShownEvent). BeginsWith run (witnessed_by me.0)) (sym again) (seated me.0.size s kept id me.0 at is).6,
+              (kept.log, one_run me.0.size s kept at, sym again),
+            ),
+          )
 
 module _ (slots id : ℕ) (me : SeatState) (is : me.0.kind ≡ Seated) (alone : me.0.joined ≡ []) where
   pub announces_word : (size : LogSize) → me.0.state.phase ≡ Idle → HasRoom me.0.size me.0.state →

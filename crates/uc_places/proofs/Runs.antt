@@ -1,5 +1,5 @@
 -- A run goes on by an event, which is its worker's own and no other's.
-use Rattle.std.proofs.Common.{◌≡◌, ◌≢◌, ℕ, zero, suc, Bool, true, false, if◌then◌else◌, List, [], ◌∷◌, ◌++◌, map, refl, sym, ap, ◌∙◌, subst, append-nil, eq-eqb, ne_eqb, arith, ◌<◌, slice_get, Some}
+use Rattle.std.proofs.Common.{◌≡◌, ◌≢◌, ℕ, zero, suc, Bool, true, false, if◌then◌else◌, List, [], ◌∷◌, ◌++◌, map, refl, sym, ap, ◌∙◌, subst, append-nil, eq-eqb, ne_eqb, arith, ◌<◌, slice_get, None, Some}
 use Rattle.std.proofs.lemmas.List.{map-append}
 use Rattle.std.proofs.lemmas.Option.{none-some, same_Some, slice_get_within}
 use Rattle.std.proofs.lemmas.List.Elements.{filter-append}
@@ -12,9 +12,10 @@ use Rattle.model_lemmas.proofs.Waiting.{is_lawful}
 use Rattle.uc_places.specs.declared.view.Call.{Call}
 use Rattle.uc_places.specs.declared.view.Call.TheVariants.{Announce, Look, Propose, Read}
 use Rattle.uc_places.specs.declared.view.Part.{Part}
+use Rattle.uc_places.specs.declared.view.Witnessed.{Witnessed}
 use Rattle.uc_places.specs.OneRun.{EachEventIsACall}
 use Rattle.uc_places.specs.Rule.{AreOfOthers, taker}
-use Rattle.uc_places.specs.Run.{AreAmong, AreOneRun, HasMade, event_of, is_of, own_events}
+use Rattle.uc_places.specs.Run.{AreAmong, AreOneRun, HasMade, event_in, event_of, is_of, own_events}
 
 -- another's event isn't the worker's; a call's is
 not_its : (number : ℕ) (event : ShownEvent) → taker event ≢ number → is_of number event ≡ false
@@ -37,7 +38,7 @@ taken number Look = refl
 taken number Propose = refl
 
 -- one more event in front, by whether it is the worker's
-in_front : (number : ℕ) (event : ShownEvent) (events : List ShownEvent) (own : Bool) → is_of number event ≡ own →
+pub in_front : (number : ℕ) (event : ShownEvent) (events : List ShownEvent) (own : Bool) → is_of number event ≡ own →
     own_events number (event ∷ events) ≡ (if own then event ∷ own_events number events else own_events number events)
 in_front number event events own is =
     ap (λ (b : Bool). if b then event ∷ own_events number events else own_events number events) is
@@ -93,8 +94,27 @@ turned size other_size one other log named all =
     subst (λ (z : LogSize). AreOneRun z (other ∷ one ∷ []) log) (sym (all.sized 1 other refl) ∙ named)
     (among_run size (other ∷ one ∷ []) (one ∷ other ∷ []) log (among_turned other one []) all)
 
+-- an event as a seat keeps it
+abbrev pub as_witnessed : ShownEvent → Witnessed
+as_witnessed (announces number) = record { worker = number; call = Some Announce }
+as_witnessed (reads number) = record { worker = number; call = Some Read }
+as_witnessed (looks number) = record { worker = number; call = Some Look }
+as_witnessed (proposes number) = record { worker = number; call = Some Propose }
+as_witnessed (stops number) = record { worker = number; call = None }
+
+event_again : (event : ShownEvent) → event_in (as_witnessed event) ≡ event
+event_again (announces number) = refl
+event_again (reads number) = refl
+event_again (looks number) = refl
+event_again (proposes number) = refl
+event_again (stops number) = refl
+
+pub events_again : (run : List ShownEvent) → map event_in (map as_witnessed run) ≡ run
+events_again [] = refl
+events_again (event ∷ run) = λ i. event_again event i ∷ events_again run i
+
 -- an event is its taker's, who is a worker of the log
-own_taker : (event : ShownEvent) → is_of (taker event) event ≡ true
+pub own_taker : (event : ShownEvent) → is_of (taker event) event ≡ true
 own_taker (announces number) = eq-eqb number number refl
 own_taker (reads number) = eq-eqb number number refl
 own_taker (looks number) = eq-eqb number number refl

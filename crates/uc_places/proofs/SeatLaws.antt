@@ -15,9 +15,10 @@ use Rattle.lists.proofs.Public.{begins_longer, take_longer}
 use Rattle.model_lemmas.proofs.Waiting.{is_lawful}
 use Rattle.uc_places.specs.declared.view.Call.{Call}
 use Rattle.uc_places.specs.declared.view.View.{View}
+use Rattle.uc_places.specs.declared.view.Witnessed.{Witnessed}
 use Rattle.uc_places.specs.Reached.{LastIsReached}
 use Rattle.uc_places.specs.SeatLaw.{SeatLaw}
-use Rattle.uc_places.specs.Told.{Happens, moved_on, new_seat, told_list}
+use Rattle.uc_places.specs.Told.{Happens, keeping, moved_on, new_seat, told_list}
 use Rattle.uc_places.proofs.Wording.{announced_in, ticket_small}
 
 -- an element of the front of a list is an element of the list
@@ -106,6 +107,9 @@ last_of_new size number inside = record {
 
 pub last_told : (view : View) (list : List Ticket) → LastIsReached view → LastIsReached (told_list view list)
 last_told view list last = record { reached = last.reached; shown = last.shown; decided = last.decided }
+
+pub last_keeping : (view : View) (events : List Witnessed) → LastIsReached view → LastIsReached (keeping view events)
+last_keeping view events last = record { reached = last.reached; shown = last.shown; decided = last.decided }
 
 -- between two steps a worker is idle or pending
 rests_if : (own : Bool) (phase : Phase) → phase ≡ Pending → ((if own then Idle else phase) ≡ Idle) ⊎ ((if own then Idle else phase) ≡ Pending)

@@ -14,9 +14,10 @@ use Rattle.uc_places.specs.declared.view.Kind.{Kind}
 use Rattle.uc_places.specs.declared.view.Kind.TheVariants.{Spare, Seated, Spent}
 use Rattle.uc_places.specs.declared.view.Part.{Part}
 use Rattle.uc_places.specs.declared.view.View.{View}
+use Rattle.uc_places.specs.declared.view.Witnessed.{Witnessed}
 use Rattle.uc_places.specs.Rule.{AreApart, Fits, IsKept, IsSmall, Knows, OthersLead, PlaysAll}
 use Rattle.uc_places.specs.Run.{part_of}
-use Rattle.uc_places.specs.Told.{SeatState, fewer, first_of, joined_with, last_joined, parted, seat_again, spare_from, spent, told_list}
+use Rattle.uc_places.specs.Told.{SeatState, fewer, first_of, joined_with, keeping, last_joined, parted, seat_again, spare_from, spent, told_list}
 use Rattle.uc_places.proofs.Followed.{none_lead}
 use Rattle.uc_places.proofs.Moves.{TableState, law, seated}
 use Rattle.uc_places.proofs.Wording.{announced_in}
@@ -67,7 +68,7 @@ module _ (size : LogSize) (log : ShownState) (run : List ShownEvent) (owner new_
 
   again : (view : View) (kind : Kind) → Knows size log run owner id view kind → Knows size log run new_owner id view kind
   again view Spare knows = λ worker low high. let was = knows worker low high in (own worker was.0, was.1, was.2, was.3)
-  again view Seated knows = (all_again (part_of view ∷ view.joined) knows.0, knows.1)
+  again view Seated knows = (all_again (part_of view ∷ view.joined) knows.0, knows.1, knows.2)
   again view Spent knows = knows
 
 -- one worker gets another seat, which only the views at `id` and at that seat show
@@ -106,6 +107,7 @@ leaves size id view is alone s kept at = let mine = seated size s kept id view a
         subst (λ (parts : List Part). PlaysAll size kept.log kept.run owner n (part_of view ∷ parts)) (sym alone)
             (mine.5.0, (moved_here kept.owner view.worker n, mine.1, mine.3, mine.4), tt, tt),
         mine.2,
+        mine.6,
       ),
     )
 
@@ -148,6 +150,7 @@ joins size id view other joining is theirs s kept at apart there =
           ),
         ),
         mine.2,
+        mine.6,
       ),
     ))
     (λ (r : (j ≢ id) × (get_elem? s.views j ≡ some y)). stays size s kept joining.worker other id its.0 j y q.0 r.1) (at_set s.views id j new y q.1))
@@ -177,6 +180,7 @@ parts size id view part is one s kept at =
           tt,
         ),
         mine.2,
+        mine.6,
       ),
     ) (subst (λ (parts : List Part). Fits size kept.log kept.run owner n
     (option_map_or (seat_again view.state.learned) (slice_get parts 0) spent)) (sym one) (
@@ -184,6 +188,7 @@ parts size id view part is one s kept at =
       (
         (its.0, (moved_here kept.owner part.worker n, its.1.1, its.1.2, its.1.3), tt, tt),
         begins,
+        (kept.run, refl),
       ),
     ))
 
@@ -191,6 +196,11 @@ parts size id view part is one s kept at =
 pub hosts : (here there seat : SeatState) (view joining : View) → here ≡ there → there.0 ≡ joined_with view seat.0 → seat.0 ≡ joining →
     here.0 ≡ joined_with view joining
 hosts here there seat view joining same joined left = ap (λ (m : SeatState). m.0) same ∙ (joined ∙ ap (joined_with view) left)
+
+pub keeping_hosts : (here there seat : SeatState) (view joining : View) (events : List Witnessed) → here ≡ (keeping there.0 events, there.1) →
+    there.0 ≡ joined_with view seat.0 → seat.0 ≡ joining → here.0 ≡ joined_with (keeping view events) joining
+keeping_hosts here there seat view joining events kept joined left = ap (λ (m : SeatState). m.0) kept
+    ∙ ap (λ (v : View). keeping v events) (joined ∙ ap (joined_with view) left)
 
 pub gives_back : (host view joining : View) (seat : SeatState) → host ≡ joined_with view joining → seat ≡ (last_joined host, []) →
     joining.kind ≡ Seated → joining.joined ≡ [] → seat.0 ≡ told_list joining view.state.learned
@@ -230,6 +240,7 @@ deals size id view is below s kept at =
           tt,
         ),
         (kept.log.decided, refl),
+        (kept.run, refl),
       ),
     )
 

@@ -14,11 +14,12 @@ use Rattle.uc_places.specs.declared.desk.Desk.{Desk}
 use Rattle.uc_places.specs.declared.desk.Places.{Places}
 use Rattle.uc_places.specs.declared.view.Call.{Call}
 use Rattle.uc_places.specs.declared.view.Call.TheVariants.{Announce, Look, Propose, Read}
+use Rattle.uc_places.specs.declared.view.Part.{Part}
 use Rattle.uc_places.specs.declared.view.View.{View}
 use Rattle.uc_places.specs.Reached.{LastIsReached}
-use Rattle.uc_places.specs.Run.{AreOneRun, event_of, part_of}
+use Rattle.uc_places.specs.Run.{AreOneRun, event_of, part_of, witnessed_by}
 use Rattle.uc_places.specs.SeatLaw.{SeatLaw}
-use Rattle.uc_places.specs.Told.{Happens, moved_on, told_list}
+use Rattle.uc_places.specs.Told.{Happens, keeping, moved_on, told_list}
 
 -- what a seat knows: the size of its log, its worker's number and state, the list that was shared
 -- with it, and the log's state after its last event
@@ -92,6 +93,24 @@ pub record Shares (one other new_one new_other : Desk) : Type 0 where
 abbrev pub ShareOneRun : Desk → Desk → Type 0
 ShareOneRun one other = (log : ShownState)
     × AreOneRun (desk_size one) (part_of (known one) ∷ part_of (known other) ∷ []) log
+
+-- The seat keeps the run of the log up to now, and nothing else of it changes. That run goes on from
+-- the one that it kept before, and has all calls of these workers' seats and no other events of
+-- theirs.
+pub record Witnesses (old new : Desk) (parts : List Part) : Type 0 where
+  pub seat : (new.seat.table_id ≡ old.seat.table_id)
+      × (known new ≡ keeping (known old) (known new).witnessed)
+  pub goes_on : BeginsWith (witnessed_by (known new)) (witnessed_by (known old))
+  pub log : ShownState
+  pub one : AreOneRun (desk_size old) parts log
+  pub is : one.run ≡ witnessed_by (known new)
+
+-- one seat keeps the run, which has the calls of both; with the other it shares what its worker has
+-- learned
+pub record WitnessWith (one other new_one new_other : Desk) : Type 0 where
+  pub first : Witnesses one new_one (part_of (known one) ∷ part_of (known other) ∷ [])
+  pub second : (new_other.seat.table_id ≡ other.seat.table_id)
+      × (known new_other ≡ told_list (known other) (state_of one).learned)
 
 -- of two seats, the one whose worker has learned more shares that with the other; if both have
 -- learned as many places, the first shares

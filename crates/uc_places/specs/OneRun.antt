@@ -4,13 +4,14 @@ use Rattle.mc_model.specs.declared.shown.LogSize.{LogSize}
 use Rattle.mc_model.specs.declared.shown.ShownState.{ShownState}
 use Rattle.mc_model.specs.declared.shown.WorkerState.{WorkerState}
 use Rattle.lists.specs.Lists.{BeginsWith}
-use Rattle.mc_model.specs.Lawful.{ShownEvent}
+use Rattle.mc_model.specs.Lawful.{IsWorker, LeadOn, ShownEvent}
+use Rattle.mc_model.specs.Shown.{new_log}
 use Rattle.uc_places.specs.declared.desk.Desk.{Desk}
 use Rattle.uc_places.specs.declared.view.Call.{Call}
 use Rattle.uc_places.specs.declared.view.Part.{Part}
 use Rattle.uc_places.specs.Calls.{Makes, calls_of, desk_size, known, last_of, state_of, worker_of}
 use Rattle.uc_places.specs.Rule.{OthersLead}
-use Rattle.uc_places.specs.Run.{AreOneRun, IsOneRun, event_of}
+use Rattle.uc_places.specs.Run.{AreOneRun, HasMade, IsOneRun, event_of}
 use Rattle.uc_places.specs.Told.{new_seat}
 
 -- the seat has taken no event; a list may have been shared with it
@@ -46,6 +47,16 @@ OthersLeaveIt =
 abbrev pub AreOfAll : LogSize → List Part → Type 0
 AreOfAll size parts = (number : ℕ) → number < size.workers →
     (place : ℕ) × (part : Part) × (slice_get parts place ≡ Some part) × (part.worker ≡ number)
+
+-- A run that goes on from one in which a worker has made exactly these calls, and from which one goes
+-- on in which it has made no others, has exactly these calls of it too, and leads to a state in which
+-- the worker is as it is at the end of the last.
+abbrev pub RunsBetween : Type 0
+RunsBetween = (size : LogSize) (number : ℕ) (calls : List Call) (state : WorkerState)
+    (early here late : List ShownEvent) (log end : ShownState) →
+    HasMade early number calls → BeginsWith here early → LeadOn size (new_log size) here log →
+    BeginsWith late here → LeadOn size (new_log size) late end → HasMade late number calls →
+    IsWorker end number state → HasMade here number calls × IsWorker log number state
 
 -- if all workers' seats are on one run, each event of the run is a call of one of them
 abbrev pub EachEventIsACall : Type 0

@@ -1,5 +1,5 @@
 -- The invariant of the shared words. At every moment there is a run of the log from its opening, of
--- which four things hold.
+-- which five things hold.
 --   The words show the state that it leads to (`Shows`): how many commands each worker has
 --   announced, and which ticket stands at each place.
 --   Each worker's one seat shows its worker: what the seat knows of its worker is exactly that
@@ -7,6 +7,7 @@
 --   Each seat keeps the state after its own last event, and only other workers' events lead from
 --   there to the present state.
 --   Each seat keeps its calls, and these, in order, are exactly the run's events of its worker.
+--   The run begins with the events that a seat has witnessed.
 -- So a call can only be one event of its own worker, from a reachable state, and only events of
 -- other workers lie between two calls of a seat; and the calls of all seats are one run.
 use Rattle.std.specs.Prelude.{◌≡◌, ◌≢◌, ℕ, ◌<◌, ◌≤◌, List, [], ◌∷◌}
@@ -26,7 +27,7 @@ use Rattle.uc_places.specs.declared.view.Kind.{Kind}
 use Rattle.uc_places.specs.declared.view.Kind.TheVariants.{Spare, Seated, Spent}
 use Rattle.uc_places.specs.declared.view.Part.{Part}
 use Rattle.uc_places.specs.declared.view.View.{View}
-use Rattle.uc_places.specs.Run.{HasMade, all_parts}
+use Rattle.uc_places.specs.Run.{HasMade, all_parts, witnessed_by}
 use Rattle.uc_places.specs.Words.{Shows}
 
 -- the worker whose event it is
@@ -77,8 +78,9 @@ module _ (size : LogSize) (log : ShownState) (run : List ShownEvent) (owner : �
   Knows view Spare = (number : ℕ) → view.worker ≤ number → number < size.workers →
       Plays number new_worker (new_log size) []
   -- it is the seat of its worker, and of those whose seats were joined into it; the log begins with
-  -- the list that was shared with it
+  -- the list that was shared with it, and the run with the events that it has witnessed
   Knows view Seated = PlaysAll (all_parts view) × BeginsWith log.decided view.told
+      × BeginsWith run (witnessed_by view)
   -- nothing
   Knows view Spent = Unit {0}
 

@@ -2,6 +2,7 @@
 -- one process in it (Herlihy and Wing, Linearizability, TOPLAS 1990).
 use Rattle.std.specs.Prelude.{◌≡◌, ℕ, ◌==◌, ◌∷◌, Bool, List, map, slice_get, Some}
 use Rattle.std.specs.List.{filter}
+use Rattle.std.specs.Option.{option_map_or}
 use Rattle.mc_model.specs.declared.shown.LogSize.{LogSize}
 use Rattle.mc_model.specs.declared.shown.ShownState.{ShownState}
 use Rattle.mc_model.specs.declared.shown.WorkerState.{WorkerState}
@@ -11,6 +12,7 @@ use Rattle.uc_places.specs.declared.view.Call.{Call}
 use Rattle.uc_places.specs.declared.view.Call.TheVariants.{Announce, Look, Propose, Read}
 use Rattle.uc_places.specs.declared.view.Part.{Part}
 use Rattle.uc_places.specs.declared.view.View.{View}
+use Rattle.uc_places.specs.declared.view.Witnessed.{Witnessed}
 
 -- whether the event is this worker's
 abbrev pub is_of : ℕ → ShownEvent → Bool
@@ -62,6 +64,14 @@ all_parts view = part_of view ∷ view.joined
 abbrev pub AreAmong : List Part → List Part → Type 0
 AreAmong parts all = (place : ℕ) (part : Part) → slice_get parts place ≡ Some part →
     (other : ℕ) × (slice_get all other ≡ Some part)
+
+-- an event as a seat keeps it, and the events that it has witnessed: the run of the log up to the
+-- moment when it did
+abbrev pub event_in : Witnessed → ShownEvent
+event_in it = option_map_or (event_of it.worker) it.call (stops it.worker)
+
+abbrev pub witnessed_by : View → List ShownEvent
+witnessed_by view = map event_in view.witnessed
 
 -- One run has all calls of these workers' seats, and no other events of the workers: it leads from
 -- the opening to this state of the log, in which each worker is as its seat shows it, and each

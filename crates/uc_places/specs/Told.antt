@@ -16,8 +16,10 @@ use Rattle.uc_places.specs.declared.view.Kind.{Kind}
 use Rattle.uc_places.specs.declared.view.Kind.TheVariants.{Spare, Seated, Spent}
 use Rattle.uc_places.specs.declared.view.Part.{Part}
 use Rattle.uc_places.specs.declared.view.View.{View}
+use Rattle.uc_places.specs.declared.view.Witnessed.{Witnessed}
 use Rattle.uc_places.specs.Rule.{OthersLead}
-use Rattle.uc_places.specs.Run.{AreOneRun, all_parts, part_of}
+use Rattle.lists.specs.Lists.{BeginsWith}
+use Rattle.uc_places.specs.Run.{AreOneRun, all_parts, part_of, witnessed_by}
 use Rattle.uc_places.specs.Words.{found_in, said_ticket, said_word}
 
 -- a view without any event; those of a log's seats at its opening: of the spare seat that
@@ -32,6 +34,7 @@ blank_view size kind worker = record {
   last = new_log size;
   calls = [];
   joined = [];
+  witnessed = [];
 }
 
 abbrev pub spare_from : LogSize → ℕ → View
@@ -108,9 +111,23 @@ abbrev pub MeetTells : TableStep → SeatState → ℕ → SeatState → Type 0
 MeetTells at old found new = (new ≡ old)
     × ((log : ShownState) × AreOneRun old.0.size (all_parts old.0) log)
 
--- a seat with which a list is shared, and a seat that knows nothing any more
+-- a seat that keeps these events
+abbrev pub keeping : View → List Witnessed → View
+keeping view events = record view { witnessed = events }
+
+-- A load of word 0 by which a seat witnesses the run of the log: it keeps all its events so far, and
+-- nothing else of it changes. That run goes on from the one that the seat kept before, and has all
+-- calls of the workers whose seat it is.
+abbrev pub WitnessTells : TableStep → SeatState → ℕ → SeatState → Type 0
+WitnessTells at old found new = (new ≡ (keeping old.0 new.0.witnessed, old.1))
+    × BeginsWith (witnessed_by new.0) (witnessed_by old.0)
+    × ((log : ShownState) × (one : AreOneRun old.0.size (all_parts old.0) log)
+    × (one.run ≡ witnessed_by new.0))
+
+-- a seat with which a list is shared, which keeps no run any more; and a seat that knows nothing any
+-- more
 abbrev pub told_list : View → List Ticket → View
-told_list view list = record view { told = list }
+told_list view list = record view { told = list; witnessed = [] }
 
 abbrev pub spent : View
 spent = blank_view (record { workers = 0; places = 0 }) Spent 0
@@ -130,6 +147,7 @@ seat_again list part = record {
   last = part.last;
   calls = part.calls;
   joined = [];
+  witnessed = [];
 }
 
 -- what is left of a seat once the one joined into it last is split off, and that one, which

@@ -6,7 +6,7 @@ ghost use Rattle.mc_model.specs.declared.id.Ticket.{Ticket};
 ghost use Rattle.mc_model.specs.declared.shown.LogSize.{LogSize};
 ghost use Rattle.uc_places.specs.Calls.{last_of, state_of, worker_of};
 ghost use Rattle.uc_places.specs.End.{IsEnd};
-ghost use Rattle.uc_places.specs.OneRun.{CallsLieOnOneRun, EachEventIsACall, OthersLeaveIt};
+ghost use Rattle.uc_places.specs.OneRun.{CallsLieOnOneRun, EachEventIsACall, OthersLeaveIt, RunsBetween};
 ghost use Rattle.uc_places.specs.Seats.{desk_of};
 ghost use Rattle.uc_places.specs.declared.seats.Seat.{Seat};
 
@@ -24,6 +24,12 @@ pub fn calls_lie_on_one_run()
 pub fn all_calls_are_the_run()
     // Each event of the run is a call of one of the seats.
     ensures { EachEventIsACall }
+{}
+
+/// If a worker has taken no event between two moments of a run, each moment between them has exactly
+/// the calls that it had made, and shows the worker as it was.
+pub fn a_worker_stays_between_two_moments()
+    ensures { RunsBetween }
 {}
 
 /// The log that `close` gives goes on from where its first seat was.

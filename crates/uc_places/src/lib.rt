@@ -14,6 +14,7 @@ pub mod steps;
 pub mod telling;
 pub mod view;
 pub mod whole;
+pub mod witnessing;
 pub mod words;
 
 pub use desk::{Desk, Places};

@@ -1,6 +1,6 @@
 //! The table of words with its invariant, and what an operation on a word shows.
 ghost use Rattle.uc_places.specs.Rule.{IsKept};
-ghost use Rattle.uc_places.specs.Told.{AnnounceTells, LookTells, MeetTells, ProposeTells, ReadTells, fewer, first_of, joined_with, last_joined, parted, spare_from, spent};
+ghost use Rattle.uc_places.specs.Told.{AnnounceTells, LookTells, MeetTells, ProposeTells, ReadTells, WitnessTells, fewer, first_of, joined_with, last_joined, parted, spare_from, spent};
 
 use crate::view::View;
 use atomic_table::{Join, Play, Seat, Split, Table, TableRule};
@@ -56,6 +56,13 @@ pub(crate) struct Meeting;
 
 impl Play<(), View> for Meeting {
     ghost then = { MeetTells };
+}
+
+/// Keeps the run of the log up to now.
+pub(crate) struct Witnessing;
+
+impl Play<(), View> for Witnessing {
+    ghost then = { WitnessTells };
 }
 
 /// Splits the seat of its first worker off the spare seat.

@@ -20,6 +20,14 @@ pub enum Call {
     Propose,
 }
 
+/// An event of the log, as a seat keeps it: whose it is, and which call, or `None` if the worker
+/// stops.
+pub struct Witnessed {
+    /// The worker's number.
+    pub worker: u64,
+    pub call: Option<Call>,
+}
+
 /// What a seat knows of one worker.
 pub struct Part {
     pub size: LogSize,
@@ -35,7 +43,8 @@ pub struct Part {
 /// What a seat of the table knows.
 ///
 /// `last` is why a seat's calls lie on one run of the log, `calls` is why those of all seats lie on
-/// the same one, and `told` is why two workers' learned lists can be compared.
+/// the same one, `told` is why two workers' learned lists can be compared, and `witnessed` is why
+/// workers that meet in pairs are all on one run.
 pub struct View {
     pub size: LogSize,
     pub kind: Kind,
@@ -51,4 +60,7 @@ pub struct View {
     pub calls: LinkedList<Call>,
     /// The workers whose seats were joined into this one.
     pub joined: LinkedList<Part>,
+    /// The run of the log up to the moment when the seat witnessed it: the log's run begins with
+    /// these events.
+    pub witnessed: LinkedList<Witnessed>,
 }

@@ -8,4 +8,5 @@ pub mod Counting
 pub mod Lacking
 pub mod NoOps
 pub mod TurningOver
+pub mod AllWorkers
 pub mod Unsettled

@@ -6,4 +6,5 @@ pub mod Worker
 pub mod Going
 pub mod TurningOver
 pub mod Unsettled
+pub mod AllWorkers
 pub mod Cited

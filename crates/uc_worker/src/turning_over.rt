@@ -5,9 +5,11 @@ ghost use Rattle.mc_model.specs.declared.fault.Fault.TheVariants as faults;
 ghost use Rattle.mc_model.specs.Replay.{EachStands, HaveRoom};
 ghost use Rattle.uc_cells.specs.Sighting.{entries};
 ghost use Rattle.uc_log.specs.Passes.{IsNew, IsUnusedPass};
+ghost use Rattle.uc_worker.specs.AllWorkers.{AreOnOneRun};
 ghost use Rattle.uc_worker.specs.TurningOver.{AllCanTurnOver, CanMeetAll, HaveOneHistory, IsAsBefore};
 ghost use Rattle.uc_worker.specs.Worker.{HasReplayedAll, history_of, openings_of, tables_of};
 
+use crate::all_workers::find_one_run;
 use crate::worker::Worker;
 use mc_items::Items;
 use mc_items::tables::{copies_of, have_room};
@@ -92,10 +94,14 @@ trait Meets: Sized {
     /// Both know the same.
     ghost agrees: { Self → Self → Type 0 };
 
+    /// All that these know lies on one run.
+    ghost on_one_run: { List Self → Type 0 };
+
     fn meet_others(&mut self, others: &mut [Self]) -> Result<(), Fault>
         requires { can_meet self.old others.old }
         ensures before { stays self.old self.new × AllZip stays others.old others.new }
         ensures same { OnOk result (All (λ other. agrees other self.old) others.old) }
+        ensures run { OnOk result (on_one_run (self.new ∷ others.new)) }
         ensures memory { IsOkUnless result faults.Memory };
 }
 
@@ -106,8 +112,12 @@ impl Meets for Worker<'_> {
 
     ghost agrees = { λ other one. history_of other ≡ history_of one };
 
+    ghost on_one_run = { AreOnOneRun };
+
     fn meet_others(&mut self, others: &mut [Self]) -> Result<(), Fault> {
-        meet_all(self, others)
+        meet_all(self, others)?;
+        find_one_run(self, others);
+        Ok(())
     }
 }
 
@@ -119,6 +129,7 @@ fn meet_first<W: Meets>(all: &mut [W]) -> Result<(), Fault>
     ensures before { AllZip W.stays all.old all.new }
     ensures same { OnOk result ((first : W) (others : List W) → all.old ≡ first ∷ others →
         All (λ other. W.agrees other first) others) }
+    ensures run { OnOk result (W.on_one_run all.new) }
     ensures memory { IsOkUnless result faults.Memory }
 {
     let Some((first, others)) = all.split_first_mut() else {
@@ -164,6 +175,9 @@ pub fn turn_over(
     ensures before { AllZip IsAsBefore workers.old workers.new }
     // All have replayed the same, so what one of them has answered stands in the log that is closed.
     ensures same { OnOk result (HaveOneHistory workers.new) }
+    // One run of the log that is closed, from its opening, has all calls of these workers' seats, in
+    // order, and no other events of theirs.
+    ensures run { OnOk result (AreOnOneRun workers.new) }
     // The new log begins with the tables that the workers have,
     ensures base { IfOk result (λ next. (first : _) → slice_get workers.old 0 ≡ Some first →
         next.base.tables.items ≡ tables_of first) }
