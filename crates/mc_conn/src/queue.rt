@@ -9,7 +9,7 @@ ghost use Rattle.mc_write.specs.Text.{text, value_line, value_text};
 
 use crate::conn::QUEUE_BYTES;
 use crate::run::Run;
-use mc_model::{Data, Fault, Reply, Value, ValueList};
+use mc_model::{Data, Fault, Reply, Value, ValueList, Values};
 use mc_stream::{Output, push_while_taken};
 use mc_write::{write_line, write_reply, write_value};
 use std::alloc::{AllocError, Global};
@@ -284,8 +284,13 @@ impl Queue {
         ensures text { OnOk result (self.new ≡ self.old ++ text (Reply.Values values)) }
         ensures begun { StartsWith self.new self.old }
     {
-        for value in values.into_values() {
-            self.append_value(value)?;
+        match values.into_values() {
+            Values::Single(value) => self.append_value(value)?,
+            Values::Several(values) => {
+                for value in values {
+                    self.append_value(value)?;
+                }
+            }
         }
         self.put(b"END\r\n")
     }

@@ -82,11 +82,16 @@ impl Key {
     }
 }
 
-/// Returns whether no byte is a control character or a space.
+/// Returns whether no byte is a control character or a space. It looks at all of them, without a
+/// branch at each, so that many are compared at once.
 fn are_plain(bytes: &[u8]) -> bool
     ensures { result ≡ list_all is_key_byte bytes.now }
 {
-    bytes.iter().all(|byte| *byte > 32 && *byte != 127)
+    let mut are_plain = true;
+    for byte in bytes {
+        are_plain &= (*byte > 32) & (*byte != 127);
+    }
+    are_plain
 }
 
 impl PartialEq for Key {

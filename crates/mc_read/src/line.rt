@@ -6,7 +6,7 @@ ghost use Rattle.mc_read.specs.Word.{is_word};
 
 use crate::storage::{ask_cas, ask_storage};
 use crate::without_block::{ask_retrieval, ask_without_block};
-use crate::words::{is_word, words};
+use crate::words::{Words, is_word};
 use mc_model::{Command, Data, Fault, Key, Reply, Request, Verb, WireNo};
 use std::alloc::Global;
 
@@ -148,8 +148,8 @@ pub fn ask(alloc: Global, line: &[u8]) -> Result<Asked, Fault>
     ensures lawful { IfOk result HasLawfulBlock }
     ensures memory { IsOkUnless result Fault.Memory }
 {
-    let found = words(alloc, line)?;
-    let Some((name, arguments)) = found.split_first() else {
+    let mut arguments = Words::of(line);
+    let Some(name) = arguments.next() else {
         return Ok(no_command());
     };
     // First, since most lines have this name.

@@ -1,11 +1,11 @@
 //! Whose lines a reader reads, and what an administrator's line asks for.
-ghost use Rattle.std.specs.Prelude.{◌≡◌, IfOk, IsOkUnless, map};
+ghost use Rattle.std.specs.Prelude.{◌≡◌, IfOk, IsOkUnless};
 ghost use Rattle.mc_read.specs.Administering.{asked_by_admin, asked_of_admin, asked_of_limit, asked_of_setting, lines_spoken};
 ghost use Rattle.mc_read.specs.Line.{HasLawfulBlock};
 
 use crate::line::{Asked, ask, malformed, no_command};
 use crate::without_block::ask_name;
-use crate::words::{is_noreply, is_word, words};
+use crate::words::{Words, is_noreply, is_word};
 use mc_model::{Fault, Limits, Name, Reply, Request};
 use std::alloc::Global;
 
@@ -39,18 +39,17 @@ fn ask_by_admin(alloc: Global, line: &[u8]) -> Result<Asked, Fault>
     ensures lawful { IfOk result HasLawfulBlock }
     ensures memory { IsOkUnless result Fault.Memory }
 {
-    let found = words(alloc, line)?;
-    ask_admin(alloc, &found)
+    ask_admin(alloc, Words::of(line))
 }
 
 /// Returns what an administrator's line with these words asks for.
-fn ask_admin(alloc: Global, found: &[&[u8]]) -> Result<Asked, Fault>
-    ensures asked { IfOk result
-        (λ asked. asked ≡ asked_of_admin (map (λ word. word.now) found.now)) }
+fn ask_admin(alloc: Global, words: Words<'_>) -> Result<Asked, Fault>
+    ensures asked { IfOk result (λ asked. asked ≡ asked_of_admin words.entry) }
     ensures lawful { IfOk result HasLawfulBlock }
     ensures memory { IsOkUnless result Fault.Memory }
 {
-    let Some((name, arguments)) = found.split_first() else {
+    let mut arguments = words;
+    let Some(name) = arguments.next() else {
         return Ok(no_command());
     };
     if is_word(name, b"limit") {
@@ -71,17 +70,28 @@ fn ask_admin(alloc: Global, found: &[&[u8]]) -> Result<Asked, Fault>
 }
 
 /// Returns what a line of `limit` asks for, given the words after its name.
-fn ask_limit(alloc: Global, arguments: &[&[u8]]) -> Result<Asked, Fault>
-    ensures asked { IfOk result
-        (λ asked. asked ≡ asked_of_limit (map (λ word. word.now) arguments.now)) }
+fn ask_limit(alloc: Global, arguments: Words<'_>) -> Result<Asked, Fault>
+    ensures asked { IfOk result (λ asked. asked ≡ asked_of_limit arguments.entry) }
     ensures lawful { IfOk result HasLawfulBlock }
     ensures memory { IsOkUnless result Fault.Memory }
 {
-    match arguments {
-        [name, items, bytes] => limit(alloc, true, name, items, bytes, false),
-        [name, items, bytes, last] => limit(alloc, is_noreply(last), name, items, bytes, true),
-        _ => Ok(no_command()),
+    let mut arguments = arguments;
+    let Some(name) = arguments.next() else {
+        return Ok(no_command());
+    };
+    let Some(items) = arguments.next() else {
+        return Ok(no_command());
+    };
+    let Some(bytes) = arguments.next() else {
+        return Ok(no_command());
+    };
+    let Some(last) = arguments.next() else {
+        return limit(alloc, true, name, items, bytes, false);
+    };
+    if arguments.next().is_some() {
+        return Ok(no_command());
     }
+    limit(alloc, is_noreply(last), name, items, bytes, true)
 }
 
 /// Returns the setting of a tenant's quotas, if the word after these is valid.

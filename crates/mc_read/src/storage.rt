@@ -1,12 +1,12 @@
 //! Lines with a block: `set`, `add`, `replace`, `append`, `prepend` and `cas`.
-ghost use Rattle.std.specs.Prelude.{◌≡◌, IfOk, IsOkUnless, map};
+ghost use Rattle.std.specs.Prelude.{◌≡◌, IfOk, IsOkUnless};
 ghost use Rattle.mc_model.specs.Number.{number_up_to};
 ghost use Rattle.mc_read.specs.Line.{HasLawfulBlock, asked_of_block, asked_of_cas, asked_of_storage, first_failure, ignores_exptime, storage_checks};
 
 use crate::line::{
     Asked, BLOCK_LENGTH, FLAGS, Header, Storage, UNIQUE, is_quiet_refusal, malformed, no_command,
 };
-use crate::words::{is_exptime, is_noreply, is_zero};
+use crate::words::{Words, is_exptime, is_noreply, is_zero};
 use mc_model::item::DATA_BYTES;
 use mc_model::{Fault, Key, Verb, WireNo, read_number};
 use std::alloc::Global;
@@ -96,17 +96,28 @@ impl StorageLine<'_> {
 
 /// Returns what a line of `set`, `add`, `replace`, `append` or `prepend` asks for, given the words
 /// after its name. Returns `Memory` if an allocation fails.
-pub fn ask_storage(alloc: Global, verb: Verb, arguments: &[&[u8]]) -> Result<Asked, Fault>
-    ensures asked { IfOk result
-        (λ asked. asked ≡ asked_of_storage verb (map (λ word. word.now) arguments.now)) }
+pub fn ask_storage(alloc: Global, verb: Verb, arguments: Words<'_>) -> Result<Asked, Fault>
+    ensures asked { IfOk result (λ asked. asked ≡ asked_of_storage verb arguments.entry) }
     ensures lawful { IfOk result HasLawfulBlock }
     ensures memory { IsOkUnless result Fault.Memory }
 {
-    let (key, flags, exptime, size, last) = match arguments {
-        [key, flags, exptime, size] => (*key, *flags, *exptime, *size, None),
-        [key, flags, exptime, size, last] => (*key, *flags, *exptime, *size, Some(*last)),
-        _ => return Ok(no_command()),
+    let mut arguments = arguments;
+    let Some(key) = arguments.next() else {
+        return Ok(no_command());
     };
+    let Some(flags) = arguments.next() else {
+        return Ok(no_command());
+    };
+    let Some(exptime) = arguments.next() else {
+        return Ok(no_command());
+    };
+    let Some(size) = arguments.next() else {
+        return Ok(no_command());
+    };
+    let last = arguments.next();
+    if arguments.next().is_some() {
+        return Ok(no_command());
+    }
     let line = StorageLine {
         storage: Some(Storage::Plain(verb)),
         key,
@@ -120,19 +131,32 @@ pub fn ask_storage(alloc: Global, verb: Verb, arguments: &[&[u8]]) -> Result<Ask
 
 /// Returns what a line of `cas` asks for, given the words after its name. Returns `Memory` if an
 /// allocation fails.
-pub fn ask_cas(alloc: Global, arguments: &[&[u8]]) -> Result<Asked, Fault>
-    ensures asked { IfOk result
-        (λ asked. asked ≡ asked_of_cas (map (λ word. word.now) arguments.now)) }
+pub fn ask_cas(alloc: Global, arguments: Words<'_>) -> Result<Asked, Fault>
+    ensures asked { IfOk result (λ asked. asked ≡ asked_of_cas arguments.entry) }
     ensures lawful { IfOk result HasLawfulBlock }
     ensures memory { IsOkUnless result Fault.Memory }
 {
-    let (key, flags, exptime, size, unique, last) = match arguments {
-        [key, flags, exptime, size, unique] => (*key, *flags, *exptime, *size, *unique, None),
-        [key, flags, exptime, size, unique, last] => {
-            (*key, *flags, *exptime, *size, *unique, Some(*last))
-        }
-        _ => return Ok(no_command()),
+    let mut arguments = arguments;
+    let Some(key) = arguments.next() else {
+        return Ok(no_command());
     };
+    let Some(flags) = arguments.next() else {
+        return Ok(no_command());
+    };
+    let Some(exptime) = arguments.next() else {
+        return Ok(no_command());
+    };
+    let Some(size) = arguments.next() else {
+        return Ok(no_command());
+    };
+    let Some(unique) = arguments.next() else {
+        return Ok(no_command());
+    };
+    let last = arguments.next();
+    let more = arguments.next();
+    if more.is_some() {
+        return Ok(no_command());
+    }
     let line = StorageLine {
         storage: read_number(unique, UNIQUE).map(Storage::CheckAndSet),
         key,

@@ -1,7 +1,7 @@
 //! Lines without a block: `get`, `gets`, `delete`, `incr`, `decr`, `flush_all`, and names with no
 //! words after them.
 ghost use Rattle.std.specs.List.{list_all};
-ghost use Rattle.std.specs.Prelude.{◌≡◌, [], ◌∷◌, false, IfOk, IfSome, IsOkUnless, codes, is_some, map};
+ghost use Rattle.std.specs.Prelude.{◌≡◌, [], ◌∷◌, true, false, IfOk, IsOkUnless, codes, is_some};
 ghost use Rattle.mc_model.specs.declared.command.Command.TheVariants.{Delete, Flush};
 ghost use Rattle.mc_model.specs.declared.reply.TheConstants.WireNo.{BAD_FORMAT};
 ghost use Rattle.mc_model.specs.declared.request.Request.TheVariants.{Logged};
@@ -12,7 +12,7 @@ ghost use Rattle.mc_read.specs.Line.{HasLawfulBlock, asked_after, asked_of_chang
 ghost use Rattle.mc_read.specs.Word.{is_word};
 
 use crate::line::{Asked, DELTA, malformed, no_command, refused};
-use crate::words::{is_exptime, is_noreply, is_word, is_zero};
+use crate::words::{Words, is_exptime, is_noreply, is_word, is_zero};
 use mc_model::{Command, Fault, Key, KeyList, Reply, Request, WireNo, read_number};
 use std::alloc::Global;
 
@@ -23,23 +23,37 @@ fn logged(command: Command, quiet: bool) -> Asked
     Asked::LineOnly(Request::Logged { command, quiet })
 }
 
-/// Returns the keys of a retrieval, or `None` if a word isn't a valid key. Returns `Memory` if an
-/// allocation fails.
-fn read_keys(alloc: Global, words: &[&[u8]]) -> Result<Option<Vec<Key>>, Fault>
-    ensures lawful { IfOk result
-        (λ keys. is_some keys ≡ list_all is_lawful_key (map (λ word. word.now) words.now)) }
-    ensures keys { IfOk result
-        (λ keys. IfSome keys (λ keys. keys.items ≡ map (λ word. word.now) words.now)) }
+/// Returns the keys of a retrieval, whose words are valid keys. Returns `Memory` if an allocation
+/// fails.
+fn read_keys(alloc: Global, words: Words<'_>, count: usize) -> Result<Vec<Key>, Fault>
+    requires { list_all is_lawful_key words ≡ true }
+    ensures keys { IfOk result (λ keys. keys.items ≡ words.entry) }
     ensures memory { IsOkUnless result Fault.Memory }
 {
-    let mut keys = Vec::with_capacity(alloc, words.len())?;
-    for word in words {
-        let Some(key) = Key::new(alloc, word)? else {
-            return Ok(None);
-        };
-        keys.push(key)?;
+    let mut keys = Vec::with_capacity(alloc, count)?;
+    let mut words = words;
+    while let Some(word) = words.next() {
+        match Key::new(alloc, word)? {
+            Some(key) => keys.push(key)?,
+            None => unreachable!(),
+        }
     }
-    Ok(Some(keys))
+    Ok(keys)
+}
+
+/// Returns how many words there are, or `None` if one isn't a valid key. Allocates nothing.
+fn count_keys(words: Words<'_>) -> Option<usize>
+    ensures { is_some result ≡ list_all is_lawful_key words.entry }
+{
+    let mut words = words;
+    let mut count: usize = 0;
+    while let Some(word) = words.next() {
+        if !Key::is_lawful(word) {
+            return None;
+        }
+        count = count.saturating_add(1);
+    }
+    Some(count)
 }
 
 /// Returns what the retrieval of one key asks for. Returns `Memory` if an allocation fails.
@@ -56,16 +70,16 @@ fn ask_single(alloc: Global, uniques: bool, word: &[u8]) -> Result<Asked, Fault>
     }
 }
 
-/// Returns what the retrieval of any number of keys asks for; none is no command. Returns `Memory`
-/// if an allocation fails.
-fn ask_several(alloc: Global, uniques: bool, words: &[&[u8]]) -> Result<Asked, Fault>
-    ensures asked { IfOk result
-        (λ asked. asked ≡ asked_of_retrieval uniques (map (λ word. word.now) words.now)) }
+/// Returns what the retrieval of any number of keys asks for; none is no command. Nothing is
+/// allocated before all of them are known to be valid. Returns `Memory` if an allocation fails.
+fn ask_several(alloc: Global, uniques: bool, words: Words<'_>) -> Result<Asked, Fault>
+    ensures asked { IfOk result (λ asked. asked ≡ asked_of_retrieval uniques words.entry) }
     ensures memory { IsOkUnless result Fault.Memory }
 {
-    let Some(keys) = read_keys(alloc, words)? else {
+    let Some(count) = count_keys(words.again()) else {
         return Ok(malformed());
     };
+    let keys = read_keys(alloc, words, count)?;
     match KeyList::new(keys) {
         Some(keys) => Ok(logged(Command::Get { keys, uniques }, false)),
         None => Ok(no_command()),
@@ -74,15 +88,18 @@ fn ask_several(alloc: Global, uniques: bool, words: &[&[u8]]) -> Result<Asked, F
 
 /// Returns what a retrieval asks for, given the words after its name. Returns `Memory` if an
 /// allocation fails.
-pub fn ask_retrieval(alloc: Global, uniques: bool, arguments: &[&[u8]]) -> Result<Asked, Fault>
-    ensures asked { IfOk result
-        (λ asked. asked ≡ asked_of_retrieval uniques (map (λ word. word.now) arguments.now)) }
+pub fn ask_retrieval(alloc: Global, uniques: bool, arguments: Words<'_>) -> Result<Asked, Fault>
+    ensures asked { IfOk result (λ asked. asked ≡ asked_of_retrieval uniques arguments.entry) }
     ensures memory { IsOkUnless result Fault.Memory }
 {
-    match arguments {
-        [word] => ask_single(alloc, uniques, word),
-        _ => ask_several(alloc, uniques, arguments),
+    let mut others = arguments.again();
+    let Some(word) = others.next() else {
+        return Ok(no_command());
+    };
+    if others.next().is_none() {
+        return ask_single(alloc, uniques, word);
     }
+    ask_several(alloc, uniques, arguments)
 }
 
 /// Returns the deletion of a key, if the words after the key are valid.
@@ -103,20 +120,25 @@ fn delete(alloc: Global, key: &[u8], are_lawful: bool, quiet: bool) -> Result<As
 }
 
 /// Returns what a deletion asks for, given the words after its name.
-fn ask_delete(alloc: Global, arguments: &[&[u8]]) -> Result<Asked, Fault>
-    ensures asked { IfOk result
-        (λ asked. asked ≡ asked_of_delete (map (λ word. word.now) arguments.now)) }
+fn ask_delete(alloc: Global, arguments: Words<'_>) -> Result<Asked, Fault>
+    ensures asked { IfOk result (λ asked. asked ≡ asked_of_delete arguments.entry) }
     ensures memory { IsOkUnless result Fault.Memory }
 {
-    match arguments {
-        [key] => delete(alloc, key, true, false),
-        [key, last] => {
-            let noreply = is_noreply(last);
-            delete(alloc, key, noreply || is_word(last, b"0"), noreply)
-        }
-        [key, time, last] => delete(alloc, key, is_word(time, b"0") && is_noreply(last), true),
-        _ => Ok(no_command()),
+    let mut arguments = arguments;
+    let Some(key) = arguments.next() else {
+        return Ok(no_command());
+    };
+    let Some(time) = arguments.next() else {
+        return delete(alloc, key, true, false);
+    };
+    let Some(last) = arguments.next() else {
+        let noreply = is_noreply(time);
+        return delete(alloc, key, noreply || is_word(time, b"0"), noreply);
+    };
+    if arguments.next().is_some() {
+        return Ok(no_command());
     }
+    delete(alloc, key, is_word(time, b"0") && is_noreply(last), true)
 }
 
 /// A change to the number under a key.
@@ -152,30 +174,38 @@ impl Change {
             (λ asked. asked ≡ asked_of_delta self is_lawful key.now (number_up_to DELTA delta.now) quiet) }
         ensures memory { IsOkUnless result Fault.Memory }
     {
-        if !is_lawful {
+        if !(is_lawful && Key::is_lawful(key)) {
             return Ok(malformed());
         }
-        let Some(key) = Key::new(alloc, key)? else {
-            return Ok(malformed());
+        let Some(by) = read_number(delta, DELTA) else {
+            return Ok(Asked::LineOnly(refused(WireNo::BAD_DELTA, false)));
         };
-        match read_number(delta, DELTA) {
-            Some(by) => Ok(logged(self.command(key, by), quiet)),
-            None => Ok(Asked::LineOnly(refused(WireNo::BAD_DELTA, false))),
+        match Key::new(alloc, key)? {
+            Some(key) => Ok(logged(self.command(key, by), quiet)),
+            None => unreachable!(),
         }
     }
 }
 
 /// Returns what a line of `incr` or `decr` asks for, given the words after its name.
-fn ask_change(alloc: Global, change: Change, arguments: &[&[u8]]) -> Result<Asked, Fault>
-    ensures asked { IfOk result
-        (λ asked. asked ≡ asked_of_change change (map (λ word. word.now) arguments.now)) }
+fn ask_change(alloc: Global, change: Change, arguments: Words<'_>) -> Result<Asked, Fault>
+    ensures asked { IfOk result (λ asked. asked ≡ asked_of_change change arguments.entry) }
     ensures memory { IsOkUnless result Fault.Memory }
 {
-    match arguments {
-        [key, delta] => change.ask(alloc, key, delta, true, false),
-        [key, delta, last] => change.ask(alloc, key, delta, is_noreply(last), true),
-        _ => Ok(no_command()),
+    let mut arguments = arguments;
+    let Some(key) = arguments.next() else {
+        return Ok(no_command());
+    };
+    let Some(delta) = arguments.next() else {
+        return Ok(no_command());
+    };
+    let Some(last) = arguments.next() else {
+        return change.ask(alloc, key, delta, true, false);
+    };
+    if arguments.next().is_some() {
+        return Ok(no_command());
     }
+    change.ask(alloc, key, delta, is_noreply(last), true)
 }
 
 /// Returns a flush of the table, if the exptime is valid.
@@ -193,25 +223,35 @@ fn flush(exptime: &[u8], quiet: bool) -> Asked
 }
 
 /// Returns what a line of `flush_all` asks for, given the words after its name.
-fn ask_flush(arguments: &[&[u8]]) -> Asked
-    ensures asked { result ≡ asked_of_flush (map (λ word. word.now) arguments.now) }
+fn ask_flush(arguments: Words<'_>) -> Asked
+    ensures asked { result ≡ asked_of_flush arguments.entry }
     ensures lawful { HasLawfulBlock result }
 {
-    match arguments {
-        [] => flush(b"0", false),
-        [word] if is_noreply(word) => flush(b"0", true),
-        [exptime] => flush(exptime, false),
-        [exptime, last] if is_noreply(last) => flush(exptime, true),
-        [_, _] => malformed(),
-        _ => no_command(),
+    let mut arguments = arguments;
+    let Some(exptime) = arguments.next() else {
+        return flush(b"0", false);
+    };
+    let Some(last) = arguments.next() else {
+        if is_noreply(exptime) {
+            return flush(b"0", true);
+        }
+        return flush(exptime, false);
+    };
+    if arguments.next().is_some() {
+        no_command()
+    } else if is_noreply(last) {
+        flush(exptime, true)
+    } else {
+        malformed()
     }
 }
 
 /// Returns what a name without arguments asks for; `arguments` are the words after it.
-pub fn ask_name(request: Request, arguments: &[&[u8]]) -> Asked
-    ensures { result ≡ asked_of_name request (map (λ word. word.now) arguments.now) }
+pub fn ask_name(request: Request, arguments: Words<'_>) -> Asked
+    ensures { result ≡ asked_of_name request arguments.entry }
 {
-    if arguments.is_empty() {
+    let mut arguments = arguments;
+    if arguments.next().is_none() {
         Asked::LineOnly(request)
     } else {
         no_command()
@@ -221,9 +261,8 @@ pub fn ask_name(request: Request, arguments: &[&[u8]]) -> Asked
 /// Returns what a line asks for whose name stores nothing, reads nothing and counts nothing. Kept
 /// apart from the other names, since a function clears the stack space for what each of its calls
 /// returns.
-fn ask_others(alloc: Global, name: &[u8], arguments: &[&[u8]]) -> Result<Asked, Fault>
-    ensures asked { IfOk result
-        (λ asked. asked ≡ asked_of_others name.now (map (λ word. word.now) arguments.now)) }
+fn ask_others(alloc: Global, name: &[u8], arguments: Words<'_>) -> Result<Asked, Fault>
+    ensures asked { IfOk result (λ asked. asked ≡ asked_of_others name.now arguments.entry) }
     ensures lawful { IfOk result HasLawfulBlock }
     ensures memory { IsOkUnless result Fault.Memory }
 {
@@ -248,10 +287,9 @@ fn ask_others(alloc: Global, name: &[u8], arguments: &[&[u8]]) -> Result<Asked, 
 
 /// Returns what a line asks for whose name stores nothing and isn't `get`, given the words after
 /// it. Returns `Memory` if an allocation fails.
-pub fn ask_without_block(alloc: Global, name: &[u8], arguments: &[&[u8]]) -> Result<Asked, Fault>
+pub fn ask_without_block(alloc: Global, name: &[u8], arguments: Words<'_>) -> Result<Asked, Fault>
     requires { is_word name.now (codes "get") ≡ false }
-    ensures asked { IfOk result
-        (λ asked. asked ≡ asked_without_block name.now (map (λ word. word.now) arguments.now)) }
+    ensures asked { IfOk result (λ asked. asked ≡ asked_without_block name.now arguments.entry) }
     ensures lawful { IfOk result HasLawfulBlock }
     ensures memory { IsOkUnless result Fault.Memory }
 {

@@ -1,13 +1,11 @@
 //! The words of a line, and what a single word can be.
 ghost use Rattle.std.specs.Char.{is_ascii_digit};
 ghost use Rattle.std.specs.List.{after_first, before_first, list_all};
-ghost use Rattle.std.specs.Prelude.{◌≡◌, IfOk, IsOkUnless, map};
-ghost use Rattle.mc_read.specs.Word.{is_exptime, is_noreply, is_space, is_word, is_zero, without_minus, without_return, words};
+ghost use Rattle.std.specs.Prelude.{◌≡◌, [], ◌∷◌, MatchOption};
+ghost use Rattle.mc_read.specs.Word.{is_exptime, is_noreply, is_space, is_word, is_zero, spaced_words, without_minus, without_return, words};
 
-use mc_model::Fault;
 use memchr::memchr;
-use smallvec::SmallVec;
-use std::alloc::Global;
+use std::marker::Model;
 
 /// Returns the line without a carriage return at its end, of which at most one is removed.
 fn without_return(line: &[u8]) -> &[u8]
@@ -31,25 +29,64 @@ fn split_at_space(text: &[u8]) -> (&[u8], &[u8])
     }
 }
 
-/// The number of words in the longest line that isn't a retrieval; a retrieval has any number.
-pub const STORAGE_WORDS: usize = 7;
-
-/// Returns the line's words, separated by runs of spaces. As many as a storage line has need no
-/// allocation. Returns `Memory` if an allocation fails.
-pub fn words(alloc: Global, line: &[u8]) -> Result<SmallVec<&[u8], STORAGE_WORDS>, Fault>
-    ensures words { IfOk result (λ found. map (λ word. word.now) found.items ≡ words line.now) }
-    ensures memory { IsOkUnless result Fault.Memory }
+/// Returns the first word of a text and what comes after it, or `None` if there is no word.
+fn first_word(text: &[u8]) -> Option<(&[u8], &[u8])>
+    ensures { MatchOption result (spaced_words text.now ≡ [])
+        (λ found. spaced_words text.now ≡ found.0.now ∷ spaced_words found.1.now) }
 {
-    let mut found = SmallVec::new(alloc);
-    let mut rest = without_return(line);
+    let mut rest = text;
     while !rest.is_empty() {
         let (word, others) = split_at_space(rest);
         if !word.is_empty() {
-            found.push(word)?;
+            return Some((word, others));
         }
         rest = others;
     }
-    Ok(found)
+    None
+}
+
+/// The words of a line that are still to be looked at, separated by runs of spaces. They are looked
+/// at where they stand.
+#[derive(Debug, Drop)]
+pub struct Words<'a> {
+    rest: &'a [u8],
+}
+
+impl<'a> Model for Words<'a> {
+    ghost use Rattle.std.specs.Prelude.{ℕ, List};
+    ghost use Rattle.mc_read.specs.Word.{spaced_words};
+
+    ghost Value = { List (List ℕ) };
+
+    ghost view = { λ words. spaced_words words.rest.now };
+}
+
+impl<'a> Words<'a> {
+    /// Returns the words of a line.
+    pub fn of(line: &'a [u8]) -> Words<'a>
+        ensures { result ≡ words line.now }
+    {
+        Words {
+            rest: without_return(line),
+        }
+    }
+
+    /// Returns the words that are still to be looked at, for another look.
+    pub fn again(&self) -> Words<'a>
+        ensures { result ≡ self.now }
+    {
+        Words { rest: self.rest }
+    }
+
+    /// Takes the next word, if there is one.
+    pub fn next(&mut self) -> Option<&'a [u8]>
+        ensures { MatchOption result ((self.old ≡ []) × (self.new ≡ []))
+            (λ word. self.old ≡ word.now ∷ self.new) }
+    {
+        let (word, rest) = first_word(self.rest)?;
+        self.rest = rest;
+        Some(word)
+    }
 }
 
 /// Returns whether the word is this name, byte for byte.

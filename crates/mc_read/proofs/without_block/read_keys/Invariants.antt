@@ -1,11 +1,14 @@
-use Rattle.std.proofs.Common.{◌≡◌, true, map, take}
+use Rattle.std.proofs.Common.{◌≡◌, ◌++◌, true, length}
 use Rattle.std.specs.List.{list_all}
 use Rattle.mc_model.specs.Key.{is_lawful_key}
 use Rattle.mc_read.proofs.without_block.read_keys.Given as goal
 
--- the keys are the words so far, which are all valid
+-- the keys so far and the words that are left, which are valid, are all words
 abbrev pub invariant-loop-word : goal.invariant-loop-word
 invariant-loop-word l = record {
-  keys : l.keys.items ≡ map (λ word. word.now) (take l.word-index l.words);
-  lawful : list_all is_lawful_key (map (λ word. word.now) (take l.word-index l.words)) ≡ true;
+  keys : l.keys.items ++ l.words ≡ l.fn.words;
+  lawful : list_all is_lawful_key l.words ≡ true;
 }
+
+abbrev pub decreases-loop-word : goal.decreases-loop-word
+decreases-loop-word l = length l.words
