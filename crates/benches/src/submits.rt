@@ -5,8 +5,8 @@ ghost use Rattle.std.specs.Prelude.{◌≡◌, ℕ, Some, slice_get};
 ghost use Rattle.uc_log.specs.Passes.{IsNew};
 
 use crate::figures::{Decimal, nanoseconds_of, print_figure};
-use mc_items::Items;
-use mc_items::tables::tables_of;
+use mc_items::tables::owned_tables;
+use mc_items::{Items, Table};
 use mc_model::settings::{MAX_BYTES, MAX_ITEMS};
 use mc_model::{Command, Fault, Limits, Reply, Request, Settings, TenantId};
 use mc_read::Reader;
@@ -16,7 +16,7 @@ use std::thread::{Threads, map_vec};
 use std::time::Duration;
 use std::{io, mem};
 use uc_log::{Log, Pass};
-use uc_worker::{Gate, Open, Step, Worker};
+use uc_worker::{Gate, Hashing, Open, Step, Worker};
 
 /// Into how many parts a worker's commands are divided, each timed by itself.
 const PARTS: usize = 10;
@@ -298,7 +298,7 @@ fn jobs_of<'a>(
         let Some(pass) = passes.pop() else {
             break;
         };
-        let worker = Worker::open(alloc, log, pass)?;
+        let worker = Worker::open(alloc, Hashing::Fixed, log, pass)?;
         let mut client = Client { log, worker };
         if number == 0 {
             fill(alloc, &mut client, load)?;
@@ -352,7 +352,7 @@ fn perform<R: Clock + Threads + Sync>(
     match load.task {
         Task::Make => serve_alone(rt, alloc, load, ()),
         Task::Apply => {
-            let tables = tables_of(alloc, load.settings(alloc)?.tenants())?;
+            let tables = owned_tables(alloc, load.settings(alloc)?.tenants(), Hashing::Fixed)?;
             serve_alone(rt, alloc, load, tables)
         }
         Task::Submit => submit(rt, alloc, load),

@@ -9,7 +9,7 @@ use mc_model::{Fault, Limits, Settings, TenantId};
 use mc_stream::{Input, InputStep, MemoryInput, MemoryOutput, Output, OutputStep, Pull, Push};
 use std::alloc::{AllocError, Global};
 use uc_log::{Log, Pass};
-use uc_worker::{Open, Worker};
+use uc_worker::{Hashing, Open, Worker};
 
 /// Enough for all that most tests store.
 pub(crate) const QUOTAS: Limits = Limits {
@@ -214,7 +214,7 @@ pub(crate) fn worker_of<'a>(alloc: Global, log: &'a Log, pass: Pass) -> Result<W
     requires { IsUnusedPass log.now pass }
     ensures { IfOk result (λ worker. worker.log.now ≡ log.now) }
 {
-    Worker::open(alloc, log, pass)
+    Worker::open(alloc, Hashing::Fixed, log, pass)
 }
 
 /// Returns worker 0. The other worker does nothing.

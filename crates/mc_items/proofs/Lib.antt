@@ -1,4 +1,1 @@
-pub mod Maps
-pub mod Quotas
-pub mod Stands
 mod Effects

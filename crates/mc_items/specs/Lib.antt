@@ -1,3 +1,1 @@
 pub mod Asker
-pub mod Held
-pub mod Storing

@@ -1,11 +1,8 @@
-//! A tenant's table, as an ordered map with a running total, and the tables of all tenants, with
-//! the replies that the definitions of `mc_model` give. Begin with `Items::apply`.
+//! The tables of all tenants, and what an entry of the log does to them. A single table is that of
+//! `mc_tables`, which is re-exported. Begin with `tables::take_effect`.
 #![tactic(auto)]
 
-pub use items::Items;
 pub use mc_model::Item;
+pub use mc_tables::{CellItems, Hashing, OwnedItems as Items, Table, View};
 
-mod blocks;
-mod held;
-pub mod items;
 pub mod tables;

@@ -8,43 +8,78 @@ ghost use Rattle.mc_model.specs.State.{TableState, empty_table};
 ghost use Rattle.mc_model.specs.declared.request.Entry.{Entry};
 ghost use Rattle.mc_model.specs.declared.settings.Limits.{Limits};
 
-use crate::items::Items;
 use mc_model::{Entry, Fault, Limits, Reply, WorkerId};
+use mc_tables::{CellItems, Hashing, Metered, OwnedItems, Storage, StorageFor, Table};
 use std::alloc::Global;
 
-/// Returns a tenant's table before any command.
-fn empty(alloc: Global, limits: &Limits) -> Items
+/// Returns a tenant's table before any command, whose items are in memory of their own.
+fn empty(alloc: Global, limits: &Limits, hashing: Hashing) -> OwnedItems
     ensures { result ≡ empty_table limits.now }
 {
-    Items::new(alloc, *limits)
+    OwnedItems::new(alloc, *limits, hashing)
 }
 
-/// Returns an empty table for each tenant's quotas. Returns `Memory` if the allocation fails.
-pub fn tables_of(alloc: Global, limits: &[Limits]) -> Result<Vec<Items>, Fault>
+/// Returns an empty table for each tenant's quotas, whose items are in memory of their own. Returns
+/// `Memory` if the allocation fails.
+pub fn owned_tables(
+    alloc: Global,
+    limits: &[Limits],
+    hashing: Hashing,
+) -> Result<Vec<OwnedItems>, Fault>
     ensures tables { IfOk result (λ tables. tables.items ≡ empty_tables limits.now) }
     ensures memory { IsOkUnless result Fault.Memory }
 {
     let tables = limits
         .iter()
-        .map(|limits| empty(alloc, limits))
+        .map(|limits| empty(alloc, limits, hashing))
         .collect(alloc)?;
     Ok(tables)
 }
 
-/// Returns copies of the tables. Returns `Memory` if an allocation fails.
-pub fn copies_of(alloc: Global, tables: &[Items]) -> Result<Vec<Items>, Fault>
+/// Returns an empty table for each tenant's quotas, whose items borrow from commands. Returns
+/// `Memory` if the allocation fails.
+pub fn cell_tables<'a>(
+    alloc: Global,
+    limits: &[Limits],
+    hashing: Hashing,
+) -> Result<Vec<CellItems<'a>>, Fault>
+    ensures tables { IfOk result (λ tables. tables.items ≡ empty_tables limits.now) }
+    ensures memory { IsOkUnless result Fault.Memory }
+{
+    let mut tables = Vec::with_capacity(alloc, limits.len())?;
+    for quotas in limits {
+        tables.push(CellItems::new(alloc, *quotas, hashing))?;
+    }
+    Ok(tables)
+}
+
+/// Returns the same tables, which borrow their items from those. Returns `Memory` if an allocation
+/// fails.
+pub fn tables_over<'a>(alloc: Global, base: &'a [OwnedItems]) -> Result<Vec<CellItems<'a>>, Fault>
+    ensures same { IfOk result (λ tables. tables.items ≡ base.now) }
+    ensures memory { IsOkUnless result Fault.Memory }
+{
+    let mut tables = Vec::with_capacity(alloc, base.len())?;
+    for table in base {
+        tables.push(CellItems::over(table)?)?;
+    }
+    Ok(tables)
+}
+
+/// Returns the same tables in memory of their own. Returns `Memory` if an allocation fails.
+pub fn copies_of(alloc: Global, tables: &[CellItems<'_>]) -> Result<Vec<OwnedItems>, Fault>
     ensures same { IfOk result (λ copies. copies.items ≡ tables.now) }
     ensures memory { IsOkUnless result Fault.Memory }
 {
     let mut copies = Vec::with_capacity(alloc, tables.len())?;
     for table in tables {
-        copies.push(table.try_clone()?)?;
+        copies.push(table.copied()?)?;
     }
     Ok(copies)
 }
 
 /// Returns whether in each of the tables this many more changes can get uniques of 64 bits.
-pub fn have_room(tables: &[Items], places: u64) -> bool
+pub fn have_room<S: Storage>(tables: &[Metered<S>], places: u64) -> bool
     ensures { IsTrue result ↔ HaveRoom tables.now places }
 {
     tables
@@ -66,10 +101,10 @@ fn is_own(asker: Option<WorkerId>, entry: &Entry) -> bool
 /// own. No entry, or one whose tenant has no table, changes nothing. Without an asker there is no
 /// reply, so a retrieval, whose reply may be large, needs no memory. Returns `Memory` if an
 /// allocation fails; nothing changes then.
-pub fn take_effect(
-    tables: &mut Vec<Items>,
+pub fn take_effect<'a, S: StorageFor<'a>>(
+    tables: &mut Vec<Metered<S>>,
     asker: Option<WorkerId>,
-    found: Option<&Entry>,
+    found: Option<&'a Entry>,
 ) -> Result<Option<Reply>, Fault>
     requires { (tenant : ℕ) (state : TableState) → slice_get tables.old.items tenant ≡ Some state →
         state.last_unique < 2 ^ 64 - 1 }

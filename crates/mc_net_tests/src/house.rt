@@ -17,7 +17,7 @@ use std::sync::Wait;
 use std::thread::Threads;
 use uc_cells::Seen;
 use uc_log::{Log, Pass};
-use uc_worker::Worker;
+use uc_worker::{Hashing, Worker};
 
 /// How many places each log has.
 const PLACES: u64 = 1_024;
@@ -83,7 +83,7 @@ pub(crate) fn open_workers<'a>(
 {
     let mut workers = Vec::new(alloc);
     for pass in passes {
-        workers.push(Worker::open(alloc, log, pass)?)?;
+        workers.push(Worker::open(alloc, Hashing::Fixed, log, pass)?)?;
     }
     Ok(workers)
 }

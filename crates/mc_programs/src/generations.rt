@@ -24,7 +24,7 @@ use std::alloc::Global;
 use std::mem;
 use std::sync::Wait;
 use uc_log::{Log, Pass};
-use uc_worker::{Base, Next, Worker};
+use uc_worker::{Base, Hashing, Next, Worker};
 
 /// Opens the log that follows this one, all of whose places its one worker has replayed.
 ///
@@ -134,6 +134,7 @@ fn serve_log<R: Wait, T: TurnOver, I: Input, O: Output>(
 fn open_first<R: Wait, T: TurnOver, I: Input, O: Output>(
     rt: &R,
     alloc: Global,
+    hashing: Hashing,
     over: &T,
     log: &Log,
     pass: Pass,
@@ -161,7 +162,7 @@ fn open_first<R: Wait, T: TurnOver, I: Input, O: Output>(
     ensures going { IfOk result (λ after. IfSome after (λ _. (conn.new.role ≡ Tenant 0)
         × (conn.new.is_closed ≡ false))) }
 {
-    let mut worker = match Worker::open(alloc, log, pass) {
+    let mut worker = match Worker::open(alloc, hashing, log, pass) {
         Ok(worker) => worker,
         Err(fault) => return Err(refuse_to_open(fault, output)),
     };
@@ -184,6 +185,7 @@ fn open_first<R: Wait, T: TurnOver, I: Input, O: Output>(
 fn serve_first<R: Wait, T: TurnOver, I: Input, O: Output>(
     rt: &R,
     alloc: Global,
+    hashing: Hashing,
     over: &T,
     log: Log,
     pass: Pass,
@@ -212,7 +214,9 @@ fn serve_first<R: Wait, T: TurnOver, I: Input, O: Output>(
     ensures going { IfOk result (λ after. IfSome after (λ _. (conn.new.role ≡ Tenant 0)
         × (conn.new.is_closed ≡ false))) }
 {
-    let served = open_first(rt, alloc, over, &log, pass, is_last, conn, input, output);
+    let served = open_first(
+        rt, alloc, hashing, over, &log, pass, is_last, conn, input, output,
+    );
     if memory.is_left(&served) {
         mem::forget(log);
     }
@@ -333,6 +337,7 @@ fn serve_next<R: Wait, T: TurnOver, I: Input, O: Output>(
 pub(crate) fn serve_logs<R: Wait, T: TurnOver, I: Input, O: Output>(
     rt: &R,
     alloc: Global,
+    hashing: Hashing,
     over: &T,
     log: Log,
     pass: Pass,
@@ -360,7 +365,7 @@ pub(crate) fn serve_logs<R: Wait, T: TurnOver, I: Input, O: Output>(
 {
     let is_last = generations == 1;
     let first = serve_first(
-        rt, alloc, over, log, pass, is_last, memory, conn, input, output,
+        rt, alloc, hashing, over, log, pass, is_last, memory, conn, input, output,
     )?;
     let Some(mut next) = first else {
         return Ok(());

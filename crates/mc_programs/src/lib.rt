@@ -7,6 +7,7 @@
 #![tactic(auto)]
 
 pub use faults::{fail, tell_fault};
+pub use hashing::random_hashing;
 pub use mc_stream::{
     Input, InputStep, MemoryInput, MemoryOutput, Output, OutputStep, Pull, Push, ReadInput,
     WriteOutput,
@@ -16,6 +17,7 @@ pub use schedule::run_schedule;
 pub use serving::serve_client;
 pub use stdin::run_stdin;
 pub use turning_over::{TurnOver, TurnOverAlone};
+pub use uc_worker::Hashing;
 pub use waiting::push_all;
 pub use words::{
     answer_words, flag, flag_option, number, number_option, refuse_words, words_after_name,
@@ -23,6 +25,7 @@ pub use words::{
 
 mod faults;
 mod generations;
+mod hashing;
 mod options;
 mod schedule;
 mod schedule_words;

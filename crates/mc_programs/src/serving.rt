@@ -16,7 +16,7 @@ use std::alloc::Global;
 use std::mem;
 use std::sync::Wait;
 use uc_log::{Log, Pass};
-use uc_worker::Next;
+use uc_worker::{Hashing, Next};
 
 /// Opens a log with one worker, for one tenant.
 ///
@@ -79,6 +79,7 @@ impl Memory {
 pub(crate) fn serve_and_leave<R: Wait, T: TurnOver, I: Input, O: Output>(
     rt: &R,
     alloc: Global,
+    hashing: Hashing,
     over: &T,
     limits: Limits,
     places: u64,
@@ -103,6 +104,7 @@ pub(crate) fn serve_and_leave<R: Wait, T: TurnOver, I: Input, O: Output>(
     let served = serve_logs(
         rt,
         alloc,
+        hashing,
         over,
         log,
         pass,
@@ -136,6 +138,7 @@ pub(crate) fn serve_and_leave<R: Wait, T: TurnOver, I: Input, O: Output>(
 pub fn serve_client<R: Wait, T: TurnOver, I: Input, O: Output>(
     rt: &R,
     alloc: Global,
+    hashing: Hashing,
     over: &T,
     limits: Limits,
     places: u64,
@@ -156,6 +159,7 @@ pub fn serve_client<R: Wait, T: TurnOver, I: Input, O: Output>(
     serve_and_leave(
         rt,
         alloc,
+        hashing,
         over,
         limits,
         places,

@@ -12,6 +12,7 @@ use mc_model::Fault;
 use mc_stream::{Input, Output};
 use std::alloc::Global;
 use std::sync::Wait;
+use uc_worker::Hashing;
 
 /// The program's name, the prefix of its messages.
 const NAME: &[u8] = b"mc_stdin";
@@ -34,6 +35,7 @@ const NAME: &[u8] = b"mc_stdin";
 pub fn run_stdin<R: Wait, T: TurnOver, I: Input, O: Output, E: Output>(
     rt: &R,
     alloc: Global,
+    hashing: Hashing,
     over: &T,
     words: Vec<String>,
     input: &mut I,
@@ -58,6 +60,7 @@ pub fn run_stdin<R: Wait, T: TurnOver, I: Input, O: Output, E: Output>(
     let served = serve_and_leave(
         rt,
         alloc,
+        hashing,
         over,
         options.limits,
         options.places,

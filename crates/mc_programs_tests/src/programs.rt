@@ -1,7 +1,8 @@
 //! Whole runs of programs: their command line, what comes in, and what goes out.
 use crate::runs::{demand, input_of, output_of};
 use mc_programs::{
-    InputStep, MemoryInput, MemoryOutput, OutputStep, TurnOverAlone, run_schedule, run_stdin,
+    Hashing, InputStep, MemoryInput, MemoryOutput, OutputStep, TurnOverAlone, run_schedule,
+    run_stdin,
 };
 use std::alloc::{AllocError, Global};
 use std::process::Abort;
@@ -79,7 +80,16 @@ fn run<R: Wait>(
         errors,
     } = streams;
     match program {
-        Program::Stdin => run_stdin(rt, alloc, &TurnOverAlone, words, input, output, errors),
+        Program::Stdin => run_stdin(
+            rt,
+            alloc,
+            Hashing::Fixed,
+            &TurnOverAlone,
+            words,
+            input,
+            output,
+            errors,
+        ),
         Program::Schedule => run_schedule(rt, alloc, words, input, output, errors),
     }
 }

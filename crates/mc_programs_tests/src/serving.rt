@@ -7,7 +7,7 @@ use crate::runs::{
 };
 use mc_model::{Fault, Limits};
 use mc_programs::{
-    Input, InputStep, MemoryInput, MemoryOutput, Output, OutputStep, Pull, Push, TurnOver,
+    Hashing, Input, InputStep, MemoryInput, MemoryOutput, Output, OutputStep, Pull, Push, TurnOver,
     TurnOverAlone, serve_client,
 };
 use std::alloc::{AllocError, Global};
@@ -118,6 +118,7 @@ fn serve_turned(
     served.result = serve_client(
         rt,
         rt.alloc(),
+        Hashing::Fixed,
         over,
         LIMITS,
         places,

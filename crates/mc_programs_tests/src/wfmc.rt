@@ -2,7 +2,7 @@
 //! listen.
 use crate::programs::{Wanted, words_of};
 use crate::runs::output_of;
-use mc_programs::OutputStep;
+use mc_programs::{Hashing, OutputStep};
 use mc_server::run_wfmc;
 use std::alloc::AllocError;
 use std::net::Net;
@@ -22,7 +22,14 @@ fn check_steps<R: Threads + Wait + Net + Sync + AllocGlobal + Abort>(
     let words = words_of(rt.alloc(), given)?;
     let mut output = output_of(rt.alloc(), pushes)?;
     let mut errors = output_of(rt.alloc(), tells)?;
-    let status = run_wfmc(rt, rt.alloc(), words, &mut output, &mut errors);
+    let status = run_wfmc(
+        rt,
+        rt.alloc(),
+        Hashing::Fixed,
+        words,
+        &mut output,
+        &mut errors,
+    );
     assert_eq!(rt; status, wanted.status, "the status at {given}");
     assert!(rt;
         output.as_bytes() == wanted.output,

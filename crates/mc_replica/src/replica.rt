@@ -10,8 +10,8 @@ ghost use Rattle.mc_items.specs.Asker.{answer_for};
 ghost use Rattle.mc_replica.specs.Replica.{Replays, SameCells, entry_of};
 ghost use Rattle.uc_cells.specs.Sighting.{entries};
 
-use mc_items::Items;
-use mc_items::tables::{copies_of, have_room, tables_of, take_effect};
+use mc_items::tables::{cell_tables, have_room, tables_over, take_effect};
+use mc_items::{CellItems, Hashing, Items};
 use mc_model::{Fault, Limits, Reply, TenantId, WorkerId};
 use std::alloc::Global;
 use std::marker::Model;
@@ -34,8 +34,9 @@ pub struct Replica<'a> {
     opening: Opening<'a>,
     /// Has capacity for all places from its opening on.
     history: Vec<Seen<'a>>,
-    /// One table per tenant, indexed by tenant number.
-    tables: Vec<Items>,
+    /// One table per tenant, indexed by tenant number. Their items borrow from the log's commands,
+    /// and from the tables that it was opened over.
+    tables: Vec<CellItems<'a>>,
 }
 
 impl<'a> Model for Replica<'a> {
@@ -53,10 +54,11 @@ impl<'a> Model for Replica<'a> {
 
 impl<'a> Replica<'a> {
     /// Returns this worker's replica, which has seen nothing, with an empty table for each tenant's
-    /// quotas. The history's capacity, `places`, is reserved here, once. Returns `Memory` if an
-    /// allocation fails.
+    /// quotas, which hashes keys so. The history's capacity, `places`, is reserved here, once.
+    /// Returns `Memory` if an allocation fails.
     pub fn open(
         alloc: Global,
+        hashing: Hashing,
         worker: WorkerId,
         limits: &[Limits],
         places: u64,
@@ -72,7 +74,7 @@ impl<'a> Replica<'a> {
     {
         let history = Vec::with_capacity(alloc, places as usize)?;
         let limits_kept = Vec::from_slice(alloc, limits)?;
-        let tables = tables_of(alloc, limits)?;
+        let tables = cell_tables(alloc, limits, hashing)?;
         Ok(Replica {
             worker,
             places,
@@ -83,8 +85,8 @@ impl<'a> Replica<'a> {
     }
 
     /// Returns this worker's replica, which has seen nothing, over the tables of this base: its own
-    /// tables are copies of them. The history's capacity, `places`, is reserved here, once. Returns
-    /// `Memory` if an allocation fails.
+    /// tables borrow their items from them. The history's capacity, `places`, is reserved here, once.
+    /// Returns `Memory` if an allocation fails.
     pub fn open_over(
         alloc: Global,
         worker: WorkerId,
@@ -101,7 +103,7 @@ impl<'a> Replica<'a> {
             (λ replica. EachStands replica.openings (entries replica.history) replica.tables) }
         ensures memory { IsOkUnless result Fault.Memory }
     {
-        let tables = copies_of(alloc, base)?;
+        let tables = tables_over(alloc, base)?;
         Ok(Replica {
             worker,
             places,
@@ -186,7 +188,7 @@ impl<'a> Replica<'a> {
     }
 
     /// Returns the tenant's table.
-    pub fn table(&self, tenant: TenantId) -> &Items
+    pub fn table(&self, tenant: TenantId) -> &CellItems<'a>
         requires { tenant < length self.now.tables }
         ensures table { slice_get self.now.tables tenant ≡ Some result.now }
         ensures stands { Some result.now
@@ -211,7 +213,7 @@ impl<'a> Replica<'a> {
     }
 
     /// Returns each tenant's table, indexed by tenant number.
-    pub fn tables(&self) -> &[Items]
+    pub fn tables(&self) -> &[CellItems<'a>]
         ensures { result.now ≡ self.now.tables }
     {
         self.tables.as_slice()

@@ -3,7 +3,7 @@
 use crate::values::{
     command_of, copied, key_of, limit_of, numbered_get, numbered_set, numbered_values, text_of,
 };
-use mc_items::Items;
+use mc_items::{Hashing, Items, Table};
 use mc_model::{Command, Fault, Item, Limits, Reply};
 use std::alloc::Global;
 use std::process::Abort;
@@ -99,8 +99,8 @@ fn is_answer(alloc: Global, twins: &mut Twins, text: &[u8], want: &[u8]) -> Resu
 
 fn twins_of(alloc: Global, quotas: Limits) -> Twins {
     Twins {
-        items: Items::new(alloc, quotas),
-        advanced: Items::new(alloc, quotas),
+        items: Items::new(alloc, quotas, Hashing::Fixed),
+        advanced: Items::new(alloc, quotas, Hashing::Fixed),
     }
 }
 
@@ -481,7 +481,7 @@ fn advance_by_copy(alloc: Global, items: &mut Items, text: &str) -> Result<(), F
 
 /// Returns a table after copies of these commands.
 fn advanced_by(alloc: Global, quotas: Limits, texts: &[&str]) -> Result<Items, Fault> {
-    let mut items = Items::new(alloc, quotas);
+    let mut items = Items::new(alloc, quotas, Hashing::Fixed);
     for text in texts {
         advance_by_copy(alloc, &mut items, text)?;
     }
@@ -613,7 +613,7 @@ fn numbered(alloc: Global, count: u64) -> Result<Items, Fault> {
         items: count,
         bytes: 1_048_577,
     };
-    let mut items = Items::new(alloc, quotas);
+    let mut items = Items::new(alloc, quotas, Hashing::Fixed);
     for number in 0..count {
         store_number(alloc, &mut items, number)?;
     }

@@ -5,6 +5,7 @@ ghost use Rattle.std.specs.Prelude.{◌≡◌, [], IfOk};
 ghost use Rattle.uc_cells.specs.Cells.{HasCell};
 
 use crate::values::{command_of, numbered_get, numbered_set, numbered_values, reads_as};
+use mc_items::Hashing;
 use mc_model::{Command, Entry, Fault, Limits, Reply, TenantId, Ticket, WorkerId};
 use mc_replica::Replica;
 use std::alloc::Global;
@@ -179,7 +180,7 @@ pub(crate) fn opened<'a>(
     ensures { IfOk result (λ replica. replica.history ≡ []) }
 {
     let worker = WorkerId::new(worker).ok_or(Fault::BadEvent)?;
-    Replica::open(alloc, worker, limits, places)
+    Replica::open(alloc, Hashing::Fixed, worker, limits, places)
 }
 
 /// Returns a replica of this worker after these rows.

@@ -14,7 +14,7 @@ use std::alloc::Global;
 use std::thread;
 use std::thread::Threads;
 use uc_log::{Log, Pass};
-use uc_worker::{Base, Open, Worker};
+use uc_worker::{Base, Hashing, Open, Worker};
 
 /// Opens a worker with this pass of the log: over the tables of the base if there is one, and with
 /// empty tables otherwise.
@@ -22,6 +22,7 @@ use uc_worker::{Base, Open, Worker};
 /// Returns `Memory` if memory runs out.
 fn open_worker<'a>(
     alloc: Global,
+    hashing: Hashing,
     log: &'a Log,
     pass: Pass,
     base: &'a Option<Base>,
@@ -36,7 +37,7 @@ fn open_worker<'a>(
 {
     match base {
         Some(base) => Worker::open_over(alloc, log, pass, base),
-        None => Worker::open(alloc, log, pass),
+        None => Worker::open(alloc, hashing, log, pass),
     }
 }
 
@@ -60,13 +61,14 @@ fn all_opened<'a>(
 }
 
 /// Returns a worker for each pass of the log, in the passes' order: over the tables of the base if
-/// there is one, and with empty tables otherwise. They are opened side by side, since each copies
-/// the tables of the base, in threads of their own where these can be made.
+/// there is one, and with empty tables otherwise. They are opened side by side, since each allocates
+/// its history and marks, in threads of their own where these can be made.
 ///
 /// Returns `Memory` if memory runs out.
 pub(crate) fn open_workers<'a, R: Threads + Sync>(
     rt: &R,
     alloc: Global,
+    hashing: Hashing,
     log: &'a Log,
     passes: Vec<Pass>,
     base: &'a Option<Base>,
@@ -87,7 +89,7 @@ pub(crate) fn open_workers<'a, R: Threads + Sync>(
         &|pass: Pass| -> Result<Worker<'_>, Fault>
             requires { IsUnusedPass log.now pass × FitsOver log.now base.now }
             ensures { OpensOver log.entry.now (tables_over log.entry.now base.entry.now) pass result }
-        { open_worker(alloc, log, pass, base) },
+        { open_worker(alloc, hashing, log, pass, base) },
     )?;
     all_opened(alloc, opened)
 }

@@ -19,7 +19,7 @@ use std::alloc::Global;
 use std::sync::Wait;
 use std::thread::Threads;
 use uc_log::{Log, Pass};
-use uc_worker::{Base, Next, Open, Worker, fill_all, turn_over};
+use uc_worker::{Base, Hashing, Next, Open, Worker, fill_all, turn_over};
 
 /// What serving a log has come to.
 #[derive(Drop)]
@@ -173,6 +173,7 @@ fn serve_log<'a, R: Threads + Wait + Sync, B: Begin<S>, S>(
 fn serve_opened<R: Threads + Wait + Sync, B: Begin<S>, S>(
     rt: &R,
     alloc: Global,
+    hashing: Hashing,
     front: &mut Front,
     log: Log,
     passes: Vec<Pass>,
@@ -196,7 +197,7 @@ fn serve_opened<R: Threads + Wait + Sync, B: Begin<S>, S>(
     ensures outcome { MatchResult result (λ _. B.done begin.now state.old state.new)
         (HaltsServing (B.done begin.now) (B.stopped begin.now) state.old state.new) }
 {
-    let workers = open_workers(rt, alloc, &log, passes, &base)?;
+    let workers = open_workers(rt, alloc, hashing, &log, passes, &base)?;
     let served = serve_log(rt, alloc, front, &log, workers, is_last, begin, state)?;
     Ok((served, Closed { log, base }))
 }
@@ -209,6 +210,7 @@ fn serve_opened<R: Threads + Wait + Sync, B: Begin<S>, S>(
 fn serve_next<R: Threads + Wait + Sync>(
     rt: &R,
     alloc: Global,
+    hashing: Hashing,
     front: &mut Front,
     next: Next,
     is_last: bool,
@@ -228,6 +230,7 @@ fn serve_next<R: Threads + Wait + Sync>(
     let (served, left) = serve_opened(
         rt,
         alloc,
+        hashing,
         front,
         log,
         passes,
@@ -260,6 +263,7 @@ fn is_last_log(most: u64, number: u64, total: u64) -> bool
 pub(crate) fn serve_logs<R: Threads + Wait + Sync, B: Begin<S>, S>(
     rt: &R,
     alloc: Global,
+    hashing: Hashing,
     front: &mut Front,
     log: Log,
     passes: Vec<Pass>,
@@ -287,7 +291,9 @@ pub(crate) fn serve_logs<R: Threads + Wait + Sync, B: Begin<S>, S>(
     let mut number = 1;
     let mut total = 0;
     let mut is_last = is_last_log(most, number, total);
-    let (first, left) = serve_opened(rt, alloc, front, log, passes, None, is_last, begin, state)?;
+    let (first, left) = serve_opened(
+        rt, alloc, hashing, front, log, passes, None, is_last, begin, state,
+    )?;
     let mut served = first;
     let mut closed = Some(left);
     for _ in rt.forever() {
@@ -298,7 +304,7 @@ pub(crate) fn serve_logs<R: Threads + Wait + Sync, B: Begin<S>, S>(
         number = number.saturating_add(1);
         total += places;
         is_last = is_last_log(most, number, total);
-        served = serve_next(rt, alloc, front, next, is_last, &mut closed)?;
+        served = serve_next(rt, alloc, hashing, front, next, is_last, &mut closed)?;
     }
     unreachable!()
 }

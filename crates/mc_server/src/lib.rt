@@ -4,8 +4,8 @@
 
 pub use mc_programs::{
     Input, InputStep, MemoryInput, MemoryOutput, Output, OutputStep, Pull, Push, ReadInput,
-    TurnOver, TurnOverAlone, WriteOutput, fault_text, refuse_words, run_schedule, run_stdin,
-    serve_client, words_after_name,
+    TurnOver, TurnOverAlone, WriteOutput, fail, fault_text, random_hashing, refuse_words,
+    run_schedule, run_stdin, serve_client, words_after_name,
 };
 pub use network::run_wfmc;
 

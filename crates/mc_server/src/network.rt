@@ -21,6 +21,7 @@ use std::net::Net;
 use std::sync::Wait;
 use std::thread::Threads;
 use uc_log::Log;
+use uc_worker::Hashing;
 
 /// The program's name, the prefix of its messages.
 const NAME: &[u8] = b"wfmc";
@@ -34,6 +35,7 @@ const NAME: &[u8] = b"wfmc";
 fn serve_tenants<R: Threads + Wait + Net + Sync, O: Output>(
     rt: &R,
     alloc: Global,
+    hashing: Hashing,
     service: &Service,
     bound: Listeners,
     output: &mut O,
@@ -67,6 +69,7 @@ fn serve_tenants<R: Threads + Wait + Net + Sync, O: Output>(
     let number = serve_logs(
         rt,
         alloc,
+        hashing,
         &mut front,
         log,
         passes,
@@ -84,6 +87,7 @@ fn serve_tenants<R: Threads + Wait + Net + Sync, O: Output>(
 fn run_service<'a, R: Threads + Wait + Net + Sync, O: Output>(
     rt: &R,
     alloc: Global,
+    hashing: Hashing,
     service: &Service<'a>,
     output: &mut O,
 ) -> Result<(), Stop<'a>>
@@ -94,7 +98,7 @@ fn run_service<'a, R: Threads + Wait + Net + Sync, O: Output>(
 {
     let wanted = wanted_by(alloc, service)?;
     let bound = bind_all(rt, alloc, &wanted)?;
-    Ok(serve_tenants(rt, alloc, service, bound, output)?)
+    Ok(serve_tenants(rt, alloc, hashing, service, bound, output)?)
 }
 
 /// Reports why a run stopped. A failure of `errors` is ignored.
@@ -132,6 +136,7 @@ fn tell_stop<R: Wait, E: Output>(rt: &R, stop: Stop, errors: &mut E)
 pub fn run_wfmc<R: Threads + Wait + Net + Sync, O: Output, E: Output>(
     rt: &R,
     alloc: Global,
+    hashing: Hashing,
     words: Vec<String>,
     output: &mut O,
     errors: &mut E,
@@ -155,7 +160,7 @@ pub fn run_wfmc<R: Threads + Wait + Net + Sync, O: Output, E: Output>(
         }
         Err(fault) => return fail(rt, NAME, fault, errors),
     };
-    match run_service(rt, alloc, &service, output) {
+    match run_service(rt, alloc, hashing, &service, output) {
         Ok(()) => 0,
         Err(stop) => {
             tell_stop(rt, stop, errors);

@@ -2,7 +2,9 @@
 //! anywhere, and inputs and outputs that fail anywhere; over one log, and over short logs that
 //! follow one another, so that each of this also falls before, at and after a turn over.
 use mc_model::{Fault, Limits};
-use mc_programs::{InputStep, MemoryInput, MemoryOutput, OutputStep, TurnOverAlone, serve_client};
+use mc_programs::{
+    Hashing, InputStep, MemoryInput, MemoryOutput, OutputStep, TurnOverAlone, serve_client,
+};
 use std::alloc::{AllocError, Global};
 use std::sync::Wait;
 
@@ -56,9 +58,39 @@ fn serve(
 ) -> Result<(), Fault> {
     let (over, alloc) = (&TurnOverAlone, rt.alloc());
     match logs {
-        Logs::One => serve_client(rt, alloc, over, LIMITS, 16, 1, input, output),
-        Logs::OfTwoPlaces => serve_client(rt, alloc, over, LIMITS, 2, 16, input, output),
-        Logs::OfOnePlace => serve_client(rt, alloc, over, LIMITS, 1, 16, input, output),
+        Logs::One => serve_client(
+            rt,
+            alloc,
+            Hashing::Fixed,
+            over,
+            LIMITS,
+            16,
+            1,
+            input,
+            output,
+        ),
+        Logs::OfTwoPlaces => serve_client(
+            rt,
+            alloc,
+            Hashing::Fixed,
+            over,
+            LIMITS,
+            2,
+            16,
+            input,
+            output,
+        ),
+        Logs::OfOnePlace => serve_client(
+            rt,
+            alloc,
+            Hashing::Fixed,
+            over,
+            LIMITS,
+            1,
+            16,
+            input,
+            output,
+        ),
     }
 }
 

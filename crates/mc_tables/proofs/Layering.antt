@@ -33,10 +33,10 @@ is_same q k is = tied_keys q k (same_tied q k ∙ is)
 same_symm : (q k : Key) → same q k ≡ is_tied k q
 same_symm q k = sym (same_tied q k) ∙ (eq_by_cmp_equiv key_cmp_total).symm q k
 
-same_itself : (key : Key) → same key key ≡ true
+pub same_itself : (key : Key) → same key key ≡ true
 same_itself key = sym (same_tied key key) ∙ tied_itself key
 
-same_turned : (q k : Key) → same q k ≡ same k q
+pub same_turned : (q k : Key) → same q k ≡ same k q
 same_turned q k = same_symm q k ∙ same_tied k q
 
 -- ENTRIES OVER A TABLE
@@ -127,7 +127,7 @@ get-owned entries q =
 abbrev pub place_of : {Z : Type 0} → List (Vec ℕ Z × Item) → Key → Option ℕ
 place_of held q = position (same q) (texts_of held)
 
-turned : {A : Type 0} (b : Bool) (x y : A) → cond (not b) x y ≡ cond b y x
+pub turned : {A : Type 0} (b : Bool) (x y : A) → cond (not b) x y ≡ cond b y x
 turned true x y = refl
 turned false x y = refl
 
@@ -195,7 +195,7 @@ nothing_there table key none = same_map key_cmp_total key_cmp_exact _ _ (λ q. b
     by q true is = ap (map.get table) (tied_keys q key is) ∙ none
     by q false is = refl
 
-nothing : {A : Type 0} (b : Bool) (there : Option A) → there ≡ None → cond b None there ≡ None
+pub nothing : {A : Type 0} (b : Bool) (there : Option A) → there ≡ None → cond b None there ≡ None
 nothing true there is = refl
 nothing false there is = is
 

@@ -1,6 +1,6 @@
 //! Items that borrow from commands, over a table that was there before.
 ghost use Rattle.std.specs.FinMap as map;
-ghost use Rattle.std.specs.Option.{option_copied};
+ghost use Rattle.std.specs.Option.{option_copied, option_map};
 ghost use Rattle.std.specs.Prelude.{◌≡◌, [], ◌+◌, ◌≤◌, ◌++◌, length, IfOk, OnOk, OnErr, IsOkUnless};
 ghost use Rattle.mc_model.specs.declared.item.TheConstants.{DATA_BYTES};
 ghost use Rattle.mc_model.specs.History.{StandsFor};
@@ -8,26 +8,29 @@ ghost use Rattle.mc_model.specs.State.{empty_table};
 ghost use Rattle.mc_tables.specs.Changes.{block_under, data_after, flags_under, with_change};
 ghost use Rattle.mc_tables.specs.declared.storage.Change.TheVariants.{Append, Prepend};
 ghost use Rattle.mc_tables.specs.Entries.{item_of_cell};
+ghost use Rattle.mc_tables.specs.Views.{item_in_view};
 ghost use Rattle.mc_tables.specs.Layers.{AreMarked, below, layers, owned_table};
 
 use crate::cell_item::CellItem;
+use crate::hashing::Hashing;
 use crate::metered::Metered;
 use crate::owned::{Owned, OwnedItems};
 use crate::storage::{Change, Found, Storage, StorageFor};
+use crate::view::View;
 use mc_fragments::Fragments;
 use mc_model::{Data, Fault, Item, Key, Limits, Value};
 use std::alloc::Global;
 use std::collections::HashMap;
-use std::collections::hash_map::RandomState;
 
 /// Items that borrow from commands, in a hash map with a keyed hash, over a base. A mark for each
 /// item of the base says that it was removed, so a removal allocates nothing.
 #[derive(Drop)]
 pub struct Layered<'a> {
-    alloc: Global,
-    base: Option<&'a Owned>,
-    marks: Vec<bool>,
-    over: HashMap<&'a [u8], CellItem<'a>, RandomState>,
+    pub(crate) alloc: Global,
+    pub(crate) hashing: Hashing,
+    pub(crate) base: Option<&'a Owned>,
+    pub(crate) marks: Vec<bool>,
+    pub(crate) over: HashMap<&'a [u8], CellItem<'a>, Hashing>,
     ghost marked: { AreMarked base marks.items },
 }
 
@@ -36,32 +39,50 @@ pub struct Layered<'a> {
 pub type CellItems<'a> = Metered<Layered<'a>>;
 
 impl<'a> Metered<Layered<'a>> {
-    /// Returns an empty table, whose hash has these keys. Allocates nothing.
-    pub fn new(alloc: Global, limits: Limits, hashing: RandomState) -> CellItems<'a>
+    /// Returns an empty table, which hashes keys so. Allocates nothing.
+    pub fn new(alloc: Global, limits: Limits, hashing: Hashing) -> CellItems<'a>
         ensures state { result ≡ empty_table limits }
         ensures stands { StandsFor limits [] result }
     {
         Metered::open(alloc, limits, Layered::new(alloc, hashing))
     }
 
-    /// Returns the same table, which borrows its items from that one; its hash has these keys.
+    /// Returns the same table, which borrows its items from that one and hashes keys as that does.
     /// Returns `Memory` if the allocation of the marks fails.
-    pub fn over(base: &'a OwnedItems, hashing: RandomState) -> Result<CellItems<'a>, Fault>
+    pub fn over(base: &'a OwnedItems) -> Result<CellItems<'a>, Fault>
         ensures same { IfOk result (λ table. table ≡ base.now) }
         ensures memory { IsOkUnless result Fault.Memory }
     {
-        let layered = Layered::over(base.alloc, &base.storage, hashing)?;
+        let layered = Layered::over(base.alloc, &base.storage)?;
         Ok(base.with_storage(layered))
+    }
+
+    /// Returns the item under the key, if it is held, for as long as the table is borrowed.
+    pub fn get<'s>(&'s self, key: &Key) -> Option<View<'s, 'a>>
+        ensures { option_map item_in_view result ≡ map.get self.now.table key.now }
+    {
+        self.storage.view(key)
+    }
+
+    /// Returns the same table in memory of its own, which hashes keys as this one does. Returns
+    /// `Memory` if an allocation fails.
+    pub fn copied(&self) -> Result<OwnedItems, Fault>
+        ensures same { IfOk result (λ items. items ≡ self.now) }
+        ensures memory { IsOkUnless result Fault.Memory }
+    {
+        let copy = self.storage.copied(self.count() as usize)?;
+        Ok(self.with_storage(copy))
     }
 }
 
 impl<'a> Layered<'a> {
-    /// Returns no items. Allocates nothing.
-    pub fn new(alloc: Global, hashing: RandomState) -> Layered<'a>
+    /// Returns no items, whose keys are to be hashed so. Allocates nothing.
+    pub fn new(alloc: Global, hashing: Hashing) -> Layered<'a>
         ensures { layers result.base result.marks.items result.over ≡ map.empty }
     {
         Layered {
             alloc,
+            hashing,
             base: None,
             marks: Vec::new(alloc),
             over: HashMap::with_hasher(alloc, hashing),
@@ -70,18 +91,34 @@ impl<'a> Layered<'a> {
 
     /// Returns the items of a base, which it borrows. Returns `Memory` if the allocation of the
     /// marks fails.
-    pub fn over(alloc: Global, base: &'a Owned, hashing: RandomState) -> Result<Layered<'a>, Fault>
+    pub fn over(alloc: Global, base: &'a Owned) -> Result<Layered<'a>, Fault>
         ensures same { IfOk result
             (λ items. layers items.base items.marks.items items.over ≡ owned_table base.now) }
         ensures memory { IsOkUnless result Fault.Memory }
     {
         let marks = Vec::from_elem(alloc, false, base.len())?;
+        let hashing = base.hashing();
         Ok(Layered {
             alloc,
+            hashing,
             base: Some(base),
             marks,
             over: HashMap::with_hasher(alloc, hashing),
         })
+    }
+
+    /// Returns the item under the key, if it is held.
+    fn view<'s>(&'s self, key: &Key) -> Option<View<'s, 'a>>
+        ensures { option_map item_in_view result
+            ≡ map.get (layers self.now.base self.now.marks.items self.now.over) key.now }
+    {
+        if let Some(kept) = self.over.get(key.as_bytes()) {
+            return Some(View::Over(kept));
+        }
+        match self.under(key) {
+            Some(item) => Some(View::Below(item)),
+            None => None,
+        }
     }
 
     /// Returns what is left of the base under a key.

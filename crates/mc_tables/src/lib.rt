@@ -3,11 +3,17 @@
 //! are those that the definitions of `mc_model` give. Begin with `Table::apply`.
 #![tactic(auto)]
 
+pub use hashing::Hashing;
 pub use layered::CellItems;
+pub use metered::Metered;
 pub use owned::OwnedItems;
+pub use storage::{Storage, StorageFor};
 pub use table::Table;
+pub use view::View;
 
 pub mod cell_item;
+mod copied;
+pub mod hashing;
 pub mod layered;
 pub mod metered;
 pub mod owned;
@@ -15,4 +21,5 @@ pub mod storage;
 pub mod table;
 #[cfg(test)]
 mod tests;
+pub mod view;
 mod weights;

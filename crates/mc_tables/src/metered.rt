@@ -24,7 +24,7 @@ use std::marker::Model;
 
 /// A tenant's table over a storage of its items, with the totals that the quotas are for. What would
 /// take it above the tenant's quotas is refused; it is above them only after they were lowered.
-#[derive(Drop)]
+#[derive(Debug, Drop)]
 pub struct Metered<S: Storage> {
     pub(crate) alloc: Global,
     limits: Limits,
@@ -270,7 +270,7 @@ impl<S: Storage> Metered<S> {
     }
 
     /// Returns the bytes of all keys and data in total.
-    pub(crate) fn bytes_used(&self) -> u64
+    pub fn used(&self) -> u64
         ensures { result ≡ use_of self.now.table }
     {
         let Metered { used, .. } = self;
@@ -278,7 +278,7 @@ impl<S: Storage> Metered<S> {
     }
 
     /// Returns the number of items.
-    pub(crate) fn items_held(&self) -> u64
+    pub fn count(&self) -> u64
         ensures { result ≡ count_of self.now.table }
     {
         let Metered { count, .. } = self;
@@ -286,7 +286,7 @@ impl<S: Storage> Metered<S> {
     }
 
     /// Returns the unique of the latest change, or 0 before the first.
-    pub(crate) fn latest_unique(&self) -> u64
+    pub fn last_unique(&self) -> u64
         ensures { result ≡ self.now.last_unique }
     {
         let Metered { last_unique, .. } = self;
@@ -294,7 +294,7 @@ impl<S: Storage> Metered<S> {
     }
 
     /// Returns the tenant's quotas.
-    pub(crate) fn quotas(&self) -> Limits
+    pub fn limits(&self) -> Limits
         ensures { result ≡ self.now.limits }
     {
         let Metered { limits: quotas, .. } = self;

@@ -12,6 +12,7 @@ ghost use Rattle.mc_tables.specs.Changes.{block_under, flags_under};
 ghost use Rattle.mc_tables.specs.Entries.{text_of_vec, texts_of};
 ghost use Rattle.mc_tables.specs.Layers.{owned_table};
 
+use crate::hashing::Hashing;
 use crate::metered::Metered;
 use crate::storage::{Change, Found, Storage, StorageFor};
 use indexmap::IndexMap;
@@ -19,25 +20,31 @@ use itoa::Buffer;
 use mc_fragments::Fragments;
 use mc_model::{Data, Fault, Item, Key, Limits, Value};
 use std::alloc::Global;
-use std::collections::hash_map::RandomState;
 
 /// Items in memory of their own, each with a place among them, in a hash map with a keyed hash.
-#[derive(Drop)]
+#[derive(Debug, Drop)]
 pub struct Owned {
     alloc: Global,
-    pub(crate) held: IndexMap<Vec<u8>, Item, RandomState>,
+    pub(crate) held: IndexMap<Vec<u8>, Item, Hashing>,
 }
 
 /// A tenant's table whose items are in memory of their own.
 pub type OwnedItems = Metered<Owned>;
 
 impl Metered<Owned> {
-    /// Returns an empty table, whose hash has these keys. Allocates nothing.
-    pub fn new(alloc: Global, limits: Limits, hashing: RandomState) -> OwnedItems
+    /// Returns an empty table, which hashes keys so. Allocates nothing.
+    pub fn new(alloc: Global, limits: Limits, hashing: Hashing) -> OwnedItems
         ensures state { result ≡ empty_table limits }
         ensures stands { StandsFor limits [] result }
     {
         Metered::open(alloc, limits, Owned::new(alloc, hashing))
+    }
+
+    /// Returns the item under the key, if it is held.
+    pub fn get(&self, key: &Key) -> Option<&Item>
+        ensures { option_copied result ≡ map.get self.now.table key.now }
+    {
+        self.storage.item(key)
     }
 
     /// Returns a copy of the table. Returns `Memory` if an allocation fails.
@@ -51,14 +58,32 @@ impl Metered<Owned> {
 }
 
 impl Owned {
-    /// Returns no items. Allocates nothing.
-    pub fn new(alloc: Global, hashing: RandomState) -> Owned
+    /// Returns no items, whose keys are to be hashed so. Allocates nothing.
+    pub fn new(alloc: Global, hashing: Hashing) -> Owned
         ensures { owned_table result ≡ map.empty }
     {
         Owned {
             alloc,
             held: IndexMap::with_hasher(alloc, hashing),
         }
+    }
+
+    /// Returns no items, with room for so many. Returns `Memory` if an allocation fails.
+    pub(crate) fn with_capacity(
+        alloc: Global,
+        capacity: usize,
+        hashing: Hashing,
+    ) -> Result<Owned, Fault>
+        ensures none { IfOk result (λ items. owned_table items ≡ map.empty) }
+        ensures memory { IsOkUnless result Fault.Memory }
+    {
+        let held = IndexMap::with_capacity_and_hasher(alloc, capacity, hashing)?;
+        Ok(Owned { alloc, held })
+    }
+
+    /// Returns how keys are hashed.
+    pub(crate) fn hashing(&self) -> Hashing {
+        *self.held.hasher()
     }
 
     /// Returns the item under the key, if it is held.
@@ -111,7 +136,7 @@ impl Owned {
         ensures same { IfOk result (λ copy. owned_table copy ≡ owned_table self.now) }
         ensures memory { IsOkUnless result Fault.Memory }
     {
-        let mut copy = Owned::new(self.alloc, *self.held.hasher());
+        let mut copy = Owned::with_capacity(self.alloc, self.held.len(), self.hashing())?;
         for place in 0..self.held.len() {
             let (text, item) = self.entry(place);
             copy.put_copy(text, item)?;
@@ -120,8 +145,10 @@ impl Owned {
     }
 
     /// Returns the key and the item at a place.
-    fn entry(&self, place: usize) -> (&[u8], &Item)
+    pub(crate) fn entry(&self, place: usize) -> (&[u8], &Item)
         requires { place < length self.now.held.entries }
+        ensures place { position (pointwise nat_eq result.0.now) (texts_of self.now.held.entries)
+            ≡ Some place }
         ensures item { lookup (λ held. pointwise nat_eq result.0.now (text_of_vec held))
             self.now.held.entries ≡ Some result.1.now }
         ensures first { (key : Key) →
@@ -130,6 +157,8 @@ impl Owned {
             (lookup (λ held. pointwise nat_eq key (text_of_vec held))
             (drop (place + 1) self.now.held.entries)) }
     {
+        // No two of the keys are equal.
+        let _ = self.held.len();
         match self.held.get_index(place) {
             Some((text, item)) => (text.as_slice(), item),
             None => unreachable!(),
@@ -138,7 +167,7 @@ impl Owned {
 
     /// Puts a copy of an item under a key that is made of these bytes. Returns `Memory` if an
     /// allocation fails.
-    fn put_copy(&mut self, text: &[u8], original: &Item) -> Result<(), Fault>
+    pub(crate) fn put_copy(&mut self, text: &[u8], original: &Item) -> Result<(), Fault>
         ensures table { OnOk result
             (owned_table self.new ≡ map.insert (owned_table self.old) text.now original.now) }
         ensures memory { IsOkUnless result Fault.Memory }
@@ -148,6 +177,16 @@ impl Owned {
             block: original.block.try_clone()?,
             unique: original.unique,
         };
+        self.put_new(text, item)
+    }
+
+    /// Puts an item under a key that is made of these bytes. Returns `Memory` if an allocation
+    /// fails.
+    pub(crate) fn put_new(&mut self, text: &[u8], item: Item) -> Result<(), Fault>
+        ensures table { OnOk result
+            (owned_table self.new ≡ map.insert (owned_table self.old) text.now item) }
+        ensures memory { IsOkUnless result Fault.Memory }
+    {
         let text = Vec::from_slice(self.alloc, text)?;
         self.held.insert(text, item)?;
         Ok(())

@@ -115,18 +115,18 @@ impl<'a, S: StorageFor<'a>> Table<'a> for Metered<S> {
     }
 
     fn last_unique(&self) -> u64 {
-        self.latest_unique()
+        self.last_unique()
     }
 
     fn limits(&self) -> Limits {
-        self.quotas()
+        self.limits()
     }
 
     fn used(&self) -> u64 {
-        self.bytes_used()
+        self.used()
     }
 
     fn count(&self) -> u64 {
-        self.items_held()
+        self.count()
     }
 }

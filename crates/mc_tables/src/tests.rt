@@ -1,5 +1,6 @@
 //! Tests of what no clause says: with ample memory each kind of table answers, and keeps what it was
 //! given.
+use crate::hashing::Hashing;
 use crate::layered::CellItems;
 use crate::owned::OwnedItems;
 use crate::table::Table;
@@ -90,7 +91,7 @@ fn answer_all<'a, T: Table<'a>>(table: &mut T, commands: &'a [Command]) -> Resul
 /// Returns a copy of the table that the commands lead to.
 fn copied<'a>(
     alloc: Global,
-    hashing: RandomState,
+    hashing: Hashing,
     commands: &'a [Command],
 ) -> Result<OwnedItems, Fault> {
     let mut items = OwnedItems::new(alloc, QUOTAS, hashing);
@@ -101,22 +102,17 @@ fn copied<'a>(
 /// Returns whether a table that borrows from that one answers so.
 fn answers_over<'a>(
     below: &'a OwnedItems,
-    hashing: RandomState,
     command: &'a Command,
     want: &Reply,
 ) -> Result<bool, Fault> {
-    let mut items = CellItems::over(below, hashing)?;
+    let mut items = CellItems::over(below)?;
     let reply = answer(&mut items, command)?;
     Ok(reply == *want)
 }
 
 /// Returns how many items a table that borrows from that one has after the command.
-fn left_over<'a>(
-    below: &'a OwnedItems,
-    hashing: RandomState,
-    command: &'a Command,
-) -> Result<u64, Fault> {
-    let mut items = CellItems::over(below, hashing)?;
+fn left_over<'a>(below: &'a OwnedItems, command: &'a Command) -> Result<u64, Fault> {
+    let mut items = CellItems::over(below)?;
     answer(&mut items, command)?;
     Ok(items.count())
 }
@@ -125,7 +121,7 @@ fn left_over<'a>(
 fn joins_data_of_its_own(rt: HostRuntime) -> Result<(), Fail> {
     let commands = joining(rt.alloc())?;
     let gets = gets(rt.alloc())?;
-    let mut items = OwnedItems::new(rt.alloc(), QUOTAS, RandomState::new(&rt)?);
+    let mut items = OwnedItems::new(rt.alloc(), QUOTAS, Hashing::Random(RandomState::new(&rt)?));
     answer_all(&mut items, commands.as_slice())?;
     assert!(rt; answer(&mut items, &gets)? == shown(rt.alloc())?);
     Ok(())
@@ -135,7 +131,7 @@ fn joins_data_of_its_own(rt: HostRuntime) -> Result<(), Fail> {
 fn joins_data_of_commands(rt: HostRuntime) -> Result<(), Fail> {
     let commands = joining(rt.alloc())?;
     let gets = gets(rt.alloc())?;
-    let mut items = CellItems::new(rt.alloc(), QUOTAS, RandomState::new(&rt)?);
+    let mut items = CellItems::new(rt.alloc(), QUOTAS, Hashing::Random(RandomState::new(&rt)?));
     answer_all(&mut items, commands.as_slice())?;
     assert!(rt; answer(&mut items, &gets)? == shown(rt.alloc())?);
     Ok(())
@@ -144,19 +140,27 @@ fn joins_data_of_commands(rt: HostRuntime) -> Result<(), Fail> {
 #[test]
 fn shows_what_a_copied_table_holds(rt: HostRuntime) -> Result<(), Fail> {
     let commands = joining(rt.alloc())?;
-    let below = copied(rt.alloc(), RandomState::new(&rt)?, commands.as_slice())?;
+    let below = copied(
+        rt.alloc(),
+        Hashing::Random(RandomState::new(&rt)?),
+        commands.as_slice(),
+    )?;
     let gets = gets(rt.alloc())?;
     let want = shown(rt.alloc())?;
-    assert!(rt; answers_over(&below, RandomState::new(&rt)?, &gets, &want) == Ok(true));
+    assert!(rt; answers_over(&below, &gets, &want) == Ok(true));
     Ok(())
 }
 
 #[test]
 fn deletes_over_a_table_that_stays(rt: HostRuntime) -> Result<(), Fail> {
     let commands = joining(rt.alloc())?;
-    let below = copied(rt.alloc(), RandomState::new(&rt)?, commands.as_slice())?;
+    let below = copied(
+        rt.alloc(),
+        Hashing::Random(RandomState::new(&rt)?),
+        commands.as_slice(),
+    )?;
     let delete = delete(rt.alloc())?;
-    assert!(rt; left_over(&below, RandomState::new(&rt)?, &delete) == Ok(0));
+    assert!(rt; left_over(&below, &delete) == Ok(0));
     assert!(rt; below.count() == 1);
     Ok(())
 }

@@ -7,7 +7,7 @@ use mc_model::{Command, Fault, Limits, Request, Settings, TenantId};
 use mc_read::Reader;
 use std::alloc::Global;
 use uc_log::{Log, Pass};
-use uc_worker::{Answer, Base, Open, Worker};
+use uc_worker::{Answer, Base, Hashing, Open, Worker};
 
 const QUOTAS: Limits = Limits {
     items: 100,
@@ -28,7 +28,7 @@ impl<'a> Client<'a> {
         requires { IsUnusedPass log.now pass }
         ensures { IfOk result (λ client. client.log.now ≡ log.now) }
     {
-        let worker = Worker::open(alloc, log, pass)?;
+        let worker = Worker::open(alloc, Hashing::Fixed, log, pass)?;
         Ok(Client { log, worker })
     }
 

@@ -8,8 +8,8 @@ ghost use Rattle.mc_model.specs.Replay.{TakeEffect, reply_from};
 ghost use Rattle.mc_model.specs.State.{TableState};
 ghost use Rattle.mc_model.specs.Shown.{announce, look, proposal, propose, read, stop};
 
-use mc_items::Items;
-use mc_items::tables::{tables_of, take_effect};
+use mc_items::tables::{owned_tables, take_effect};
+use mc_items::{Hashing, Items};
 use mc_model::{Entry, Fault, Limits, Phase, Reply, Ticket, WorkerId};
 use std::alloc::Global;
 
@@ -50,7 +50,8 @@ impl Worker {
             look: None,
             proposals: 0,
             counts: vec![in alloc; 0; workers]?,
-            tables: tables_of(alloc, openings)?,
+            // Who writes the events chooses the keys, and nobody else waits for them.
+            tables: owned_tables(alloc, openings, Hashing::Fixed)?,
         })
     }
 

@@ -12,7 +12,7 @@ ghost use Rattle.uc_places.specs.Reached.{LastIsReached};
 ghost use Rattle.uc_places.specs.SeatLaw.{SeatLaw};
 
 use crate::worker::Worker;
-use mc_items::Items;
+use mc_items::CellItems;
 use mc_model::{TenantId, WorkerId};
 use uc_cells::Seen;
 
@@ -50,7 +50,7 @@ impl<'a> Worker<'a> {
     }
 
     /// Returns the tenant's table, as that tenant's own commands in the history leave it.
-    pub fn table(&self, tenant: TenantId) -> &Items
+    pub fn table(&self, tenant: TenantId) -> &CellItems<'a>
         requires { tenant < length (tenants_of self.now) }
         ensures { Some result.now
             ≡ option_map

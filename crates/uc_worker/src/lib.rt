@@ -6,6 +6,7 @@
 
 pub use filling::fill_all;
 pub use gate::{Gate, Open, Step};
+pub use mc_items::Hashing;
 pub use turning_over::{Base, Next, turn_over, turn_over_alone};
 pub use worker::{Answer, Worker};
 

@@ -8,6 +8,7 @@ ghost use Rattle.uc_worker.specs.Worker.{history_of, openings_of, seat_of};
 
 use crate::turning_over::Base;
 use crate::worker::Worker;
+use mc_items::Hashing;
 use mc_model::Fault;
 use mc_replica::Replica;
 use std::alloc::Global;
@@ -15,10 +16,16 @@ use uc_log::{Log, Pass};
 
 impl<'a> Worker<'a> {
     /// Opens the worker with this pass of the log, with an empty table for each tenant of the log's
-    /// settings.
+    /// settings, which hashes keys so. Each table that is opened over one of these later hashes them
+    /// so too.
     ///
     /// Returns `Memory` if memory runs out.
-    pub fn open(alloc: Global, log: &'a Log, pass: Pass) -> Result<Worker<'a>, Fault>
+    pub fn open(
+        alloc: Global,
+        hashing: Hashing,
+        log: &'a Log,
+        pass: Pass,
+    ) -> Result<Worker<'a>, Fault>
         requires of { IsOf log.now pass }
         requires idle { (state pass).phase ≡ phase.Idle }
         requires new { learned pass ≡ [] }
@@ -30,7 +37,8 @@ impl<'a> Worker<'a> {
         ensures memory { IsOkUnless result faults.Memory }
     {
         let settings = log.settings();
-        let replica = Replica::open(alloc, pass.worker(), settings.tenants(), settings.places())?;
+        let places = settings.places();
+        let replica = Replica::open(alloc, hashing, pass.worker(), settings.tenants(), places)?;
         Ok(Worker {
             log,
             alloc,
@@ -39,8 +47,8 @@ impl<'a> Worker<'a> {
         })
     }
 
-    /// Opens the worker with this pass of the log, over the tables of this base: its own tables are
-    /// copies of them, and the log's settings only say how many tenants there are.
+    /// Opens the worker with this pass of the log, over the tables of this base: its own tables
+    /// borrow their items from them, and the log's settings only say how many tenants there are.
     ///
     /// Returns `Memory` if memory runs out.
     pub fn open_over(

@@ -4,12 +4,12 @@ ghost use Rattle.mc_model.specs.Replay.{HaveRoom};
 ghost use Rattle.uc_log.specs.Passes.{IsUnusedPass};
 
 use crate::texts::{command_of, reads_as, settings_of};
-use mc_items::Items;
+use mc_items::CellItems;
 use mc_model::{Command, Fault, Limits, TenantId};
 use std::alloc::Global;
 use uc_cells::Seen;
 use uc_log::{Log, Pass};
-use uc_worker::{Answer, Base, Gate, Open, Worker};
+use uc_worker::{Answer, Base, Gate, Hashing, Open, Worker};
 
 /// A worker and its log.
 #[derive(Drop)]
@@ -25,7 +25,7 @@ impl<'a> Client<'a> {
         requires { IsUnusedPass log.now pass }
         ensures { IfOk result (λ client. client.log.now ≡ log.now) }
     {
-        let worker = Worker::open(alloc, log, pass)?;
+        let worker = Worker::open(alloc, Hashing::Fixed, log, pass)?;
         Ok(Client { log, worker })
     }
 
@@ -123,7 +123,7 @@ impl<'a> Client<'a> {
     }
 
     /// Returns the tenant's table, if there is such a tenant.
-    pub(crate) fn table(&self, tenant: TenantId) -> Option<&Items> {
+    pub(crate) fn table(&self, tenant: TenantId) -> Option<&CellItems<'a>> {
         if usize::from(tenant.number()) < self.log.settings().tenants().len() {
             Some(self.worker.table(tenant))
         } else {

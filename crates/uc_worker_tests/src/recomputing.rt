@@ -5,7 +5,8 @@ use crate::asking::Asked;
 use crate::clients::Client;
 use crate::meeting::Ended;
 use crate::texts::command_of;
-use mc_items::Items;
+use mc_items::tables::owned_tables;
+use mc_items::{CellItems, Hashing, Item, Items, Table, View};
 use mc_model::{Command, Entry, Fault, Key, Limits, Reply, TenantId, Ticket};
 use std::alloc::Global;
 use uc_cells::Seen;
@@ -83,7 +84,7 @@ fn tables_after(
     ended: &[Ended<'_>],
     history: &[Seen<'_>],
 ) -> Result<Vec<Items>, Fault> {
-    let mut tables = mc_items::tables::tables_of(alloc, quotas)?;
+    let mut tables = owned_tables(alloc, quotas, Hashing::Fixed)?;
     for (place, seen) in history.iter().enumerate() {
         if !is_right_at(alloc, &mut tables, ended, place, seen)? {
             return Err(Fault::BadEvent);
@@ -92,19 +93,48 @@ fn tables_after(
     Ok(tables)
 }
 
+/// Returns whether what is seen is this item.
+pub(crate) fn is_seen(alloc: Global, view: &View<'_, '_>, item: &Item) -> Result<bool, Fault> {
+    let mut block = Vec::new(alloc);
+    view.write(&mut block)?;
+    Ok(
+        view.flags() == item.flags
+            && view.unique() == item.unique
+            && block.as_slice() == item.block.as_bytes(),
+    )
+}
+
+/// Returns whether both hold the same under the key.
+pub(crate) fn is_held_alike(
+    alloc: Global,
+    one: &CellItems<'_>,
+    other: &Items,
+    key: &Key,
+) -> Result<bool, Fault> {
+    match (one.get(key), other.get(key)) {
+        (Some(view), Some(item)) => is_seen(alloc, &view, item),
+        (view, item) => Ok(view.is_none() && item.is_none()),
+    }
+}
+
 /// Returns whether both hold the same under the key of this name.
-fn holds_alike(alloc: Global, one: &Items, other: &Items, name: &str) -> Result<bool, Fault> {
-    Ok(match Key::new(alloc, name.as_bytes())? {
-        Some(key) => one.get(&key) == other.get(&key),
-        None => false,
-    })
+fn holds_alike(
+    alloc: Global,
+    one: &CellItems<'_>,
+    other: &Items,
+    name: &str,
+) -> Result<bool, Fault> {
+    match Key::new(alloc, name.as_bytes())? {
+        Some(key) => is_held_alike(alloc, one, other, &key),
+        None => Ok(false),
+    }
 }
 
 /// The keys that the tests use.
 const NAMES: &[&str] = &["a", "b", "n"];
 
 /// Returns whether both tables are alike in these keys.
-fn are_alike(alloc: Global, one: &Items, other: &Items) -> Result<bool, Fault> {
+fn are_alike(alloc: Global, one: &CellItems<'_>, other: &Items) -> Result<bool, Fault> {
     for name in NAMES {
         if !holds_alike(alloc, one, other, name)? {
             return Ok(false);

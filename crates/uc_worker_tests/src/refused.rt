@@ -6,8 +6,9 @@ ghost use Rattle.uc_worker.specs.Worker.{tenants_of};
 
 use crate::clients::{Client, both_clients, has_tickets, opened};
 use crate::generations::{Ask, Row, ask_rows, is_ready, workers_of};
+use crate::recomputing::is_held_alike;
 use crate::texts::QUOTAS;
-use mc_items::Items;
+use mc_items::{CellItems, Items};
 use mc_model::{Fault, Key, TenantId};
 use std::alloc::Global;
 use std::test::Fail;
@@ -51,43 +52,47 @@ fn kept_of(alloc: Global, client: &Client<'_>) -> Result<Kept, Fault> {
         return Err(Fault::BadEvent);
     };
     Ok(Kept {
-        table: table.try_clone()?,
+        table: table.copied()?,
         keys: keys_of(alloc)?,
     })
 }
 
-fn is_alike(items: &Items, kept: &Kept) -> bool {
-    items.last_unique() == kept.table.last_unique()
-        && items.limits() == kept.table.limits()
-        && items.used() == kept.table.used()
-        && items.count() == kept.table.count()
-        && kept
-            .keys
-            .iter()
-            .all(|key| items.get(key) == kept.table.get(key))
+fn is_alike(alloc: Global, items: &CellItems<'_>, kept: &Kept) -> Result<bool, Fault> {
+    for key in &kept.keys {
+        if !is_held_alike(alloc, items, &kept.table, key)? {
+            return Ok(false);
+        }
+    }
+    Ok(
+        items.last_unique() == kept.table.last_unique()
+            && items.limits() == kept.table.limits()
+            && items.used() == kept.table.used()
+            && items.count() == kept.table.count(),
+    )
 }
 
 /// Returns whether the worker has replayed both commands, and its first tenant's table is this one.
-fn is_as_before(worker: &Worker<'_>, kept: &Kept) -> bool
+fn is_as_before(alloc: Global, worker: &Worker<'_>, kept: &Kept) -> Result<bool, Fault>
     requires { 0 < length (tenants_of worker.now) }
 {
     let Some(tenant) = TenantId::new(0) else {
-        return false;
+        return Ok(false);
     };
-    worker.is_done()
-        && has_tickets(worker.history(), &TICKETS)
-        && is_alike(worker.table(tenant), kept)
+    let is_alike = is_alike(alloc, worker.table(tenant), kept)?;
+    Ok(is_alike && worker.is_done() && has_tickets(worker.history(), &TICKETS))
 }
 
 /// Returns whether this is so for both workers.
-fn are_as_before(workers: &[Worker<'_>], kept: &Kept) -> bool
+fn are_as_before(alloc: Global, workers: &[Worker<'_>], kept: &Kept) -> Result<bool, Fault>
     requires { All (λ worker. 0 < length (tenants_of worker)) workers.now }
 {
     match (workers.first(), workers.last()) {
-        (Some(one), Some(other)) => {
-            workers.len() == 2 && is_as_before(one, kept) && is_as_before(other, kept)
-        }
-        _ => false,
+        (Some(one), Some(other)) => Ok(
+            workers.len() == 2
+                && is_as_before(alloc, one, kept)?
+                && is_as_before(alloc, other, kept)?,
+        ),
+        _ => Ok(false),
     }
 }
 
@@ -113,7 +118,7 @@ fn try_turn_over<'a>(
     let mut workers = workers_of(alloc, first, second)?;
     match turn_over(alloc, &mut workers, settings) {
         Ok(_) => Ok(true),
-        Err(Fault::Memory) if are_as_before(&workers, &kept) => Ok(false),
+        Err(Fault::Memory) if are_as_before(alloc, &workers, &kept)? => Ok(false),
         Err(_) => Err(Fault::BadEvent),
     }
 }

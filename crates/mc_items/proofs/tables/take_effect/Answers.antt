@@ -5,7 +5,7 @@ use Rattle.mc_model.specs.State.{next_state}
 use Rattle.mc_items.proofs.tables.take_effect.Goals as goal
 
 pub returns-in_ok-reply-clause-tables : goal.returns-in_ok-reply-clause-tables
-returns-in_ok-reply-clause-tables c =
+returns-in_ok-reply-clause-tables g c =
     let old = c.index_mut-table.result.now in
     let own : c.from-number.result ≡ c.in-Some.entry.now.tenant = search rules in
     let inside : c.from-number.result < length c.args.tables.now.items = search rules in
@@ -14,7 +14,7 @@ returns-in_ok-reply-clause-tables c =
     rw c.in-Some.is (TakeEffect-set c.args.tables.now.items c.from-number.result old c.apply.new.self c.in-Some.entry.now own inside at next)
 
 pub returns-in_ok-advance-clause-tables : goal.returns-in_ok-advance-clause-tables
-returns-in_ok-advance-clause-tables c =
+returns-in_ok-advance-clause-tables g c =
     let old = c.index_mut-table.result.now in
     let own : c.from-number.result ≡ c.in-Some.entry.now.tenant = search rules in
     let inside : c.from-number.result < length c.args.tables.now.items = search rules in
@@ -23,7 +23,7 @@ returns-in_ok-advance-clause-tables c =
     rw c.in-Some.is (TakeEffect-set c.args.tables.now.items c.from-number.result old c.advance.new.self c.in-Some.entry.now own inside at next)
 
 pub returns-in_ok-reply-clause-answer : goal.returns-in_ok-reply-clause-answer
-returns-in_ok-reply-clause-answer c =
+returns-in_ok-reply-clause-answer g c =
     let old = c.index_mut-table.result.now in let entry = c.in-Some.entry.now in let tables = c.args.tables.now.items in
     let here : c.from-number.result ≡ entry.tenant = search rules in
     let inside : c.from-number.result < length tables = search rules in
@@ -33,7 +33,7 @@ returns-in_ok-reply-clause-answer c =
     rw c.in-Some.is (reply ∙ sym (reply_for-own c.args.asker entry tables own))
 
 pub returns-in_ok-reply-clause-reply : goal.returns-in_ok-reply-clause-reply
-returns-in_ok-reply-clause-reply c = λ openings log stands.
+returns-in_ok-reply-clause-reply g c = λ openings log stands.
     let old = c.index_mut-table.result.now in let entry = c.in-Some.entry.now in let tables = c.args.tables.now.items in
     let here : c.from-number.result ≡ entry.tenant = search rules in
     let inside : c.from-number.result < length tables = search rules in

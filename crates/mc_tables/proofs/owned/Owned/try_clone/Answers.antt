@@ -5,7 +5,7 @@ use Rattle.mc_tables.proofs.Copying.{all_copied, nothing_copied, one_copied}
 use Rattle.mc_tables.proofs.owned.Owned.try_clone.Goals as goal
 
 pub loop-place-init : goal.loop-place-init
-loop-place-init c = nothing_copied (owned_table c.new-copy.result) c.args.self.now.held.entries c.new-copy.ensures
+loop-place-init c = nothing_copied (owned_table c.in_ok-copy.copy) c.args.self.now.held.entries c.in_ok-copy.ensures.none
 
 pub loop-place-preserved : goal.loop-place-preserved
 loop-place-preserved c =

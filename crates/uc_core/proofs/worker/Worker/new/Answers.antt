@@ -14,6 +14,6 @@ returns-clause-fresh c = record {
     proposals = search rules;
     counted = search rules;
     counts = AreCounts-none c.args.workers decided _ (search rules);
-    uniques = UniquesFew-empty c.args.openings.now _ 0 c.in_ok-tables_of.ensures.tables;
+    uniques = UniquesFew-empty c.args.openings.now _ 0 c.in_ok-owned_tables.ensures.tables;
   };
 }
