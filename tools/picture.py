@@ -31,6 +31,7 @@ SAYS = {
     "stream_lemmas": "lemmas on these",
     "mc_conn": "one connection, by turns",
     "fair_queue": "flows served in turn",
+    "fair_places": "places, some kept",
     "mc_connections": "connections, over logs",
     "mc_net": "sockets and threads",
     "mc_programs": "programs over streams",

@@ -1,0 +1,9 @@
+//! Places that holders share, of which some are kept for each: a holder takes those above its own
+//! reserve only while the others' unused reserves are left.
+#![tactic(auto)]
+
+mod fair_places;
+#[cfg(test)]
+mod tests;
+
+pub use fair_places::FairPlaces;
