@@ -1,0 +1,22 @@
+-- The parts of counting one request.
+use Rattle.std.specs.Prelude.{◌≡◌, ℕ, ◌+◌, Option, Some, None, List, slice_index, slice_set}
+use Rattle.mc_model.specs.declared.reply.Reply.{Reply}
+use Rattle.mc_model.specs.declared.reply.Reply.TheVariants.{Refused}
+use Rattle.mc_counters.specs.Kinds.{place_of_kind, place_of_refusal}
+use Rattle.mc_counters.specs.Tallied.{capped}
+use Rattle.mc_counters.specs.declared.kinds.Asked.{Asked}
+use Rattle.mc_counters.specs.declared.tally.Tally.{Tally}
+
+-- counts with one more at a place
+abbrev pub more_at : List ℕ → ℕ → List ℕ
+more_at counts place = slice_set counts place (capped (slice_index counts place + 1))
+
+-- the counts after a command, if there was one
+abbrev pub with_command : Option Asked → List ℕ → List ℕ
+with_command None counts = counts
+with_command (Some asked) counts = more_at counts (place_of_kind asked.kind)
+
+-- the counts after a reply
+abbrev pub with_reply : Reply → List ℕ → List ℕ
+with_reply (Refused refusal) counts = more_at counts (place_of_refusal refusal)
+with_reply _ counts = counts

@@ -1,0 +1,4 @@
+pub mod Answering
+pub mod Exposition
+pub mod Metrics
+pub mod Page

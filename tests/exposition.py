@@ -1,0 +1,173 @@
+#!/usr/bin/env python3
+"""Holds what mc_scrape prints against an oracle that shares no code with it, against the grammar of
+Prometheus' text format, and against `promtool check metrics` where that is installed (Debian's
+package prometheus; PROMTOOL names another).
+
+mc_scrape answers crates/mc_scrape/stdin with the metrics of an example. Without an argument the
+program is run as `make test` or tools/prove.sh built it; `--stored` reads crates/mc_scrape/stdout,
+and `--write` writes there what the oracle expects.
+"""
+import os
+import re
+import shutil
+import subprocess
+import sys
+
+ROOT = os.path.dirname(os.path.dirname(os.path.abspath(__file__)))
+CRATE = f"{ROOT}/crates/mc_scrape"
+COMMANDS = "get gets set add replace append prepend cas delete incr decr flush_all limit".split()
+REFUSALS = ("unknown_command bad_format bad_block no_expiry line_too_long too_large no_room "
+            "not_a_number bad_delta log_full out_of_memory").split()
+TENANTS = [("shop", 1), ("b-2_x", 2)]
+WORKERS = [(0, 0, 13), (1, 42, 14)]
+LARGEST = 2 ** 64 - 1
+
+
+def metric(name, help_text, kind, samples):
+    """One metric; each sample is a list of labels, its value and what is put after the name."""
+    lines = [f"# HELP {name} {help_text}", f"# TYPE {name} {kind}"]
+    for labels, value, *suffix in samples:
+        inner = ",".join(f'{label}="{text}"' for label, text in labels)
+        lines.append(f"{name}{suffix[0] if suffix else ''}{'{' + inner + '}' if inner else ''} {value}")
+    return "".join(line + "\n" for line in lines)
+
+
+def of_tenants(name, help_text, kind, value):
+    return metric(name, help_text, kind, [([("tenant", tenant)], value(unit)) for tenant, unit in TENANTS])
+
+
+def by_kind(name, help_text, label, kinds, value):
+    samples = [([("tenant", tenant), (label, kind)], value(unit)) for tenant, unit in TENANTS for kind in kinds]
+    return metric(name, help_text, "counter", samples)
+
+
+def plain(name, help_text, value):
+    return metric(name, help_text, "gauge", [([], value)])
+
+
+def metrics():
+    return "".join([
+        of_tenants("wfmc_tenant_items", "Items that the tenant holds.", "gauge", lambda unit: 5 * unit),
+        of_tenants("wfmc_tenant_bytes", "Bytes of keys and data that the tenant holds.", "gauge", lambda unit: 600 * unit),
+        of_tenants("wfmc_tenant_quota_items", "Items that the tenant may hold.", "gauge", lambda unit: 7000 * unit),
+        of_tenants("wfmc_tenant_quota_bytes", "Bytes of keys and data that the tenant may hold.", "gauge",
+                   lambda unit: 80000 * unit),
+        by_kind("wfmc_tenant_commands_total", "Commands that were answered.", "command", COMMANDS, lambda unit: unit),
+        of_tenants("wfmc_tenant_hits_total", "Items that retrievals found.", "counter", lambda unit: 3 * unit),
+        of_tenants("wfmc_tenant_misses_total", "Keys of retrievals that had no item.", "counter", lambda unit: 4 * unit),
+        by_kind("wfmc_tenant_refusals_total", "Requests that were refused.", "refusal", REFUSALS, lambda unit: 2 * unit),
+        of_tenants("wfmc_tenant_connections", "Connections of the tenant.", "gauge", lambda unit: 9 * unit),
+        metric("wfmc_worker_lag_places", "Used places of the log that the worker has yet to replay.", "gauge",
+               [([("worker", number)], lag) for number, lag, _ in WORKERS]),
+        metric("wfmc_worker_connections", "Connections that the worker serves.", "gauge",
+               [([("worker", number)], count) for number, _, count in WORKERS]),
+        plain("wfmc_log_places", "Places of the log.", 65536),
+        plain("wfmc_log_used_places", "Places of the log that are used.", 1234),
+        plain("wfmc_log_bytes", "Bytes that the commands in the log keep.", 567890),
+        plain("wfmc_log_generation", "Which log is served, counted from 1.", 3),
+        metric("wfmc_turn_over_seconds", "Time from the end of a log to the beginning of the next.", "summary",
+               [([], "1.002030", "_sum"), ([], 2, "_count")]),
+        plain("process_resident_memory_bytes", "Resident memory of the process in bytes.", LARGEST),
+        metric("wfmc_build_info", "The version that runs, and the kit that it is proved with.", "gauge",
+               [([("version", "1.0.0"), ("kit", "rattle-kit-13b")], 1)]),
+    ])
+
+
+def page():
+    rows = "".join(
+        f"<tr><th>{name}" + "".join(f"<td>{number * unit}" for number in (5, 7000, 600, 80000, 3, 4, 9)) + "\n"
+        for name, unit in TENANTS)
+    return (
+        '<!DOCTYPE html>\n<html lang="en">\n<meta charset="utf-8">\n<title>wfmc</title>\n'
+        "<style>body{font:1em sans-serif;margin:2em}td,th{padding:.2em .8em;text-align:right}</style>\n"
+        '<h1>wfmc</h1>\n<p>For Prometheus: <a href="/metrics">/metrics</a></p>\n<table>\n'
+        "<tr><th>tenant<th>items<th>of<th>bytes<th>of<th>hits<th>misses<th>connections\n"
+        + rows + "</table>\n<table>\n<tr><th>log<th>places used<th>of<th>bytes<th>turn overs\n<tr>"
+        "<td>3<td>1234<td>65536<td>567890<td>2\n</table>\n</html>\n")
+
+
+def response(status, fields, body=b"", version="1.1", shown=True):
+    lines = [f"HTTP/{version} {status}"] + [f"{name}: {value}" for name, value in fields]
+    lines.append(f"content-length: {len(body)}")
+    return "".join(line + "\r\n" for line in lines).encode() + b"\r\n" + (body if shown else b"")
+
+
+def expected():
+    """What the requests of crates/mc_scrape/stdin are answered, one after another."""
+    scrape = [("content-type", "text/plain; version=0.0.4; charset=utf-8")]
+    text, html = metrics().encode(), page().encode()
+    refused = b"HTTP/1.1 400 Bad Request\r\nconnection: close\r\ncontent-length: 0\r\n\r\n"
+    return b"".join([
+        response("200 OK", scrape, text),
+        response("200 OK", scrape, text, shown=False),
+        response("200 OK", [("content-type", "text/html; charset=utf-8")], html),
+        response("200 OK", scrape, text, version="1.0"),
+        response("404 Not Found", []),
+        response("405 Method Not Allowed", [("allow", "GET, HEAD")]),
+        response("405 Method Not Allowed", [("allow", "GET, HEAD")]),
+        refused,
+    ])
+
+
+NAME = r"[a-zA-Z_:][a-zA-Z0-9_:]*"
+SAMPLE = re.compile(rf'({NAME})(?:\{{((?:[a-zA-Z_][a-zA-Z0-9_]*="[^"\\\n]*"(?:,(?!\}}))?)*)\}})? ([0-9]+(?:\.[0-9]+)?)')
+
+
+def check_grammar(text):
+    """Each line is of the format; each metric has its head once, before its samples, and no sample twice."""
+    assert text.endswith("\n")
+    seen, current, types = set(), None, {}
+    for line in text.splitlines():
+        head = re.fullmatch(rf"# (HELP|TYPE) ({NAME}) (.+)", line)
+        if head:
+            kind, current, rest = head.groups()
+            if kind == "TYPE":
+                assert current not in types and rest in ("counter", "gauge", "summary"), line
+                types[current] = rest
+            continue
+        sample = SAMPLE.fullmatch(line)
+        assert sample, f"no sample: {line}"
+        name = sample[1]
+        base = re.sub(r"_(sum|count)$", "", name) if types.get(current) == "summary" else name
+        assert base == current and current in types, f"a sample of another metric: {line}"
+        assert (types[current] == "counter") == name.endswith("_total"), line
+        assert (name, sample[2]) not in seen, f"twice: {line}"
+        seen.add((name, sample[2]))
+    return len(seen)
+
+
+def promtool(text):
+    tool = os.environ.get("PROMTOOL") or shutil.which("promtool")
+    if not tool:
+        print("promtool isn't installed, so it wasn't asked")
+        return
+    ran = subprocess.run([tool, "check", "metrics"], input=text, capture_output=True, text=True)
+    assert ran.returncode == 0 and not ran.stdout and not ran.stderr, f"promtool: {ran.stdout}{ran.stderr}"
+    print("promtool check metrics: no complaint")
+
+
+def output(arguments):
+    if arguments == ["--stored"]:
+        with open(f"{CRATE}/stdout", "rb") as file:
+            return file.read()
+    with open(f"{CRATE}/stdin", "rb") as file:
+        ran = subprocess.run([f"{CRATE}/out/mc_scrape"], stdin=file, capture_output=True, timeout=60)
+    assert ran.returncode == 0, ran
+    return ran.stdout
+
+
+def main():
+    if sys.argv[1:] == ["--write"]:
+        with open(f"{CRATE}/stdout", "wb") as file:
+            file.write(expected())
+        return
+    got, want = output(sys.argv[1:]), expected()
+    if got != want:
+        at = next((i for i, (a, b) in enumerate(zip(got, want)) if a != b), min(len(got), len(want)))
+        sys.exit(f"differs at byte {at}: {got[at - 60:at + 60]!r} instead of {want[at - 60:at + 60]!r}")
+    text = got.split(b"\r\n\r\n", 1)[1][:len(metrics())].decode()
+    print(f"{check_grammar(text)} samples")
+    promtool(text)
+
+
+main()
