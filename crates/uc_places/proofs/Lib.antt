@@ -9,3 +9,4 @@ pub mod Mirroring
 pub mod Spelled
 pub mod OwnEvents
 pub mod Between
+pub mod CoreRuns

@@ -9,3 +9,4 @@ pub mod Calls
 pub mod Seats
 pub mod End
 pub mod OneRun
+pub mod CoreRun

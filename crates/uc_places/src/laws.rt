@@ -5,6 +5,7 @@ ghost use Rattle.lists.specs.Lists.{BeginsWith};
 ghost use Rattle.mc_model.specs.declared.id.Ticket.{Ticket};
 ghost use Rattle.mc_model.specs.declared.shown.LogSize.{LogSize};
 ghost use Rattle.uc_places.specs.Calls.{last_of, state_of, worker_of};
+ghost use Rattle.uc_places.specs.CoreRun.{RunsAsCore};
 ghost use Rattle.uc_places.specs.End.{IsEnd};
 ghost use Rattle.uc_places.specs.OneRun.{CallsLieOnOneRun, EachEventIsACall, OthersLeaveIt, RunsBetween};
 ghost use Rattle.uc_places.specs.Seats.{desk_of};
@@ -30,6 +31,12 @@ pub fn all_calls_are_the_run()
 /// the calls that it had made, and shows the worker as it was.
 pub fn a_worker_stays_between_two_moments()
     ensures { RunsBetween }
+{}
+
+/// Any run of the log is a run of the core, the machine of the headline, whatever was announced under
+/// its tickets by known tenants, and however much of what it has learned each worker has replayed.
+pub fn a_run_of_the_log_is_one_of_the_core()
+    ensures { RunsAsCore }
 {}
 
 /// The log that `close` gives goes on from where its first seat was.

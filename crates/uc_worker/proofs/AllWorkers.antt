@@ -152,7 +152,7 @@ abbrev StandsIn : LogSize → List ShownEvent → ShownState → Part → Type 0
 StandsIn size run log part = (part.size ≡ size) × HasMade run part.worker part.calls × IsWorker log part.worker part.state
 
 -- an element of a list of results is one of them
-mapped : {X Y : Type 0} (f : X → Y) (xs : List X) (k : ℕ) (y : Y) → slice_get (map f xs) k ≡ Some y → (x : X) × (slice_get xs k ≡ Some x) × (f x ≡ y)
+pub mapped : {X Y : Type 0} (f : X → Y) (xs : List X) (k : ℕ) (y : Y) → slice_get (map f xs) k ≡ Some y → (x : X) × (slice_get xs k ≡ Some x) × (f x ≡ y)
 mapped f [] k y at = absurd (none-some y at)
 mapped f (x ∷ xs) zero y at = (x, refl, same_Some _ _ at)
 mapped f (x ∷ xs) (suc k) y at = mapped f xs k y at

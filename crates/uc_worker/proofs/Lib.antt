@@ -9,4 +9,5 @@ pub mod Lacking
 pub mod NoOps
 pub mod TurningOver
 pub mod AllWorkers
+pub mod RunsOfTheCore
 pub mod Unsettled

@@ -1,15 +1,21 @@
 -- All workers of a log on one run of it: a history of the log, and each worker's subhistory in it
 -- (Herlihy and Wing, Linearizability, TOPLAS 1990).
-use Rattle.std.specs.Prelude.{◌≡◌, List, map}
+use Rattle.std.specs.Prelude.{◌≡◌, ℕ, ◌<◌, List, Some, length, map, slice_get}
 use Rattle.lists.specs.Lists.{BeginsWith}
+use Rattle.mc_model.specs.declared.command.Command.{Command}
+use Rattle.mc_model.specs.declared.id.Ticket.{Ticket}
 use Rattle.mc_model.specs.declared.shown.LogSize.{LogSize}
 use Rattle.mc_model.specs.declared.shown.ShownState.{ShownState}
 use Rattle.mc_model.specs.Lawful.{IsWorker, LeadOn, ShownEvent}
+use Rattle.mc_model.specs.Settings.{Configuration}
 use Rattle.mc_model.specs.Shown.{new_log}
+use Rattle.mc_model.specs.State.{TableState}
 use Rattle.uc_places.specs.declared.view.Part.{Part}
+use Rattle.uc_places.specs.CoreRun.{IsCoreRun, log_size}
+use Rattle.uc_places.specs.OneRun.{AreOfAll}
 use Rattle.uc_places.specs.Run.{AreOneRun, HasMade, part_of}
 use Rattle.uc_worker.specs.declared.worker.Worker.{Worker}
-use Rattle.uc_worker.specs.Worker.{announced_of, seat_of}
+use Rattle.uc_worker.specs.Worker.{announced_of, history_of, seat_of}
 
 -- what a worker's seat knows of it: its number and state, and all its calls since the opening
 abbrev pub own_part : Worker → Part
@@ -39,3 +45,20 @@ pub record WasSo (size : LogSize) (early late : List ShownEvent) (part : Part) :
   pub sized : part.size ≡ size
   pub shown : IsWorker state part.worker part.state
   pub made : HasMade run part.worker part.calls
+
+-- this gives how many places each of the workers has replayed, by its number
+abbrev pub CountsReplayed : List Worker → (ℕ → ℕ) → Type 0
+CountsReplayed workers replayed = (place : ℕ) (worker : Worker) →
+    slice_get workers place ≡ Some worker →
+    replayed (seat_of worker).worker ≡ length (history_of worker)
+
+-- What all workers of a log have done, if they are on one run, is a run of the core: its events of
+-- the log are those of the run, and each worker has replayed as much as its history has. Each
+-- ticket's entry is given, and so are the tables over which the log was opened.
+abbrev pub TheyRunTheCore : Type 0
+TheyRunTheCore = (settings : Configuration) (tables : List TableState) (workers : List Worker)
+    (one : AreOnOneRun workers) (said : Ticket → ℕ × Command) (replayed : ℕ → ℕ) →
+    log_size settings ≡ one.0 → AreOfAll one.0 (map own_part workers) →
+    CountsReplayed workers replayed →
+    ((ticket : Ticket) → (said ticket).0 < length settings.tenants) →
+    IsCoreRun settings tables one.2.run one.1 said replayed

@@ -4,11 +4,11 @@ ghost use Rattle.std.specs.Prelude.{◌≡◌, ◌∷◌, All, []};
 ghost use Rattle.lists.specs.Lists.{BeginsWith};
 ghost use Rattle.uc_places.specs.Calls.{WitnessWith, Witnesses};
 ghost use Rattle.uc_places.specs.Run.{witnessed_by};
-ghost use Rattle.uc_worker.specs.AllWorkers.{AreOnOneRun, TakesNoStep, WasSo, own_part};
+ghost use Rattle.uc_worker.specs.AllWorkers.{AreOnOneRun, TakesNoStep, TheyRunTheCore, WasSo, own_part};
 ghost use Rattle.uc_worker.specs.Worker.{own_desk, seat_of};
 
 use crate::worker::Worker;
-use uc_places::laws::a_worker_stays_between_two_moments;
+use uc_places::laws::{a_run_of_the_log_is_one_of_the_core, a_worker_stays_between_two_moments};
 
 impl<'a> Worker<'a> {
     /// Keeps the run of the log up to now.
@@ -60,4 +60,14 @@ pub(crate) fn find_one_run<'a>(worker: &mut Worker<'a>, others: &mut [Worker<'a>
     witness_each(worker, others);
     worker.witness();
     witness_each(worker, others);
+}
+
+/// What all workers of a log have done, if one run has it all, is a run of the core, the machine of
+/// the headline, in which each worker has replayed as many places as its history has.
+///
+/// Each ticket's tenant and command is given to it: the run of the log has none.
+pub fn all_workers_run_the_core()
+    ensures { TheyRunTheCore }
+{
+    a_run_of_the_log_is_one_of_the_core();
 }

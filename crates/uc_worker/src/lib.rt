@@ -10,7 +10,7 @@ pub use mc_items::Hashing;
 pub use turning_over::{Base, Next, turn_over, turn_over_alone};
 pub use worker::{Answer, Worker};
 
-mod all_workers;
+pub mod all_workers;
 mod announcing;
 mod asking;
 mod catching_up;
