@@ -375,6 +375,7 @@ def show_errors():
             ("more than 1,048,576 places", ["--places", "2000000", tenant()], {}),
             ("more than 65,536 logs", ["--generations", "100000", tenant()], {}),
             ("logs of 0 bytes", ["--log-bytes", "0", tenant()], {}),
+            ("more places kept than a worker has", ["--reserve", "1025", tenant()], {}),
             ("no number", ["--places", "many", tenant()], {}),
             ("an unknown option", ["--port", "11211", tenant()], {}),
             ("no tenant", [], {}),

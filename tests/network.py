@@ -6,7 +6,8 @@ byte at a time, by 1 and by 4 workers; the bytes that come back must be the same
 in the middle of a block, one that resets, one that never reads, more connections than a worker takes, two tenants with the same key, 500
 commands of 8 clients at once, all places of the longest log, and logs that follow one another once their places are taken, or their bytes,
 while clients are cut off around each turn over.
-An administrator, whose quotas are in force at every worker, and whom no tenant locks out. And clients that nobody may forget: the process
+An administrator, whose quotas are in force at every worker, and whom no tenant locks out. Tenants for whom places are kept, and clients who
+are served by another worker where theirs has no place. And clients that nobody may forget: the process
 is stopped until many have connected, asked or left, and then goes on, while a worker is busy, or descriptors are scarce. Where no client is
 left, everything is given back, and no thread wakes. Clients that send more behind their last request, and read late, get all their replies;
 and where a wait for events fails (tests/fail_wait.c, which needs gcc), everything ends.
@@ -241,6 +242,94 @@ def check_too_many():
             client.close()
 
 
+def held_places(server, tenant, most):
+    """Clients of a tenant who were answered, one after another, until one wasn't or there were as many."""
+    clients = []
+    for _ in range(most):
+        client = server.connect(tenant, PATIENCE)
+        with contextlib.suppress(ConnectionError):
+            client.sendall(b"version\r\n")
+        if not is_answered(client):
+            client.close()
+            break
+        clients.append(client)
+    return clients
+
+
+def has_descriptors(count, what):
+    """Whether as many connections are allowed here, where this would be tried with them."""
+    if resource.getrlimit(resource.RLIMIT_NOFILE)[0] < count + 100:
+        print(f"{what}: not tried, since too few connections are allowed here")
+        return False
+    return True
+
+
+def check_reserve():
+    """With --reserve a tenant who takes all that it can leaves each other its reserve, at each worker."""
+    if not has_descriptors(2_048, "reserves"):
+        return
+    with Server(PROGRAM, [*ADMIN, "--workers", "1", "--reserve", "100"], {"a": LARGE, "b": LARGE, "c": LARGE}) as server:
+        first = held_places(server, "a", 1_024)
+        check("a tenant takes what isn't kept for others", len(first) == 824, len(first))
+        second = held_places(server, "b", 1_024)
+        check("another has its reserve, and no more", len(second) == 100, len(second))
+        check("an administrator has a place", is_answered(ask(server, "admin", b"limit a 1000 1000\r\n"), b"OK\r\n"))
+        first.pop().close()
+        check("those who stay go on", is_answered_again(first[0]))
+        second += held_places(server, "b", 2)
+        check("a place that nobody is owed is anybody's", len(second) == 101, len(second))
+        third = held_places(server, "c", 1_024)
+        check("the third has its reserve still", len(third) == 100, len(third))
+        for client in first + second + third:
+            client.close()
+    with Server(PROGRAM, ["--workers", "2", "--reserve", "512"], {"a": LARGE, "b": LARGE}) as server:
+        first = held_places(server, "a", 1_100)
+        check("a tenant takes what isn't kept at two workers", len(first) == 1_024, len(first))
+        second = held_places(server, "b", 1_100)
+        check("another has its reserve at both", len(second) == 1_024, len(second))
+        for client in first + second:
+            client.close()
+    two = ("a=127.0.0.1:0,1,1", "b=127.0.0.1:0,1,1")
+    check("more is kept than there is", ending_of("--reserve", "513", *two) == (2, b"", b"wfmc: bad settings\n"))
+    why = b"wfmc: --reserve 513: 2 times that is not from 0 to 1024\n"
+    check("why", ending_of("--check", "--reserve", "513", *two) == (2, b"", why))
+    check("all is kept", ending_of("--check", "--reserve", "512", *two) == (0, b"wfmc: the settings can be served\n", b""))
+    most = ending_of("--check", "--reserve", str(2**64 - 1), *two)
+    check("far more", most == (2, b"", why.replace(b"513", b"%d" % (2**64 - 1))), most)
+
+
+def check_passing_on():
+    """A client whose worker has no place is served by another that has one; where none has, its connection is closed."""
+    if not has_descriptors(2_048, "passing on"):
+        return
+    with Server(PROGRAM, ["--workers", "2"], {"a": LARGE}) as server:
+        clients = held_places(server, "a", 2_048)
+        check("two workers' places", len(clients) == 2_048, len(clients))
+        check("one more than both have", is_closed(server.connect("a", PATIENCE)))
+        # Clients were handed to the workers in turn: all but the first of the second worker's leave.
+        staying, leaving = clients[::2] + clients[1:2], clients[3::2]
+        for client in leaving:
+            client.close()
+        check("those who stay go on", is_answered_again(staying[-1]))
+        later = held_places(server, "a", 1_023)
+        check("the other worker takes those for which one has no place", len(later) == 1_023, len(later))
+        check("again one more than both have", is_closed(server.connect("a", PATIENCE)))
+        check("all are served", all(is_answered_again(client) for client in staying + later))
+        for client in staying + later:
+            client.close()
+    # The last that is to be served comes to a worker without a place, when the other may have ended: it is served or closed, and isn't left.
+    with Server(PROGRAM, ["--workers", "2", "--connections", "2049"], {"a": LARGE}) as server:
+        clients = held_places(server, "a", 2_048)
+        for client in clients[1::2]:
+            client.close()
+        started = time.monotonic()
+        held_places(server, "a", 1)
+        check("the last is served or closed soon", time.monotonic() - started < PATIENCE / 2)
+        for client in clients[::2]:
+            client.close()
+        check("the end after all", server.wait() == (0, b"done 0\n", b""))
+
+
 NO_ROOM = b"SERVER_ERROR out of memory storing object\r\n"
 
 
@@ -459,6 +548,28 @@ def check_gone_arrivals():
         check("a client after those that are gone", is_answered(client))
 
 
+def check_gone_among_busy():
+    """The same next to many tenants who keep the worker busy, so that those that are gone are served far more slowly than they come."""
+    if waiting_room() < 3_100:
+        print("connections that are gone aren't tried among busy tenants: too few may wait here")
+        return
+    others = [f"t{number}" for number in range(40)]
+    with Server(PROGRAM, ["--workers", "1", "--places", "1048576"], dict.fromkeys(["a", *others], LARGE)) as server:
+        busy = [ask(server, name) for name in others]
+        check("other tenants' clients", are_answered(busy))
+        first = ask(server, "a")
+        check("a client before those that are gone", is_answered(first))
+        with stopped(server):
+            for client in busy:
+                client.sendall(b"get x\r\n" * 4_000)
+            for _ in range(3_000):
+                reset(server.connect("a", PATIENCE))
+            client = ask(server, "a")
+        check("a client after those that are gone, among busy tenants", is_answered(client))
+        check("one before them", is_answered_again(first))
+        check("the other tenants' clients", all(is_answered(one, b"END\r\n" * 4_000) for one in busy))
+
+
 def check_last():
     """As many clients come at once as are to be served, and one more."""
     with Server(PROGRAM, ["--connections", "20"], {"a": LARGE}) as server:
@@ -675,6 +786,8 @@ def main():
     check_admins_places()
     check_admin_does_not_count()
     check_admins_address()
+    check_reserve()
+    check_passing_on()
     check_crowd()
     check_at_once()
     check_much_at_once()
@@ -682,6 +795,7 @@ def main():
     check_flood()
     check_few_descriptors()
     check_gone_arrivals()
+    check_gone_among_busy()
     check_last()
     check_early()
     check_no_delay()

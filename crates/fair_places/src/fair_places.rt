@@ -1,6 +1,6 @@
 //! Places that holders share, of which some are kept for each.
 ghost use Rattle.std.specs.Prelude.{◌≡◌, ◌+◌, ◌-◌, ◌*◌, ◌<◌, ◌≤◌, ◌↔◌, IfOk, IsTrue, length, replicate};
-ghost use Rattle.fair_places.specs.Places.{MayTake, free, held_by, owed, with_held};
+ghost use Rattle.fair_places.specs.Places.{AreKept, MayTake, free, held_by, owed, with_held};
 
 use std::alloc::{AllocError, Global};
 use std::marker::Model;
@@ -38,8 +38,9 @@ impl FairPlaces {
         reserve: usize,
     ) -> Result<FairPlaces, AllocError>
         requires { holders * reserve ≤ most }
-        ensures { IfOk result
+        ensures new { IfOk result
             (λ places. places ≡ record { most = most; reserve = reserve; held = replicate holders 0 }) }
+        ensures kept { IfOk result AreKept }
     {
         Ok(FairPlaces {
             most,
@@ -75,7 +76,8 @@ impl FairPlaces {
     pub fn take(&mut self, holder: usize)
         requires holder { holder < length self.old.held }
         requires place { MayTake holder self.old }
-        ensures { self.new ≡ with_held self.old holder (held_by self.old holder + 1) }
+        ensures taken { self.new ≡ with_held self.old holder (held_by self.old holder + 1) }
+        ensures kept { AreKept self.new }
     {
         let held = self.held[holder];
         // A place of the reserve was claimed before.
@@ -86,7 +88,8 @@ impl FairPlaces {
     /// Lets a holder give back one of its places.
     pub fn give_back(&mut self, holder: usize)
         requires { 0 < held_by self.old holder }
-        ensures { self.new ≡ with_held self.old holder (held_by self.old holder - 1) }
+        ensures given { self.new ≡ with_held self.old holder (held_by self.old holder - 1) }
+        ensures kept { AreKept self.new }
     {
         let held = self.held[holder];
         // A place of the reserve is claimed still.
@@ -96,7 +99,9 @@ impl FairPlaces {
 
     /// Lets every holder give back all its places.
     pub fn clear(&mut self)
-        ensures { self.new ≡ record self.old { held = replicate (length self.old.held) 0 } }
+        ensures cleared { self.new
+            ≡ record self.old { held = replicate (length self.old.held) 0 } }
+        ensures kept { AreKept self.new }
     {
         self.held.fill(0);
         self.claimed = self.held.len() * self.reserve;

@@ -22,7 +22,7 @@ use Rattle.mc_connections.specs.InTurn.{HaveServedInTurn, InTurn, followed_by, n
 use Rattle.mc_connections.specs.Working.{IsEmpty, IsUnused, KeepsUp, ServesOne, Standing, TakesIn, Works, begins, goes_on, standing}
 use Rattle.mc_connections.specs.declared.arrival.Arrival.{Arrival}
 use Rattle.mc_connections.specs.declared.past_connections.PastConnections.{PastConnections}
-use Rattle.mc_connections.specs.declared.connections.Connection.{Connection}
+use Rattle.mc_connections.specs.declared.connection.Connection.{Connection}
 use Rattle.mc_connections.specs.declared.connections.Connections.{Connections}
 use Rattle.mc_connections.proofs.Lives.{IsSound, PartsAddUp, continues_self, nothing_at, reads_from_earlier, same_key, sound_in_turn, sound_working}
 use Rattle.mc_connections.proofs.Numbers.{IsAt, Numbers, met_numbers, owed_numbers, taken_numbers}

@@ -1,15 +1,18 @@
 -- How many slots have a property, after one of them has changed.
-use Rattle.std.specs.Int.{from_bool}
-use Rattle.std.proofs.Common.{◌≡◌, ◌≢◌, ◌∙◌, ◌≤◌, ℕ, zero, suc, ◌+◌, ◌-◌, Bool, true, false, cond, List, [], ◌∷◌, Option, Some, None, IsSome, is_some, count_by, slice_index_or, refl, sym, ap, arith, subst, inl, inr}
+use Rattle.std.proofs.Common.{◌≡◌, ◌≢◌, ◌∙◌, ◌==◌, ◌<◌, ◌≤◌, ℕ, zero, suc, ◌+◌, ◌-◌, Bool, true, false, cond, List, [], ◌∷◌, length, Option, Some, None, IsSome, is_some, count_by, sum, set, get_or, slice_index_or, refl, sym, ap, arith, subst, inl, inr, get_or-set_same, get_or-set_other}
 use Rattle.std.proofs.lemmas.Bool.{cases_eq}
+use Rattle.std.proofs.lemmas.Bool.Decides.{eqb_tells}
 use Rattle.std.proofs.lemmas.Option.{same_Some}
-use Rattle.std.proofs.lemmas.List.Sums.{sum_by-cons}
+use Rattle.std.proofs.lemmas.List.Sums.{sum_by-cons, sum_by-set}
 use Rattle.slab.proofs.SlabLemmas.{Updates-with_value}
 use Rattle.slab.specs.Slab.{Slab, Updates, get, slab_len, with_value}
 use Rattle.mc_conn.specs.Owed.{IsAmong}
-use Rattle.mc_connections.specs.Counting.{HasPlace, admins_among, has_admin, is_admin}
-use Rattle.mc_connections.specs.declared.connections.Connection.{Connection}
-use Rattle.mc_connections.specs.declared.connections.TheConstants.{MOST_ADMINS, MOST_CONNECTIONS}
+use Rattle.fair_places.specs.Places.{held_by}
+use Rattle.mc_conn.specs.declared.conn.Role.{Role}
+use Rattle.mc_conn.specs.declared.conn.Role.TheVariants.{Admin, Tenant}
+use Rattle.mc_connections.specs.Counting.{AreCounted, admins_among, has_admin, has_tenant, held_as, is_admin, is_of, tenants_among, with_held_as}
+use Rattle.mc_connections.specs.Holding.{WorkerPlaces}
+use Rattle.mc_connections.specs.declared.connection.Connection.{Connection}
 
 module _ {C : Type 0} (p : Option C → Bool) (none : p None ≡ false) where
   -- one more if the slot has the property
@@ -65,20 +68,6 @@ module _ {C : Type 0} (p : Option C → Bool) (none : p None ≡ false) where
   count_updated old new key slot updates =
       moves key old.slots new.slots updates.others ∙ ap (λ one. count_by p old.slots + one_if one) updates.changed
 
-from_bool_is : (is : Bool) → cond is 1 0 ≡ from_bool is
-from_bool_is true = refl
-from_bool_is false = refl
-
--- one if there is an administrator's connection
-abbrev one_of : Option Connection → ℕ
-one_of slot = cond (has_admin slot) 1 0
-
-abbrev filled : Option Connection → ℕ
-filled slot = cond (is_some slot) 1 0
-
-moved : (before after : Slab Connection) (key : ℕ) (slot : Option Connection) → Updates before after key slot → admins_among after + one_of (get before key) ≡ admins_among before + one_of slot
-moved before after key slot updates = count_updated has_admin refl before after key slot updates
-
 -- each connection is of a role that the log has, with one more
 pub known_admitted : (before after : Slab Connection) (key : ℕ) (new : Connection) (tenants : ℕ) → ((other : ℕ) (one : Connection) → get before other ≡ Some one → IsAmong one.conn.role tenants) →
     Updates before after key (Some new) → IsAmong new.conn.role tenants → (other : ℕ) (one : Connection) → get after other ≡ Some one → IsAmong one.conn.role tenants
@@ -88,76 +77,160 @@ known_admitted before after key new tenants known updates is other one at =
       | inr differs ↦ known other one (sym (updates.others other differs) ∙ at)
     ]
 
--- an administrator's connection and a tenant's each have a place, and are counted apart
-module _ (before after : Slab Connection) (admins more : ℕ) (is : Bool) (count : more ≡ from_bool is) where
-  pub counts_admitted : (key : ℕ) (connection : Connection) → admins ≡ admins_among before → get before key ≡ None → Updates before after key (Some connection) → is_admin connection.conn.role ≡ is →
-      admins + more ≡ admins_among after
-  counts_admitted key connection counted vacant updates role =
-      let free : one_of (get before key) ≡ 0 = ap one_of vacant in
-      let new : one_of (Some connection) ≡ more = ap (λ b. cond b 1 0) role ∙ from_bool_is is ∙ sym count in
-      omega (arith, moved before after key (Some connection) updates, free, new, counted)
+-- ---- places that are taken and given back
 
-  pub admins_fit : HasPlace is before admins → admins ≤ MOST_ADMINS → admins + more ≤ MOST_ADMINS
-  admins_fit = by_kind is count
-    where
-      by_kind : (is : Bool) → more ≡ from_bool is → HasPlace is before admins → admins ≤ MOST_ADMINS → admins + more ≤ MOST_ADMINS
-      by_kind true count place few = omega (arith, count, place)
-      by_kind false count place few = omega (arith, count, few)
+-- one if the condition holds
+abbrev one_where : Bool → ℕ
+one_where is = cond is 1 0
 
-  pub tenants_fit : HasPlace is before admins → slab_len before ≤ MOST_CONNECTIONS + admins → slab_len after ≡ slab_len before + 1 → slab_len after ≤ MOST_CONNECTIONS + (admins + more)
-  tenants_fit = by_kind is count
-    where
-      by_kind : (is : Bool) → more ≡ from_bool is → HasPlace is before admins → slab_len before ≤ MOST_CONNECTIONS + admins → slab_len after ≡ slab_len before + 1 → slab_len after ≤ MOST_CONNECTIONS + (admins + more)
-      by_kind true count place few len = omega (arith, count, few, len)
-      by_kind false count place few len = omega (arith, count, place, len)
+eqb_same : (n : ℕ) → (n == n) ≡ true
+eqb_same n = elim (eqb_tells n n) [ inl tells ↦ tells.0 | inr tells ↦ absurd (tells.1 refl) ]
 
--- one that was served is counted as before
+-- what a tenant holds, once another number is noted for one of them
+pub data IsNoted (held : List ℕ) (other tenant now : ℕ) : Type 0 where
+  here : (other == tenant) ≡ true → other ≡ tenant → get_or (set held other now) tenant 0 ≡ now → IsNoted held other tenant now
+  elsewhere : (other == tenant) ≡ false → get_or (set held other now) tenant 0 ≡ get_or held tenant 0 → IsNoted held other tenant now
+
+noted : (held : List ℕ) (other tenant now : ℕ) → other < length held → IsNoted held other tenant now
+noted held other tenant now inside =
+    elim (eqb_tells other tenant) [
+      | inl tells ↦ here tells.0 tells.1 (subst (λ (at : ℕ). get_or (set held other now) at 0 ≡ now) tells.1 (get_or-set_same held other now 0 inside))
+      | inr tells ↦ let ne : tenant ≢ other = λ is. tells.1 (sym is) in elsewhere tells.0 (rw get_or-set_other refl)
+    ]
+
+module _ (tenants : ℕ) (places : WorkerPlaces) (holders : length places.tenants.held ≡ tenants) where
+  abbrev one_more : Role → WorkerPlaces
+  one_more role = with_held_as role (held_as role places + 1) places
+
+  abbrev one_less : Role → WorkerPlaces
+  one_less role = with_held_as role (held_as role places - 1) places
+
+  more_of : (role : Role) (tenant : ℕ) → IsAmong role tenants → held_by (one_more role).tenants tenant ≡ held_by places.tenants tenant + one_where (is_of tenant role)
+  more_of (Tenant other) tenant is =
+      elim (noted places.tenants.held other tenant (held_by places.tenants other + 1) (omega (arith, is, holders))) [
+        | here same at now ↦ rw same (omega (arith, now, ap (λ (at : ℕ). get_or places.tenants.held at 0) at))
+        | elsewhere differs as_before ↦ rw differs (omega (arith, as_before))
+      ]
+  more_of (Admin names) tenant is = omega arith
+
+  less_of : (role : Role) (tenant : ℕ) → IsAmong role tenants → 0 < held_as role places → held_by (one_less role).tenants tenant + one_where (is_of tenant role) ≡ held_by places.tenants tenant
+  less_of (Tenant other) tenant is some =
+      elim (noted places.tenants.held other tenant (held_by places.tenants other - 1) (omega (arith, is, holders))) [
+        | here same at now ↦ rw same (omega (arith, now, some, ap (λ (at : ℕ). get_or places.tenants.held at 0) at))
+        | elsewhere differs as_before ↦ rw differs (omega (arith, as_before))
+      ]
+  less_of (Admin names) tenant is some = omega arith
+
+  more_admins : (role : Role) → (one_more role).admins ≡ places.admins + one_where (is_admin role)
+  more_admins (Tenant other) = omega arith
+  more_admins (Admin names) = refl
+
+  less_admins : (role : Role) → 0 < held_as role places → (one_less role).admins + one_where (is_admin role) ≡ places.admins
+  less_admins (Tenant other) some = omega arith
+  less_admins (Admin names) some = omega (arith, some)
+
+  more_in_all : (role : Role) → IsAmong role tenants → sum (one_more role).tenants.held + (one_more role).admins ≡ sum places.tenants.held + places.admins + 1
+  more_in_all (Tenant other) is =
+      omega (arith, sum_by-set (λ n. n) places.tenants.held other (held_by places.tenants other + 1) 0 (omega (arith, is, holders)))
+  more_in_all (Admin names) is = omega arith
+
+  less_in_all : (role : Role) → IsAmong role tenants → 0 < held_as role places → sum (one_less role).tenants.held + (one_less role).admins + 1 ≡ sum places.tenants.held + places.admins
+  less_in_all (Tenant other) is some =
+      omega (arith, some, sum_by-set (λ n. n) places.tenants.held other (held_by places.tenants other - 1) 0 (omega (arith, is, holders)))
+  less_in_all (Admin names) is some = omega (arith, some)
+
+-- ---- what is held is counted
+
+-- once a place was taken there is room for its connection
+pub room_taken : (tenants : ℕ) (places : WorkerPlaces) (before : Slab Connection) (role : Role) (now : WorkerPlaces) (most : ℕ) → length places.tenants.held ≡ tenants → AreCounted tenants places before →
+    IsAmong role tenants → now ≡ with_held_as role (held_as role places + 1) places → sum now.tenants.held + now.admins ≤ most → slab_len before + 1 ≤ most
+room_taken tenants places before role now most holders counted is taken few =
+    let total = ap (λ (places : WorkerPlaces). sum places.tenants.held + places.admins) taken in
+    omega (arith, total, few, more_in_all tenants places holders role is, counted.of_all)
+
+abbrev filled : Option Connection → ℕ
+filled slot = one_where (is_some slot)
+
+-- a connection was admitted, and has taken a place
+pub counted_admitted : (tenants : ℕ) (places : WorkerPlaces) (before after : Slab Connection) (key : ℕ) (new : Connection) (role : Role) (now : WorkerPlaces) →
+    length places.tenants.held ≡ tenants → AreCounted tenants places before → IsAmong role tenants → new.conn.role ≡ role → get before key ≡ None → Updates before after key (Some new) →
+    slab_len after ≡ slab_len before + 1 → now ≡ with_held_as role (held_as role places + 1) places → AreCounted tenants now after
+counted_admitted tenants places before after key new role now holders counted is of vacant updates long taken =
+    let kind = λ (tenant : ℕ). ap (λ role. one_where (is_of tenant role)) of in
+    let none = λ (tenant : ℕ). ap (λ slot. one_where (has_tenant tenant slot)) vacant in
+    let admin = ap (λ role. one_where (is_admin role)) of in
+    let no_admin = ap (λ slot. one_where (has_admin slot)) vacant in
+    subst (λ (places : WorkerPlaces). AreCounted tenants places after) (sym taken)
+    (record {
+      of_tenants = λ tenant below.
+          omega (arith, more_of tenants places holders role tenant is, counted.of_tenants tenant below, count_updated (has_tenant tenant) refl before after key (Some new) updates, kind tenant, none tenant);
+      of_admins = omega (arith, more_admins tenants places holders role, counted.of_admins, count_updated has_admin refl before after key (Some new) updates, admin, no_admin);
+      of_all = omega (arith, long, more_in_all tenants places holders role is, counted.of_all);
+    })
+
+-- one that was served has its place still
 module _ (before : Slab Connection) (key : ℕ) (old new : Connection) (there : get before key ≡ Some old) (role : new.conn.role ≡ old.conn.role) where
   was_written : Updates before (with_value before key new) key (Some new)
   was_written = Updates-with_value before key new (subst IsSome (sym there) refl)
 
-  pub counts_served : (admins : ℕ) → admins ≡ admins_among before → admins ≡ admins_among (with_value before key new)
-  counts_served admins counted =
-      let same : one_of (Some new) ≡ one_of (get before key) = ap (λ role. cond (is_admin role) 1 0) role ∙ sym (ap one_of there) in
-      omega (arith, moved before (with_value before key new) key (Some new) was_written, same, counted)
-
-  pub length_served : slab_len (with_value before key new) ≡ slab_len before
+  length_served : slab_len (with_value before key new) ≡ slab_len before
   length_served =
       let same : filled (Some new) ≡ filled (get before key) = sym (ap filled there) in
       omega (arith, count_updated is_some refl before (with_value before key new) key (Some new) was_written, same)
+
+  pub counted_served : (tenants : ℕ) (places : WorkerPlaces) → AreCounted tenants places before → AreCounted tenants places (with_value before key new)
+  counted_served tenants places counted =
+      let kind = λ (tenant : ℕ). ap (λ role. one_where (is_of tenant role)) role in
+      let had = λ (tenant : ℕ). ap (λ slot. one_where (has_tenant tenant slot)) there in
+      let admin = ap (λ role. one_where (is_admin role)) role in
+      let had_admin = ap (λ slot. one_where (has_admin slot)) there in
+      record {
+        of_tenants = λ tenant below.
+            omega (arith, counted.of_tenants tenant below, count_updated (has_tenant tenant) refl before (with_value before key new) key (Some new) was_written, kind tenant, had tenant);
+        of_admins = omega (arith, counted.of_admins, count_updated has_admin refl before (with_value before key new) key (Some new) was_written, admin, had_admin);
+        of_all = omega (arith, length_served, counted.of_all);
+      }
 
   pub known_served : (tenants : ℕ) → ((other : ℕ) (one : Connection) → get before other ≡ Some one → IsAmong one.conn.role tenants) →
       (other : ℕ) (one : Connection) → get (with_value before key new) other ≡ Some one → IsAmong one.conn.role tenants
   known_served tenants known = known_admitted before (with_value before key new) key new tenants known was_written (subst (λ role. IsAmong role tenants) (sym role) (known key old there))
 
--- one that has ended is counted no more
-module _ (before after : Slab Connection) (admins less key : ℕ) (connection : Connection) (count : less ≡ from_bool (is_admin connection.conn.role)) (counted : admins ≡ admins_among before)
-    (there : get before key ≡ Some connection) (updates : Updates before after key None) where
-  had : one_of (get before key) ≡ less
-  had = ap one_of there ∙ from_bool_is (is_admin connection.conn.role) ∙ sym count
+-- one that has ended gives its place back
+module _ (tenants : ℕ) (places : WorkerPlaces) (before after : Slab Connection) (key : ℕ) (connection : Connection) (holders : length places.tenants.held ≡ tenants) (counted : AreCounted tenants places before)
+    (known : (other : ℕ) (one : Connection) → get before other ≡ Some one → IsAmong one.conn.role tenants) (there : get before key ≡ Some connection) (updates : Updates before after key None)
+    (role : Role) (of : role ≡ connection.conn.role) where
+  is : IsAmong role tenants
+  is = subst (λ role. IsAmong role tenants) (sym of) (known key connection there)
 
-  none_counts : one_of None ≡ 0
-  none_counts = refl
+  had_tenant : (tenant : ℕ) → one_where (has_tenant tenant (get before key)) ≡ one_where (is_of tenant role)
+  had_tenant tenant = ap (λ slot. one_where (has_tenant tenant slot)) there ∙ ap (λ role. one_where (is_of tenant role)) (sym of)
 
-  sums : admins ≡ admins_among after + less
-  sums = omega (arith, moved before after key None updates, none_counts, had, counted)
+  had_admin : one_where (has_admin (get before key)) ≡ one_where (is_admin role)
+  had_admin = ap (λ slot. one_where (has_admin slot)) there ∙ ap (λ role. one_where (is_admin role)) (sym of)
 
-  pub counts_removed : admins - less ≡ admins_among after
-  counts_removed = omega (arith, sums)
+  one_of_them : (one : Role) → role ≡ one → IsAmong one tenants → 0 < held_as one places
+  one_of_them (Tenant tenant) same among =
+      let had : one_where (has_tenant tenant (get before key)) ≡ 1 = had_tenant tenant ∙ ap (λ role. one_where (is_of tenant role)) same ∙ ap one_where (eqb_same tenant) in
+      omega (arith, had, counted.of_tenants tenant among, count_updated (has_tenant tenant) refl before after key None updates)
+  one_of_them (Admin names) same among =
+      let had : one_where (has_admin (get before key)) ≡ 1 = had_admin ∙ ap (λ role. one_where (is_admin role)) same in
+      omega (arith, had, counted.of_admins, count_updated has_admin refl before after key None updates)
 
-  few_less : less ≤ 1
-  few_less = below (is_admin connection.conn.role) count
-    where
-      below : (is : Bool) → less ≡ from_bool is → less ≤ 1
-      below true e = omega (arith, e)
-      below false e = omega (arith, e)
+  pub holds_one : 0 < held_as role places
+  holds_one = one_of_them role refl is
 
-  pub tenants_left : slab_len after + 1 ≡ slab_len before → slab_len before ≤ MOST_CONNECTIONS + admins → slab_len after ≤ MOST_CONNECTIONS + (admins - less)
-  tenants_left long few = omega (arith, long, few, few_less, sums)
+  pub counted_left : (now : WorkerPlaces) → slab_len after + 1 ≡ slab_len before → now ≡ with_held_as role (held_as role places - 1) places → AreCounted tenants now after
+  counted_left now long given =
+      subst (λ (places : WorkerPlaces). AreCounted tenants places after) (sym given)
+      (record {
+        of_tenants = λ tenant below.
+            omega (arith, less_of tenants places holders role tenant is holds_one, counted.of_tenants tenant below, count_updated (has_tenant tenant) refl before after key None updates, had_tenant tenant);
+        of_admins = omega (arith, less_admins tenants places holders role holds_one, counted.of_admins, count_updated has_admin refl before after key None updates, had_admin);
+        of_all = omega (arith, long, less_in_all tenants places holders role is holds_one, counted.of_all);
+      })
 
-  pub known_left : (tenants : ℕ) → ((other : ℕ) (one : Connection) → get before other ≡ Some one → IsAmong one.conn.role tenants) →
-      (other : ℕ) (one : Connection) → get after other ≡ Some one → IsAmong one.conn.role tenants
-  known_left tenants known other one at =
+  pub known_left : (other : ℕ) (one : Connection) → get after other ≡ Some one → IsAmong one.conn.role tenants
+  known_left other one at =
       elim (cases_eq other key) [
         | inl same ↦ let none : None ≡ Some one = sym updates.changed ∙ ap (get after) (sym same) ∙ at in absurd cc
         | inr differs ↦ known other one (sym (updates.others other differs) ∙ at)

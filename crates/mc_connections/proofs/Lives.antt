@@ -36,7 +36,7 @@ use Rattle.mc_connections.specs.InTurn.{HaveServedInTurn, InTurn, no_worker, one
 use Rattle.mc_connections.specs.Working.{IsUnused, KeepsUp, ServesOne, Standing, TakesIn, Works, begins, goes_on, standing}
 use Rattle.mc_connections.specs.declared.arrival.Arrival.{Arrival}
 use Rattle.mc_connections.specs.declared.past_connections.PastConnections.{PastConnections}
-use Rattle.mc_connections.specs.declared.connections.Connection.{Connection}
+use Rattle.mc_connections.specs.declared.connection.Connection.{Connection}
 use Rattle.mc_connections.specs.declared.connections.Connections.{Connections}
 
 -- the end that a turn remembers was found

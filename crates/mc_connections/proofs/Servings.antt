@@ -1,8 +1,8 @@
 -- What a turn leaves of its connection, turns after turns, and whether a connection stays.
-use Rattle.std.proofs.Common.{◌≡◌, ◌≢◌, ◌⊎◌, ℕ, ◌+◌, ◌≤◌, ◌∷◌, length, ap, arith, Bool, true, false, Option, Some, None, Result, Ok, Err, IsSome, ⊎_elim, inl, inr, refl, sym, subst, ◌∙◌}
+use Rattle.std.proofs.Common.{◌≡◌, ◌≢◌, ◌⊎◌, ℕ, ◌+◌, ◌≤◌, ◌∷◌, length, ap, arith, Bool, true, false, List, Option, Some, None, Result, Ok, Err, IsSome, ⊎_elim, inl, inr, refl, sym, subst, ◌∙◌}
 use Rattle.std.proofs.lemmas.Option.{same_Some}
 use Rattle.std.specs.Option.{option_map_or}
-use Rattle.slab.specs.Slab.{Updates, get, with_value}
+use Rattle.slab.specs.Slab.{Slab, Updates, get, with_value}
 use Rattle.slab.proofs.SlabLemmas.{Updates-with_value}
 use Rattle.mc_conn.specs.declared.conn.Conn.{Conn}
 use Rattle.mc_conn.specs.declared.conn.State.{State}
@@ -15,7 +15,7 @@ use Rattle.mc_model.specs.declared.request.Request.{Request}
 use Rattle.mc_stream.specs.Stream.{Inflow, Streams}
 use Rattle.uc_worker.specs.Going.{Continues}
 use Rattle.uc_worker.specs.declared.worker.Worker.{Worker}
-use Rattle.mc_connections.specs.declared.connections.Connection.{Connection}
+use Rattle.mc_connections.specs.declared.connection.Connection.{Connection}
 use Rattle.mc_connections.specs.declared.connections.Connections.{Connections}
 use Rattle.mc_connections.specs.Serving.{Becomes, ChangesAt, HasEnded, IsServedLater, Stands, Stays, TakesOrStops, TurnsOnce, connection_at}
 
@@ -143,33 +143,50 @@ once_few before after once =
     once
 
 -- a connection was served under its key, and stays there or goes
-module _ (until : Bool) (worker after_worker : Worker) (state : State) (before after : Connections) (key : ℕ) (old new : Connection) (there : connection_at before key ≡ Some old)
-    (later : IsServedLater until worker after_worker old new state) (tenants : after.tenants ≡ before.tenants) where
+module _ (Later : Connection → Connection → State → Type 0) (Still : Type 0) (state : State) (before after : Slab Connection) (ended now : List Connection) (key : ℕ) (old new : Connection)
+    (there : get before key ≡ Some old) (later : Later old new state) where
   abbrev pub HasBecome : Option Connection → Option Connection → Type 0
-  HasBecome = Becomes (IsServedLater until worker after_worker) (after_worker ≡ worker) state before.ended.connections after.ended.connections
+  HasBecome = Becomes Later Still state ended now
 
-  in_place : Updates before.by_key (with_value before.by_key key new) key (Some new)
-  in_place = Updates-with_value before.by_key key new (subst IsSome (sym there) refl)
+  pub in_place : Updates before (with_value before key new) key (Some new)
+  in_place = Updates-with_value before key new (subst IsSome (sym there) refl)
 
-  pub stays_in_place : state ≢ Closed → after.by_key ≡ with_value before.by_key key new → after.ended.connections ≡ before.ended.connections → ChangesAt HasBecome before after key
-  stays_in_place isnt is ended =
-      let updates : Updates before.by_key after.by_key key (Some new) = subst (λ slab. Updates before.by_key slab key (Some new)) (sym is) in_place in
-      record {
-        becomes = subst (λ (slot : Option Connection). HasBecome slot (connection_at after key)) (sym there)
-            (subst (HasBecome (Some old)) (sym updates.changed) (later, isnt, ended));
-        others = updates.others;
-        tenants = tenants;
-      }
+  pub updated_in_place : after ≡ with_value before key new → Updates before after key (Some new)
+  updated_in_place is = subst (λ slab. Updates before slab key (Some new)) (sym is) in_place
+
+  pub becomes_in_place : state ≢ Closed → after ≡ with_value before key new → now ≡ ended → HasBecome (get before key) (get after key)
+  becomes_in_place isnt is same =
+      subst (λ (slot : Option Connection). HasBecome slot (get after key)) (sym there)
+      (subst (HasBecome (Some old)) (sym (updated_in_place is).changed) (later, isnt, same))
+
+  pub becomes_closed : (last : Connection) → state ≡ Closed → Some last ≡ get (with_value before key new) key → Updates (with_value before key new) after key None → now ≡ last ∷ ended →
+      HasBecome (get before key) (get after key)
+  becomes_closed last closed had gone noted =
+      let is : new ≡ last = sym (same_Some last new (had ∙ in_place.changed)) in
+      let ends : Later old last Closed = subst (λ (one : Connection). Later old one Closed) is (subst (Later old new) closed later) in
+      subst (λ (slot : Option Connection). HasBecome slot (get after key)) (sym there) (subst (HasBecome (Some old)) (sym gone.changed) (last, noted, ends, closed))
+
+module _ (until : Bool) (worker after_worker : Worker) (state : State) (before after : Connections) (key : ℕ) (old new : Connection) (there : connection_at before key ≡ Some old)
+    (later : IsServedLater until worker after_worker old new state) (tenants : after.tenants ≡ before.tenants) (reserve : after.places.tenants.reserve ≡ before.places.tenants.reserve) where
+  abbrev IsLater : Connection → Connection → State → Type 0
+  IsLater = IsServedLater until worker after_worker
+
+  abbrev pub HasGoneOn : Option Connection → Option Connection → Type 0
+  HasGoneOn = Becomes IsLater (after_worker ≡ worker) state before.ended.connections after.ended.connections
+
+  pub stays_in_place : state ≢ Closed → after.by_key ≡ with_value before.by_key key new → after.ended.connections ≡ before.ended.connections → ChangesAt HasGoneOn before after key
+  stays_in_place isnt is ended = record {
+    becomes = becomes_in_place IsLater (after_worker ≡ worker) state before.by_key after.by_key before.ended.connections after.ended.connections key old new there later isnt is ended;
+    others = (updated_in_place IsLater (after_worker ≡ worker) state before.by_key after.by_key before.ended.connections after.ended.connections key old new there later is).others;
+    tenants = tenants;
+    reserve = reserve;
+  }
 
   pub goes_closed : (last : Connection) → state ≡ Closed → Some last ≡ get (with_value before.by_key key new) key → Updates (with_value before.by_key key new) after.by_key key None →
-      after.ended.connections ≡ last ∷ before.ended.connections → ChangesAt HasBecome before after key
-  goes_closed last closed had gone ended =
-      let is : new ≡ last = sym (same_Some last new (had ∙ in_place.changed)) in
-      let ends : IsServedLater until worker after_worker old last Closed = subst (λ (one : Connection). IsServedLater until worker after_worker old one Closed) is
-      (subst (IsServedLater until worker after_worker old new) closed later) in
-      record {
-        becomes = subst (λ (slot : Option Connection). HasBecome slot (connection_at after key)) (sym there)
-            (subst (HasBecome (Some old)) (sym gone.changed) (last, ended, ends, closed));
-        others = λ other not. gone.others other not ∙ in_place.others other not;
-        tenants = tenants;
-      }
+      after.ended.connections ≡ last ∷ before.ended.connections → ChangesAt HasGoneOn before after key
+  goes_closed last closed had gone ended = record {
+    becomes = becomes_closed IsLater (after_worker ≡ worker) state before.by_key after.by_key before.ended.connections after.ended.connections key old new there later last closed had gone ended;
+    others = λ other not. gone.others other not ∙ (in_place IsLater (after_worker ≡ worker) state before.by_key after.by_key before.ended.connections after.ended.connections key old new there later).others other not;
+    tenants = tenants;
+    reserve = reserve;
+  }

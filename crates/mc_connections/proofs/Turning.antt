@@ -1,16 +1,21 @@
 -- Whose turn it is among the connections that wait.
-use Rattle.std.proofs.Common.{◌≡◌, ◌∙◌, ℕ, ◌-◌, ap, inr, subst, sym}
-use Rattle.fair_queue.specs.Turns.{Charges, GivesFirst, IsIdle, QueueState}
+use Rattle.std.proofs.Common.{◌≡◌, ◌⊎◌, ◌∙◌, ◌≤◌, ℕ, ◌-◌, Bool, Err, Ok, OnOk, Option, Result, Some, ap, inl, inr, length, subst, sym, ⊎_elim}
+use Rattle.std.specs.Prelude.{slice_get}
+use Rattle.fair_queue.specs.Turns.{Charges, GivesFirst, IsIdle, IsPushed, QueueState}
+use Rattle.mc_conn.specs.declared.conn.State.{State}
+use Rattle.mc_conn.specs.declared.conn.State.TheVariants.{Busy, Closed, Full, Idle}
 use Rattle.mc_connections.specs.declared.waiting.Waiting.{Waiting}
-use Rattle.mc_connections.specs.Waiting.{EndsRound, IsCharged, TakesTurn, cost_of}
+use Rattle.mc_connections.specs.InQueue.{WaitsOn}
+use Rattle.mc_connections.specs.Waiting.{ComesToWait, EndsRound, TakesTurn, Waits, cost_of, flow_of}
 
 pub gave : {taken : QueueState} (spent key flow : ℕ) (old new : Waiting) → spent ≡ old.spent → new.queue ≡ taken →
-    ((between : QueueState) × Charges spent old.queue between × GivesFirst flow key between taken) → TakesTurn key old new
-gave spent key flow old new is same (between, charged, given) = record {
+    ((between : QueueState) × Charges spent old.queue between × GivesFirst flow key between taken) → ¬ (Waits new key) → TakesTurn key old new
+gave spent key flow old new is same (between, charged, given) out = record {
   flow = flow;
   between = between;
   charged = subst (λ n. Charges n old.queue between) is charged;
   given = subst (GivesFirst flow key between) (sym same) given;
+  taken = out;
 }
 
 pub idled : (spent : ℕ) (old new : Waiting) → spent ≡ old.spent →
@@ -22,6 +27,30 @@ idled spent old new is (between, charged, ended) =
     )
 
 pub charged_for : (waiting : Waiting) (commands before after was now bytes : ℕ) → commands ≡ after - before → before ≡ was → after ≡ now →
-    waiting.spent ≡ cost_of commands bytes → IsCharged (now - was) waiting
+    waiting.spent ≡ cost_of commands bytes → waiting.spent ≡ cost_of (now - was) bytes
 charged_for waiting commands before after was now bytes is first then spent =
-    (bytes, spent ∙ ap (λ n. cost_of n bytes) (is ∙ ap (λ n. n - before) then ∙ ap (λ n. now - n) first))
+    spent ∙ ap (λ n. cost_of n bytes) (is ∙ ap (λ n. n - before) then ∙ ap (λ n. now - n) first)
+
+-- what a connection has cost doesn't matter to where it waits
+pub waits_the_same : (tenant : Option ℕ) (key : ℕ) (old charged new : Waiting) → charged.queue ≡ old.queue → charged.waits.items ≡ old.waits.items → ComesToWait tenant key charged new → ComesToWait tenant key old new
+waits_the_same tenant key old charged new queue waits =
+    ⊎_elim
+    (λ pushed. inl (subst (λ (queue : QueueState). IsPushed (flow_of (length queue.flows) tenant) key queue new.queue) queue pushed.0, pushed.1))
+    (λ stays. inr (
+      stays.0 ∙ queue,
+      ⊎_elim
+          (λ (waited : Waits charged key). inl (waited.0, subst (λ (items : _). slice_get items key ≡ Some (Some waited.0)) waits waited.1))
+          (λ (past : length charged.waits.items ≤ key). inr (subst (λ (items : _). length items ≤ key) waits past))
+          stays.1,
+    ))
+
+pub waits_with_more : (state : State) (tenant : Option ℕ) (key : ℕ) (old new : Waiting) → (state ≡ Busy) ⊎ (state ≡ Full) → ComesToWait tenant key old new → WaitsOn state tenant key old new
+waits_with_more state tenant key old new more waits =
+    ⊎_elim
+    (λ (busy : state ≡ Busy). subst (λ (state : State). WaitsOn state tenant key old new) (sym busy) waits)
+    (λ (full : state ≡ Full). subst (λ (state : State). WaitsOn state tenant key old new) (sym full) waits)
+    more
+
+pub on_ok : {T E P Q : Type 0} (result : Result T E) → OnOk result P → (P → Q) → OnOk result Q
+on_ok (Ok done) holds so = so holds
+on_ok (Err failed) holds so = holds

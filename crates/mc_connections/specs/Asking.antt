@@ -8,7 +8,7 @@ use Rattle.mc_conn.specs.declared.conn.Role.{Role}
 use Rattle.mc_model.specs.declared.command.Command.{Command}
 use Rattle.mc_model.specs.declared.request.Request.{Request}
 use Rattle.mc_connections.specs.Life.{came_of}
-use Rattle.mc_connections.specs.declared.connections.Connection.{Connection}
+use Rattle.mc_connections.specs.declared.connection.Connection.{Connection}
 use Rattle.mc_conn.specs.Cited.{ReadsAs}
 use Rattle.uc_worker.specs.declared.worker.Worker.{Worker}
 use Rattle.uc_worker.specs.Worker.{announced_of}

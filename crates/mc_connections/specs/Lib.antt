@@ -1,7 +1,10 @@
 pub mod Asking
 pub mod Counting
+pub mod Holding
+pub mod InQueue
 pub mod InTurn
 pub mod Life
+pub mod Moving
 pub mod Serving
 pub mod Waiting
 pub mod Working

@@ -13,7 +13,7 @@ use Rattle.lists.specs.Lists.{BeginsWith}
 use Rattle.mc_model.specs.declared.reply.Reply.TheVariants.{Refused}
 use Rattle.mc_model.specs.declared.reply.TheConstants.WireNo.{OUT_OF_MEMORY}
 use Rattle.mc_model.specs.declared.request.Request.{Request}
-use Rattle.mc_connections.specs.declared.connections.Connection.{Connection}
+use Rattle.mc_connections.specs.declared.connection.Connection.{Connection}
 use Rattle.mc_conn.specs.Cited.{ReadsAs, ends_stream, text}
 use Rattle.mc_stream.specs.Event.{failures, has_ended, moved}
 use Rattle.uc_worker.specs.declared.worker.Worker.{Worker}

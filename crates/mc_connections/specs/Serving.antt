@@ -1,16 +1,24 @@
 -- What becomes of the connections of a worker; this project's profile.
-use Rattle.std.specs.Prelude.{◌≡◌, ◌≢◌, ◌⊎◌, ℕ, ◌+◌, ◌≤◌, Bool, true, false, List, [], ◌∷◌, length, Option, Some, None}
+use Rattle.std.specs.Prelude.{◌≡◌, ◌≢◌, ◌⊎◌, ℕ, ◌+◌, ◌-◌, ◌^◌, ◌≤◌, Bool, true, false, List, [], ◌∷◌, length, min, option_and_then, Option, Some, None}
+use Rattle.mio.specs.declared.net.stream.TcpStream.{TcpStream}
 use Rattle.slab.specs.Slab.{Updates, get}
 use Rattle.mc_conn.specs.declared.conn.Conn.{Conn}
+use Rattle.mc_conn.specs.declared.conn.Role.{Role}
+use Rattle.mc_conn.specs.declared.conn.Role.TheVariants.{Admin, Tenant}
 use Rattle.mc_conn.specs.declared.conn.State.{State}
 use Rattle.mc_conn.specs.declared.conn.State.TheVariants.{Closed, Idle, Busy, Full}
 use Rattle.mc_conn.specs.Ending.{IsDone, PullsOnce, Stops, Turns, TurnsUntil}
 use Rattle.mc_conn.specs.Held.{nothing_held}
+use Rattle.mc_conn.specs.Owed.{IsAmong}
 use Rattle.mc_conn.specs.Turn.{Scene, Takes, holding_of, queue_of, scene}
 use Rattle.mc_model.specs.declared.fault.Fault.{Fault}
 use Rattle.mc_connections.specs.declared.connecting.TheConstants.{TURNS}
+use Rattle.mc_connections.specs.Moving.{count_of}
+use Rattle.mc_connections.specs.Counting.{HasPlace, held_as, with_held_as}
+use Rattle.mc_connections.specs.declared.arrival.Admission.{Admission}
+use Rattle.mc_connections.specs.declared.arrival.Admission.TheVariants.{Admitted, NoPlace, UnknownRole, Unregistered}
 use Rattle.mc_connections.specs.declared.arrival.Arrival.{Arrival}
-use Rattle.mc_connections.specs.declared.connections.Connection.{Connection}
+use Rattle.mc_connections.specs.declared.connection.Connection.{Connection}
 use Rattle.mc_connections.specs.declared.connections.Connections.{Connections}
 use Rattle.mc_stream.specs.Event.{Event}
 use Rattle.mc_stream.specs.Stream.{both}
@@ -19,6 +27,15 @@ use Rattle.uc_worker.specs.declared.worker.Worker.{Worker}
 -- the connection under a key
 abbrev pub connection_at : Connections → ℕ → Option Connection
 connection_at connections key = get connections.by_key key
+
+-- the number of the tenant whose connection is under a key, if one is
+abbrev pub tenant_of : Role → Option ℕ
+tenant_of (Tenant tenant) = Some tenant
+tenant_of (Admin names) = None
+
+abbrev pub tenant_at : Connections → ℕ → Option ℕ
+tenant_at connections key =
+    option_and_then (λ connection. tenant_of connection.conn.role) (connection_at connections key)
 
 -- all that a turn sees of a connection; its tapes tell what the reads and the writes of its stream
 -- have done so far
@@ -38,7 +55,8 @@ pub record IsNewConnection (connection : Connection) (arrival : Arrival _) : Typ
       × (connection.conn.is_closed ≡ false)
   pub tapes : (connection.received.events ≡ []) × (connection.sent.events ≡ [])
 
--- the arrival's connection is under a key that was free, and every other key is unchanged
+-- The arrival's connection is under a key that was free, and every other key is unchanged; it has
+-- taken one of the places, of which as many are kept for each tenant as before.
 pub record Admits (before after : Connections) (arrival : Arrival _) (key : ℕ) : Type 0 where
   pub vacant : connection_at before key ≡ None
   pub connection : Connection
@@ -46,6 +64,21 @@ pub record Admits (before after : Connections) (arrival : Arrival _) (key : ℕ)
   pub updates : Updates before.by_key after.by_key key (Some connection)
   pub ended : after.ended ≡ before.ended
   pub tenants : after.tenants ≡ before.tenants
+  pub places : after.places
+      ≡ with_held_as arrival.role (held_as arrival.role before.places + 1) before.places
+
+-- What has become of an arrival, and of the connections: it was admitted, at a place that it had; or
+-- it comes back as it was, since it has none, and so isn't one of a tenant that holds less than its
+-- reserve; or its role isn't the log's; or the system didn't register it, though it has a place.
+abbrev pub HasComeTo : Connections → Connections → Arrival TcpStream → Admission → Type 0
+HasComeTo before after arrival (Admitted key) =
+    HasPlace arrival.role before.places × Admits before after arrival key
+HasComeTo before after arrival (NoPlace back) =
+    ¬ (HasPlace arrival.role before.places) × (back ≡ arrival) × (after ≡ before)
+HasComeTo before after arrival UnknownRole =
+    ¬ (IsAmong arrival.role before.tenants) × (after ≡ before)
+HasComeTo before after arrival Unregistered =
+    HasPlace arrival.role before.places × IsAmong arrival.role before.tenants × (after ≡ before)
 
 -- A connection was served over its streams: bytes came, the requests that they read as were taken,
 -- and what was sent followed by what is queued is what was queued before followed by what is owed
@@ -93,6 +126,12 @@ pub record IsServedLater (until : Bool) (before after : Worker) (old new : Conne
   pub stands : Stands until (scene_of old before) (scene_of new after) state
   pub few : HasAtMost TURNS old.received.events new.received.events
 
+-- how many bytes the connection's stream has given and taken from one state of it to the other
+abbrev pub moved_between : Connection → Connection → ℕ
+moved_between old new =
+    min ((count_of new.received.events - count_of old.received.events)
+    + (count_of new.sent.events - count_of old.sent.events)) (2 ^ 64 - 1)
+
 -- A connection that was served stays, and is in this state; or it has ended, and is the latest of
 -- those that have; and if there was none, nothing was done. The lists are those that had ended
 -- before and those that have now, and the options the connection before and now.
@@ -111,3 +150,11 @@ pub record ChangesAt (Step : Option Connection → Option Connection → Type 0)
   pub becomes : Step (connection_at before key) (connection_at after key)
   pub others : (other : ℕ) → other ≢ key → connection_at after other ≡ connection_at before other
   pub tenants : after.tenants ≡ before.tenants
+  pub reserve : after.places.tenants.reserve ≡ before.places.tenants.reserve
+
+-- the connection under this key, if there was one, has moved this many bytes while it was served
+abbrev pub MovesAt : ℕ → ℕ → State → Connections → Connections → Type 0
+MovesAt bytes key state before after =
+    Becomes (λ old new _. bytes ≡ moved_between old new) (bytes ≡ 0) state
+    before.ended.connections after.ended.connections
+    (connection_at before key) (connection_at after key)

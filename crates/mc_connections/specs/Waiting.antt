@@ -1,5 +1,5 @@
 -- Which connections wait, whose turn it is, and what a turn costs; this project's profile.
-use Rattle.std.specs.Prelude.{◌≡◌, ◌⊎◌, ℕ, ◌+◌, ◌-◌, ◌*◌, ◌^◌, ◌≤◌, Option, length, min, unwrap_or}
+use Rattle.std.specs.Prelude.{◌≡◌, ◌⊎◌, ℕ, ◌+◌, ◌-◌, ◌*◌, ◌^◌, ◌≤◌, Bool, Option, Some, length, min, slice_get, unwrap_or}
 use Rattle.fair_queue.specs.Turns.{Charges, GivesFirst, IsIdle, IsPushed, QueueState}
 use Rattle.mc_connections.specs.declared.waiting.TheConstants.{BYTES_OF_A_COMMAND, BYTES_OF_A_SERVE, QUANTUM}
 use Rattle.mc_connections.specs.declared.waiting.Waiting.{Waiting}
@@ -9,26 +9,28 @@ abbrev pub cost_of : ℕ → ℕ → ℕ
 cost_of commands bytes =
     min (BYTES_OF_A_SERVE + commands * BYTES_OF_A_COMMAND + bytes) (2 ^ 64 - 1)
 
--- serving the last connection has cost what this many commands cost, and some bytes
-abbrev pub IsCharged : ℕ → Waiting → Type 0
-IsCharged commands waiting = (bytes : ℕ) × (waiting.spent ≡ cost_of commands bytes)
-
 -- of this many flows that of a tenant, or the last one, which is the administrators'
 abbrev pub flow_of : ℕ → Option ℕ → ℕ
 flow_of flows tenant = min (unwrap_or tenant (flows - 1)) (flows - 1)
 
--- a connection came to wait behind those of its flow, or waits already, or its key is none
+-- the connection under this key waits
+abbrev pub Waits : Waiting → ℕ → Type 0
+Waits waiting key = (short : Bool) × (slice_get waiting.waits.items key ≡ Some (Some short))
+
+-- a connection came to wait behind those of its flow; or it waits already, or its key is none
 abbrev pub ComesToWait : Option ℕ → ℕ → Waiting → Waiting → Type 0
-ComesToWait tenant key old new = (new.queue ≡ old.queue)
-    ⊎ IsPushed (flow_of (length old.queue.flows) tenant) key old.queue new.queue
+ComesToWait tenant key old new =
+    IsPushed (flow_of (length old.queue.flows) tenant) key old.queue new.queue × Waits new key
+    ⊎ (new.queue ≡ old.queue) × (Waits old key ⊎ length old.waits.items ≤ key)
 
 -- What the connection before this one has cost was charged to the flow that had its turn, and the
--- next flow in which one waits gave its first.
+-- next flow in which one waits gave its first, which doesn't wait any more.
 pub record TakesTurn (key : ℕ) (old new : Waiting) : Type 0 where
   pub flow : ℕ
   pub between : QueueState
   pub charged : Charges old.spent old.queue between
   pub given : GivesFirst flow key between new.queue
+  pub taken : ¬ (Waits new key)
 
 -- the round's quantum is spent, or nobody waits
 abbrev pub EndsRound : Waiting → Waiting → Type 0

@@ -60,6 +60,10 @@ IsEmpty connections = (slab_len connections.by_key == 0) ≡ true
 abbrev pub IsUnused : Connections → Type 0
 IsUnused connections = IsEmpty connections × (connections.ended.connections ≡ [])
 
+-- so many places are kept for each tenant
+abbrev pub Keeps : ℕ → Connections → Type 0
+Keeps reserve connections = connections.places.tenants.reserve ≡ reserve
+
 -- there is no connection, none has ended, and each is to be of one of this many tenants
 abbrev pub IsNewFor : ℕ → Connections → Type 0
 IsNewFor tenants connections = (connections.tenants ≡ tenants) × IsUnused connections

@@ -1,20 +1,21 @@
 //! How a worker admits connections and serves them.
-ghost use Rattle.std.specs.Prelude.{◌≡◌, ◌<◌, true, false, length, IfNone, IfOk, IfSome, MatchResult, Ok};
+ghost use Rattle.std.specs.Prelude.{◌≡◌, ◌<◌, true, false, length, IfOk, MatchResult, Ok};
 ghost use Rattle.mc_conn.specs.Ending.{PullsOnce, Stops};
 ghost use Rattle.mc_conn.specs.Owed.{FitsLog};
 ghost use Rattle.mc_conn.specs.Turn.{scene};
-ghost use Rattle.mc_connections.specs.Serving.{Admits, HasAtMost, IsServedLater, TakesOrStops, Stands, TurnsOnce};
+ghost use Rattle.mc_connections.specs.Serving.{HasAtMost, HasComeTo, MovesAt, moved_between, tenant_at, IsServedLater, TakesOrStops, Stands, TurnsOnce};
 ghost use Rattle.mc_connections.specs.Working.{ServesAt, standing};
 ghost use Rattle.mc_stream.specs.Stream.{both};
 ghost use Rattle.uc_worker.specs.Worker.{tenants_of};
 
-use crate::arrival::Arrival;
+use crate::arrival::{Admission, Arrival};
 use crate::closing::Closing;
-use crate::connections::{Connection, Connections, is_admin, is_among};
-use crate::socket::{SocketReader, SocketWriter};
-use mc_conn::{Conn, PULL_BYTES, State};
+use crate::connection::Connection;
+use crate::connections::{Connections, is_among};
+use crate::socket::{SocketInput, SocketOutput};
+use mc_conn::{Conn, PULL_BYTES, Role, State};
 use mc_model::Fault;
-use mc_stream::{Input, Output, ReadInput, Tape, WriteOutput};
+use mc_stream::{Input, Output, Tape};
 use mio::net::TcpStream;
 use mio::{Interest, Registry, Token};
 use std::alloc::Global;
@@ -30,7 +31,7 @@ const TURNS: u32 = 2;
 pub(crate) struct Served {
     /// The connection's state afterwards.
     pub state: State,
-    /// How many bytes its stream gave and took.
+    /// How many bytes its stream gave and took meanwhile.
     pub bytes: u64,
 }
 
@@ -111,18 +112,25 @@ impl Connection {
         stops_short: bool,
     ) -> Served
         requires { FitsLog self.old.conn.role worker.old }
-        ensures { IsServedLater until_done worker.old worker.new self.old self.new result.state }
+        ensures later { IsServedLater until_done worker.old worker.new self.old self.new
+            result.state }
+        ensures bytes { result.bytes ≡ moved_between self.old self.new }
     {
+        let (came, went) = (self.bytes_received, self.bytes_sent);
         let Connection {
             stream,
             conn,
             received,
             sent,
+            bytes_received,
+            bytes_sent,
+            is_served,
         } = self;
-        let mut reader = SocketReader::new(stream, stops_short);
-        let mut writer = SocketWriter::new(stream);
-        let mut input = ReadInput::resume(&mut reader, mem::replace(received, Tape::new()));
-        let mut output = WriteOutput::resume(&mut writer, mem::replace(sent, Tape::new()));
+        *is_served = true;
+        let tape = mem::replace(received, Tape::new());
+        let mut input = SocketInput::resume(stream, stops_short, tape, came);
+        let tape = mem::replace(sent, Tape::new());
+        let mut output = SocketOutput::resume(stream, tape, went);
         let state = turns(
             until_done,
             conn,
@@ -132,47 +140,62 @@ impl Connection {
             gate,
             buffer,
         );
-        *received = input.into_tape();
-        *sent = output.into_tape();
-        let bytes = reader.count.saturating_add(writer.count);
+        (*received, *bytes_received) = input.into_parts();
+        (*sent, *bytes_sent) = output.into_parts();
+        let given = bytes_received.saturating_sub(came);
+        let bytes = given.saturating_add(bytes_sent.saturating_sub(went));
         Served { state, bytes }
     }
 }
 
 impl Connections {
-    /// Admits an arrival as a connection. Returns its key, which is also the token of its events.
+    /// Returns the number of the tenant whose connection is under a key, or `None` if none is, or an
+    /// administrator's.
+    pub(crate) fn tenant_of(&self, key: usize) -> Option<usize>
+        ensures { result ≡ tenant_at self.now key }
+    {
+        match self.by_key.get(key)?.conn.role() {
+            Role::Tenant(tenant) => Some(usize::from(tenant.number())),
+            Role::Admin(_) => None,
+        }
+    }
+
+    /// Admits an arrival as a connection. Its key is also the token of its events.
     ///
-    /// Closes the stream without sending a byte and returns `None` if there are `MOST_CONNECTIONS`
-    /// of tenants, or `MOST_ADMINS` of administrators, already, the stream can't be registered, or
-    /// the log has no such role. Needs no memory.
+    /// There is no place for it if `MOST_ADMINS` of administrators are held, or if its tenant holds
+    /// its reserve and what is free of `MOST_CONNECTIONS` is kept for others. Needs no memory.
     pub fn admit(
         &mut self,
         alloc: Global,
         registry: &Registry,
         arrival: Arrival<TcpStream>,
-    ) -> Option<usize>
-        ensures admits { IfSome result (Admits self.old self.new arrival) }
-        ensures same { IfNone result (self.new ≡ self.old) }
+    ) -> Admission
+        ensures { HasComeTo self.old self.new arrival result }
     {
         let Arrival { role, mut stream } = arrival;
-        let is_of_admin = is_admin(&role);
         // The queue is behind a lock, so nothing is proved about what comes out of it.
-        if !self.has_place(is_of_admin) || !is_among(&role, self.tenants) {
-            return None;
+        if !is_among(&role, self.tenants) {
+            return Admission::UnknownRole;
+        }
+        if !self.places.has_place(&role) {
+            return Admission::NoPlace(Arrival { role, stream });
         }
         let token = Token(self.by_key.vacant_key());
         let both = Interest::READABLE | Interest::WRITABLE;
         if registry.register(&mut stream, token, both).is_err() {
-            return None;
+            return Admission::Unregistered;
         }
+        self.places.take(&role);
         let connection = Connection {
             stream,
             conn: Conn::of(alloc, role),
             received: Tape::new(),
             sent: Tape::new(),
+            bytes_received: 0,
+            bytes_sent: 0,
+            is_served: false,
         };
-        self.admins += usize::from(is_of_admin);
-        Some(self.by_key.insert_reserved(connection))
+        Admission::Admitted(self.by_key.insert_reserved(connection))
     }
 
     /// Serves the connection under a key, if there is one. If it has ended it is removed, and its
@@ -188,8 +211,9 @@ impl Connections {
         closing: &mut Closing,
     ) -> Served
         requires { self.old.tenants ≡ length (tenants_of worker.old) }
-        ensures { ServesAt until_done key result.state (standing worker.old self.old)
+        ensures serves { ServesAt until_done key result.state (standing worker.old self.old)
             (standing worker.new self.new) }
+        ensures bytes { MovesAt result.bytes key result.state self.old self.new }
     {
         let Some(connection) = self.by_key.get_mut(key) else {
             return Served {
@@ -202,7 +226,7 @@ impl Connections {
             let Some(connection) = self.by_key.try_remove(key) else {
                 unreachable!();
             };
-            self.admins -= usize::from(is_admin(connection.conn.role()));
+            self.places.give_back(connection.conn.role());
             self.ended = self.ended.and(&connection);
             closing.keep(connection.stream, buffer);
         }

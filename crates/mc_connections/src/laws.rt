@@ -1,17 +1,18 @@
 //! What the definitions say of connections, log after log, and the numbers of this profile. A law is
 //! the contract of a function with an empty body, or with calls of the laws from which it follows.
-ghost use Rattle.std.specs.Prelude.{◌≡◌, ◌↔◌, [], ◌∷◌, All, Bool, IfNone, IfSome, ℕ, List, Option, length};
+ghost use Rattle.std.specs.Prelude.{◌≡◌, ◌↔◌, [], ◌∷◌, All, Bool, ℕ, List, length};
 ghost use Rattle.mc_conn.specs.Owed.{Mark};
 ghost use Rattle.mc_conn.specs.declared.conn.Role.{Role};
 ghost use Rattle.mc_connections.specs.Asking.{HaveBeenAsked};
 ghost use Rattle.mc_connections.specs.InTurn.{HaveServedInTurn, InTurn};
 ghost use Rattle.mc_connections.specs.Life.{OwesInLogs, OwesInParts, WasAnswered};
-ghost use Rattle.mc_connections.specs.Serving.{Admits};
-ghost use Rattle.mc_connections.specs.Working.{IsEmpty, Standing, Works, standing};
+ghost use Rattle.mc_connections.specs.Serving.{HasComeTo};
+ghost use Rattle.mc_connections.specs.Working.{IsEmpty, Keeps, Standing, Works, standing};
+ghost use Rattle.mc_connections.specs.declared.arrival.Admission.{Admission};
 ghost use Rattle.mc_connections.specs.declared.arrival.Arrival.{Arrival};
 ghost use Rattle.mc_connections.specs.declared.closing.TheConstants.{DROPPED_BYTES, MOST_CLOSING};
 ghost use Rattle.mc_connections.specs.declared.connections.Connections.{Connections};
-ghost use Rattle.mc_connections.specs.declared.connections.TheConstants.{MOST_ADMINS, MOST_CONNECTIONS};
+ghost use Rattle.mc_connections.specs.declared.places.TheConstants.{MOST_ADMINS, MOST_CONNECTIONS};
 ghost use Rattle.mc_model.specs.declared.request.Request.{Request};
 ghost use Rattle.uc_worker.specs.Going.{CatchesUp, Continues};
 ghost use Rattle.uc_worker.specs.Worker.{tenants_of};
@@ -35,15 +36,15 @@ pub fn numbers_of_the_network()
 {}
 
 /// Work adds up: none, work after work, and an arrival or the worker's catching up after work. The
-/// worker is the same later on, and its connections are still of its log's roles.
+/// worker is the same later on, its connections are still of its log's roles, and as many places are
+/// kept for each tenant.
 pub fn work_adds_up()
     ensures none { (until : Bool) (a : Standing) → Works until a a }
     ensures through { (until : Bool) (a b c : Standing) → Works until a b → Works until b c →
         Works until a c }
     ensures admits { (until : Bool) (a : Standing) (worker : Worker) (old new : Connections)
-        (arrival : Arrival _) (key : Option ℕ) → Works until a (standing worker old) →
-        IfSome key (Admits old new arrival) → IfNone key (new ≡ old) →
-        Works until a (standing worker new) }
+        (arrival : Arrival _) (admission : Admission) → Works until a (standing worker old) →
+        HasComeTo old new arrival admission → Works until a (standing worker new) }
     ensures catches_up { (until : Bool) (a : Standing) (old new : Worker)
         (connections : Connections) → Works until a (standing old connections) →
         CatchesUp old new → Works until a (standing new connections) }
@@ -52,6 +53,8 @@ pub fn work_adds_up()
     ensures known { (until : Bool) (a b : Standing) → Works until a b →
         a.connections.tenants ≡ length (tenants_of a.worker) →
         b.connections.tenants ≡ length (tenants_of b.worker) }
+    ensures keeps { (until : Bool) (reserve : ℕ) (a b : Standing) → Works until a b →
+        Keeps reserve a.connections → Keeps reserve b.connections }
 {}
 
 /// Connections outlive logs: what a connection was sent from its first byte to its last is what it

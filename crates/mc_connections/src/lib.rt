@@ -7,17 +7,21 @@
 //! byte to its last, and `specs/Asking.antt` for whom commands are announced.
 #![tactic(auto)]
 
-pub use arrival::Arrival;
-pub use connections::{Connection, Connections, is_admin};
+pub use arrival::{Admission, Arrival};
+pub use connection::Connection;
+pub use connections::{Connections, is_admin};
 pub use past_connections::PastConnections;
+pub use places::MOST_CONNECTIONS;
 pub use ready_queue::{ReadyQueue, WAKER};
 
 pub mod arrival;
 pub mod closing;
 mod connecting;
+pub mod connection;
 pub mod connections;
 pub mod laws;
 pub mod past_connections;
+pub mod places;
 pub mod ready_queue;
 mod socket;
 mod waiting;

@@ -1,9 +1,9 @@
 //! The connections that have ended, for contracts only.
-ghost use Rattle.mc_connections.specs.declared.connections.Connection.{Connection};
+ghost use Rattle.mc_connections.specs.declared.connection.Connection.{Connection};
 ghost use Rattle.std.specs.Borrow.{ftrue};
 ghost use Rattle.std.specs.Prelude.{◌≡◌, List, [], ◌∷◌};
 
-use crate::connections::Connection;
+use crate::connection::Connection;
 use std::marker::Model;
 
 /// Every connection of a worker that has ended, as it was then, the latest first. It takes no

@@ -1,11 +1,15 @@
 //! Which of a worker's connections are served next.
-ghost use Rattle.std.specs.Prelude.{◌≡◌, ◌-◌, length, IfOk};
-ghost use Rattle.mc_connections.specs.Waiting.{IsCharged};
-ghost use Rattle.mc_connections.specs.Working.{IsNewFor, Works, standing};
-ghost use Rattle.uc_worker.specs.Worker.{seat_of, tenants_of};
+ghost use Rattle.std.specs.Prelude.{◌≡◌, ◌*◌, ◌≤◌, length, IfOk, OnOk};
+ghost use Rattle.mc_connections.specs.InQueue.{HasLetWait, HasServed};
+ghost use Rattle.mc_connections.specs.Serving.{tenant_at};
+ghost use Rattle.mc_connections.specs.Waiting.{ComesToWait};
+ghost use Rattle.mc_connections.specs.Working.{IsNewFor, Keeps, Works, standing};
+ghost use Rattle.mc_connections.specs.declared.places.TheConstants.{MOST_CONNECTIONS};
+ghost use Rattle.uc_worker.specs.Worker.{tenants_of};
 
 use crate::closing::{Closing, place_of};
 use crate::connections::{Connections, MOST_OF_ALL};
+use crate::places::MOST_CONNECTIONS;
 use crate::waiting::{Next, Waiting};
 use mc_conn::{PULL_BYTES, State};
 use mio::event::Event;
@@ -34,14 +38,17 @@ fn stops_short(event: &Event) -> bool {
 }
 
 impl ReadyQueue {
-    /// Returns a queue without connections, for a log of this many tenants.
+    /// Returns a queue without connections, for a log of this many tenants, for each of which `reserve`
+    /// places are kept.
     ///
     /// Returns an error if memory runs out.
-    pub fn new(alloc: Global, tenants: usize) -> Result<ReadyQueue, AllocError>
-        ensures { IfOk result (λ ready. IsNewFor tenants ready.connections) }
+    pub fn new(alloc: Global, tenants: usize, reserve: usize) -> Result<ReadyQueue, AllocError>
+        requires { tenants * reserve ≤ MOST_CONNECTIONS }
+        ensures new { IfOk result (λ ready. IsNewFor tenants ready.connections) }
+        ensures reserve { IfOk result (λ ready. Keeps reserve ready.connections) }
     {
         let waiting = Waiting::new(alloc, tenants)?;
-        let connections = Connections::new(alloc, tenants)?;
+        let connections = Connections::new(alloc, tenants, reserve)?;
         let closing = Closing::new(alloc)?;
         Ok(ReadyQueue {
             connections,
@@ -56,6 +63,19 @@ impl ReadyQueue {
         self.waiting.is_empty()
     }
 
+    /// Lets a connection wait behind those of its tenant, or of administrators, that wait already.
+    ///
+    /// Returns an error if memory runs out.
+    fn let_wait(&mut self, next: Next) -> Result<(), AllocError>
+        ensures waits { OnOk result (ComesToWait (tenant_at self.old.connections next.key) next.key
+            self.old.waiting self.new.waiting) }
+        ensures spent { self.new.waiting.spent ≡ self.old.waiting.spent }
+        ensures same { self.new.connections ≡ self.old.connections }
+    {
+        let tenant = self.connections.tenant_of(next.key);
+        self.waiting.push(tenant, next)
+    }
+
     /// Serves a connection, and lets it wait again if there is more to do.
     ///
     /// Returns an error if memory runs out.
@@ -68,14 +88,13 @@ impl ReadyQueue {
         next: Next,
     ) -> Result<(), AllocError>
         requires { self.old.connections.tenants ≡ length (tenants_of worker.old) }
-        ensures works { Works until_done (standing worker.old self.old.connections)
-            (standing worker.new self.new.connections) }
-        ensures charged { IsCharged
-            ((seat_of worker.new).state.announced - (seat_of worker.old).state.announced)
-            self.new.waiting }
+        ensures served { HasServed until_done next.key (standing worker.old self.old.connections)
+            (standing worker.new self.new.connections) self.new.waiting }
+        ensures waits { OnOk result (HasLetWait until_done next.key
+            (standing worker.old self.old.connections) (standing worker.new self.new.connections)
+            self.old.waiting self.new.waiting) }
     {
         let Next { key, stops_short } = next;
-        let tenant = self.connections.tenant_of(key);
         let announced = worker.announced();
         let closing = &mut self.closing;
         let served = self.connections.serve(
@@ -90,15 +109,10 @@ impl ReadyQueue {
         let commands = worker.announced().saturating_sub(announced);
         self.waiting.charge(commands, served.bytes);
         match served.state {
-            State::Busy | State::Full => Ok(
-                self.waiting.push(
-                    tenant,
-                    Next {
-                        key,
-                        stops_short: false,
-                    },
-                )?,
-            ),
+            State::Busy | State::Full => self.let_wait(Next {
+                key,
+                stops_short: false,
+            }),
             State::Idle | State::Closed => Ok(()),
         }
     }
@@ -122,12 +136,10 @@ impl ReadyQueue {
             } else if let Some(place) = place_of(token) {
                 self.closing.serve(place, buffer);
             } else {
-                let next = Next {
+                self.let_wait(Next {
                     key: token.0,
                     stops_short: stops_short(event),
-                };
-                let tenant = self.connections.tenant_of(token.0);
-                self.waiting.push(tenant, next)?;
+                })?;
             }
         }
         Ok(is_woken)

@@ -1,7 +1,7 @@
 //! Which connections wait to be served, and whose turn it is.
-ghost use Rattle.std.specs.Prelude.{◌≡◌, ◌+◌, ◌-◌, ◌^◌, ◌↔◌, IfOk, IsTrue, MatchOption, length, min};
+ghost use Rattle.std.specs.Prelude.{◌≡◌, ◌+◌, ◌-◌, ◌^◌, ◌↔◌, IfOk, IsTrue, MatchOption, OnOk, length, min};
 ghost use Rattle.fair_queue.specs.Turns.{IsIdle};
-ghost use Rattle.mc_connections.specs.Waiting.{ComesToWait, EndsRound, TakesTurn, cost_of};
+ghost use Rattle.mc_connections.specs.Waiting.{ComesToWait, EndsRound, TakesTurn, Waits, cost_of};
 
 use crate::connections::MOST_OF_ALL;
 use fair_queue::FairQueue;
@@ -68,7 +68,7 @@ impl Waiting {
     ///
     /// Returns an error if memory runs out.
     pub(crate) fn push(&mut self, tenant: Option<usize>, next: Next) -> Result<(), AllocError>
-        ensures waits { ComesToWait tenant next.key self.old self.new }
+        ensures waits { OnOk result (ComesToWait tenant next.key self.old self.new) }
         ensures spent { self.new.spent ≡ self.old.spent }
     {
         let Some(waits) = self.waits.get_mut(next.key) else {
@@ -90,6 +90,7 @@ impl Waiting {
 
     /// Notes that the connection under a key doesn't wait any more. Returns its `stops_short`.
     fn take_out(&mut self, key: usize) -> bool
+        ensures waits { ¬ (Waits self.new key) }
         ensures queue { self.new.queue ≡ self.old.queue }
         ensures spent { self.new.spent ≡ self.old.spent }
     {
@@ -122,6 +123,7 @@ impl Waiting {
     /// its stream gave and took.
     pub(crate) fn charge(&mut self, commands: u64, bytes: u64)
         ensures queue { self.new.queue ≡ self.old.queue }
+        ensures waits { self.new.waits.items ≡ self.old.waits.items }
         ensures spent { self.new.spent ≡ cost_of commands bytes }
     {
         self.spent = BYTES_OF_A_SERVE

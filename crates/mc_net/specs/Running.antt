@@ -3,8 +3,8 @@ use Rattle.std.specs.List.{AllZip}
 use Rattle.std.specs.Prelude.{◌≡◌, ◌<◌, ◌⊎◌, ℕ, Bool, true, List, [], ◌∷◌, All, length, map, slice_index_or, IfOk, Ok}
 use Rattle.mc_conn.specs.declared.conn.Role.{Role}
 use Rattle.mc_connections.specs.InTurn.{HaveServedInTurn, InTurn, followed_by}
-use Rattle.mc_connections.specs.Working.{IsEmpty, IsNewFor, Standing, Works, standing}
-use Rattle.mc_connections.specs.declared.connections.Connection.{Connection}
+use Rattle.mc_connections.specs.Working.{IsEmpty, IsNewFor, Keeps, Standing, Works, standing}
+use Rattle.mc_connections.specs.declared.connection.Connection.{Connection}
 use Rattle.mc_net.specs.declared.ended.Ended.{Ended}
 use Rattle.mc_net.specs.declared.ended.Ended.TheVariants.{Done, Full}
 use Rattle.mc_net.specs.declared.event_loop.EventLoop.{EventLoop}
@@ -32,6 +32,10 @@ IsFor tenants event_loop = event_loop.ready.connections.tenants ≡ tenants
 -- the event loop is for a log of this many tenants, and has served nothing yet
 abbrev pub IsNewLoop : ℕ → EventLoop → Type 0
 IsNewLoop tenants event_loop = IsNewFor tenants event_loop.ready.connections
+
+-- at the event loop so many places are kept for each tenant
+abbrev pub KeepsAt : ℕ → EventLoop → Type 0
+KeepsAt reserve event_loop = Keeps reserve event_loop.ready.connections
 
 -- no connection is left at the event loop
 abbrev pub IsEmptyLoop : EventLoop → Type 0

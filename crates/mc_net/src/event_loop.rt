@@ -1,6 +1,7 @@
 //! A worker's event loop.
-ghost use Rattle.std.specs.Prelude.{◌≡◌, Bool, length, IfOk};
-ghost use Rattle.mc_connections.specs.Working.{IsNewFor, Works};
+ghost use Rattle.std.specs.Prelude.{◌≡◌, ◌*◌, ◌≤◌, Bool, length, IfOk};
+ghost use Rattle.mc_connections.specs.Working.{IsNewFor, Keeps, Works};
+ghost use Rattle.mc_connections.specs.declared.places.TheConstants.{MOST_CONNECTIONS};
 ghost use Rattle.mc_net.specs.Running.{HasWorked, standing_at};
 ghost use Rattle.uc_worker.specs.Going.{CatchesUp};
 ghost use Rattle.uc_worker.specs.Worker.{tenants_of};
@@ -8,9 +9,9 @@ ghost use Rattle.uc_worker.specs.declared.worker.Worker.{Worker};
 
 use crate::ended::Ended;
 use crate::halt::Halt;
-use crate::mailbox::{Mailbox, Mailboxes, Signal};
+use crate::mailbox::{Mailboxes, Offer, Signal};
 use mc_conn::PULL_BYTES;
-use mc_connections::ReadyQueue;
+use mc_connections::{Admission, MOST_CONNECTIONS, ReadyQueue};
 use mio::{Events, Poll};
 use std::alloc::Global;
 use std::sync::Wait;
@@ -76,20 +77,23 @@ fn poll_events(
 }
 
 impl EventLoop {
-    /// Returns an event loop without connections, for logs of this many tenants, each of which is
-    /// closed once its commands keep this many bytes.
+    /// Returns an event loop without connections, for logs of this many tenants, for each of which
+    /// `reserve` places are kept. A log is closed once its commands keep `most_bytes` bytes.
     ///
     /// Returns `Memory` if memory runs out.
     pub(crate) fn new(
         alloc: Global,
         poll: Poll,
         tenants: usize,
+        reserve: usize,
         most_bytes: u64,
     ) -> Result<EventLoop, Halt>
-        ensures { IfOk result (λ event_loop. IsNewFor tenants event_loop.ready.connections) }
+        requires { tenants * reserve ≤ MOST_CONNECTIONS }
+        ensures new { IfOk result (λ event_loop. IsNewFor tenants event_loop.ready.connections) }
+        ensures reserve { IfOk result (λ event_loop. Keeps reserve event_loop.ready.connections) }
     {
         let events = Events::with_capacity(alloc, EVENTS)?;
-        let ready = ReadyQueue::new(alloc, tenants)?;
+        let ready = ReadyQueue::new(alloc, tenants, reserve)?;
         Ok(EventLoop {
             ready,
             poll,
@@ -102,24 +106,59 @@ impl EventLoop {
         })
     }
 
-    /// Admits the arrivals that the acceptor left, `ARRIVALS` at most.
+    /// Admits an arrival; if there is no place for it here, it is passed on.
     ///
-    /// Returns the signal that follows them, or `None` if more may be left.
-    fn admit_arrivals<R: Wait>(&mut self, rt: &R, mailbox: &Mailbox) -> Option<Signal>
+    /// Returns `Poll` if another worker can't be woken.
+    fn admit<R: Wait>(
+        &mut self,
+        rt: &R,
+        mailboxes: &Mailboxes,
+        number: usize,
+        offer: Offer,
+    ) -> Result<(), Halt>
         ensures { (until : Bool) (worker : Worker) →
             Works until (standing_at worker self.old) (standing_at worker self.new) }
     {
         mc_connections::laws::work_adds_up();
+        let Offer { arrival, refusals } = offer;
+        let registry = self.poll.registry();
+        match self.ready.connections.admit(self.alloc, registry, arrival) {
+            Admission::NoPlace(arrival) => {
+                mailboxes.pass_on(rt, number, Offer { arrival, refusals })
+            }
+            Admission::Admitted(_) | Admission::UnknownRole | Admission::Unregistered => Ok(()),
+        }
+    }
+
+    /// Admits the arrivals in the mailbox of this number, `ARRIVALS` at most. None is while all places
+    /// are taken by connections of which some haven't been served yet, since their clients may have
+    /// left: so nobody is refused a place for one that is gone already.
+    ///
+    /// Returns the signal that follows them, or `None` if more may be left. Returns `Poll` if another
+    /// worker can't be woken.
+    fn admit_arrivals<R: Wait>(
+        &mut self,
+        rt: &R,
+        mailboxes: &Mailboxes,
+        number: usize,
+    ) -> Result<Option<Signal>, Halt>
+        ensures { (until : Bool) (worker : Worker) →
+            Works until (standing_at worker self.old) (standing_at worker self.new) }
+    {
+        mc_connections::laws::work_adds_up();
+        let Some(mailbox) = mailboxes.of_workers.get(number) else {
+            return Err(Halt::Elsewhere);
+        };
         for _ in 0..ARRIVALS {
+            if self.ready.connections.is_crowded() {
+                return Ok(None);
+            }
             match mailbox.next(rt) {
-                Ok(arrival) => {
-                    let registry = self.poll.registry();
-                    self.ready.connections.admit(self.alloc, registry, arrival);
-                }
-                Err(signal) => return Some(signal),
+                Ok(offer) => self.admit(rt, mailboxes, number, offer)?,
+                Err(signal) => return Ok(Some(signal)),
             }
         }
-        None
+        Ok(None)
     }
 
     /// Waits until the streams that close have ended, for about two seconds at most.
@@ -236,8 +275,12 @@ impl EventLoop {
                 return Err(Halt::Elsewhere);
             }
             if signal == Some(Signal::Closed) && self.ready.connections.is_empty() {
-                self.linger(&mut buffer);
-                return Ok(Ended::Done);
+                if mailbox.leave(rt) {
+                    self.linger(&mut buffer);
+                    return Ok(Ended::Done);
+                }
+                // An arrival was passed on to this worker meanwhile.
+                signal = None;
             }
             if until_done && self.is_to_close(worker, signal) {
                 mailboxes.tell_full(rt)?;
@@ -254,7 +297,7 @@ impl EventLoop {
                 number,
             )?;
             if is_woken || signal.is_none() {
-                signal = self.admit_arrivals(rt, mailbox);
+                signal = self.admit_arrivals(rt, mailboxes, number)?;
             }
         }
         unreachable!()

@@ -1,13 +1,14 @@
 //! Where streams come in, and the event loops that serve them. No worker is part of it, so that
 //! connections outlive the workers that serve them.
 ghost use Rattle.std.specs.List.{AllZip};
-ghost use Rattle.std.specs.Prelude.{◌≡◌, ◌<◌, ⊤, true, All, IfOk, List, MatchResult, length, not, vec_len};
+ghost use Rattle.std.specs.Prelude.{◌≡◌, ◌*◌, ◌<◌, ◌≤◌, ⊤, true, All, IfOk, List, MatchResult, length, not, vec_len};
 ghost use Rattle.mc_conn.specs.Owed.{IsAmong};
 ghost use Rattle.mc_connections.specs.InTurn.{InTurn};
+ghost use Rattle.mc_connections.specs.declared.places.TheConstants.{MOST_CONNECTIONS};
 ghost use Rattle.mc_net.specs.Beginning.{HaltsServing};
 ghost use Rattle.mc_net.specs.Halting.{IsNetworkFault};
 ghost use Rattle.mc_net.specs.Returning.{returned_of};
-ghost use Rattle.mc_net.specs.Running.{HasBeenServedBy, HaveServedAt, IsEmptyLoop, IsFor, IsNewLoop, each_followed_by, listeners_of};
+ghost use Rattle.mc_net.specs.Running.{HasBeenServedBy, HaveServedAt, IsEmptyLoop, IsFor, IsNewLoop, KeepsAt, each_followed_by, listeners_of};
 ghost use Rattle.uc_worker.specs.Going.{Continues};
 
 use crate::accepting::Acceptor;
@@ -20,6 +21,7 @@ use crate::mailbox::{Mailbox, Mailboxes};
 use crate::running::{first_failure, parted, run_all, threads_of};
 use crate::worker_thread::Returned;
 use mc_conn::Role;
+use mc_connections::MOST_CONNECTIONS;
 use mc_model::Fault;
 use mio::Poll;
 use mio::net::TcpListener;
@@ -60,8 +62,9 @@ fn new_poll<R: Net>(rt: &R, alloc: Global) -> Result<(Poll, Mailbox), Halt> {
     }
 }
 
-/// Returns `count` event loops for logs of this many tenants, each of which is closed once its
-/// commands keep `log_bytes` bytes, and the mailbox of each.
+/// Returns `count` event loops for logs of this many tenants, for each of which `reserve` places are
+/// kept at each loop, and the mailbox of each. A log is closed once its commands keep `log_bytes`
+/// bytes.
 ///
 /// Returns `Memory` if memory runs out, and `Poll` if a poll or a mailbox can't be made.
 fn new_event_loops<R: Net>(
@@ -69,18 +72,21 @@ fn new_event_loops<R: Net>(
     alloc: Global,
     count: usize,
     tenants: usize,
+    reserve: usize,
     log_bytes: u64,
 ) -> Result<(Vec<Mailbox>, Vec<EventLoop>), Halt>
+    requires { tenants * reserve ≤ MOST_CONNECTIONS }
     ensures mailboxes { IfOk result (λ pair. vec_len pair.0 ≡ count) }
     ensures many { IfOk result (λ pair. vec_len pair.1 ≡ count) }
     ensures new { IfOk result (λ pair. All (IsNewLoop tenants) pair.1.items) }
+    ensures reserve { IfOk result (λ pair. All (KeepsAt reserve) pair.1.items) }
 {
     let mut mailboxes = Vec::new(alloc);
     let mut event_loops = Vec::new(alloc);
     for _ in 0..count {
         let (poll, mailbox) = new_poll(rt, alloc)?;
         mailboxes.push(mailbox)?;
-        event_loops.push(EventLoop::new(alloc, poll, tenants, log_bytes)?)?;
+        event_loops.push(EventLoop::new(alloc, poll, tenants, reserve, log_bytes)?)?;
     }
     Ok((mailboxes, event_loops))
 }
@@ -103,8 +109,9 @@ fn role_listeners(
 
 impl Front {
     /// Returns the front of these listeners, for this many workers of each log of this many tenants.
-    /// It is to accept `connections` streams of tenants; 0 for no end. A log that another may follow is
-    /// closed once its commands keep `log_bytes` bytes, before all its places are taken.
+    /// It is to accept `connections` streams of tenants; 0 for no end. Each worker keeps `reserve` of
+    /// its places for each tenant. A log that another may follow is closed once its commands keep
+    /// `log_bytes` bytes, before all its places are taken.
     ///
     /// Returns `Memory` if memory runs out, and `Input` if a poll or a mailbox can't be made.
     pub fn new<R: Net>(
@@ -114,19 +121,24 @@ impl Front {
         connections: u64,
         workers: usize,
         tenants: usize,
+        reserve: usize,
         log_bytes: u64,
     ) -> Result<Front, Fault>
+        requires reserves { tenants * reserve ≤ MOST_CONNECTIONS }
         requires some { (0 < workers) × (0 < vec_len listeners) }
         requires roles { All (λ listener. IsAmong listener.0 tenants) listeners.items }
         ensures many { IfOk result (λ front. vec_len front.event_loops ≡ workers) }
         ensures tenants { IfOk result (λ front. front.tenants ≡ tenants) }
         // Nobody has been served yet.
         ensures new { IfOk result (λ front. All (IsNewLoop tenants) front.event_loops.items) }
+        ensures reserve { IfOk result (λ front. All (KeepsAt reserve) front.event_loops.items) }
         ensures listeners { IfOk result
             (λ front. listeners_of front.acceptor.listeners.items ≡ listeners.items) }
         ensures faults { MatchResult result (λ _. ⊤) IsNetworkFault }
     {
-        let (of_workers, event_loops) = new_event_loops(rt, alloc, workers, tenants, log_bytes)?;
+        let (of_workers, event_loops) = new_event_loops(
+            rt, alloc, workers, tenants, reserve, log_bytes,
+        )?;
         let (poll, of_acceptor) = new_poll(rt, alloc)?;
         let listeners = role_listeners(alloc, listeners)?;
         let acceptor = Acceptor::new(alloc, poll, listeners, connections)?;

@@ -27,10 +27,19 @@ pub(crate) enum Signal {
     Halted,
 }
 
+/// An arrival, and how many workers have had no place for it.
+#[derive(Drop)]
+pub(crate) struct Offer {
+    pub(crate) arrival: Arrival<TcpStream>,
+    pub(crate) refusals: usize,
+}
+
 #[derive(Drop)]
 struct Inbox {
-    arrivals: VecDeque<Arrival<TcpStream>>,
+    offers: VecDeque<Offer>,
     signal: Signal,
+    // The loop has ended, or is about to, and looks for no more offers.
+    has_left: bool,
 }
 
 /// A loop's queue and signal under a lock, and the waker of its poll. The acceptor's queue stays
@@ -55,8 +64,9 @@ impl Mailbox {
     /// Returns the system's error if no waker can be made.
     pub(crate) fn new(alloc: Global, registry: &Registry) -> io::Result<Mailbox> {
         let inbox = Inbox {
-            arrivals: VecDeque::new(alloc),
+            offers: VecDeque::new(alloc),
             signal: Signal::Starting,
+            has_left: false,
         };
         Ok(Mailbox {
             inbox: Mutex::new(inbox),
@@ -69,19 +79,47 @@ impl Mailbox {
         self.inbox.lock(rt).signal
     }
 
-    /// Takes the first arrival out of the queue.
+    /// Takes the first offer out of the queue.
     ///
     /// Returns the signal as an error if the queue is empty or the loop is to end.
-    pub(crate) fn next<R: Wait>(&self, rt: &R) -> Result<Arrival<TcpStream>, Signal> {
+    pub(crate) fn next<R: Wait>(&self, rt: &R) -> Result<Offer, Signal> {
         let mut guard = self.inbox.lock(rt);
         let inbox = &mut *guard;
         if inbox.signal == Signal::Halted {
             return Err(Signal::Halted);
         }
-        match inbox.arrivals.pop_front() {
-            Some(arrival) => Ok(arrival),
+        match inbox.offers.pop_front() {
+            Some(offer) => Ok(offer),
             None => Err(inbox.signal),
         }
+    }
+
+    /// Puts an offer into the queue, and wakes the loop; gives it back if the loop has ended. If the
+    /// queue can't grow the stream is closed.
+    ///
+    /// Returns `Poll` if the loop can't be woken.
+    fn put<R: Wait>(&self, rt: &R, offer: Offer) -> Result<Option<Offer>, Halt> {
+        // The lock is given back before the wake, which is a system call.
+        let pushed = {
+            let mut guard = self.inbox.lock(rt);
+            let inbox = &mut *guard;
+            if inbox.has_left {
+                return Ok(Some(offer));
+            }
+            inbox.offers.push_back(offer)
+        };
+        if pushed.is_ok() {
+            wake(&self.waker)?;
+        }
+        Ok(None)
+    }
+
+    /// Notes that the loop ends, unless an offer has come by now. Returns whether it ends.
+    pub(crate) fn leave<R: Wait>(&self, rt: &R) -> bool {
+        let mut guard = self.inbox.lock(rt);
+        let inbox = &mut *guard;
+        inbox.has_left = inbox.offers.is_empty();
+        inbox.has_left
     }
 
     /// Sets the signal, unless it is already this one or a later one. Returns whether it did.
@@ -95,9 +133,12 @@ impl Mailbox {
         rises
     }
 
-    /// Sets the signal back, for the next log. Arrivals stay in the queue.
+    /// Sets the signal back, for the next log. Offers stay in the queue.
     fn reset<R: Wait>(&self, rt: &R) {
-        self.inbox.lock(rt).signal = Signal::Starting;
+        let mut guard = self.inbox.lock(rt);
+        let inbox = &mut *guard;
+        inbox.signal = Signal::Starting;
+        inbox.has_left = false;
     }
 
     /// Sets the signal as `raise` does, and wakes the loop if it did.
@@ -122,12 +163,15 @@ impl Receive<TcpStream> for Mailbox {
     fn receive<R: Wait>(&self, rt: &R, arrival: Arrival<TcpStream>) -> Result<(), Halt>
         ensures { OnOk result ⊤ }
     {
-        // The lock is given back before the wake, which is a system call.
-        let pushed = self.inbox.lock(rt).arrivals.push_back(arrival);
-        match pushed {
-            Ok(()) => wake(&self.waker),
-            Err(_) => Ok(()),
-        }
+        // No loop ends before the acceptor has handed over the last stream.
+        let _ = self.put(
+            rt,
+            Offer {
+                arrival,
+                refusals: 0,
+            },
+        )?;
+        Ok(())
     }
 }
 
@@ -146,6 +190,29 @@ impl Mailboxes {
         self.of_workers
             .iter()
             .all(|mailbox| mailbox.signal(rt) != Signal::Starting)
+    }
+
+    /// Passes on an offer for which the worker of this number has no place: to the next one that
+    /// serves, unless each has had none. Its stream is closed then.
+    ///
+    /// Returns `Poll` if that worker can't be woken.
+    pub(crate) fn pass_on<R: Wait>(&self, rt: &R, number: usize, offer: Offer) -> Result<(), Halt> {
+        let count = self.of_workers.len();
+        let mut offer = offer;
+        for step in 1..count {
+            offer.refusals = offer.refusals.saturating_add(1);
+            if offer.refusals >= count {
+                return Ok(());
+            }
+            let Some(mailbox) = self.of_workers.get(number.wrapping_add(step) % count) else {
+                return Ok(());
+            };
+            match mailbox.put(rt, offer)? {
+                Some(back) => offer = back,
+                None => return Ok(()),
+            }
+        }
+        Ok(())
     }
 
     /// Wakes all workers but the one of this number.

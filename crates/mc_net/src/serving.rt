@@ -90,7 +90,8 @@ pub fn serve<'a, R: Threads + Wait + Net + Sync, G: Gate + Send + Drop, B: Begin
     mc_connections::laws::connections_are_answered_over_logs();
     mc_connections::laws::commands_are_asked_for_over_logs();
     let tenants = log.settings().tenants().len();
-    // The only log isn't closed before its last place.
+    // No tenant has a reserve, and the only log isn't closed before its last place.
+    let reserve = 0;
     let bytes = u64::MAX;
     let mut front = Front::new(
         rt,
@@ -99,6 +100,7 @@ pub fn serve<'a, R: Threads + Wait + Net + Sync, G: Gate + Send + Drop, B: Begin
         connections,
         workers.len(),
         tenants,
+        reserve,
         bytes,
     )?;
     let (workers, _) = front.serve_generation(rt, alloc, log, workers, gates, true, begin, state)?;

@@ -17,10 +17,10 @@ use Rattle.mc_model.specs.declared.id.TheConstants.{WORKERS}
 use Rattle.mc_model.specs.declared.settings.Limits.{Limits}
 use Rattle.mc_programs.specs.Words.{u64_of}
 use Rattle.mc_server.specs.Complaints.{CanBeServed, FitsAlone, IsCutInto, IsWrong, IsWrongPart, SpellsQuota, TenantParts, given_number, least, most, name_part, names_given, reserved_for}
-use Rattle.mc_server.specs.NetworkWords.{Asks, AsksInVain, IsServable, NetworkAsked, NetworkGiven, SpellsAddress, reserved_names, settings_asked, workers_for}
+use Rattle.mc_server.specs.NetworkWords.{AreReservesWithin, Asks, AsksInVain, IsServable, NetworkAsked, NetworkGiven, SpellsAddress, reserved_names, settings_asked, workers_for}
 use Rattle.mc_server.specs.TenantWord.{Lacks, Says, TenantAsked, tenant_text}
 use Rattle.mc_server.specs.declared.complaint.Complaint.{Complaint}
-use Rattle.mc_server.specs.declared.complaint.Complaint.TheVariants.{NameTaken, NoAddress, OutOfBounds, WrongPart}
+use Rattle.mc_server.specs.declared.complaint.Complaint.TheVariants.{LargeReserve, NameTaken, NoAddress, OutOfBounds, WrongPart}
 use Rattle.mc_server.specs.declared.complaint.Counted.{Counted}
 use Rattle.mc_server.specs.declared.complaint.Counted.TheVariants.{Generations, LogBytes, Places, Tenants, Workers}
 use Rattle.mc_server.specs.declared.complaint.Part.{Part}
@@ -115,6 +115,9 @@ names_are_given given asked asks = let reserved = reserved_are given.admin asked
 
 pub in_vain : (given : NetworkGiven) (complaint : Complaint) → IsWrong given complaint → AsksInVain given
 in_vain given (OutOfBounds counted number) wrong asked asks servable = number_in_vain given counted number wrong.0 wrong.1 asked asks servable
+in_vain given (LargeReserve reserve tenants) wrong asked asks servable =
+    let many : length asked.tenants ≡ tenants = omega (arith, wrong.1, AllZip-long Says given.tenants asked.tenants asks.tenants) in
+    wrong.2 (subst (AreReservesWithin reserve) many (subst (λ (one : ℕ). AreReservesWithin one (length asked.tenants)) (asks.reserve ∙ wrong.0) servable.reserve))
 in_vain given (NoAddress word) wrong asked asks servable = wrong.1 asked.admin asks.admin
 in_vain given (WrongPart word part) wrong asked asks servable = wrong_among given.tenants asked.tenants word.now part wrong.0 wrong.1 asks.tenants servable.lawful.limits
 in_vain given (NameTaken name) wrong asked asks servable = once _ name.now (subst (IsDistinct bytes_eq) (sym (names_are_given given asked asks)) servable.names) wrong
@@ -149,19 +152,20 @@ all_said (w ∷ ws) fit =
 
 pub can_be_served : (given : NetworkGiven) (address : Option SocketAddrV4) → IsBetween (least Workers) (most Workers) given.workers → IsBetween (least Places) (most Places) given.places
     → IsBetween (least Generations) (most Generations) given.generations → IsBetween (least LogBytes) (most LogBytes) given.log_bytes → IsBetween (least Tenants) (most Tenants) (length given.tenants)
-    → SpellsAddress given.admin address → All FitsAlone given.tenants → IsDistinct bytes_eq (names_given given) → CanBeServed given
-can_be_served given address workers places generations log_bytes count spells fit distinct =
+    → AreReservesWithin given.reserve (length given.tenants) → SpellsAddress given.admin address → All FitsAlone given.tenants → IsDistinct bytes_eq (names_given given) → CanBeServed given
+can_be_served given address workers places generations log_bytes count reserves spells fit distinct =
     let said = all_said given.tenants fit in
     let asked : NetworkAsked = record {
       workers = workers_for given;
       places = given.places;
       generations = given.generations;
       log_bytes = given.log_bytes;
+      reserve = given.reserve;
       connections = given.connections;
       admin = address;
       tenants = said.tenants;
     } in
-    let asks : Asks given asked = record { few = workers.1; workers = refl; places = refl; generations = refl; log_bytes = refl; connections = refl; admin = spells; tenants = said.say } in
+    let asks : Asks given asked = record { few = workers.1; workers = refl; places = refl; generations = refl; log_bytes = refl; reserve = refl; connections = refl; admin = spells; tenants = said.say } in
     let long = AllZip-long Says given.tenants said.tenants said.say in
     let quotas = length-map said.tenants (λ (tenant : TenantAsked). tenant.limits) in (
       asked,
@@ -175,6 +179,7 @@ can_be_served given address workers places generations log_bytes count spells fi
         };
         generations = generations.1;
         log_bytes = log_bytes;
+        reserve = let many : length given.tenants ≡ length said.tenants = omega (arith, long) in subst (AreReservesWithin given.reserve) many reserves;
         names = subst (IsDistinct bytes_eq) (names_are_given given asked asks) distinct;
       },
     )

@@ -11,10 +11,10 @@ use Rattle.mc_model.specs.Settings.{AreLawfulLimits, IsBetween}
 use Rattle.mc_model.specs.declared.id.TheConstants.{TENANTS, WORKERS}
 use Rattle.mc_model.specs.declared.settings.TheConstants.{MAX_BYTES, MAX_ITEMS, MAX_PLACES}
 use Rattle.mc_programs.specs.Words.{u64_of}
-use Rattle.mc_server.specs.NetworkWords.{Asks, IsNoAddress, IsServable, NetworkAsked, NetworkGiven, admin_name}
+use Rattle.mc_server.specs.NetworkWords.{AreReservesWithin, Asks, IsNoAddress, IsServable, NetworkAsked, NetworkGiven, admin_name}
 use Rattle.mc_server.specs.TenantWord.{Lacks, Says, TenantAsked, tenant_text}
 use Rattle.mc_server.specs.declared.complaint.Complaint.{Complaint}
-use Rattle.mc_server.specs.declared.complaint.Complaint.TheVariants.{NameTaken, NoAddress, OutOfBounds, WrongPart}
+use Rattle.mc_server.specs.declared.complaint.Complaint.TheVariants.{LargeReserve, NameTaken, NoAddress, OutOfBounds, WrongPart}
 use Rattle.mc_server.specs.declared.complaint.Counted.{Counted}
 use Rattle.mc_server.specs.declared.complaint.Counted.TheVariants.{Generations, LogBytes, Places, Tenants, Workers}
 use Rattle.mc_server.specs.declared.complaint.Part.{Part}
@@ -101,6 +101,8 @@ StandsTwice names name =
 abbrev pub IsWrong : NetworkGiven → Complaint → Type 0
 IsWrong given (OutOfBounds counted number) = (given_number given counted ≡ number)
     × ¬ (IsBetween (least counted) (most counted) number)
+IsWrong given (LargeReserve reserve tenants) = (given.reserve ≡ reserve)
+    × (length given.tenants ≡ tenants) × ¬ (AreReservesWithin reserve tenants)
 IsWrong given (NoAddress word) = (given.admin ≡ Some word.now) × IsNoAddress given.admin
 IsWrong given (WrongPart word part) = Contains given.tenants word.now
     × IsWrongPart word.now part
@@ -132,6 +134,9 @@ complaint_line (OutOfBounds counted number) =
     codes "wfmc: " ++ (counted_text counted ++ (codes " " ++ (decimal number
     ++ (codes ": not from " ++ (decimal (least counted) ++ (codes " to "
     ++ (decimal (most counted) ++ codes "\n")))))))
+complaint_line (LargeReserve reserve tenants) =
+    codes "wfmc: --reserve " ++ (decimal reserve ++ (codes ": " ++ (decimal tenants
+    ++ codes " times that is not from 0 to 1024\n")))
 complaint_line (NoAddress word) =
     codes "wfmc: --admin " ++ (word.now ++ (codes ": " ++ (part_text Address ++ codes "\n")))
 complaint_line (WrongPart word part) =

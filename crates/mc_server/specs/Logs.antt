@@ -6,7 +6,7 @@ use Rattle.std.specs.Prelude.{◌≡◌, ◌⊎◌, ◌<◌, ⊤, ℕ, ◌+◌, 
 use Rattle.mc_connections.specs.Asking.{HaveBeenAsked}
 use Rattle.mc_connections.specs.InTurn.{InTurn, nobody}
 use Rattle.mc_connections.specs.Life.{WasAnswered}
-use Rattle.mc_connections.specs.declared.connections.Connection.{Connection}
+use Rattle.mc_connections.specs.declared.connection.Connection.{Connection}
 use Rattle.mc_model.specs.declared.fault.Fault.{Fault}
 use Rattle.mc_model.specs.declared.fault.Fault.TheVariants.{Memory}
 use Rattle.mc_model.specs.Replay.{EachStands, HaveRoom, empty_tables}

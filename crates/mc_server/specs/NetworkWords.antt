@@ -1,7 +1,7 @@
 -- What the words after the program's name ask for on wfmc's command line, by clap's own definitions
 -- of a command; this project's profile.
 use Rattle.std.specs.List.{AllZip, IsDistinct}
-use Rattle.std.specs.Prelude.{◌≡◌, ◌≢◌, ◌==◌, ◌≤◌, ℕ, Bool, List, [], ◌∷◌, ◌++◌, All, IsTrue, Option, Some, None, codes, false, if◌then◌else◌, map, min, option_and_then, slice_get, true, unwrap_or}
+use Rattle.std.specs.Prelude.{◌≡◌, ◌≢◌, ◌==◌, ◌*◌, ◌≤◌, ℕ, Bool, List, [], ◌∷◌, ◌++◌, All, IsTrue, Option, Some, None, codes, false, if◌then◌else◌, length, map, min, option_and_then, slice_get, true, unwrap_or}
 use Rattle.std.specs.Net.Grammar.{IsSocketV4Text}
 use Rattle.std.specs.Option.{IsSomeAnd, option_map}
 use Rattle.std.specs.Str.{bytes_eq}
@@ -10,6 +10,7 @@ use Rattle.clap.specs.Faults.{fault_of}
 use Rattle.clap.specs.Lexer.{usize_max}
 use Rattle.clap.specs.Simple.{App, matches_of, new_rule, with_rule}
 use Rattle.clap.specs.Walk.{Rule, Text, all_of}
+use Rattle.mc_connections.specs.declared.places.TheConstants.{MOST_CONNECTIONS}
 use Rattle.mc_model.specs.Name.{is_lawful_name}
 use Rattle.mc_model.specs.Settings.{Configuration, IsBetween, IsLawful}
 use Rattle.mc_model.specs.declared.id.TheConstants.{WORKERS}
@@ -42,10 +43,12 @@ logs_app =
     (number_rule (codes "places")))
     (number_rule (codes "generations"))
 
--- the options that are numbers: these, `--log-bytes` and `--connections`
+-- the options that are numbers: these, `--log-bytes`, `--reserve` and `--connections`
 abbrev pub numbers_app : App
 numbers_app =
-    with_rule (with_rule logs_app (number_rule (codes "log-bytes")))
+    with_rule
+    (with_rule (with_rule logs_app (number_rule (codes "log-bytes")))
+    (number_rule (codes "reserve")))
     (number_rule (codes "connections"))
 
 -- the options: these, `--check` and `--admin`
@@ -73,6 +76,7 @@ pub record NetworkGiven : Type 0 where
   pub places : ℕ
   pub generations : ℕ
   pub log_bytes : ℕ
+  pub reserve : ℕ
   pub connections : ℕ
   pub admin : Option Text
   pub tenants : List Text
@@ -83,6 +87,7 @@ given_by_words words = record {
   places = number_asked network_app (codes "places") 65536 words;
   generations = number_asked network_app (codes "generations") 1 words;
   log_bytes = number_asked network_app (codes "log-bytes") 1073741824 words;
+  reserve = number_asked network_app (codes "reserve") 0 words;
   connections = number_asked network_app (codes "connections") 0 words;
   admin = admin_word words;
   tenants = tenant_words words;
@@ -96,13 +101,15 @@ workers_for given =
 
 -- what is to be served: how many workers there are, how many places a log has, how many logs there
 -- are at most, one after another (0: no end), how many bytes the commands of a log may keep where
--- another may follow, after how many connections of tenants it ends (0: never), at which address
--- administrators connect, if at any, and the tenants by their numbers
+-- another may follow, how many places for connections each worker keeps for each tenant, after how
+-- many connections of tenants it ends (0: never), at which address administrators connect, if at any,
+-- and the tenants by their numbers
 pub record NetworkAsked : Type 0 where
   pub workers : ℕ
   pub places : ℕ
   pub generations : ℕ
   pub log_bytes : ℕ
+  pub reserve : ℕ
   pub connections : ℕ
   pub admin : Option SocketAddrV4
   pub tenants : List TenantAsked
@@ -130,6 +137,7 @@ pub record Asks (given : NetworkGiven) (asked : NetworkAsked) : Type 0 where
   pub places : asked.places ≡ given.places
   pub generations : asked.generations ≡ given.generations
   pub log_bytes : asked.log_bytes ≡ given.log_bytes
+  pub reserve : asked.reserve ≡ given.reserve
   pub connections : asked.connections ≡ given.connections
   pub admin : SpellsAddress given.admin asked.admin
   pub tenants : AllZip Says given.tenants asked.tenants
@@ -150,11 +158,16 @@ abbrev pub reserved_names : Option SocketAddrV4 → List Text
 reserved_names None = []
 reserved_names (Some address) = admin_name ∷ []
 
+-- a worker has places enough to keep this many for each of so many tenants
+abbrev pub AreReservesWithin : ℕ → ℕ → Type 0
+AreReservesWithin reserve tenants = tenants * reserve ≤ MOST_CONNECTIONS
+
 -- each number is within its bounds, and no name is used twice
 pub record IsServable (asked : NetworkAsked) : Type 0 where
   pub lawful : IsLawful (settings_asked asked)
   pub generations : asked.generations ≤ MAX_GENERATIONS
   pub log_bytes : IsBetween 1 MAX_LOG_BYTES asked.log_bytes
+  pub reserve : AreReservesWithin asked.reserve (length asked.tenants)
   pub names : IsDistinct bytes_eq
       (reserved_names asked.admin ++ map (λ tenant. tenant.name) asked.tenants)
 
@@ -190,6 +203,7 @@ given_in words = record {
   places = words.places;
   generations = words.generations;
   log_bytes = words.log_bytes;
+  reserve = words.reserve;
   connections = words.connections;
   admin = option_map (λ word. word.now) words.admin;
   tenants = map (λ word. word.now) words.tenants.items;
@@ -201,6 +215,7 @@ served_by service = record {
   places = service.settings.places;
   generations = service.generations;
   log_bytes = service.log_bytes;
+  reserve = service.reserve;
   connections = service.connections;
   admin = service.admin;
   tenants = map asked_of service.tenants.items;

@@ -1,15 +1,15 @@
 //! Which word of wfmc's command line can't be served, and why.
 ghost use Rattle.std.specs.List.{IsDistinct, list_any};
 ghost use Rattle.std.specs.Option.{MatchOption, option_map};
-ghost use Rattle.std.specs.Prelude.{◌≡◌, ◌↔◌, All, IsTrue, MatchResult, Option, false, map};
+ghost use Rattle.std.specs.Prelude.{◌≡◌, ◌↔◌, All, IsTrue, MatchResult, Option, false, length, map};
 ghost use Rattle.std.specs.Str.{bytes_eq};
 ghost use Rattle.std.specs.declared.net.socket_addr.SocketAddrV4.{SocketAddrV4};
 ghost use Rattle.mc_model.specs.Settings.{IsBetween};
 ghost use Rattle.mc_server.specs.Complaints.{CanBeServed, FitsAlone, IsWrong, IsWrongPart, SpellsQuota, StandsTwice, given_number, least, most, name_part, names_given};
-ghost use Rattle.mc_server.specs.NetworkWords.{NetworkGiven, SpellsAddress, admin_name, given_in};
+ghost use Rattle.mc_server.specs.NetworkWords.{AreReservesWithin, NetworkGiven, SpellsAddress, admin_name, given_in};
 
 use crate::network_texts::ADMIN;
-use crate::network_words::{MAX_GENERATIONS, MAX_LOG_BYTES, NetworkWords};
+use crate::network_words::{MAX_GENERATIONS, MAX_LOG_BYTES, NetworkWords, are_reserves_within};
 use crate::tenant_word::{cut, read_number};
 use mc_model::Name;
 use mc_model::id::{TENANTS, WORKERS};
@@ -42,6 +42,8 @@ pub(crate) enum Part {
 pub(crate) enum Complaint<'a> {
     /// There may not be this many.
     OutOfBounds(Counted, u64),
+    /// This many places for each of this many tenants are more than a worker has.
+    LargeReserve(u64, u64),
     /// This is written for the administrators' address, and isn't an IPv4 address with a port.
     NoAddress(&'a str),
     /// This part of a tenant's word is of another form, or a number out of its bounds.
@@ -192,6 +194,19 @@ fn check_all_names<'a>(words: &NetworkWords<'a>) -> Result<(), Complaint<'a>>
     }
 }
 
+/// Returns the complaint about the reserve, if a worker hasn't so many places for each tenant.
+fn check_reserve(reserve: u64, tenants: usize) -> Result<(), Complaint<'static>>
+    ensures { MatchResult result (λ _. AreReservesWithin reserve tenants)
+        (λ complaint. (given : NetworkGiven) → given.reserve ≡ reserve →
+        length given.tenants ≡ tenants → IsWrong given complaint) }
+{
+    if are_reserves_within(reserve, tenants) {
+        Ok(())
+    } else {
+        Err(Complaint::LargeReserve(reserve, tenants as u64))
+    }
+}
+
 /// Returns the complaint about the administrators' address, if what is written for it isn't one.
 fn check_admin<'a>(admin: Option<&'a str>) -> Result<(), Complaint<'a>>
     ensures { let text = option_map (λ word. word.now) admin.entry in
@@ -219,6 +234,7 @@ pub(crate) fn check<'a>(words: &NetworkWords<'a>) -> Result<(), Complaint<'a>>
     Counted::LogBytes.check(words.log_bytes)?;
     check_admin(words.admin)?;
     Counted::Tenants.check(words.tenants.len() as u64)?;
+    check_reserve(words.reserve, words.tenants.len())?;
     check_alone(&words.tenants)?;
     check_all_names(words)
 }

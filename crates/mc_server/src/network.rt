@@ -53,6 +53,7 @@ fn serve_tenants<R: Threads + Wait + Net + Sync, O: Output>(
     let (log, passes) = Log::open(alloc, &service.settings)?;
     let tenants = log.settings().tenants().len();
     let connections = service.connections;
+    let reserve = service.reserve;
     let log_bytes = service.log_bytes;
     let mut front = Front::new(
         rt,
@@ -61,6 +62,7 @@ fn serve_tenants<R: Threads + Wait + Net + Sync, O: Output>(
         connections,
         passes.len(),
         tenants,
+        reserve,
         log_bytes,
     )?;
     let text = ready_text(alloc, &told)?;

@@ -1,17 +1,18 @@
 //! The options and tenants of wfmc's command line.
 ghost use Rattle.std.specs.List.{AllZip, IsDistinct, list_any};
-ghost use Rattle.std.specs.Prelude.{◌≡◌, ◌≤◌, ◌++◌, ◌↔◌, ◌⊎◌, List, IfOk, IsTrue, MatchResult, false, map, string_bytes};
+ghost use Rattle.std.specs.Prelude.{◌≡◌, ◌≤◌, ◌++◌, ◌↔◌, ◌⊎◌, List, IfOk, IsTrue, MatchResult, false, map, string_bytes, vec_len};
 ghost use Rattle.std.specs.Option.{option_map};
 ghost use Rattle.std.specs.Str.{bytes_eq};
 ghost use Rattle.clap.specs.Words.{HasKind, app_of, fault_of, rule_of};
 ghost use Rattle.mc_model.specs.Settings.{IsBetween};
 ghost use Rattle.mc_model.specs.declared.fault.Fault.TheVariants as faults;
-ghost use Rattle.mc_server.specs.NetworkWords.{Asks, WordsGive, AsksInVain, IsChecked, IsNoAddress, IsOnlyAddress, admin_rule, given_in, logs_app, network_app, numbers_app, options_app, reserved_names, served_by, tenants_rule, workers_for};
+ghost use Rattle.mc_server.specs.NetworkWords.{AreReservesWithin, Asks, WordsGive, AsksInVain, IsChecked, IsNoAddress, IsOnlyAddress, admin_rule, given_in, logs_app, network_app, numbers_app, options_app, reserved_names, served_by, tenants_rule, workers_for};
 ghost use Rattle.mc_server.specs.TenantWord.{IsOnly, Says, TenantAsked, asked_of};
 
 use crate::network_texts::ADMIN;
 use crate::tenant_word::{Tenant, read_tenant};
 use clap::{Arg, Command, Error};
+use mc_connections::MOST_CONNECTIONS;
 use mc_model::id::WORKERS;
 use mc_model::{Fault, Limits, Settings};
 use mc_programs::{flag, flag_option, number, number_option};
@@ -36,6 +37,9 @@ const DEFAULT_LOG_BYTES: u64 = 1_073_741_824;
 /// How many bytes of a log's commands may be asked for: as many as the data of 1,048,576 commands
 /// have at most, 1,048,576 bytes each. No log has more places, and no command has more data.
 pub(crate) const MAX_LOG_BYTES: u64 = 1_099_511_627_776;
+
+/// How many places for connections each worker keeps for each tenant by default.
+const DEFAULT_RESERVE: u64 = 0;
 
 /// After how many connections the server ends by default: never.
 const DEFAULT_CONNECTIONS: u64 = 0;
@@ -64,6 +68,7 @@ pub(crate) struct NetworkWords<'a> {
     pub places: u64,
     pub generations: u64,
     pub log_bytes: u64,
+    pub reserve: u64,
     pub connections: u64,
     pub admin: Option<&'a str>,
     /// They are only to be checked.
@@ -71,9 +76,9 @@ pub(crate) struct NetworkWords<'a> {
     pub tenants: Vec<&'a str>,
 }
 
-/// What wfmc is to serve: settings, how many logs there are, how many bytes a log keeps, after how
-/// many connections of tenants it ends (0: never), at which address administrators connect, if at
-/// any, and the tenants by their numbers.
+/// What wfmc is to serve: settings, how many logs there are, how many bytes a log keeps, how many
+/// places each worker keeps for each tenant, after how many connections of tenants it ends (0: never),
+/// at which address administrators connect, if at any, and the tenants by their numbers.
 #[derive(Debug, Drop)]
 pub(crate) struct Service<'a> {
     pub settings: Settings,
@@ -81,6 +86,8 @@ pub(crate) struct Service<'a> {
     pub generations: u64,
     /// A log is closed once its commands keep this many bytes, if another log may follow.
     pub log_bytes: u64,
+    /// Each worker keeps this many of its places for each tenant.
+    pub reserve: usize,
     pub connections: u64,
     pub admin: Option<SocketAddrV4>,
     pub tenants: Vec<Tenant<'a>>,
@@ -138,9 +145,12 @@ fn numbers_command<'a>(alloc: Global) -> Result<Command<'a>, AllocError>
     let log_bytes = "\
         After how many bytes of commands the next log follows, up to 1099511627776 \
         [default: 1073741824]";
+    let reserve = "\
+        How many of its 1024 connections each thread keeps for each tenant [default: 0]";
     let connections = "After how many connections of tenants it ends; 0 for never [default: 0]";
     logs_command(alloc)?
         .arg(number_option(alloc, "log-bytes", log_bytes))?
+        .arg(number_option(alloc, "reserve", reserve))?
         .arg(number_option(alloc, "connections", connections))
 }
 
@@ -181,6 +191,7 @@ pub(crate) fn read_words(alloc: Global, words: &[String]) -> Result<NetworkWords
         places: number(&matches, "places").unwrap_or(DEFAULT_PLACES),
         generations: number(&matches, "generations").unwrap_or(DEFAULT_GENERATIONS),
         log_bytes: number(&matches, "log-bytes").unwrap_or(DEFAULT_LOG_BYTES),
+        reserve: number(&matches, "reserve").unwrap_or(DEFAULT_RESERVE),
         connections: number(&matches, "connections").unwrap_or(DEFAULT_CONNECTIONS),
         admin: matches.get_str("admin"),
         check: flag(&matches, "check"),
@@ -262,16 +273,26 @@ fn quotas_of(alloc: Global, tenants: &[Tenant]) -> Result<Vec<Limits>, AllocErro
     tenants.iter().map(|tenant| tenant.limits).collect(alloc)
 }
 
-/// Returns whether no more workers and logs are given than there may be, and as many bytes of a log
-/// as may be asked for. What else a number must be, `Settings::check` says.
+/// Returns whether a worker has places enough to keep this many for each of this many tenants.
+pub(crate) fn are_reserves_within(reserve: u64, tenants: usize) -> bool
+    ensures { IsTrue result ↔ AreReservesWithin reserve tenants }
+{
+    reserve.saturating_mul(tenants as u64) <= MOST_CONNECTIONS as u64
+}
+
+/// Returns whether no more workers and logs are given than there may be, as many bytes of a log as
+/// may be asked for, and reserves for which a worker has places enough. What else a number must be,
+/// `Settings::check` says.
 fn are_in_bounds(words: &NetworkWords) -> bool
     ensures { IsTrue result ↔ (words.now.workers ≤ WORKERS)
         × (words.now.generations ≤ MAX_GENERATIONS)
-        × IsBetween 1 MAX_LOG_BYTES words.now.log_bytes }
+        × IsBetween 1 MAX_LOG_BYTES words.now.log_bytes
+        × AreReservesWithin words.now.reserve (vec_len words.now.tenants) }
 {
     words.workers <= u64::from(WORKERS)
         && words.generations <= MAX_GENERATIONS
         && (1..=MAX_LOG_BYTES).contains(&words.log_bytes)
+        && are_reserves_within(words.reserve, words.tenants.len())
 }
 
 /// Returns how many workers serve: as many as are given, but where a log may follow another no more
@@ -311,6 +332,7 @@ pub(crate) fn service_of<'a>(alloc: Global, words: &NetworkWords<'a>) -> Result<
         settings,
         generations: words.generations,
         log_bytes: words.log_bytes,
+        reserve: words.reserve as usize,
         connections: words.connections,
         admin,
         tenants,

@@ -1,6 +1,6 @@
 -- As many as rounds so far, and new.
 use Rattle.std.proofs.Common.{◌≡◌, All, vec_len}
-use Rattle.mc_net.specs.Running.{IsNewLoop}
+use Rattle.mc_net.specs.Running.{IsNewLoop, KeepsAt}
 use Rattle.mc_net.proofs.front.new_event_loops.Given as goal
 
 abbrev pub invariant-loop : goal.invariant-loop
@@ -8,4 +8,5 @@ invariant-loop g l = record {
   mailboxes : vec_len l.mailboxes ≡ l.counter;
   many : vec_len l.event_loops ≡ l.counter;
   new : All (IsNewLoop l.fn.tenants) l.event_loops.items;
+  reserve : All (KeepsAt l.fn.reserve) l.event_loops.items;
 }

@@ -8,7 +8,7 @@ use Rattle.mc_server.proofs.Numbered.{some_listener}
 use Rattle.mc_programs.specs.Waiting.{PushesAll}
 use Rattle.mc_server.specs.Logs.{WereServed}
 use Rattle.mc_server.specs.NetworkTexts.{ready_text}
-use Rattle.mc_server.specs.NetworkWords.{served_by, settings_asked}
+use Rattle.mc_server.specs.NetworkWords.{AreReservesWithin, served_by, settings_asked}
 use Rattle.mc_server.proofs.network.serve_tenants.Goals as goal
 
 pub new-requires-clause-some : goal.new-requires-clause-some
@@ -26,6 +26,14 @@ new-requires-clause-roles g c =
     let known = ap length c.tenants-tenants.ensures.value ∙ ap (λ (settings : Configuration). length settings.tenants) c.settings.ensures in
     let count : length asked.tenants ≡ length c.tenants-tenants.result.now = omega (arith, known, tenants, length-map asked.tenants (λ tenant. tenant.limits)) in
     are_among (λ listener. listener.0) c.args.bound.listeners.items asked _ c.requires.bound.roles_are count
+
+pub new-requires-clause-reserves : goal.new-requires-clause-reserves
+new-requires-clause-reserves g c =
+    let asked = served_by c.args.service.now in
+    let tenants = ap (λ (settings : Configuration). length settings.tenants) (c.in_ok-log.ensures.settings ∙ c.requires.checked.settings) in
+    let known = ap length c.tenants-tenants.ensures.value ∙ ap (λ (settings : Configuration). length settings.tenants) c.settings.ensures in
+    let count : length asked.tenants ≡ length c.tenants-tenants.result.now = omega (arith, known, tenants, length-map asked.tenants (λ tenant. tenant.limits)) in
+    subst (AreReservesWithin c.args.service.now.reserve) count c.requires.checked.servable.reserve
 
 pub returns : goal.returns
 returns g c =

@@ -55,10 +55,11 @@ returns c =
     let places = c.unwrap_or-2.ensures ∙ ap (λ o. unwrap_or o 65536) (c.number-2.ensures ∙ number_of (codes "places")) in
     let generations = c.unwrap_or-3.ensures ∙ ap (λ o. unwrap_or o 1) (c.number-3.ensures ∙ number_of (codes "generations")) in
     let log_bytes = c.unwrap_or-4.ensures ∙ ap (λ o. unwrap_or o 1073741824) (c.number-4.ensures ∙ number_of (codes "log-bytes")) in
-    let connections = c.unwrap_or-5.ensures ∙ ap (λ o. unwrap_or o 0) (c.number-5.ensures ∙ number_of (codes "connections")) in
+    let reserve = c.unwrap_or-5.ensures ∙ ap (λ o. unwrap_or o 0) (c.number-5.ensures ∙ number_of (codes "reserve")) in
+    let connections = c.unwrap_or-6.ensures ∙ ap (λ o. unwrap_or o 0) (c.number-6.ensures ∙ number_of (codes "connections")) in
     let first = λ (name : Text). first_of (matched_of (found_of c.in_ok-matches.matches) name) ∙ ap (option_and_then (λ texts. slice_get texts 0)) (raw_values-rows (found_of c.in_ok-matches.matches) name ∙ ap (all_of name) rows) in
     let admin = c.get_str.ensures ∙ first (codes "admin") in
     let check = c.flag.ensures ∙ ap says_given (one_text-rows (found_of c.in_ok-matches.matches) (codes "check") ∙ ap (one_of (codes "check")) rows) in
     let raw = c.get_raw.ensures ∙ raw_values-rows (found_of c.in_ok-matches.matches) (codes "tenants") ∙ ap (all_of (codes "tenants")) rows in
     let tenants = ap (map (λ word. word.now)) (c.in_ok-tenants.ensures.items ∙ ap (λ lent. lent.now) c.unwrap_or-tenants.ensures) ∙ lent_words c.get_raw.result _ refl ∙ ap (λ o. unwrap_or o []) raw in
-    record { outcome = record { taken = taken; check = check; given = λ i. record { workers = workers i; places = places i; generations = generations i; log_bytes = log_bytes i; connections = connections i; admin = admin i; tenants = tenants i } } }
+    record { outcome = record { taken = taken; check = check; given = λ i. record { workers = workers i; places = places i; generations = generations i; log_bytes = log_bytes i; reserve = reserve i; connections = connections i; admin = admin i; tenants = tenants i } } }

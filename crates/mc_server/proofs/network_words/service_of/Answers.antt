@@ -1,11 +1,13 @@
-use Rattle.std.proofs.Common.{◌≡◌, ◌≢◌, ◌≤◌, ◌∙◌, ◌⊎◌, ◌++◌, inl, inr, ⊎_elim, refl, List, ℕ, Bool, Bor, map, sym, ap, subst, true, false, arith}
+use Rattle.std.proofs.Common.{◌≡◌, ◌≢◌, ◌≤◌, ◌∙◌, ◌⊎◌, ◌++◌, inl, inr, ⊎_elim, refl, List, ℕ, Bool, Bor, length, map, vec_len, sym, ap, subst, true, false, arith}
+use Rattle.std.proofs.lemmas.List.{length-map}
 use Rattle.std.proofs.lemmas.Result.{err_from_is_err_and}
+use Rattle.std.proofs.lemmas.Slice.Zip.{AllZip-long}
 use Rattle.std.specs.List.{AllZip, IsDistinct}
 use Rattle.std.specs.Str.{bytes_eq}
 use Rattle.mc_model.specs.declared.fault.Fault.TheVariants.{Memory, BadSettings}
 use Rattle.mc_model.specs.Settings.{Configuration, IsBetween, IsLawful}
 use Rattle.mc_model.specs.declared.settings.Limits.{Limits}
-use Rattle.mc_server.specs.NetworkWords.{Asks, AsksInVain, IsServable, NetworkAsked, given_in, reserved_names, workers_for}
+use Rattle.mc_server.specs.NetworkWords.{AreReservesWithin, Asks, AsksInVain, IsServable, NetworkAsked, given_in, reserved_names, workers_for}
 use Rattle.mc_server.specs.TenantWord.{IsOnly, Says, TenantAsked, asked_of}
 use Rattle.mc_server.specs.declared.network_words.NetworkWords.{NetworkWords}
 use Rattle.mc_server.specs.declared.tenant_word.Tenant.{Tenant}
@@ -19,6 +21,11 @@ read_are_asked : (words : NetworkWords) (lent : List (Bor (List ℕ))) (tenants 
     → asked.tenants ≡ map asked_of tenants
 read_are_asked words lent tenants asked only e asks =
     let P : List (Bor (List ℕ)) → Type 0 = λ ws. AllZip Says (map (λ word. word.now) ws) asked.tenants in all_only _ _ asked.tenants only (subst P (sym e) asks.tenants)
+
+-- as many tenants are asked for as words are given
+many_asked : (words : NetworkWords) (asked : NetworkAsked) → Asks (given_in words) asked → length asked.tenants ≡ vec_len words.tenants
+many_asked words asked asks =
+    omega (arith, AllZip-long Says (given_in words).tenants asked.tenants asks.tenants, length-map words.tenants.items (λ (word : Bor (List ℕ)). word.now), words.tenants.ok.0)
 
 apart : (b : Bool) → b ≡ true → b ≡ false → ⊥
 apart b passes fails = cc
@@ -54,13 +61,15 @@ returns-in_err-admin c =
     let left = err_from_is_err_and c.from_residual-in_err-admin.result c.from_residual-in_err-admin.ensures.1 in
     record { outcome = rw (left.1, left.2) (inr (c.in_err-admin.ensures.0, vain)) }
 
--- more workers, logs or bytes of a log are asked for than there may be
+-- more workers, logs, bytes of a log or places are asked for than there may be
 pub returns-then-not-are_in_bounds : goal.returns-then-not-are_in_bounds
 returns-then-not-are_in_bounds c =
     let vain : AsksInVain (given_in c.args.words.now) = λ asked asks servable.
     let generations = subst (λ count. count ≤ MAX_GENERATIONS) asks.generations servable.generations in
     let log_bytes = subst (IsBetween 1 MAX_LOG_BYTES) asks.log_bytes servable.log_bytes in
-    apart _ (c.are_in_bounds.ensures.1 (asks.few, generations, log_bytes)) c.if-not-are_in_bounds.true
+    let reserves = subst (λ (reserve : ℕ). AreReservesWithin reserve (vec_len c.args.words.now.tenants)) asks.reserve
+    (subst (AreReservesWithin asked.reserve) (many_asked c.args.words.now asked asks) servable.reserve) in
+    apart _ (c.are_in_bounds.ensures.1 (asks.few, generations, log_bytes, reserves)) c.if-not-are_in_bounds.true
     in
     record { outcome = inr (refl, vain) }
 
@@ -95,6 +104,7 @@ returns c =
       places = c.in_ok-settings.settings.places;
       generations = c.args.words.now.generations;
       log_bytes = c.args.words.now.log_bytes;
+      reserve = c.args.words.now.reserve;
       connections = c.args.words.now.connections;
       admin = c.in_ok-admin.admin;
       tenants = map asked_of tenants;
@@ -108,6 +118,7 @@ returns c =
       places = places;
       generations = refl;
       log_bytes = refl;
+      reserve = refl;
       connections = refl;
       admin = c.in_ok-admin.ensures.spells;
       tenants = subst P c.deref.ensures.value (all_say _ _ c.in_ok-tenants.ensures.outcome);
@@ -116,6 +127,7 @@ returns c =
       lawful = subst IsLawful (sym checked ∙ settings) (c.in_ok-settings.ensures.lawful.0 (λ i. true));
       generations = bounds.1;
       log_bytes = bounds.2;
+      reserve = subst (AreReservesWithin c.args.words.now.reserve) (sym (many_asked c.args.words.now asked asks)) bounds.3;
       names = subst (IsDistinct bytes_eq) (ap (λ names. reserved_names c.in_ok-admin.admin ++ names) lent) (c.are_names_free.ensures.0 c.if-not-are_names_free.false);
     } in
     let each : c.args.words.now.generations ≢ 1 → c.in_ok-settings.settings.workers ≤ c.in_ok-settings.settings.places = λ many. omega (arith, each_has_a_place (given_in c.args.words.now) many, serve, places) in

@@ -26,7 +26,7 @@ use denote.Triple.Spec.{Meets, triple_of}
 use denote.Triple.Table.{entered}
 use denote.Triple.Walked.{says, Stays, stay_dropped, walk_of, ends_at, walk_Meets, Goes-dropped}
 use Rattle.mc_connections.specs.declared.past_connections.PastConnections.{PastConnections}
-use Rattle.mc_connections.specs.contracts.connections.Connection as connection
+use Rattle.mc_connections.specs.contracts.connection.Connection as connection
 use Rattle.mc_connections.specs.contracts.past_connections.PastConnections as ended
 use Rattle.mc_connections.specs.contracts.past_connections.PastConnections.and as f
 use Rattle.mc_connections.specs.contracts.past_connections.PastConnections.and.Key.{name as key}

@@ -1,29 +1,18 @@
-use Rattle.std.proofs.Common.{◌∙◌}
-use Rattle.mc_connections.specs.Working.{begins}
-use Rattle.mc_connections.proofs.Turning.{charged_for}
-use Rattle.mc_connections.proofs.Workings.{works_serving}
+use Rattle.std.proofs.Common.{subst, sym}
+use Rattle.mc_connections.specs.Serving.{tenant_at}
+use Rattle.mc_connections.specs.Waiting.{ComesToWait}
+use Rattle.mc_connections.specs.Working.{ServesAt, standing}
+use Rattle.mc_connections.proofs.Turning.{on_ok, waits_the_same, waits_with_more}
 use Rattle.mc_connections.proofs.ready_queue.ReadyQueue.serve.Goals as goal
 
-pub returns-in-Idle-clause-works : goal.returns-in-Idle-clause-works
-returns-in-Idle-clause-works g c = works_serving _ _ _ c.args.next.key c.serve-served.result.state begins c.serve-served.ensures
-
-pub returns-in_ok-push-in-Busy-clause-works : goal.returns-in_ok-push-in-Busy-clause-works
-returns-in_ok-push-in-Busy-clause-works g c = works_serving _ _ _ c.args.next.key c.serve-served.result.state begins c.serve-served.ensures
-
-pub returns-in_err-push-in-Busy-clause-works : goal.returns-in_err-push-in-Busy-clause-works
-returns-in_err-push-in-Busy-clause-works g c = works_serving _ _ _ c.args.next.key c.serve-served.result.state begins c.serve-served.ensures
-
-pub returns-in-Idle-clause-charged : goal.returns-in-Idle-clause-charged
-returns-in-Idle-clause-charged g c =
-    charged_for c.charge.new.self _ _ _ _ _ c.serve-served.result.bytes c.saturating_sub-commands.ensures c.announced-announced.ensures c.announced.ensures
-    c.charge.ensures.spent
-
-pub returns-in_ok-push-in-Busy-clause-charged : goal.returns-in_ok-push-in-Busy-clause-charged
-returns-in_ok-push-in-Busy-clause-charged g c =
-    charged_for c.push.new.self _ _ _ _ _ c.serve-served.result.bytes c.saturating_sub-commands.ensures c.announced-announced.ensures c.announced.ensures
-    (c.push.ensures.spent ∙ c.charge.ensures.spent)
-
-pub returns-in_err-push-in-Busy-clause-charged : goal.returns-in_err-push-in-Busy-clause-charged
-returns-in_err-push-in-Busy-clause-charged g c =
-    charged_for c.push.new.self _ _ _ _ _ c.serve-served.result.bytes c.saturating_sub-commands.ensures c.announced-announced.ensures c.announced.ensures
-    (c.push.ensures.spent ∙ c.charge.ensures.spent)
+pub returns-in-Busy-clause-waits : goal.returns-in-Busy-clause-waits
+returns-in-Busy-clause-waits g c =
+    let same = c.let_wait.ensures.same in
+    on_ok c.let_wait.result c.let_wait.ensures.waits
+    (λ waits. record {
+      state = c.serve-served.result.state;
+      serves = subst (λ connections. ServesAt c.args.until_done c.args.next.key c.serve-served.result.state (standing c.args.worker.now c.args.self.now.connections) (standing c.serve-served.new.worker connections)) (sym same) c.serve-served.ensures.serves;
+      waits = waits_with_more c.serve-served.result.state _ c.args.next.key c.args.self.now.waiting c.let_wait.new.self.waiting c.in-Busy.is
+          (subst (λ connections. ComesToWait (tenant_at connections c.args.next.key) c.args.next.key c.args.self.now.waiting c.let_wait.new.self.waiting) (sym same)
+          (waits_the_same (tenant_at c.serve-served.new.self c.args.next.key) c.args.next.key c.args.self.now.waiting c.charge.new.self c.let_wait.new.self.waiting c.charge.ensures.queue c.charge.ensures.waits waits));
+    })

@@ -1,6 +1,6 @@
 use Rattle.std.proofs.Common.{sym, subst}
 use Rattle.mc_connections.specs.Working.{Works, begins, standing}
-use Rattle.mc_connections.proofs.Workings.{works_known, works_trans}
+use Rattle.mc_connections.proofs.Workings.{works_known, works_serving}
 use Rattle.mc_connections.proofs.ready_queue.ReadyQueue.serve_round.Goals as goal
 
 pub returns-in_err-is_woken : goal.returns-in_err-is_woken
@@ -17,7 +17,7 @@ pub serve-requires : goal.serve-requires
 serve-requires g c = works_known _ _ c.loop.invariant c.requires
 
 pub returns-in_err-serve : goal.returns-in_err-serve
-returns-in_err-serve g c = works_trans _ _ _ c.loop.invariant c.serve.ensures.works
+returns-in_err-serve g c = works_serving _ _ _ c.in-Some.next.key c.serve.ensures.served.state c.loop.invariant c.serve.ensures.served.serves
 
 pub loop-preserved : goal.loop-preserved
-loop-preserved g c = works_trans _ _ _ c.loop.invariant c.serve.ensures.works
+loop-preserved g c = works_serving _ _ _ c.in-Some.next.key c.serve.ensures.served.state c.loop.invariant c.serve.ensures.served.serves

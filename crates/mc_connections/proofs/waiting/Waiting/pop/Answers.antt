@@ -2,7 +2,7 @@ use Rattle.mc_connections.proofs.Turning.{gave, idled}
 use Rattle.mc_connections.proofs.waiting.Waiting.pop.Goals as goal
 
 pub returns-in-Some : goal.returns-in-Some
-returns-in-Some c = gave c.replace-spent.result c.in-Some.ready.key c.in-Some.ready.flow _ _ c.replace-spent.ensures.value c.take_out.ensures.queue c.in-Some.ensures
+returns-in-Some c = gave c.replace-spent.result c.in-Some.ready.key c.in-Some.ready.flow _ _ c.replace-spent.ensures.value c.take_out.ensures.queue c.in-Some.ensures c.take_out.ensures.waits
 
 pub returns-in-None : goal.returns-in-None
 returns-in-None c = idled c.replace-spent.result _ _ c.replace-spent.ensures.value c.in-None.ensures

@@ -1,9 +1,10 @@
-use Rattle.mc_connections.specs.Working.{standing}
 use Rattle.mc_net.proofs.event_loop.EventLoop.admit_arrivals.Goals as goal
 
 pub loop-init : goal.loop-init
 loop-init g c = λ until worker. c.work_adds_up.ensures.none until _
 
+pub returns-in_err-admit-in-Ok : goal.returns-in_err-admit-in-Ok
+returns-in_err-admit-in-Ok g c = λ until worker. c.work_adds_up.ensures.through until _ _ _ (c.loop.invariant until worker) (c.admit.ensures until worker)
+
 pub loop-preserved : goal.loop-preserved
-loop-preserved g c = λ until worker.
-    c.work_adds_up.ensures.admits until (standing worker _) worker _ _ _ c.admit.result (c.loop.invariant until worker) c.admit.ensures.admits c.admit.ensures.same
+loop-preserved g c = λ until worker. c.work_adds_up.ensures.through until _ _ _ (c.loop.invariant until worker) (c.admit.ensures until worker)
