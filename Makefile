@@ -1,6 +1,6 @@
 # `make run` and `make test` do all set-up on a machine that has the kit (`rt` on the PATH).
 .PHONY: help try try-stdin serve run schedule build install uninstall package test mutants golden network compatibility proxy moving fuzz \
-	coverage-fuzz linearizability allocation-failures differential wrong-definitions core-states manual trying packaging bench picture documents layers definitions kit
+	coverage-fuzz linearizability allocation-failures differential wrong-definitions core-states manual trying packaging bench picture documents exposition layers definitions kit
 
 help: ## prints this list
 	@awk -F ':.*## ' '/^[a-z-]+:.*## / { printf "make %-20s %s\n", $$1, $$2 }' Makefile
@@ -134,6 +134,10 @@ picture: ## draws docs/house.svg anew from crates.txt
 documents: ## writes docs/PROMISES.md and the numbers in docs/DEFINITIONS.md anew from the sources
 	@python3 tools/promises.py
 	@python3 tools/reading.py --write
+
+exposition: kit ## holds the metrics of an example against an oracle, and against promtool where it is installed; in the gate too
+	@tools/prove.sh mc_scrape >&2
+	@python3 tests/exposition.py
 
 layers: ## checks that a definition's name is used once, and that no crate cites another's proofs but those of a crate of lemmas; in the gate too
 	@python3 tools/layers.py

@@ -89,6 +89,9 @@ def page():
 def response(status, fields, body=b"", version="1.1", shown=True):
     lines = [f"HTTP/{version} {status}"] + [f"{name}: {value}" for name, value in fields]
     lines.append(f"content-length: {len(body)}")
+    if version == "1.0":
+        # A client of HTTP/1.0 reads on only if it is told so.
+        lines.append("connection: keep-alive")
     return "".join(line + "\r\n" for line in lines).encode() + b"\r\n" + (body if shown else b"")
 
 

@@ -1,7 +1,7 @@
 #!/usr/bin/env python3
 """Draws the crates of crates.txt, each above those that it stands on, to docs/house.svg.
 
-With --check it writes nothing, and fails where the picture isn't that of crates.txt. Crates of tests, benches and refusals are left out, and so
+With --check it writes nothing, and fails where the picture isn't that of crates.txt. Crates of tests, benches, refusals and mc_scrape are left out, and so
 is a line that follows from others: where a stands on b and b on c, none is drawn from a to c. Boxes have a ground of their own, so
 that they can be read on a light page and on a dark one.
 """
@@ -16,6 +16,8 @@ SAYS = {
     "model_lemmas": "lemmas on these",
     "mc_laws": "what follows from them",
     "mc_items": "all tenants' tables",
+    "mc_counters": "counts of requests",
+    "mc_metrics": "what a scrape gets",
     "mc_fragments": "data that borrow",
     "mc_tables": "one table, by its quotas",
     "uc_cells": "contents, set once",
@@ -54,7 +56,7 @@ def read_crates(text):
         if line.strip() and not line.lstrip().startswith("#"):
             name, _, libraries = line.partition(":")
             crates[name.split()[0]] = libraries.split()
-    drawn = {name for name in crates if not name.endswith("_tests") and name not in ("benches", "refusals")}
+    drawn = {name for name in crates if not name.endswith("_tests") and name not in ("benches", "refusals", "mc_scrape")}
     return {name: [it for it in crates[name] if it in drawn] for name in crates if name in drawn}
 
 

@@ -36,8 +36,8 @@ keys_asked (command.Get keys uniques) = length keys
 keys_asked _ = 0
 
 -- what a command asks for
-abbrev pub asked_by : Command → Asked
-asked_by command = record { kind = kind_of command; keys = keys_asked command }
+abbrev pub asked_for_by : Command → Asked
+asked_for_by command = record { kind = kind_of command; keys = keys_asked command }
 
 -- at which place counts keep a kind of commands
 abbrev pub place_of_kind : CommandKind → ℕ

@@ -12,11 +12,11 @@ abbrev pub more_at : List ℕ → ℕ → List ℕ
 more_at counts place = slice_set counts place (capped (slice_index counts place + 1))
 
 -- the counts after a command, if there was one
-abbrev pub with_command : Option Asked → List ℕ → List ℕ
-with_command None counts = counts
-with_command (Some asked) counts = more_at counts (place_of_kind asked.kind)
+abbrev pub counts_with_command : Option Asked → List ℕ → List ℕ
+counts_with_command None counts = counts
+counts_with_command (Some asked) counts = more_at counts (place_of_kind asked.kind)
 
 -- the counts after a reply
-abbrev pub with_reply : Reply → List ℕ → List ℕ
-with_reply (Refused refusal) counts = more_at counts (place_of_refusal refusal)
-with_reply _ counts = counts
+abbrev pub counts_with_reply : Reply → List ℕ → List ℕ
+counts_with_reply (Refused refusal) counts = more_at counts (place_of_refusal refusal)
+counts_with_reply _ counts = counts

@@ -10,7 +10,7 @@ use Rattle.mc_counters.specs.declared.kinds.TheConstants.{COMMANDS, REFUSALS}
 use Rattle.mc_counters.specs.declared.tally.Tally.{Tally}
 
 -- a request that was answered: what its command asked for, if it had one, and its reply
-pub record Answered : Type 0 where
+pub record CountedRequest : Type 0 where
   pub asked : Option Asked
   pub reply : Reply
 
@@ -44,7 +44,7 @@ abbrev pub capped : ℕ → ℕ
 capped number = min number (2 ^ 64 - 1)
 
 -- the tally counts these requests, and no others
-pub record IsTallyOf (answered : List Answered) (tally : Tally) : Type 0 where
+pub record IsTallyOf (answered : List CountedRequest) (tally : Tally) : Type 0 where
   pub commands : (place : ℕ) → place < COMMANDS → slice_index tally.commands place
       ≡ capped (count_by (λ one. is_of_kind place one.asked) answered)
   pub refusals : (place : ℕ) → place < REFUSALS → slice_index tally.refusals place

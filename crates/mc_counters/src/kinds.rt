@@ -1,6 +1,6 @@
 //! The kinds of commands and refusals, by which requests are counted.
 ghost use Rattle.std.specs.Prelude.{◌≡◌, ◌<◌};
-ghost use Rattle.mc_counters.specs.Kinds.{asked_by, kind_of, place_of_kind, place_of_refusal};
+ghost use Rattle.mc_counters.specs.Kinds.{asked_for_by, kind_of, place_of_kind, place_of_refusal};
 ghost use Rattle.mc_counters.specs.declared.kinds.TheConstants.{COMMANDS, REFUSALS};
 
 use mc_model::{Command, Verb, WireNo};
@@ -144,7 +144,7 @@ pub struct Asked {
 impl Asked {
     /// Returns what a command asks for.
     pub fn by(command: &Command) -> Asked
-        ensures { result ≡ asked_by command.now }
+        ensures { result ≡ asked_for_by command.now }
     {
         let keys = match command {
             Command::Get { keys, .. } => keys.as_slice().len(),

@@ -1,11 +1,13 @@
 //! What is counted of a tenant's requests: commands by kind, items that retrievals found and keys
 //! that they didn't, and refusals by kind. Begin with `Tally`; `specs/Tallied.antt` says what each
-//! number counts.
+//! number counts. `board` has the words by which a worker shows such numbers.
 #![tactic(auto)]
 
+pub use board::{Board, Publisher, TenantShown, WorkerShown, new_board};
 pub use kinds::{Asked, COMMAND_KINDS, CommandKind, REFUSAL_KINDS};
 pub use tally::Tally;
 
+pub mod board;
 pub mod kinds;
 pub mod tally;
 #[cfg(test)]

@@ -1,8 +1,8 @@
 //! Numbers of requests.
 ghost use Rattle.std.specs.Prelude.{◌≡◌, ◌<◌, [], ◌∷◌, List, length, slice_index};
 ghost use Rattle.mc_counters.specs.Kinds.{place_of_kind, place_of_refusal};
-ghost use Rattle.mc_counters.specs.Steps.{more_at, with_command, with_reply};
-ghost use Rattle.mc_counters.specs.Tallied.{Answered, IsTallyOf, items_found, keys_missed, keys_wanted};
+ghost use Rattle.mc_counters.specs.Steps.{more_at, counts_with_command, counts_with_reply};
+ghost use Rattle.mc_counters.specs.Tallied.{CountedRequest, IsTallyOf, items_found, keys_missed, keys_wanted};
 
 use crate::kinds::{Asked, COMMANDS, CommandKind, REFUSALS, refusal_place};
 use mc_model::{Reply, WireNo};
@@ -74,7 +74,7 @@ impl Tally {
     /// Counts the kind of a command, if there is one.
     fn count_command(&mut self, asked: &Option<Asked>)
         ensures counts { self.new ≡ record self.old
-            { commands = with_command asked.now self.old.commands } }
+            { commands = counts_with_command asked.now self.old.commands } }
         ensures long { length self.old.commands ≡ COMMANDS }
     {
         if let Some(asked) = asked {
@@ -85,7 +85,7 @@ impl Tally {
     /// Counts a refusal, if the reply is one.
     fn count_refusal(&mut self, reply: &Reply)
         ensures counts { self.new ≡ record self.old
-            { refusals = with_reply reply.now self.old.refusals } }
+            { refusals = counts_with_reply reply.now self.old.refusals } }
         ensures long { length self.old.refusals ≡ REFUSALS }
     {
         if let Reply::Refused(refusal) = reply {
@@ -96,7 +96,7 @@ impl Tally {
     /// Counts a request that was answered: what its command asked for, if it had one, and its reply.
     pub fn count(&mut self, asked: &Option<Asked>, reply: &Reply)
         // What was counted before is counted still, and now this one too.
-        ensures { (past : List Answered) → IsTallyOf past self.old →
+        ensures { (past : List CountedRequest) → IsTallyOf past self.old →
             IsTallyOf (record { asked = asked.now; reply = reply.now } ∷ past) self.new }
     {
         self.count_command(asked);

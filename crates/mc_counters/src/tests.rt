@@ -1,7 +1,9 @@
-//! Tests of what no clause says: with requests of every kind each number is counted once.
+//! Tests of what no clause says: with requests of every kind each number is
+//! counted once, and what is published is shown.
+use crate::board::{TenantShown, WorkerShown, new_board};
 use crate::kinds::{Asked, COMMAND_KINDS, CommandKind, REFUSAL_KINDS};
 use crate::tally::Tally;
-use mc_model::{Command, Key, Reply};
+use mc_model::{Command, Key, Limits, Reply, TenantId};
 use std::test::Fail;
 
 #[test]
@@ -31,5 +33,63 @@ fn reads_what_a_command_asks_for(rt: HostRuntime) -> Result<(), Fail> {
     let asked = Asked::by(&Command::Delete { key });
     assert!(rt; asked.kind == CommandKind::Delete && asked.keys == 0);
     assert!(rt; CommandKind::of(&Command::Flush) == CommandKind::Flush);
+    Ok(())
+}
+
+/// Returns numbers that are all different.
+fn shown_of(first: u64) -> TenantShown {
+    let mut tally = Tally::new();
+    let mut next = first;
+    for count in tally.commands.iter_mut() {
+        *count = next;
+        next = next.wrapping_add(1);
+    }
+    for count in tally.refusals.iter_mut() {
+        *count = next;
+        next = next.wrapping_add(1);
+    }
+    tally.hits = next.wrapping_add(1);
+    tally.misses = next.wrapping_add(2);
+    TenantShown {
+        tally,
+        connections: next.wrapping_add(3),
+        items: next.wrapping_add(4),
+        bytes: next.wrapping_add(5),
+        quotas: Limits {
+            items: next.wrapping_add(6),
+            bytes: next.wrapping_add(7),
+        },
+    }
+}
+
+/// Returns whether two tenants are shown alike.
+fn are_alike(one: &TenantShown, other: &TenantShown) -> bool {
+    one.tally.commands == other.tally.commands
+        && one.tally.refusals == other.tally.refusals
+        && one.tally.hits == other.tally.hits
+        && one.tally.misses == other.tally.misses
+        && one.connections == other.connections
+        && one.items == other.items
+        && one.bytes == other.bytes
+        && one.quotas == other.quotas
+}
+
+#[test]
+fn shows_what_is_published(rt: HostRuntime) -> Result<(), Fail> {
+    let (mut publisher, board) = new_board(rt.alloc(), 2)?;
+    let (Some(first), Some(second)) = (TenantId::new(0), TenantId::new(1)) else {
+        return Ok(());
+    };
+    publisher.show_tenant(first, &shown_of(100));
+    publisher.show_tenant(second, &shown_of(200));
+    publisher.show_worker(&WorkerShown {
+        replayed: 1,
+        bytes: 2,
+        connections: 3,
+    });
+    assert!(rt; are_alike(&board.tenant(first), &shown_of(100)));
+    assert!(rt; are_alike(&board.tenant(second), &shown_of(200)));
+    let worker = board.worker();
+    assert!(rt; worker.replayed == 1 && worker.bytes == 2 && worker.connections == 3);
     Ok(())
 }

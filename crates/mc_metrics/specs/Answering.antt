@@ -16,8 +16,8 @@ pub record Answer : Type 0 where
   pub body : List ℕ
 
 -- the response is the answer
-abbrev pub Gives : Answer → Response → Type 0
-Gives answer = IsResponse answer.status answer.fields answer.body
+abbrev pub GivesAnswer : Answer → Response → Type 0
+GivesAnswer answer = IsResponse answer.status answer.fields answer.body
 
 -- a text of this type
 abbrev pub text_answer : List ℕ → List ℕ → Answer
@@ -46,8 +46,8 @@ abbrev pub is_retrieval : List ℕ → Bool
 is_retrieval method = bytes_eq method (codes "GET") || bytes_eq method (codes "HEAD")
 
 -- what is answered to a request of this method for this path
-abbrev pub answer_to : Snapshot → List ℕ → List ℕ → Answer
-answer_to snapshot method path =
+abbrev pub http_answer_to : Snapshot → List ℕ → List ℕ → Answer
+http_answer_to snapshot method path =
     if is_retrieval method
     then (if bytes_eq path (codes "/metrics") then metrics_answer snapshot
     else (if bytes_eq path (codes "/") then page_answer snapshot else not_found))

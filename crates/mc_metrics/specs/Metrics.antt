@@ -22,56 +22,56 @@ use Rattle.mc_metrics.specs.declared.snapshot.Snapshot.{Snapshot}
 use Rattle.mc_metrics.specs.declared.snapshot.TenantNumbers.{TenantNumbers}
 use Rattle.mc_metrics.specs.declared.snapshot.WorkerNumbers.{WorkerNumbers}
 
-abbrev pub name_of : Metric → List ℕ
-name_of (OfTenant Items) = codes "wfmc_tenant_items"
-name_of (OfTenant Bytes) = codes "wfmc_tenant_bytes"
-name_of (OfTenant ItemQuota) = codes "wfmc_tenant_quota_items"
-name_of (OfTenant ByteQuota) = codes "wfmc_tenant_quota_bytes"
-name_of (OfTenant Hits) = codes "wfmc_tenant_hits_total"
-name_of (OfTenant Misses) = codes "wfmc_tenant_misses_total"
-name_of (OfTenant Connections) = codes "wfmc_tenant_connections"
-name_of Commands = codes "wfmc_tenant_commands_total"
-name_of Refusals = codes "wfmc_tenant_refusals_total"
-name_of (OfWorker worker.Lag) = codes "wfmc_worker_lag_places"
-name_of (OfWorker worker.Connections) = codes "wfmc_worker_connections"
-name_of (OfServer Places) = codes "wfmc_log_places"
-name_of (OfServer UsedPlaces) = codes "wfmc_log_used_places"
-name_of (OfServer LogBytes) = codes "wfmc_log_bytes"
-name_of (OfServer Generation) = codes "wfmc_log_generation"
-name_of (OfServer ResidentBytes) = codes "process_resident_memory_bytes"
-name_of TurnOvers = codes "wfmc_turn_over_seconds"
-name_of Build = codes "wfmc_build_info"
+abbrev pub metric_name : Metric → List ℕ
+metric_name (OfTenant Items) = codes "wfmc_tenant_items"
+metric_name (OfTenant Bytes) = codes "wfmc_tenant_bytes"
+metric_name (OfTenant ItemQuota) = codes "wfmc_tenant_quota_items"
+metric_name (OfTenant ByteQuota) = codes "wfmc_tenant_quota_bytes"
+metric_name (OfTenant Hits) = codes "wfmc_tenant_hits_total"
+metric_name (OfTenant Misses) = codes "wfmc_tenant_misses_total"
+metric_name (OfTenant Connections) = codes "wfmc_tenant_connections"
+metric_name Commands = codes "wfmc_tenant_commands_total"
+metric_name Refusals = codes "wfmc_tenant_refusals_total"
+metric_name (OfWorker worker.Lag) = codes "wfmc_worker_lag_places"
+metric_name (OfWorker worker.Connections) = codes "wfmc_worker_connections"
+metric_name (OfServer Places) = codes "wfmc_log_places"
+metric_name (OfServer UsedPlaces) = codes "wfmc_log_used_places"
+metric_name (OfServer LogBytes) = codes "wfmc_log_bytes"
+metric_name (OfServer Generation) = codes "wfmc_log_generation"
+metric_name (OfServer ResidentBytes) = codes "process_resident_memory_bytes"
+metric_name TurnOvers = codes "wfmc_turn_over_seconds"
+metric_name Build = codes "wfmc_build_info"
 
-abbrev pub help_of : Metric → List ℕ
-help_of (OfTenant Items) = codes "Items that the tenant holds."
-help_of (OfTenant Bytes) = codes "Bytes of keys and data that the tenant holds."
-help_of (OfTenant ItemQuota) = codes "Items that the tenant may hold."
-help_of (OfTenant ByteQuota) = codes "Bytes of keys and data that the tenant may hold."
-help_of (OfTenant Hits) = codes "Items that retrievals found."
-help_of (OfTenant Misses) = codes "Keys of retrievals that had no item."
-help_of (OfTenant Connections) = codes "Connections of the tenant."
-help_of Commands = codes "Commands that were answered."
-help_of Refusals = codes "Requests that were refused."
-help_of (OfWorker worker.Lag) = codes "Used places of the log that the worker has yet to replay."
-help_of (OfWorker worker.Connections) = codes "Connections that the worker serves."
-help_of (OfServer Places) = codes "Places of the log."
-help_of (OfServer UsedPlaces) = codes "Places of the log that are used."
-help_of (OfServer LogBytes) = codes "Bytes that the commands in the log keep."
-help_of (OfServer Generation) = codes "Which log is served, counted from 1."
-help_of (OfServer ResidentBytes) = codes "Resident memory of the process in bytes."
-help_of TurnOvers = codes "Time from the end of a log to the beginning of the next."
-help_of Build = codes "The version that runs, and the kit that it is proved with."
+abbrev pub metric_help : Metric → List ℕ
+metric_help (OfTenant Items) = codes "Items that the tenant holds."
+metric_help (OfTenant Bytes) = codes "Bytes of keys and data that the tenant holds."
+metric_help (OfTenant ItemQuota) = codes "Items that the tenant may hold."
+metric_help (OfTenant ByteQuota) = codes "Bytes of keys and data that the tenant may hold."
+metric_help (OfTenant Hits) = codes "Items that retrievals found."
+metric_help (OfTenant Misses) = codes "Keys of retrievals that had no item."
+metric_help (OfTenant Connections) = codes "Connections of the tenant."
+metric_help Commands = codes "Commands that were answered."
+metric_help Refusals = codes "Requests that were refused."
+metric_help (OfWorker worker.Lag) = codes "Used places of the log that the worker has yet to replay."
+metric_help (OfWorker worker.Connections) = codes "Connections that the worker serves."
+metric_help (OfServer Places) = codes "Places of the log."
+metric_help (OfServer UsedPlaces) = codes "Places of the log that are used."
+metric_help (OfServer LogBytes) = codes "Bytes that the commands in the log keep."
+metric_help (OfServer Generation) = codes "Which log is served, counted from 1."
+metric_help (OfServer ResidentBytes) = codes "Resident memory of the process in bytes."
+metric_help TurnOvers = codes "Time from the end of a log to the beginning of the next."
+metric_help Build = codes "The version that runs, and the kit that it is proved with."
 
-abbrev pub type_of : Metric → List ℕ
-type_of (OfTenant Hits) = codes "counter"
-type_of (OfTenant Misses) = codes "counter"
-type_of (OfTenant _) = codes "gauge"
-type_of Commands = codes "counter"
-type_of Refusals = codes "counter"
-type_of (OfWorker _) = codes "gauge"
-type_of (OfServer _) = codes "gauge"
-type_of TurnOvers = codes "summary"
-type_of Build = codes "gauge"
+abbrev pub metric_type : Metric → List ℕ
+metric_type (OfTenant Hits) = codes "counter"
+metric_type (OfTenant Misses) = codes "counter"
+metric_type (OfTenant _) = codes "gauge"
+metric_type Commands = codes "counter"
+metric_type Refusals = codes "counter"
+metric_type (OfWorker _) = codes "gauge"
+metric_type (OfServer _) = codes "gauge"
+metric_type TurnOvers = codes "summary"
+metric_type Build = codes "gauge"
 
 -- the label of a kind of commands: the name of its line
 abbrev pub command_label : CommandKind → List ℕ
@@ -132,27 +132,27 @@ tenant_label tenant = (codes "tenant", tenant.name)
 -- the sample of a tenant
 abbrev pub tenant_sample : TenantMetric → TenantNumbers → List ℕ
 tenant_sample metric tenant =
-    sample_line (name_of (OfTenant metric)) (tenant_label tenant ∷ [])
+    sample_line (metric_name (OfTenant metric)) (tenant_label tenant ∷ [])
     (decimal (tenant_value metric tenant))
 
 -- the sample of a tenant and a kind of commands
 abbrev pub command_sample : TenantNumbers → CommandKind → List ℕ
 command_sample tenant kind =
-    sample_line (name_of Commands)
+    sample_line (metric_name Commands)
     (tenant_label tenant ∷ (codes "command", command_label kind) ∷ [])
     (decimal (slice_index tenant.tally.commands (place_of_kind kind)))
 
 -- the sample of a tenant and a kind of refusals
 abbrev pub refusal_sample : TenantNumbers → WireNo → List ℕ
 refusal_sample tenant refusal =
-    sample_line (name_of Refusals)
+    sample_line (metric_name Refusals)
     (tenant_label tenant ∷ (codes "refusal", refusal_label refusal) ∷ [])
     (decimal (slice_index tenant.tally.refusals (place_of_refusal refusal)))
 
 -- the sample of a worker
 abbrev pub worker_sample : WorkerMetric → WorkerNumbers → List ℕ
 worker_sample metric numbers =
-    sample_line (name_of (OfWorker metric)) ((codes "worker", decimal numbers.number) ∷ [])
+    sample_line (metric_name (OfWorker metric)) ((codes "worker", decimal numbers.number) ∷ [])
     (decimal (worker_value metric numbers))
 
 -- a number of microseconds in seconds, with six digits after the point
@@ -165,7 +165,7 @@ seconds_text micros =
 -- the sample of the server
 abbrev pub server_sample : ServerMetric → Snapshot → List ℕ
 server_sample metric snapshot =
-    sample_line (name_of (OfServer metric)) [] (decimal (server_value metric snapshot))
+    sample_line (metric_name (OfServer metric)) [] (decimal (server_value metric snapshot))
 
 -- the samples of a summary without quantiles: the total of what was observed, and how often it was
 abbrev pub turn_over_samples : LogNumbers → List ℕ
@@ -176,7 +176,7 @@ turn_over_samples log =
 -- the sample that names the build
 abbrev pub build_sample : List ℕ
 build_sample =
-    sample_line (name_of Build) ((codes "version", VERSION.now) ∷ (codes "kit", KIT.now) ∷ [])
+    sample_line (metric_name Build) ((codes "version", VERSION.now) ∷ (codes "kit", KIT.now) ∷ [])
     (codes "1")
 
 -- the samples of a metric
@@ -194,7 +194,7 @@ samples_of snapshot Build = build_sample
 -- a metric: its head and its samples
 unfoldable pub metric_text : Snapshot → Metric → List ℕ
 metric_text snapshot metric =
-    head_lines (name_of metric) (help_of metric) (type_of metric) ++ samples_of snapshot metric
+    head_lines (metric_name metric) (metric_help metric) (metric_type metric) ++ samples_of snapshot metric
 
 -- what a scrape gets: all metrics
 unfoldable pub metrics_text : Snapshot → List ℕ

@@ -3,7 +3,7 @@ ghost use Rattle.std.specs.Prelude.{◌≡◌, OnOk};
 ghost use Rattle.http.specs.Request.{head_of};
 ghost use Rattle.http_server.specs.Response.{IsBlank};
 ghost use Rattle.http_uri.specs.Uri.{uri_path};
-ghost use Rattle.mc_metrics.specs.Answering.{Gives, answer_to, metrics_answer, not_allowed, not_found, page_answer, text_answer};
+ghost use Rattle.mc_metrics.specs.Answering.{GivesAnswer, http_answer_to, metrics_answer, not_allowed, not_found, page_answer, text_answer};
 
 use crate::exposition::write_metrics;
 use crate::page::write_page;
@@ -28,7 +28,7 @@ fn give_text(
 ) -> Result<(), AllocError>
     requires { IsBlank response.old }
     ensures { OnOk result
-        (Gives (text_answer content_type.bytes text.items) response.new) }
+        (GivesAnswer (text_answer content_type.bytes text.items) response.new) }
 {
     response.add_header(header::CONTENT_TYPE, content_type)?;
     response.body.push(Bytes::from_vec(text)?)
@@ -41,7 +41,7 @@ fn give_metrics(
     response: &mut Response,
 ) -> Result<(), AllocError>
     requires { IsBlank response.old }
-    ensures { OnOk result (Gives (metrics_answer snapshot.now) response.new) }
+    ensures { OnOk result (GivesAnswer (metrics_answer snapshot.now) response.new) }
 {
     let mut text = Vec::new(alloc);
     write_metrics(snapshot, &mut text)?;
@@ -52,7 +52,7 @@ fn give_metrics(
 /// Answers with the page.
 fn give_page(alloc: Global, snapshot: &Snapshot, response: &mut Response) -> Result<(), AllocError>
     requires { IsBlank response.old }
-    ensures { OnOk result (Gives (page_answer snapshot.now) response.new) }
+    ensures { OnOk result (GivesAnswer (page_answer snapshot.now) response.new) }
 {
     let mut text = Vec::new(alloc);
     write_page(snapshot, &mut text)?;
@@ -63,7 +63,7 @@ fn give_page(alloc: Global, snapshot: &Snapshot, response: &mut Response) -> Res
 /// Answers that nothing is at the path.
 fn refuse_path(response: &mut Response) -> Result<(), AllocError>
     requires { IsBlank response.old }
-    ensures { OnOk result (Gives not_found response.new) }
+    ensures { OnOk result (GivesAnswer not_found response.new) }
 {
     response.status = StatusCode::NOT_FOUND;
     Ok(())
@@ -72,7 +72,7 @@ fn refuse_path(response: &mut Response) -> Result<(), AllocError>
 /// Answers that the method isn't allowed.
 fn refuse_method(response: &mut Response) -> Result<(), AllocError>
     requires { IsBlank response.old }
-    ensures { OnOk result (Gives not_allowed response.new) }
+    ensures { OnOk result (GivesAnswer not_allowed response.new) }
 {
     response.status = StatusCode::METHOD_NOT_ALLOWED;
     response.add_header(header::ALLOW, HeaderValue::from_static("GET, HEAD"))
@@ -89,7 +89,7 @@ fn answer(
     response: &mut Response,
 ) -> Result<(), AllocError>
     requires { IsBlank response.old }
-    ensures { OnOk result (Gives (answer_to snapshot.now method.now path.now) response.new) }
+    ensures { OnOk result (GivesAnswer (http_answer_to snapshot.now method.now path.now) response.new) }
 {
     if method != "GET" && method != "HEAD" {
         refuse_method(response)
@@ -106,7 +106,7 @@ impl Service for Scrape {
     // The status, the fields and the body are those for the request's method and path and the
     // snapshot, which stays as it is.
     ghost answers = { λ old request response new.
-        Gives (answer_to old.snapshot (head_of request).method (uri_path (head_of request).uri))
+        GivesAnswer (http_answer_to old.snapshot (head_of request).method (uri_path (head_of request).uri))
         response × (new ≡ old) };
 
     fn call(

@@ -1,7 +1,7 @@
 //! The text that a scrape gets.
 ghost use Rattle.std.specs.Prelude.{◌≡◌, ◌∷◌, ◌+◌, ◌%◌, ◌++◌, [], OnOk, codes, flat_map, map};
 ghost use Rattle.mc_metrics.specs.Exposition.{comment_line, head_lines, label_text, labels_text, sample_line};
-ghost use Rattle.mc_metrics.specs.Metrics.{build_sample, command_sample, help_of, metric_text, metrics_text, name_of, refusal_sample, samples_of, seconds_text, server_sample, tenant_label, tenant_sample, turn_over_samples, type_of, worker_sample};
+ghost use Rattle.mc_metrics.specs.Metrics.{build_sample, command_sample, metric_help, metric_text, metrics_text, metric_name, refusal_sample, samples_of, seconds_text, server_sample, tenant_label, tenant_sample, turn_over_samples, metric_type, worker_sample};
 
 use crate::metric::{
     KIT, METRICS, Metric, ServerMetric, TURN_OVER_COUNT, TURN_OVER_SUM, TenantMetric, VERSION,
@@ -108,7 +108,7 @@ fn write_comment(
 /// Appends the lines before a metric's samples.
 fn write_head(metric: Metric, out: &mut Vec<u8>) -> Result<(), AllocError>
     ensures { OnOk result (out.new.items ≡ out.old.items
-        ++ head_lines (name_of metric) (help_of metric) (type_of metric)) }
+        ++ head_lines (metric_name metric) (metric_help metric) (metric_type metric)) }
 {
     write_comment(b"# HELP ", metric.name(), metric.help(), out)?;
     write_comment(b"# TYPE ", metric.name(), metric.kind(), out)

@@ -1,6 +1,6 @@
 //! The metrics, each with its name, its help and its type.
 ghost use Rattle.std.specs.Prelude.{◌≡◌};
-ghost use Rattle.mc_metrics.specs.Metrics.{command_label, help_of, name_of, refusal_label, server_value, tenant_value, type_of, worker_value};
+ghost use Rattle.mc_metrics.specs.Metrics.{command_label, metric_help, metric_name, refusal_label, server_value, tenant_value, metric_type, worker_value};
 
 use crate::snapshot::{Snapshot, TenantNumbers, WorkerNumbers};
 use mc_counters::CommandKind;
@@ -131,7 +131,7 @@ impl ServerMetric {
 impl Metric {
     /// Returns the metric's name.
     pub(crate) fn name(self) -> &'static [u8]
-        ensures { result.now ≡ name_of self }
+        ensures { result.now ≡ metric_name self }
     {
         match self {
             Metric::OfTenant(TenantMetric::Items) => b"wfmc_tenant_items",
@@ -157,7 +157,7 @@ impl Metric {
 
     /// Returns what the metric tells.
     pub(crate) fn help(self) -> &'static [u8]
-        ensures { result.now ≡ help_of self }
+        ensures { result.now ≡ metric_help self }
     {
         match self {
             Metric::OfTenant(TenantMetric::Items) => b"Items that the tenant holds.",
@@ -193,7 +193,7 @@ impl Metric {
 
     /// Returns the metric's type.
     pub(crate) fn kind(self) -> &'static [u8]
-        ensures { result.now ≡ type_of self }
+        ensures { result.now ≡ metric_type self }
     {
         match self {
             Metric::OfTenant(TenantMetric::Hits | TenantMetric::Misses)
