@@ -1,7 +1,7 @@
 //! The reply bytes that are to be pushed.
 ghost use Rattle.std.specs.Bool.{OnFalse, OnTrue};
 ghost use Rattle.std.specs.Io.{StartsWith};
-ghost use Rattle.std.specs.Prelude.{◌≡◌, ◌==◌, ◌-◌, ◌<◌, ◌≤◌, [], ◌++◌, codes, drop, length, take, MatchResult, OnErr, OnOk};
+ghost use Rattle.std.specs.Prelude.{◌≡◌, ◌==◌, ◌-◌, ◌<◌, ◌≤◌, [], ◌++◌, codes, drop, flat_map, length, take, MatchResult, OnErr, OnOk};
 ghost use Rattle.mc_model.specs.declared.fault.Fault.TheVariants as faults;
 ghost use Rattle.mc_stream.specs.Event.{waits};
 ghost use Rattle.mc_stream.specs.Pushing.{IsStopped, IsUnfailed, Pushes, PushesAtOnce};
@@ -279,20 +279,32 @@ impl Queue {
         self.put(b"\r\n")
     }
 
-    /// Appends items. They may be appended in part if memory runs out.
+    /// Appends the items of a vector. They may be appended in part if memory runs out.
+    fn append_several(&mut self, values: Vec<Value>) -> Result<(), AllocError>
+        ensures text { OnOk result (self.new ≡ self.old ++ flat_map value_text values.items) }
+        ensures begun { StartsWith self.new self.old }
+    {
+        for value in values {
+            self.append_value(value)?;
+        }
+        Ok(())
+    }
+
+    /// Appends items, and the end of a retrieval. They may be appended in part if memory runs out.
     fn append_values(&mut self, values: ValueList) -> Result<(), AllocError>
         ensures text { OnOk result (self.new ≡ self.old ++ text (Reply.Values values)) }
         ensures begun { StartsWith self.new self.old }
     {
         match values.into_values() {
-            Values::Single(value) => self.append_value(value)?,
+            Values::Single(value) => {
+                self.append_value(value)?;
+                self.put(b"END\r\n")
+            }
             Values::Several(values) => {
-                for value in values {
-                    self.append_value(value)?;
-                }
+                self.append_several(values)?;
+                self.put(b"END\r\n")
             }
         }
-        self.put(b"END\r\n")
     }
 
     /// Appends the text of a reply that isn't the items of a retrieval.
