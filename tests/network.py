@@ -560,14 +560,15 @@ def check_gone_among_busy():
         first = ask(server, "a")
         check("a client before those that are gone", is_answered(first))
         with stopped(server):
+            # More than ten times as much as a worker takes of one connection before others have their turns.
             for client in busy:
-                client.sendall(b"get x\r\n" * 4_000)
+                client.sendall(b"get %s\r\n" % (b"x" * 200) * 2_000)
             for _ in range(3_000):
                 reset(server.connect("a", PATIENCE))
             client = ask(server, "a")
         check("a client after those that are gone, among busy tenants", is_answered(client))
         check("one before them", is_answered_again(first))
-        check("the other tenants' clients", all(is_answered(one, b"END\r\n" * 4_000) for one in busy))
+        check("the other tenants' clients", all(is_answered(one, b"END\r\n" * 2_000) for one in busy))
 
 
 def check_last():

@@ -15,13 +15,13 @@ abbrev pub free : PlacesState → ℕ
 free state = state.most - sum state.held
 
 -- how many places are kept for holders who don't hold them: what is left of each one's reserve
-abbrev pub owed : PlacesState → ℕ
-owed state = sum_by (λ held. state.reserve - held) state.held
+abbrev pub owed_places : PlacesState → ℕ
+owed_places state = sum_by (λ held. state.reserve - held) state.held
 
 -- The holder may take one more place: it holds less than its reserve, or a place is free that is owed
 -- to nobody. To one that holds its reserve nothing is owed, so what is owed is owed to the others.
 abbrev pub MayTake : ℕ → PlacesState → Type 0
-MayTake holder state = (held_by state holder < state.reserve) ⊎ (owed state < free state)
+MayTake holder state = (held_by state holder < state.reserve) ⊎ (owed_places state < free state)
 
 -- the state with another number of places held by this one
 abbrev pub with_held : PlacesState → ℕ → ℕ → PlacesState
@@ -29,5 +29,5 @@ with_held state holder held = record state { held = slice_set state.held holder 
 
 -- every place that is owed is free
 pub record AreKept (state : PlacesState) : Type 0 where
-  pub within : sum state.held + owed state ≤ state.most
+  pub within : sum state.held + owed_places state ≤ state.most
   pub reserves : length state.held * state.reserve ≤ state.most

@@ -1,6 +1,6 @@
 //! Places that holders share, of which some are kept for each.
 ghost use Rattle.std.specs.Prelude.{◌≡◌, ◌+◌, ◌-◌, ◌*◌, ◌<◌, ◌≤◌, ◌↔◌, IfOk, IsTrue, length, replicate};
-ghost use Rattle.fair_places.specs.Places.{AreKept, MayTake, free, held_by, owed, with_held};
+ghost use Rattle.fair_places.specs.Places.{AreKept, MayTake, free, held_by, owed_places, with_held};
 
 use std::alloc::{AllocError, Global};
 use std::marker::Model;
@@ -17,14 +17,14 @@ pub struct FairPlaces {
 
 impl Model for FairPlaces {
     ghost use Rattle.std.specs.Prelude.{◌≡◌, ◌+◌, sum};
-    ghost use Rattle.fair_places.specs.Places.{AreKept, PlacesState, owed};
+    ghost use Rattle.fair_places.specs.Places.{AreKept, PlacesState, owed_places};
 
     ghost Value = { PlacesState };
 
     ghost view = { λ places. record { most = places.most; reserve = places.reserve; held = places.held.items } };
 
     ghost invariant = { λ places. AreKept (record { most = places.most; reserve = places.reserve; held = places.held.items })
-        × (places.claimed ≡ sum places.held.items + owed (record { most = places.most; reserve = places.reserve; held = places.held.items })) };
+        × (places.claimed ≡ sum places.held.items + owed_places (record { most = places.most; reserve = places.reserve; held = places.held.items })) };
 }
 
 impl FairPlaces {
@@ -59,7 +59,7 @@ impl FairPlaces {
 
     /// Returns whether a place is free that is owed to nobody.
     pub fn has_unclaimed(&self) -> bool
-        ensures { IsTrue result ↔ owed self.now < free self.now }
+        ensures { IsTrue result ↔ owed_places self.now < free self.now }
     {
         self.claimed < self.most
     }

@@ -10,7 +10,7 @@ use Rattle.mc_conn.specs.Owed.{IsAmong}
 use Rattle.fair_places.specs.Places.{held_by}
 use Rattle.mc_conn.specs.declared.conn.Role.{Role}
 use Rattle.mc_conn.specs.declared.conn.Role.TheVariants.{Admin, Tenant}
-use Rattle.mc_connections.specs.Counting.{AreCounted, admins_among, has_admin, has_tenant, held_as, is_admin, is_of, tenants_among, with_held_as}
+use Rattle.mc_connections.specs.Counting.{AreCounted, admins_among, has_admin, has_tenant, held_as, is_admin, is_of_tenant, tenants_among, with_held_as}
 use Rattle.mc_connections.specs.Holding.{WorkerPlaces}
 use Rattle.mc_connections.specs.declared.connection.Connection.{Connection}
 
@@ -105,7 +105,7 @@ module _ (tenants : ℕ) (places : WorkerPlaces) (holders : length places.tenant
   abbrev one_less : Role → WorkerPlaces
   one_less role = with_held_as role (held_as role places - 1) places
 
-  more_of : (role : Role) (tenant : ℕ) → IsAmong role tenants → held_by (one_more role).tenants tenant ≡ held_by places.tenants tenant + one_where (is_of tenant role)
+  more_of : (role : Role) (tenant : ℕ) → IsAmong role tenants → held_by (one_more role).tenants tenant ≡ held_by places.tenants tenant + one_where (is_of_tenant tenant role)
   more_of (Tenant other) tenant is =
       elim (noted places.tenants.held other tenant (held_by places.tenants other + 1) (omega (arith, is, holders))) [
         | here same at now ↦ rw same (omega (arith, now, ap (λ (at : ℕ). get_or places.tenants.held at 0) at))
@@ -113,7 +113,7 @@ module _ (tenants : ℕ) (places : WorkerPlaces) (holders : length places.tenant
       ]
   more_of (Admin names) tenant is = omega arith
 
-  less_of : (role : Role) (tenant : ℕ) → IsAmong role tenants → 0 < held_as role places → held_by (one_less role).tenants tenant + one_where (is_of tenant role) ≡ held_by places.tenants tenant
+  less_of : (role : Role) (tenant : ℕ) → IsAmong role tenants → 0 < held_as role places → held_by (one_less role).tenants tenant + one_where (is_of_tenant tenant role) ≡ held_by places.tenants tenant
   less_of (Tenant other) tenant is some =
       elim (noted places.tenants.held other tenant (held_by places.tenants other - 1) (omega (arith, is, holders))) [
         | here same at now ↦ rw same (omega (arith, now, some, ap (λ (at : ℕ). get_or places.tenants.held at 0) at))
@@ -156,7 +156,7 @@ pub counted_admitted : (tenants : ℕ) (places : WorkerPlaces) (before after : S
     length places.tenants.held ≡ tenants → AreCounted tenants places before → IsAmong role tenants → new.conn.role ≡ role → get before key ≡ None → Updates before after key (Some new) →
     slab_len after ≡ slab_len before + 1 → now ≡ with_held_as role (held_as role places + 1) places → AreCounted tenants now after
 counted_admitted tenants places before after key new role now holders counted is of vacant updates long taken =
-    let kind = λ (tenant : ℕ). ap (λ role. one_where (is_of tenant role)) of in
+    let kind = λ (tenant : ℕ). ap (λ role. one_where (is_of_tenant tenant role)) of in
     let none = λ (tenant : ℕ). ap (λ slot. one_where (has_tenant tenant slot)) vacant in
     let admin = ap (λ role. one_where (is_admin role)) of in
     let no_admin = ap (λ slot. one_where (has_admin slot)) vacant in
@@ -180,7 +180,7 @@ module _ (before : Slab Connection) (key : ℕ) (old new : Connection) (there : 
 
   pub counted_served : (tenants : ℕ) (places : WorkerPlaces) → AreCounted tenants places before → AreCounted tenants places (with_value before key new)
   counted_served tenants places counted =
-      let kind = λ (tenant : ℕ). ap (λ role. one_where (is_of tenant role)) role in
+      let kind = λ (tenant : ℕ). ap (λ role. one_where (is_of_tenant tenant role)) role in
       let had = λ (tenant : ℕ). ap (λ slot. one_where (has_tenant tenant slot)) there in
       let admin = ap (λ role. one_where (is_admin role)) role in
       let had_admin = ap (λ slot. one_where (has_admin slot)) there in
@@ -202,15 +202,15 @@ module _ (tenants : ℕ) (places : WorkerPlaces) (before after : Slab Connection
   is : IsAmong role tenants
   is = subst (λ role. IsAmong role tenants) (sym of) (known key connection there)
 
-  had_tenant : (tenant : ℕ) → one_where (has_tenant tenant (get before key)) ≡ one_where (is_of tenant role)
-  had_tenant tenant = ap (λ slot. one_where (has_tenant tenant slot)) there ∙ ap (λ role. one_where (is_of tenant role)) (sym of)
+  had_tenant : (tenant : ℕ) → one_where (has_tenant tenant (get before key)) ≡ one_where (is_of_tenant tenant role)
+  had_tenant tenant = ap (λ slot. one_where (has_tenant tenant slot)) there ∙ ap (λ role. one_where (is_of_tenant tenant role)) (sym of)
 
   had_admin : one_where (has_admin (get before key)) ≡ one_where (is_admin role)
   had_admin = ap (λ slot. one_where (has_admin slot)) there ∙ ap (λ role. one_where (is_admin role)) (sym of)
 
   one_of_them : (one : Role) → role ≡ one → IsAmong one tenants → 0 < held_as one places
   one_of_them (Tenant tenant) same among =
-      let had : one_where (has_tenant tenant (get before key)) ≡ 1 = had_tenant tenant ∙ ap (λ role. one_where (is_of tenant role)) same ∙ ap one_where (eqb_same tenant) in
+      let had : one_where (has_tenant tenant (get before key)) ≡ 1 = had_tenant tenant ∙ ap (λ role. one_where (is_of_tenant tenant role)) same ∙ ap one_where (eqb_same tenant) in
       omega (arith, had, counted.of_tenants tenant among, count_updated (has_tenant tenant) refl before after key None updates)
   one_of_them (Admin names) same among =
       let had : one_where (has_admin (get before key)) ≡ 1 = had_admin ∙ ap (λ role. one_where (is_admin role)) same in

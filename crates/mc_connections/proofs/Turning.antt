@@ -6,10 +6,10 @@ use Rattle.mc_conn.specs.declared.conn.State.{State}
 use Rattle.mc_conn.specs.declared.conn.State.TheVariants.{Busy, Closed, Full, Idle}
 use Rattle.mc_connections.specs.declared.waiting.Waiting.{Waiting}
 use Rattle.mc_connections.specs.InQueue.{WaitsOn}
-use Rattle.mc_connections.specs.Waiting.{ComesToWait, EndsRound, TakesTurn, Waits, cost_of, flow_of}
+use Rattle.mc_connections.specs.Waiting.{ComesToWait, EndsRound, TakesTurn, WaitsInLine, cost_of, flow_of}
 
 pub gave : {taken : QueueState} (spent key flow : ℕ) (old new : Waiting) → spent ≡ old.spent → new.queue ≡ taken →
-    ((between : QueueState) × Charges spent old.queue between × GivesFirst flow key between taken) → ¬ (Waits new key) → TakesTurn key old new
+    ((between : QueueState) × Charges spent old.queue between × GivesFirst flow key between taken) → ¬ (WaitsInLine new key) → TakesTurn key old new
 gave spent key flow old new is same (between, charged, given) out = record {
   flow = flow;
   between = between;
@@ -39,7 +39,7 @@ waits_the_same tenant key old charged new queue waits =
     (λ stays. inr (
       stays.0 ∙ queue,
       ⊎_elim
-          (λ (waited : Waits charged key). inl (waited.0, subst (λ (items : _). slice_get items key ≡ Some (Some waited.0)) waits waited.1))
+          (λ (waited : WaitsInLine charged key). inl (waited.0, subst (λ (items : _). slice_get items key ≡ Some (Some waited.0)) waits waited.1))
           (λ (past : length charged.waits.items ≤ key). inr (subst (λ (items : _). length items ≤ key) waits past))
           stays.1,
     ))

@@ -9,7 +9,7 @@ use Rattle.slab.specs.Slab.{Updates}
 use Rattle.mc_connections.specs.Counting.{held_as, with_held_as}
 use Rattle.mc_connections.specs.Holding.{WorkerPlaces}
 use Rattle.mc_connections.specs.Serving.{Admits, Becomes, HasComeTo, IsNewConnection, IsServedLater, connection_at}
-use Rattle.mc_connections.specs.Working.{Keeps, KeepsUp, ServesAt, ServesOne, Standing, TakesIn, Works, begins, goes_on, standing}
+use Rattle.mc_connections.specs.Working.{KeepsPlaces, KeepsUp, ServesAt, ServesOne, Standing, TakesIn, Works, begins, goes_on, standing}
 use Rattle.mc_connections.specs.declared.arrival.Admission.{Admission}
 use Rattle.mc_connections.specs.declared.arrival.Admission.TheVariants.{Admitted, NoPlace, UnknownRole, Unregistered}
 use Rattle.mc_connections.specs.declared.arrival.Arrival.{Arrival}
@@ -88,7 +88,7 @@ reserve_taken (Tenant tenant) held places = refl
 reserve_taken (Admin names) held places = refl
 
 -- as many places are kept for each tenant
-pub works_keep : {until : Bool} (reserve : ℕ) (first last : Standing) → Works until first last → Keeps reserve first.connections → Keeps reserve last.connections
+pub works_keep : {until : Bool} (reserve : ℕ) (first last : Standing) → Works until first last → KeepsPlaces reserve first.connections → KeepsPlaces reserve last.connections
 works_keep reserve first _ begins keeps = keeps
 works_keep {until} reserve first _ (goes_on between last works step) keeps =
     ⊎_elim

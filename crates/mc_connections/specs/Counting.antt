@@ -32,9 +32,9 @@ is_admin (Tenant tenant) = false
 is_admin (Admin names) = true
 
 -- the role is this tenant's
-abbrev pub is_of : ℕ → Role → Bool
-is_of tenant (Tenant other) = other == tenant
-is_of tenant (Admin names) = false
+abbrev pub is_of_tenant : ℕ → Role → Bool
+is_of_tenant tenant (Tenant other) = other == tenant
+is_of_tenant tenant (Admin names) = false
 
 -- there is a connection, and it is an administrator's, or this tenant's
 abbrev pub has_admin : Option Connection → Bool
@@ -43,7 +43,7 @@ has_admin (Some connection) = is_admin connection.conn.role
 
 abbrev pub has_tenant : ℕ → Option Connection → Bool
 has_tenant tenant None = false
-has_tenant tenant (Some connection) = is_of tenant connection.conn.role
+has_tenant tenant (Some connection) = is_of_tenant tenant connection.conn.role
 
 -- how many connections are administrators', and how many are this tenant's
 abbrev pub admins_among : Slab Connection → ℕ

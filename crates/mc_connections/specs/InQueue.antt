@@ -16,7 +16,7 @@ announced_between before after =
 
 -- The connection under this key was served, and it is noted that this has cost what the commands that
 -- the worker announced for it cost, and the bytes that its stream gave and took.
-pub record HasServed (until : Bool) (key : ℕ) (before after : Standing) (now : Waiting) : Type 0 where
+pub record HasServedNext (until : Bool) (key : ℕ) (before after : Standing) (now : Waiting) : Type 0 where
   pub state : State
   pub serves : ServesAt until key state before after
   pub bytes : ℕ

@@ -13,7 +13,7 @@ use Rattle.mc_conn.specs.Owed.{IsAmong}
 use Rattle.mc_conn.specs.Turn.{Scene, Takes, holding_of, queue_of, scene}
 use Rattle.mc_model.specs.declared.fault.Fault.{Fault}
 use Rattle.mc_connections.specs.declared.connecting.TheConstants.{TURNS}
-use Rattle.mc_connections.specs.Moving.{count_of}
+use Rattle.mc_connections.specs.Moving.{byte_count}
 use Rattle.mc_connections.specs.Counting.{HasPlace, held_as, with_held_as}
 use Rattle.mc_connections.specs.declared.arrival.Admission.{Admission}
 use Rattle.mc_connections.specs.declared.arrival.Admission.TheVariants.{Admitted, NoPlace, UnknownRole, Unregistered}
@@ -129,8 +129,8 @@ pub record IsServedLater (until : Bool) (before after : Worker) (old new : Conne
 -- how many bytes the connection's stream has given and taken from one state of it to the other
 abbrev pub moved_between : Connection → Connection → ℕ
 moved_between old new =
-    min ((count_of new.received.events - count_of old.received.events)
-    + (count_of new.sent.events - count_of old.sent.events)) (2 ^ 64 - 1)
+    min ((byte_count new.received.events - byte_count old.received.events)
+    + (byte_count new.sent.events - byte_count old.sent.events)) (2 ^ 64 - 1)
 
 -- A connection that was served stays, and is in this state; or it has ended, and is the latest of
 -- those that have; and if there was none, nothing was done. The lists are those that had ended

@@ -14,14 +14,14 @@ abbrev pub flow_of : ℕ → Option ℕ → ℕ
 flow_of flows tenant = min (unwrap_or tenant (flows - 1)) (flows - 1)
 
 -- the connection under this key waits
-abbrev pub Waits : Waiting → ℕ → Type 0
-Waits waiting key = (short : Bool) × (slice_get waiting.waits.items key ≡ Some (Some short))
+abbrev pub WaitsInLine : Waiting → ℕ → Type 0
+WaitsInLine waiting key = (short : Bool) × (slice_get waiting.waits.items key ≡ Some (Some short))
 
 -- a connection came to wait behind those of its flow; or it waits already, or its key is none
 abbrev pub ComesToWait : Option ℕ → ℕ → Waiting → Waiting → Type 0
 ComesToWait tenant key old new =
-    IsPushed (flow_of (length old.queue.flows) tenant) key old.queue new.queue × Waits new key
-    ⊎ (new.queue ≡ old.queue) × (Waits old key ⊎ length old.waits.items ≤ key)
+    IsPushed (flow_of (length old.queue.flows) tenant) key old.queue new.queue × WaitsInLine new key
+    ⊎ (new.queue ≡ old.queue) × (WaitsInLine old key ⊎ length old.waits.items ≤ key)
 
 -- What the connection before this one has cost was charged to the flow that had its turn, and the
 -- next flow in which one waits gave its first, which doesn't wait any more.
@@ -30,7 +30,7 @@ pub record TakesTurn (key : ℕ) (old new : Waiting) : Type 0 where
   pub between : QueueState
   pub charged : Charges old.spent old.queue between
   pub given : GivesFirst flow key between new.queue
-  pub taken : ¬ (Waits new key)
+  pub taken : ¬ (WaitsInLine new key)
 
 -- the round's quantum is spent, or nobody waits
 abbrev pub EndsRound : Waiting → Waiting → Type 0

@@ -61,8 +61,8 @@ abbrev pub IsUnused : Connections → Type 0
 IsUnused connections = IsEmpty connections × (connections.ended.connections ≡ [])
 
 -- so many places are kept for each tenant
-abbrev pub Keeps : ℕ → Connections → Type 0
-Keeps reserve connections = connections.places.tenants.reserve ≡ reserve
+abbrev pub KeepsPlaces : ℕ → Connections → Type 0
+KeepsPlaces reserve connections = connections.places.tenants.reserve ≡ reserve
 
 -- there is no connection, none has ended, and each is to be of one of this many tenants
 abbrev pub IsNewFor : ℕ → Connections → Type 0

@@ -1,6 +1,6 @@
 //! A connection of a worker.
 ghost use Rattle.std.specs.Prelude.{◌≡◌};
-ghost use Rattle.mc_connections.specs.Moving.{count_of};
+ghost use Rattle.mc_connections.specs.Moving.{byte_count};
 
 use mc_conn::Conn;
 use mc_stream::Tape;
@@ -20,6 +20,6 @@ pub struct Connection {
     pub(crate) bytes_sent: u64,
     /// It was served, so that it isn't one whose client has left before its first turn.
     pub(crate) is_served: bool,
-    ghost counts_received: { bytes_received ≡ count_of received.events },
-    ghost counts_sent: { bytes_sent ≡ count_of sent.events },
+    ghost counts_received: { bytes_received ≡ byte_count received.events },
+    ghost counts_sent: { bytes_sent ≡ byte_count sent.events },
 }

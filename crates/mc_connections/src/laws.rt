@@ -7,7 +7,7 @@ ghost use Rattle.mc_connections.specs.Asking.{HaveBeenAsked};
 ghost use Rattle.mc_connections.specs.InTurn.{HaveServedInTurn, InTurn};
 ghost use Rattle.mc_connections.specs.Life.{OwesInLogs, OwesInParts, WasAnswered};
 ghost use Rattle.mc_connections.specs.Serving.{HasComeTo};
-ghost use Rattle.mc_connections.specs.Working.{IsEmpty, Keeps, Standing, Works, standing};
+ghost use Rattle.mc_connections.specs.Working.{IsEmpty, KeepsPlaces, Standing, Works, standing};
 ghost use Rattle.mc_connections.specs.declared.arrival.Admission.{Admission};
 ghost use Rattle.mc_connections.specs.declared.arrival.Arrival.{Arrival};
 ghost use Rattle.mc_connections.specs.declared.closing.TheConstants.{DROPPED_BYTES, MOST_CLOSING};
@@ -54,7 +54,7 @@ pub fn work_adds_up()
         a.connections.tenants ≡ length (tenants_of a.worker) →
         b.connections.tenants ≡ length (tenants_of b.worker) }
     ensures keeps { (until : Bool) (reserve : ℕ) (a b : Standing) → Works until a b →
-        Keeps reserve a.connections → Keeps reserve b.connections }
+        KeepsPlaces reserve a.connections → KeepsPlaces reserve b.connections }
 {}
 
 /// Connections outlive logs: what a connection was sent from its first byte to its last is what it

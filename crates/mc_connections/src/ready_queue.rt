@@ -1,9 +1,9 @@
 //! Which of a worker's connections are served next.
 ghost use Rattle.std.specs.Prelude.{◌≡◌, ◌*◌, ◌≤◌, length, IfOk, OnOk};
-ghost use Rattle.mc_connections.specs.InQueue.{HasLetWait, HasServed};
+ghost use Rattle.mc_connections.specs.InQueue.{HasLetWait, HasServedNext};
 ghost use Rattle.mc_connections.specs.Serving.{tenant_at};
 ghost use Rattle.mc_connections.specs.Waiting.{ComesToWait};
-ghost use Rattle.mc_connections.specs.Working.{IsNewFor, Keeps, Works, standing};
+ghost use Rattle.mc_connections.specs.Working.{IsNewFor, KeepsPlaces, Works, standing};
 ghost use Rattle.mc_connections.specs.declared.places.TheConstants.{MOST_CONNECTIONS};
 ghost use Rattle.uc_worker.specs.Worker.{tenants_of};
 
@@ -45,7 +45,7 @@ impl ReadyQueue {
     pub fn new(alloc: Global, tenants: usize, reserve: usize) -> Result<ReadyQueue, AllocError>
         requires { tenants * reserve ≤ MOST_CONNECTIONS }
         ensures new { IfOk result (λ ready. IsNewFor tenants ready.connections) }
-        ensures reserve { IfOk result (λ ready. Keeps reserve ready.connections) }
+        ensures reserve { IfOk result (λ ready. KeepsPlaces reserve ready.connections) }
     {
         let waiting = Waiting::new(alloc, tenants)?;
         let connections = Connections::new(alloc, tenants, reserve)?;
@@ -88,7 +88,7 @@ impl ReadyQueue {
         next: Next,
     ) -> Result<(), AllocError>
         requires { self.old.connections.tenants ≡ length (tenants_of worker.old) }
-        ensures served { HasServed until_done next.key (standing worker.old self.old.connections)
+        ensures served { HasServedNext until_done next.key (standing worker.old self.old.connections)
             (standing worker.new self.new.connections) self.new.waiting }
         ensures waits { OnOk result (HasLetWait until_done next.key
             (standing worker.old self.old.connections) (standing worker.new self.new.connections)

@@ -1,7 +1,7 @@
 //! Which connections wait to be served, and whose turn it is.
 ghost use Rattle.std.specs.Prelude.{◌≡◌, ◌+◌, ◌-◌, ◌^◌, ◌↔◌, IfOk, IsTrue, MatchOption, OnOk, length, min};
 ghost use Rattle.fair_queue.specs.Turns.{IsIdle};
-ghost use Rattle.mc_connections.specs.Waiting.{ComesToWait, EndsRound, TakesTurn, Waits, cost_of};
+ghost use Rattle.mc_connections.specs.Waiting.{ComesToWait, EndsRound, TakesTurn, WaitsInLine, cost_of};
 
 use crate::connections::MOST_OF_ALL;
 use fair_queue::FairQueue;
@@ -90,7 +90,7 @@ impl Waiting {
 
     /// Notes that the connection under a key doesn't wait any more. Returns its `stops_short`.
     fn take_out(&mut self, key: usize) -> bool
-        ensures waits { ¬ (Waits self.new key) }
+        ensures waits { ¬ (WaitsInLine self.new key) }
         ensures queue { self.new.queue ≡ self.old.queue }
         ensures spent { self.new.spent ≡ self.old.spent }
     {

@@ -3,7 +3,7 @@ use Rattle.std.specs.List.{AllZip}
 use Rattle.std.specs.Prelude.{◌≡◌, ◌<◌, ◌⊎◌, ℕ, Bool, true, List, [], ◌∷◌, All, length, map, slice_index_or, IfOk, Ok}
 use Rattle.mc_conn.specs.declared.conn.Role.{Role}
 use Rattle.mc_connections.specs.InTurn.{HaveServedInTurn, InTurn, followed_by}
-use Rattle.mc_connections.specs.Working.{IsEmpty, IsNewFor, Keeps, Standing, Works, standing}
+use Rattle.mc_connections.specs.Working.{IsEmpty, IsNewFor, KeepsPlaces, Standing, Works, standing}
 use Rattle.mc_connections.specs.declared.connection.Connection.{Connection}
 use Rattle.mc_net.specs.declared.ended.Ended.{Ended}
 use Rattle.mc_net.specs.declared.ended.Ended.TheVariants.{Done, Full}
@@ -35,7 +35,7 @@ IsNewLoop tenants event_loop = IsNewFor tenants event_loop.ready.connections
 
 -- at the event loop so many places are kept for each tenant
 abbrev pub KeepsAt : ℕ → EventLoop → Type 0
-KeepsAt reserve event_loop = Keeps reserve event_loop.ready.connections
+KeepsAt reserve event_loop = KeepsPlaces reserve event_loop.ready.connections
 
 -- no connection is left at the event loop
 abbrev pub IsEmptyLoop : EventLoop → Type 0

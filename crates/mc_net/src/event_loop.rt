@@ -1,6 +1,6 @@
 //! A worker's event loop.
 ghost use Rattle.std.specs.Prelude.{◌≡◌, ◌*◌, ◌≤◌, Bool, length, IfOk};
-ghost use Rattle.mc_connections.specs.Working.{IsNewFor, Keeps, Works};
+ghost use Rattle.mc_connections.specs.Working.{IsNewFor, KeepsPlaces, Works};
 ghost use Rattle.mc_connections.specs.declared.places.TheConstants.{MOST_CONNECTIONS};
 ghost use Rattle.mc_net.specs.Running.{HasWorked, standing_at};
 ghost use Rattle.uc_worker.specs.Going.{CatchesUp};
@@ -90,7 +90,7 @@ impl EventLoop {
     ) -> Result<EventLoop, Halt>
         requires { tenants * reserve ≤ MOST_CONNECTIONS }
         ensures new { IfOk result (λ event_loop. IsNewFor tenants event_loop.ready.connections) }
-        ensures reserve { IfOk result (λ event_loop. Keeps reserve event_loop.ready.connections) }
+        ensures reserve { IfOk result (λ event_loop. KeepsPlaces reserve event_loop.ready.connections) }
     {
         let events = Events::with_capacity(alloc, EVENTS)?;
         let ready = ReadyQueue::new(alloc, tenants, reserve)?;

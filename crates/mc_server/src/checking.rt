@@ -56,7 +56,9 @@ fn complaint_line(alloc: Global, complaint: Complaint<'_>) -> Result<String, All
             format!(in alloc; "wfmc: {name} {number}: not from {least} to {most}\n")
         }
         Complaint::LargeReserve(reserve, tenants) => {
-            format!(in alloc; "wfmc: --reserve {reserve}: {tenants} times that is not from 0 to 1024\n")
+            format!(in alloc;
+                "wfmc: --reserve {reserve}: {tenants} times that is not from 0 to 1024\n"
+            )
         }
         Complaint::NoAddress(word) => {
             let text = Part::Address.text();
