@@ -1,5 +1,5 @@
 -- Between two moments of a run at which a worker has made the same calls, it has made these.
-use Rattle.std.proofs.Common.{◌≡◌, ◌≢◌, ℕ, ◌+◌, Bool, true, false, true≢false, slice_set, List, [], ◌∷◌, ◌++◌, length, length-append, append-nil, refl, sym, ap, ◌∙◌, subst, arith}
+use Rattle.std.proofs.Common.{◌≡◌, ℕ, Bool, true, false, true≢false, slice_set, List, [], ◌∷◌, ◌++◌, length, length-append, append-nil, refl, sym, ap, ◌∙◌, subst, arith}
 use Rattle.std.proofs.lemmas.List.Elements.{filter-append}
 use Rattle.std.proofs.lemmas.Option.{same_Some}
 use Rattle.mc_model.specs.declared.shown.LogSize.{LogSize}
@@ -8,7 +8,7 @@ use Rattle.mc_model.specs.declared.shown.WorkerState.{WorkerState}
 use Rattle.mc_model.specs.Lawful.{IsWorker, LeadOn, ShownEvent, Step, announced_by, announces, decided_with, looks, next, proposes, reads, stops, turn, with_worker}
 use Rattle.mc_model.specs.Shown.{announce, look, new_log, proposal, propose, read, stop}
 use Rattle.uc_places.specs.OneRun.{RunsBetween}
-use Rattle.uc_places.specs.Rule.{AreOfOthers, taker}
+use Rattle.uc_places.specs.Rule.{AreOfOthers}
 use Rattle.uc_places.specs.Run.{is_of, own_events}
 use Rattle.uc_places.proofs.OwnEvents.{others_leave}
 use Rattle.uc_places.proofs.Runs.{in_front, own_taker}

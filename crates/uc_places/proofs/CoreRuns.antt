@@ -1,16 +1,15 @@
 -- A run of the log is lifted to one of the core event by event, and then each worker replays.
-use Rattle.std.proofs.Common.{◌≡◌, ◌≢◌, ℕ, zero, suc, ◌+◌, ◌<◌, ◌≤◌, List, [], ◌∷◌, ◌++◌, length, length-append, length-set, map, replicate, append_assoc, append-nil, get_or, slice_get, slice_set, Option, Some, None, refl, sym, ap, ◌∙◌, subst, arith}
+use Rattle.std.proofs.Common.{◌≡◌, ◌≢◌, ℕ, zero, suc, ◌+◌, ◌<◌, ◌≤◌, List, [], ◌∷◌, ◌++◌, length, length-append, length-set, replicate, append_assoc, append-nil, slice_get, slice_set, Option, Some, None, refl, sym, ap, ◌∙◌, subst, arith}
 use Rattle.std.specs.Prelude.{filter_map}
 use Rattle.std.specs.Option.{option_and_then, option_map, option_map_or}
 use Rattle.std.proofs.lemmas.List.{length-replicate}
 use Rattle.std.proofs.lemmas.List.Elements.{filter_map-append}
-use Rattle.std.proofs.lemmas.Option.{none-some, same_Some, slice_get-get_or, slice_get_within}
+use Rattle.std.proofs.lemmas.Option.{slice_get_within}
 use Rattle.std.proofs.Math.Decide.{ℕ_discrete}
 use Rattle.std.proofs.Math.Logic.{dite}
 use Rattle.lists.proofs.Public.{at_longer, last_at, set_elsewhere, set_here}
 use Rattle.mc_model.specs.declared.command.Command.{Command}
 use Rattle.mc_model.specs.declared.id.Ticket.{Ticket}
-use Rattle.mc_model.specs.declared.reply.Reply.{Reply}
 use Rattle.mc_model.specs.declared.request.Entry.{Entry}
 use Rattle.mc_model.specs.declared.settings.Limits.{Limits}
 use Rattle.mc_model.specs.declared.shown.LogSize.{LogSize}
@@ -22,14 +21,14 @@ use Rattle.mc_model.specs.Legal.{ticket_of}
 use Rattle.mc_model.specs.Log.{own_command}
 use Rattle.mc_model.specs.Replay.{TakeEffect, reply_from, with_command}
 use Rattle.mc_model.specs.Settings.{Configuration}
-use Rattle.mc_model.specs.Shown.{announce, look, new_log, new_worker, propose, read, stop}
+use Rattle.mc_model.specs.Shown.{announce, look, new_worker, propose, read, stop}
 use Rattle.mc_model.specs.State.{TableState}
 use Rattle.uc_core.specs.Core.{CoreState, ReplayState, core_size, entry_under}
 use Rattle.uc_core.specs.Run.{Given, Runs, given_by, replayed_by}
-use Rattle.uc_core.specs.Step.{CoreStep, announced_entry, entry_at, with_entry}
+use Rattle.uc_core.specs.Step.{CoreStep, entry_at, with_entry}
 use Rattle.uc_core.specs.declared.event.Event.{Event}
 use Rattle.uc_core.specs.declared.event.Event.TheVariants.{Announce, Look, Propose, Read, Replay, Stop}
-use Rattle.uc_places.specs.CoreRun.{CanReplay, IsCoreRun, RunsAsCore, core_over, entry_by, log_event, log_size}
+use Rattle.uc_places.specs.CoreRun.{CanReplay, RunsAsCore, core_over, entry_by, log_event, log_size}
 
 -- one run of the core follows another
 runs_then : (one two three : CoreState) (events more : List Event) (given later : List Given) → Runs one events two given → Runs two more three later →

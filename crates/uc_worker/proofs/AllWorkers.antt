@@ -7,23 +7,20 @@ use mathlib.Core.Logic.{dite}
 use native.Mathlib.Decide.{ℕ_discrete}
 use Rattle.lists.proofs.Public.{begins_same, begins_self, begins_through}
 use Rattle.lists.specs.Lists.{BeginsWith}
-use Rattle.mc_model.specs.declared.id.Ticket.{Ticket}
 use Rattle.mc_model.specs.declared.shown.LogSize.{LogSize}
 use Rattle.mc_model.specs.declared.shown.ShownState.{ShownState}
 use Rattle.mc_model.specs.Lawful.{IsWorker, LeadOn, ShownEvent}
 use Rattle.mc_model.specs.Shown.{new_log}
 use Rattle.mc_replica.specs.declared.replica.Replica.{Replica}
-use Rattle.uc_cells.specs.Sighting.{Sighting}
 use Rattle.uc_log.specs.declared.log.Log.{Log}
 use Rattle.uc_places.specs.declared.view.Part.{Part}
 use Rattle.uc_places.specs.Calls.{WitnessWith, Witnesses}
 use Rattle.uc_places.specs.OneRun.{RunsBetween}
-use Rattle.uc_places.specs.Run.{AreOneRun, HasMade, witnessed_by}
+use Rattle.uc_places.specs.Run.{HasMade, witnessed_by}
 use Rattle.uc_worker.specs.declared.worker.Worker.{Worker}
 use Rattle.uc_worker.specs.AllWorkers.{AreOnOneRun, TakesNoStep, WasSo, own_part}
-use Rattle.uc_worker.specs.Going.{CatchesUp}
 use Rattle.uc_worker.specs.TurningOver.{IsAsBefore}
-use Rattle.uc_worker.specs.Worker.{announced_of, history_of, openings_of, own_desk, seat_of, tables_of}
+use Rattle.uc_worker.specs.Worker.{announced_of, history_of, own_desk, seat_of}
 use Rattle.uc_worker.proofs.TurningOver.{get_or_any, still_on, zip_set}
 
 -- the run that the worker's seat keeps

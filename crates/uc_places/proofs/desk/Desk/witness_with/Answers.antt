@@ -4,18 +4,17 @@ use Rattle.std.proofs.Common.{rules, ◌≡◌, ◌+◌, List, ◌∷◌, ap, sy
 use Rattle.atomic_table.specs.Seated.{TableId}
 use Rattle.uc_places.specs.declared.view.Part.{Part}
 use Rattle.uc_places.specs.declared.view.View.{View}
-use Rattle.uc_places.specs.declared.view.Witnessed.{Witnessed}
 use Rattle.lists.specs.Lists.{BeginsWith}
 use Rattle.mc_model.specs.Lawful.{ShownEvent}
 use Rattle.uc_places.specs.Desk.{Mirrors}
 use Rattle.uc_places.specs.Reached.{LastIsReached}
 use Rattle.uc_places.specs.Run.{AreOneRun, part_of, witnessed_by}
 use Rattle.uc_places.specs.SeatLaw.{SeatLaw}
-use Rattle.uc_places.specs.Told.{SeatState, joined_with, keeping, last_joined, parted, told_list}
+use Rattle.uc_places.specs.Told.{SeatState, joined_with, keeping, parted, told_list}
 use Rattle.uc_places.proofs.Mirroring.{mirrors_keeping, mirrors_told, words_of}
 use Rattle.uc_places.proofs.Moves.{witnesses_word}
 use Rattle.uc_places.proofs.SeatLaws.{last_keeping, last_told}
-use Rattle.uc_places.proofs.Seating.{gives_back, hosts, joins, keeping_hosts, leaves, parts}
+use Rattle.uc_places.proofs.Seating.{gives_back, joins, keeping_hosts, leaves, parts}
 use Rattle.uc_places.proofs.desk.Desk.witness_with.Goals as goal
 
 pub split_seat-seat-requires : goal.split_seat-seat-requires
