@@ -56,41 +56,11 @@ fn serve(
     input: &mut MemoryInput,
     output: &mut MemoryOutput,
 ) -> Result<(), Fault> {
-    let (over, alloc) = (&TurnOverAlone, rt.alloc());
+    let (over, hashing, alloc) = (&TurnOverAlone, Hashing::Fixed, rt.alloc());
     match logs {
-        Logs::One => serve_client(
-            rt,
-            alloc,
-            Hashing::Fixed,
-            over,
-            LIMITS,
-            16,
-            1,
-            input,
-            output,
-        ),
-        Logs::OfTwoPlaces => serve_client(
-            rt,
-            alloc,
-            Hashing::Fixed,
-            over,
-            LIMITS,
-            2,
-            16,
-            input,
-            output,
-        ),
-        Logs::OfOnePlace => serve_client(
-            rt,
-            alloc,
-            Hashing::Fixed,
-            over,
-            LIMITS,
-            1,
-            16,
-            input,
-            output,
-        ),
+        Logs::One => serve_client(rt, alloc, hashing, over, LIMITS, 16, 1, input, output),
+        Logs::OfTwoPlaces => serve_client(rt, alloc, hashing, over, LIMITS, 2, 16, input, output),
+        Logs::OfOnePlace => serve_client(rt, alloc, hashing, over, LIMITS, 1, 16, input, output),
     }
 }
 
