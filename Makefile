@@ -90,6 +90,7 @@ linearizability: kit ## tests for three times MINUTES (2) that the histories of 
 allocation-failures: kit ## runs the programs, calls of workers, and the tests of the cells and of a turn over, with each allocation refused in turn, and mc_stdin with less and less memory
 	@tools/prove.sh wfmc mc_stdin mc_schedule refusals >&2
 	@python3 tests/memory_limits.py
+	@python3 tests/memory_bound.py
 	@python3 tests/allocation_failures.py
 
 differential: kit ## a differential test: compares mc_schedule with an oracle over random event lists
