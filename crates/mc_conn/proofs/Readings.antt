@@ -88,30 +88,6 @@ module _ (lines : Lines) where
   pub read_same : (old new : Option Request) (held : Held) → new ≡ old → IsRead (record { lines = lines; waiting = old; held = held }) [] [] (record { lines = lines; waiting = new; held = held })
   read_same old new held same = subst (λ w. IsRead (record { lines = lines; waiting = old; held = held }) [] [] (record { lines = lines; waiting = w; held = held })) (sym same) (read_refl (record { lines = lines; waiting = old; held = held }))
 
-  -- no request waits, and one that is read is taken at once
-  pub read_at_once : (waiting : Option Request) (before after : Held) (request : Request) → is_some waiting ≡ false → IsNextAnswer lines before (Some request) after →
-      IsRead (record { lines = lines; waiting = waiting; held = before }) [] (request ∷ []) (record { lines = lines; waiting = waiting; held = after })
-  read_at_once None before after request none answer =
-      read_trans (record { lines = lines; waiting = None; held = before }) (record { lines = lines; waiting = Some request; held = after }) (record { lines = lines; waiting = None; held = after }) [] [] [] (request ∷ [])
-      (read_next lines before after request answer.0) (read_taken lines after request)
-  read_at_once (Some other) before after request none answer = let e : true ≡ false = none in cc
-
-  -- no request waits, and none is read
-  pub read_none : (waiting : Option Request) (before after : Held) → is_some waiting ≡ false → IsNextAnswer lines before None after →
-      IsRead (record { lines = lines; waiting = waiting; held = before }) [] [] (record { lines = lines; waiting = waiting; held = after })
-  read_none None before after none answer = looked_from before after None answer
-  read_none (Some other) before after none answer = let e : true ≡ false = none in cc
-
-  pub none_held : (waiting : Option Request) (before after : Held) → is_some waiting ≡ false → IsNextAnswer lines before None after →
-      HoldsNone (record { lines = lines; waiting = waiting; held = after })
-  none_held None before after none answer = (refl, none_after lines before after answer.0 answer.1)
-  none_held (Some other) before after none answer = let e : true ≡ false = none in cc
-
-  pub fewer_at_once : (waiting : Option Request) (before after : Held) (request : Request) → is_some waiting ≡ false → IsNextAnswer lines before (Some request) after →
-      most_held (record { lines = lines; waiting = waiting; held = after }) < most_held (record { lines = lines; waiting = waiting; held = before })
-  fewer_at_once None before after request none answer = omega (arith, answer.1)
-  fewer_at_once (Some other) before after request none answer = let e : true ≡ false = none in cc
-
 -- fewer are held whole once one was taken, and no more after a look for one
 pub fewer_after : (did : Bool) (before between after : ℕ) (Q : Type 0) → between ≤ before → MatchBool did (after < between) Q → did ≡ true → after < before
 fewer_after true before between after Q looked taken is = omega arith

@@ -1,11 +1,11 @@
 //! Reading requests and taking them.
 ghost use Rattle.std.specs.Bool.{MatchBool};
-ghost use Rattle.std.specs.Prelude.{◌≡◌, ◌≢◌, ◌↔◌, ◌<◌, Bool, true, false, None, IfOk, IsTrue, MatchResult, OnOk};
+ghost use Rattle.std.specs.Prelude.{◌≡◌, ◌≢◌, ◌⊎◌, ◌↔◌, ◌<◌, ◌≤◌, [], Bool, true, false, None, IfOk, IsOkUnless, IsTrue, MatchResult, OnOk};
+ghost use Rattle.mc_model.specs.declared.fault.Fault.TheVariants as faults;
 ghost use Rattle.mc_stream.specs.Stream.{Streams};
-ghost use Rattle.uc_worker.specs.Worker.{IsClosing};
 ghost use Rattle.mc_conn.specs.Ending.{AwaitsLog, Breaks};
-ghost use Rattle.mc_conn.specs.Held.{most_held};
-ghost use Rattle.mc_conn.specs.Parts.{Does, IsHeldBehind, IsLeft, KeepsStreams};
+ghost use Rattle.mc_conn.specs.Held.{HoldsNone, IsRead, most_held};
+ghost use Rattle.mc_conn.specs.Parts.{Does, IsHeldBehind, IsLeft, KeepsStreams, LooksForNext};
 ghost use Rattle.mc_conn.specs.Owed.{FitsLog, demand_of, is_logged};
 ghost use Rattle.mc_conn.specs.Turn.{holding_of, scene};
 
@@ -28,15 +28,6 @@ fn is_to_be_logged(role: &Role, request: &Request) -> bool
     }
 }
 
-/// Returns whether commands are left to the next log and this request of a connection of this role
-/// awaits it.
-fn is_request_left(until_done: bool, role: &Role, request: &Request, worker: &Worker<'_>) -> bool
-    ensures { IsTrue result ↔ ((until_done ≡ true)
-        × (is_logged (demand_of role.now request.now) ≡ true) × IsClosing worker.now) }
-{
-    until_done && is_to_be_logged(role, request) && worker.is_closing()
-}
-
 impl Conn {
     /// Returns whether the next request is to be logged and the worker's log is closing.
     fn awaits_log(&self, worker: &Worker<'_>) -> bool
@@ -53,6 +44,23 @@ impl Conn {
         ensures { IsTrue result ↔ IsLeft until_done self.now worker.now }
     {
         until_done && self.awaits_log(worker)
+    }
+
+    /// Reads the next request, if none is waiting.
+    ///
+    /// Returns `Memory` if memory runs out.
+    fn look(&mut self) -> Result<(), Fault>
+        ensures read { OnOk result (IsRead (holding_of self.old) [] [] (holding_of self.new)) }
+        ensures found { OnOk result (HoldsNone (holding_of self.new) ⊎ (self.new.waiting ≢ None)) }
+        ensures looks { LooksForNext self.old self.new }
+        ensures most { OnOk result
+            (most_held (holding_of self.new) ≤ most_held (holding_of self.old)) }
+        ensures memory { IsOkUnless result faults.Memory }
+    {
+        if self.waiting.is_none() {
+            self.waiting = self.reader.next()?;
+        }
+        Ok(())
     }
 
     /// Takes the waiting request. Returns whether there was one.
@@ -84,42 +92,8 @@ impl Conn {
         }
     }
 
-    /// Takes the request that waits, if one does, the queue isn't too long and, if commands are left
-    /// to the next log, it isn't one that awaits it. Returns whether it did.
-    fn take_waiting<G: Gate>(
-        &mut self,
-        until_done: bool,
-        worker: &mut Worker<'_>,
-        gate: &mut G,
-    ) -> Result<bool, Fault>
-        requires role { FitsLog self.old.role worker.old }
-        requires waiting { self.old.waiting ≢ None }
-        ensures outcome { MatchResult result
-            (λ did. (streams : Streams) →
-            Does until_done (scene self.old worker.old streams)
-            (scene self.new worker.new streams) did)
-            (λ fault. (streams : Streams) →
-            Breaks (scene self.old worker.old streams) (scene self.new worker.new streams) fault) }
-        ensures fewer { IfOk result
-            (λ did. did ≡ true →
-            most_held (holding_of self.new) < most_held (holding_of self.old)) }
-        ensures held { IfOk result
-            (λ did. did ≡ false → IsHeldBehind until_done self.new worker.new) }
-        ensures keeps { KeepsStreams self.old self.new worker.old worker.new }
-    {
-        if self.queue.len() > QUEUE_BYTES {
-            return Ok(false);
-        }
-        if self.is_left(until_done, worker) {
-            return Ok(false);
-        }
-        self.answer_waiting(worker, gate)
-    }
-
     /// Takes a request, if a whole one is held, the queue isn't too long and, if commands are left
     /// to the next log, it isn't one that awaits it. Returns whether it did.
-    ///
-    /// A request that is read and answered at once never waits, since moves of it cost much.
     fn take_one<G: Gate>(
         &mut self,
         until_done: bool,
@@ -140,21 +114,14 @@ impl Conn {
             (λ did. did ≡ false → IsHeldBehind until_done self.new worker.new) }
         ensures keeps { KeepsStreams self.old self.new worker.old worker.new }
     {
-        if self.waiting.is_some() {
-            return self.take_waiting(until_done, worker, gate);
-        }
-        let Some(request) = self.reader.next()? else {
-            return Ok(false);
-        };
-        let is_left = is_request_left(until_done, &self.role, &request, worker);
-        if is_left || self.queue.len() > QUEUE_BYTES {
-            self.waiting = Some(request);
+        self.look()?;
+        if self.queue.len() > QUEUE_BYTES {
             return Ok(false);
         }
-        let is_last = ends_stream(&request);
-        respond(&self.role, request, &mut self.queue, worker, gate)?;
-        self.is_over |= is_last;
-        Ok(true)
+        if self.is_left(until_done, worker) {
+            return Ok(false);
+        }
+        self.answer_waiting(worker, gate)
     }
 
     /// Takes whole requests while the queue isn't too long and, if commands are left to the next

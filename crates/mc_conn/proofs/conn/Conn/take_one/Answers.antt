@@ -1,73 +1,36 @@
-use Rattle.std.proofs.Common.{◌≡◌, ◌∷◌, ◌||◌, [], true, false, Some, None, refl, ap, subst, sym, ◌∙◌}
-use Rattle.std.specs.Option.{is_some}
+use Rattle.std.proofs.Common.{◌≡◌, ◌∙◌, true, false, sym}
 use Rattle.std.proofs.lemmas.Result.{err_from_is_err_and}
-use Rattle.mc_read.specs.Administering.{lines_spoken}
-use Rattle.mc_read.specs.State.{IsNextAnswer}
-use Rattle.mc_conn.proofs.Breakings.{breaks_looking, breaks_taking}
-use Rattle.mc_conn.proofs.Readings.{read_at_once, read_by, read_looked, read_none}
-use Rattle.mc_conn.proofs.Takings.{does_looked, does_responded}
+use Rattle.mc_stream.specs.Stream.{Streams}
+use Rattle.mc_conn.specs.Held.{most_held}
+use Rattle.mc_conn.specs.Parts.{IsLeft}
+use Rattle.mc_conn.specs.Turn.{holding_of, scene}
+use Rattle.mc_conn.proofs.Breakings.{breaks_later, breaks_looking}
+use Rattle.mc_conn.proofs.Outcomes.{if_ok_map, match_map}
+use Rattle.mc_conn.proofs.Readings.{fewer_after}
+use Rattle.mc_conn.proofs.Takings.{does_looked, does_trans}
 use Rattle.mc_conn.proofs.conn.Conn.take_one.Goals as goal
 
-pub returns-in_err-request-clause-outcome : goal.returns-in_err-request-clause-outcome
-returns-in_err-request-clause-outcome g c =
+pub returns-in_err-look-clause-outcome : goal.returns-in_err-look-clause-outcome
+returns-in_err-look-clause-outcome g c =
     let out = err_from_is_err_and c.from_residual.result c.from_residual.ensures.1 in
-    rw (out.1, out.2, c.in_err-request.ensures.memory) (λ streams. breaks_looking c.args.self.now _ _ streams (record { role = refl; has_ended = refl; is_closed = refl; queue = refl; over = refl }))
+    rw (out.1, out.2, c.in_err-look.ensures.memory) (λ streams. breaks_looking c.args.self.now c.look.new.self _ streams c.look.ensures.looks)
 
-pub returns-in_default-clause-outcome : goal.returns-in_default-clause-outcome
-returns-in_default-clause-outcome g c streams =
-    let old = c.args.self.now.reader in
-    let given = c.is_some.ensures in
-    let not_given = c.if-is_some.false in
-    let none : is_some c.args.self.now.waiting ≡ false = cc in
-    let given_next = c.in_default.is in
-    let is : c.in_ok-request.field-0 ≡ None = cc in
-    let answer : IsNextAnswer (lines_spoken old.speaker) old.held None c.next.new.self.held =
-    subst (λ next. IsNextAnswer (lines_spoken old.speaker) old.held next c.next.new.self.held) is c.in_ok-request.ensures.answer in
-    does_looked c.args.until_done c.args.self.now _ c.args.worker.now streams
-    (read_by old.speaker c.next.new.self.speaker c.next.ensures.speaker c.args.self.now.waiting c.args.self.now.waiting old.held c.next.new.self.held [] [] (read_none (lines_spoken old.speaker) c.args.self.now.waiting old.held c.next.new.self.held none answer))
-    (record { role = refl; has_ended = refl; is_closed = refl; queue = refl; over = refl })
+pub returns-then-len-gt-QUEUE_BYTES-clause-outcome : goal.returns-then-len-gt-QUEUE_BYTES-clause-outcome
+returns-then-len-gt-QUEUE_BYTES-clause-outcome g c streams =
+    does_looked c.args.until_done c.args.self.now c.look.new.self _ streams c.in_ok-look.ensures.read c.look.ensures.looks
+
+pub returns-clause-outcome : goal.returns-clause-outcome
+returns-clause-outcome g c =
+    let room : ¬ (IsLeft c.args.until_done c.look.new.self c.args.worker.now) = λ left. let no : true ≡ false = sym (c.is_left.ensures.1 left) ∙ c.if-is_left.false in cc in
+    let looked = λ (streams : Streams). does_looked c.args.until_done c.args.self.now c.look.new.self c.args.worker.now streams c.in_ok-look.ensures.read c.look.ensures.looks in
+    match_map c.answer_waiting.result _ _ _ _ (λ did does streams. does_trans _ _ (scene c.look.new.self _ streams) _ _ did (looked streams) (does c.args.until_done streams room))
+    (λ fault breaks streams. breaks_later fault _ (scene c.look.new.self _ streams) _ (looked streams).takes (breaks streams)) c.answer_waiting.ensures.outcome
+
+pub returns-clause-fewer : goal.returns-clause-fewer
+returns-clause-fewer g c =
+    if_ok_map c.answer_waiting.result _ _ (λ did fewer. fewer_after did (most_held (holding_of c.args.self.now)) (most_held (holding_of c.look.new.self)) (most_held (holding_of c.answer_waiting.new.self)) _ c.in_ok-look.ensures.most fewer)
+    c.answer_waiting.ensures.fewer
 
 pub returns-then-is_left-clause-outcome : goal.returns-then-is_left-clause-outcome
 returns-then-is_left-clause-outcome g c streams =
-    let old = c.args.self.now.reader in
-    let given = c.is_some.ensures in
-    let not_given = c.if-is_some.false in
-    let none : is_some c.args.self.now.waiting ≡ false = cc in
-    let given_next = c.in-Some.is in
-    let is : c.in_ok-request.field-0 ≡ Some c.in-Some.request = cc in
-    let answer : IsNextAnswer (lines_spoken old.speaker) old.held (Some c.in-Some.request) c.next.new.self.held =
-    subst (λ next. IsNextAnswer (lines_spoken old.speaker) old.held next c.next.new.self.held) is c.in_ok-request.ensures.answer in
-    does_looked c.args.until_done c.args.self.now _ c.args.worker.now streams
-    (read_by old.speaker c.next.new.self.speaker c.next.ensures.speaker c.args.self.now.waiting (Some c.in-Some.request) old.held c.next.new.self.held [] [] (read_looked (lines_spoken old.speaker) c.args.self.now.waiting (Some c.in-Some.request) old.held c.next.new.self.held none answer))
-    (record { role = refl; has_ended = refl; is_closed = refl; queue = refl; over = refl })
-
-pub returns-in_err-respond-clause-outcome : goal.returns-in_err-respond-clause-outcome
-returns-in_err-respond-clause-outcome g c =
-    let old = c.args.self.now.reader in
-    let given = c.is_some.ensures in
-    let not_given = c.if-is_some.false in
-    let none : is_some c.args.self.now.waiting ≡ false = cc in
-    let given_next = c.in-Some.is in
-    let is : c.in_ok-request.field-0 ≡ Some c.in-Some.request = cc in
-    let answer : IsNextAnswer (lines_spoken old.speaker) old.held (Some c.in-Some.request) c.next.new.self.held =
-    subst (λ next. IsNextAnswer (lines_spoken old.speaker) old.held next c.next.new.self.held) is c.in_ok-request.ensures.answer in
-    let out = err_from_is_err_and c.from_residual-in_err-respond.result c.from_residual-in_err-respond.ensures.1 in
-    rw (out.1, out.2) (λ streams.
-    breaks_taking c.in_err-respond.field-0.0 c.args.self.now _ _ _ streams c.in-Some.request
-    (read_by old.speaker c.next.new.self.speaker c.next.ensures.speaker c.args.self.now.waiting c.args.self.now.waiting old.held c.next.new.self.held [] (c.in-Some.request ∷ []) (read_at_once (lines_spoken old.speaker) c.args.self.now.waiting old.held c.next.new.self.held c.in-Some.request none answer))
-    refl c.respond.ensures.onward c.in_err-respond.ensures.outcome)
-
-pub returns-clause-outcome : goal.returns-clause-outcome
-returns-clause-outcome g c streams =
-    let old = c.args.self.now.reader in
-    let given = c.is_some.ensures in
-    let not_given = c.if-is_some.false in
-    let none : is_some c.args.self.now.waiting ≡ false = cc in
-    let given_next = c.in-Some.is in
-    let is : c.in_ok-request.field-0 ≡ Some c.in-Some.request = cc in
-    let answer : IsNextAnswer (lines_spoken old.speaker) old.held (Some c.in-Some.request) c.next.new.self.held =
-    subst (λ next. IsNextAnswer (lines_spoken old.speaker) old.held next c.next.new.self.held) is c.in_ok-request.ensures.answer in
-    does_responded c.args.self.now _ _ _ streams c.in-Some.request
-    (read_by old.speaker c.next.new.self.speaker c.next.ensures.speaker c.args.self.now.waiting c.args.self.now.waiting old.held c.next.new.self.held [] (c.in-Some.request ∷ []) (read_at_once (lines_spoken old.speaker) c.args.self.now.waiting old.held c.next.new.self.held c.in-Some.request none answer))
-    refl refl refl (ap (λ ends. c.args.self.now.is_over || ends) c.ends_stream-is_last.ensures) c.respond.ensures.onward c.in_ok-respond.ensures.outcome c.args.until_done
-    (λ until logged closing. let left : true ≡ false = sym (c.is_request_left-is_left.ensures.1 (until, logged, closing)) ∙ c.if-is_left.false in cc)
+    does_looked c.args.until_done c.args.self.now c.look.new.self _ streams c.in_ok-look.ensures.read c.look.ensures.looks
