@@ -86,28 +86,6 @@ pub(crate) fn copy_of(
     Ok(copy)
 }
 
-/// Returns what a retrieval shows of a key, or `None` if it isn't held. Returns `Memory` if an
-/// allocation fails.
-pub(crate) fn shown_value(
-    held: &BTreeMap<Key, Item>,
-    key: &Key,
-    uniques: bool,
-) -> Result<Option<Value>, Fault>
-    ensures shown { IfOk result
-        (λ shown. shown ≡ shown_at (table_of_held held.now) uniques key.now) }
-    ensures memory { IsOkUnless result Fault.Memory }
-{
-    let Some(item) = item_under(held, key) else {
-        return Ok(None);
-    };
-    Ok(Some(Value {
-        key: key.try_clone()?,
-        flags: item.flags,
-        block: item.block.try_clone()?,
-        unique: if uniques { Some(item.unique) } else { None },
-    }))
-}
-
 /// Returns what a retrieval shows of these keys, in their order; a key that isn't held is left out.
 /// Returns `Memory` if an allocation fails.
 pub(crate) fn shown_values(
@@ -122,8 +100,13 @@ pub(crate) fn shown_values(
 {
     let mut values = Vec::new(alloc);
     for key in keys {
-        if let Some(value) = shown_value(held, key, uniques)? {
-            values.push(value)?;
+        if let Some(item) = item_under(held, key) {
+            values.push(Value {
+                key: key.try_clone()?,
+                flags: item.flags,
+                block: item.block.try_clone()?,
+                unique: if uniques { Some(item.unique) } else { None },
+            })?;
         }
     }
     Ok(values)

@@ -16,9 +16,7 @@ ghost use Rattle.mc_model.specs.Table.{count_of, is_within, use_of};
 ghost use Rattle.mc_items.specs.Storing.{allows, joined_or_refusal, stored_in, weight_at, with_item};
 
 use crate::blocks::{count_of_digits, digits_of, joined, number_in};
-use crate::held::{
-    copy_of, item_under, put, shown_value, shown_values, take_out, weight_under, weight_with,
-};
+use crate::held::{copy_of, item_under, put, shown_values, take_out, weight_under, weight_with};
 use mc_model::item::DATA_BYTES;
 use mc_model::{Command, Data, Fault, Item, Key, KeyList, Limits, Reply, ValueList, Verb, WireNo};
 use std::alloc::Global;
@@ -287,13 +285,7 @@ impl Items {
         ensures reply { IfOk result (λ reply. reply ≡ next_reply self.now (Get keys.now uniques)) }
         ensures memory { IsOkUnless result Fault.Memory }
     {
-        let keys = keys.as_slice();
-        if let [key] = keys {
-            if let Some(value) = shown_value(&self.held, key, uniques)? {
-                return Ok(Reply::Values(ValueList::single(value)));
-            }
-        }
-        let values = shown_values(self.alloc, &self.held, keys, uniques)?;
+        let values = shown_values(self.alloc, &self.held, keys.as_slice(), uniques)?;
         Ok(Reply::Values(ValueList::new(values)))
     }
 
