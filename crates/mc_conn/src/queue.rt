@@ -1,7 +1,7 @@
 //! The reply bytes that are to be pushed.
 ghost use Rattle.std.specs.Bool.{OnFalse, OnTrue};
 ghost use Rattle.std.specs.Io.{StartsWith};
-ghost use Rattle.std.specs.Prelude.{◌≡◌, ◌==◌, ◌-◌, ◌<◌, ◌≤◌, [], ◌++◌, codes, drop, flat_map, length, take, MatchResult, OnErr, OnOk};
+ghost use Rattle.std.specs.Prelude.{◌≡◌, ◌==◌, ◌-◌, ◌<◌, ◌≤◌, [], ◌++◌, codes, drop, length, take, MatchResult, OnErr, OnOk};
 ghost use Rattle.mc_model.specs.declared.fault.Fault.TheVariants as faults;
 ghost use Rattle.mc_stream.specs.Event.{waits};
 ghost use Rattle.mc_stream.specs.Pushing.{IsStopped, IsUnfailed, Pushes, PushesAtOnce};
@@ -9,7 +9,7 @@ ghost use Rattle.mc_write.specs.Text.{text, value_line, value_text};
 
 use crate::conn::QUEUE_BYTES;
 use crate::run::Run;
-use mc_model::{Data, Fault, Reply, Value, ValueList, Values};
+use mc_model::{Data, Fault, Reply, Value, ValueList};
 use mc_stream::{Output, push_while_taken};
 use mc_write::{write_line, write_reply, write_value};
 use std::alloc::{AllocError, Global};
@@ -279,32 +279,15 @@ impl Queue {
         self.put(b"\r\n")
     }
 
-    /// Appends the items of a vector. They may be appended in part if memory runs out.
-    fn append_several(&mut self, values: Vec<Value>) -> Result<(), AllocError>
-        ensures text { OnOk result (self.new ≡ self.old ++ flat_map value_text values.items) }
-        ensures begun { StartsWith self.new self.old }
-    {
-        for value in values {
-            self.append_value(value)?;
-        }
-        Ok(())
-    }
-
-    /// Appends items, and the end of a retrieval. They may be appended in part if memory runs out.
+    /// Appends items. They may be appended in part if memory runs out.
     fn append_values(&mut self, values: ValueList) -> Result<(), AllocError>
         ensures text { OnOk result (self.new ≡ self.old ++ text (Reply.Values values)) }
         ensures begun { StartsWith self.new self.old }
     {
-        match values.into_values() {
-            Values::Single(value) => {
-                self.append_value(value)?;
-                self.put(b"END\r\n")
-            }
-            Values::Several(values) => {
-                self.append_several(values)?;
-                self.put(b"END\r\n")
-            }
+        for value in values.into_values() {
+            self.append_value(value)?;
         }
+        self.put(b"END\r\n")
     }
 
     /// Appends the text of a reply that isn't the items of a retrieval.

@@ -5,7 +5,6 @@ pub mod Numerals
 pub mod Settings
 pub mod Octets
 pub mod Keys
-pub mod Values
 pub mod Table
 pub mod Use
 pub mod Effect

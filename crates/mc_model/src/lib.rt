@@ -12,7 +12,7 @@ pub use item::{Data, Item};
 pub use key::{Key, KeyList};
 pub use name::{Name, Names};
 pub use number::read_number;
-pub use reply::{Reply, Value, ValueList, Values, WireNo};
+pub use reply::{Reply, Value, ValueList, WireNo};
 pub use request::{Entry, Request};
 pub use settings::{Limits, Settings};
 pub use shown::{LogSize, Phase, ShownState, WorkerState};

@@ -1,10 +1,8 @@
 //! Replies, and the refusals among them.
-ghost use Rattle.std.specs.Prelude.{◌≡◌, [], ◌∷◌};
-ghost use Rattle.mc_model.specs.Values.{values_of};
+ghost use Rattle.std.specs.Prelude.{◌≡◌};
 
 use crate::{Data, Key};
 use std::marker::Model;
-use std::slice::from_ref;
 
 /// A refusal. Each variant is documented by the line that the client reads.
 #[derive(Clone, Copy, Debug, PartialEq, Eq)]
@@ -78,29 +76,19 @@ pub struct Value {
     pub unique: Option<u64>,
 }
 
-/// The values of a list, each in its place.
-#[derive(Debug, Drop)]
-pub enum Values {
-    /// The only value, which needs no vector.
-    Single(Value),
-    /// In a vector.
-    Several(Vec<Value>),
-}
-
 /// The items that a retrieval found, in the line's order.
 #[derive(Debug, Drop)]
 pub struct ValueList {
-    values: Values,
+    values: Vec<Value>,
 }
 
 impl Model for ValueList {
     ghost use Rattle.std.specs.Prelude.{List};
     ghost use Rattle.mc_model.specs.declared.reply.Value.{Value as Shown};
-    ghost use Rattle.mc_model.specs.Values.{values_of};
 
     ghost Value = { List Shown };
 
-    ghost view = { λ list. values_of list.values };
+    ghost view = { λ list. list.values.items };
 }
 
 impl ValueList {
@@ -108,33 +96,19 @@ impl ValueList {
     pub fn new(values: Vec<Value>) -> ValueList
         ensures { result ≡ values.items }
     {
-        ValueList {
-            values: Values::Several(values),
-        }
-    }
-
-    /// Returns the list of this value alone. Allocates nothing.
-    pub fn single(value: Value) -> ValueList
-        ensures { result ≡ value ∷ [] }
-    {
-        ValueList {
-            values: Values::Single(value),
-        }
+        ValueList { values }
     }
 
     /// Returns the values as a slice.
     pub fn as_slice(&self) -> &[Value]
         ensures { result.now ≡ self.now }
     {
-        match &self.values {
-            Values::Single(value) => from_ref(value),
-            Values::Several(values) => values.as_slice(),
-        }
+        self.values.as_slice()
     }
 
-    /// Returns the values, where they were given.
-    pub fn into_values(self) -> Values
-        ensures { values_of result ≡ self }
+    /// Returns the values, in the vector that they were given in.
+    pub fn into_values(self) -> Vec<Value>
+        ensures { result.items ≡ self }
     {
         let Self { values } = self;
         values
@@ -152,7 +126,7 @@ impl PartialEq for ValueList {
     ghost laws = { partial_equiv_from_equiv (lists_equiv shown_laws.lawful.laws) };
 
     fn eq(&self, other: &ValueList) -> bool {
-        self.as_slice() == other.as_slice()
+        self.values == other.values
     }
 }
 

@@ -2,7 +2,7 @@
 use crate::values::{Shown, block_of, copied, copy_of, key_of, limit_of, value_of};
 use bytes::Bytes;
 use mc_model::{
-    Data, Fault, Key, KeyList, Limits, Settings, TenantId, ValueList, Values, WorkerId, read_number,
+    Data, Fault, Key, KeyList, Limits, Settings, TenantId, ValueList, WorkerId, read_number,
 };
 use std::alloc::Global;
 use std::process::Abort;
@@ -200,24 +200,11 @@ fn values_of(alloc: Global, first: Shown, second: Shown) -> Result<ValueList, Fa
     Ok(ValueList::new(vec![in alloc; first, second]?))
 }
 
-/// Returns whether a list gives back one value.
-fn gives_back_one(list: ValueList) -> bool {
-    match list.into_values() {
-        Values::Single(_) => true,
-        Values::Several(values) => values.len() == 1,
-    }
-}
-
-/// Returns whether a list of one value shows it alone, and gives it back, in a vector or without.
+/// Returns whether a list of one value shows it alone, and gives it back.
 fn one_value_comes_back(alloc: Global) -> Result<bool, Fault> {
-    let list = ValueList::new(vec![in alloc; value_of(alloc, FIRST)?]?);
-    let single = ValueList::single(value_of(alloc, FIRST)?);
-    Ok(
-        list == single
-            && single.as_slice().len() == 1
-            && gives_back_one(list)
-            && gives_back_one(single),
-    )
+    let value = value_of(alloc, ("a", 5, "", Some(1)))?;
+    let list = ValueList::new(vec![in alloc; value]?);
+    Ok(list.as_slice().len() == 1 && list.into_values().len() == 1)
 }
 
 #[test]

@@ -163,13 +163,7 @@ impl<S: Storage> Metered<S> {
         ensures reply { IfOk result (λ reply. reply ≡ next_reply self.now (Get keys.now uniques)) }
         ensures memory { IsOkUnless result Fault.Memory }
     {
-        let keys = keys.as_slice();
-        if let [key] = keys {
-            if let Some(value) = self.storage.show(key, uniques)? {
-                return Ok(Reply::Values(ValueList::single(value)));
-            }
-        }
-        let values = self.shown(keys, uniques)?;
+        let values = self.shown(keys.as_slice(), uniques)?;
         Ok(Reply::Values(ValueList::new(values)))
     }
 
