@@ -15,3 +15,10 @@ turn_over-requires c =
     c.settings-settings.result.now (ap (λ (settings : Configuration). length settings.tenants) (sym c.settings-settings.ensures))
     (c.is_ready.ensures.done c.if-not-is_ready.false, subst (HaveRoom (tables_of v)) c.places-places.ensures.value (c.is_ready.ensures.room c.if-not-is_ready.false))
     (c.is_ready-else-not-is_ready.ensures.done c.if-not-is_ready-2.false, subst (HaveRoom (tables_of w)) c.places-places.ensures.value (c.is_ready-else-not-is_ready.ensures.room c.if-not-is_ready-2.false))
+
+pub invariant_of-result-clause-passes : goal.invariant_of-result-clause-passes
+invariant_of-result-clause-passes c = c.in_ok-next.ensures.unused
+
+pub invariant_of-result-clause-room : goal.invariant_of-result-clause-room
+invariant_of-result-clause-room c = subst (λ (settings : Configuration). HaveRoom c.in_ok-next.next.base.tables.items settings.places)
+    (sym c.in_ok-next.ensures.settings) c.in_ok-next.ensures.room
