@@ -70,6 +70,7 @@ Options:
       --places <N>       How many commands of all tenants a log takes, from 1 to 1048576 [default: 65536]
       --generations <N>  How many logs, one after another, up to 65536; 0 for no end [default: 1]
       --log-bytes <N>    After how many bytes of commands the next log follows, up to 1099511627776 [default: 1073741824]
+      --reserve <N>      How many of its 1024 connections each thread keeps for each tenant [default: 0]
       --connections <N>  After how many connections of tenants it ends; 0 for never [default: 0]
       --check            Checks whether the words can be served, reports the first that can't, and serves nothing
       --admin <ADDR>     At which IPv4 address and port administrators connect; without it there are none
