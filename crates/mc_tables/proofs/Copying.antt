@@ -71,9 +71,9 @@ own_place held place entry apart at =
     let inside : place < length keys = slice_get_within keys place entry.0 here in
     let is : get_or keys place entry.0 ≡ entry.0 = get_or_from_slice_get keys place entry.0 entry.0 here in
     let first : position_or_len (λ k. same q (text_of_vec k)) keys ≡ place = position_or_len_is (λ k. same q (text_of_vec k)) keys place entry.0 (omega (arith, inside))
-        (λ k before. same_turned q (text_of_vec (get_or keys k entry.0)) ∙ ap (λ x. same (text_of_vec (get_or keys k entry.0)) (text_of_vec x)) (sym is)
-        ∙ apart_from_distinct (same_texts text_of_vec) keys k place entry.0 apart before inside)
-        (λ _. ap (λ x. same q (text_of_vec x)) is ∙ same_itself q) in
+    (λ k before. same_turned q (text_of_vec (get_or keys k entry.0)) ∙ ap (λ x. same (text_of_vec (get_or keys k entry.0)) (text_of_vec x)) (sym is)
+    ∙ apart_from_distinct (same_texts text_of_vec) keys k place entry.0 apart before inside)
+    (λ _. ap (λ x. same q (text_of_vec x)) is ∙ same_itself q) in
     let found : nat_lt place (length keys) ≡ true = grind (arith, nat_tests) in
     sym (place_is held q) ∙ (λ i. cond (nat_lt (first i) (length keys)) (Some (first i)) None) ∙ ap (λ b. cond b (Some place) None) found
 

@@ -7,12 +7,15 @@ use Rattle.mc_replica.proofs.Effects.{EachStands-seen, TakeEffect-nobody, tables
 use Rattle.mc_replica.proofs.replica.Replica.replay_for.Goals as goal
 
 pub take_effect-requires : goal.take_effect-requires
-take_effect-requires c = λ _. ((refl, tt), λ tenant state at.
-    let few = uniques-few (opened_by c.self.inside.opening) (entries c.self.inside.history.items) c.self.inside.tables.items c.self.invariant.stands tenant state at in
-    let same = length-map c.self.inside.history.items (λ (one : Sighting). one.entry) in
-    let room = c.self.invariant.uniques tenant few.0 few.1 in
-    let below : length c.self.inside.history.items < c.self.inside.places = search rules in
-    omega (arith, few.2, same, room, below))
+take_effect-requires c = λ _. (
+  (refl, tt),
+  λ tenant state at.
+      let few = uniques-few (opened_by c.self.inside.opening) (entries c.self.inside.history.items) c.self.inside.tables.items c.self.invariant.stands tenant state at in
+      let same = length-map c.self.inside.history.items (λ (one : Sighting). one.entry) in
+      let room = c.self.invariant.uniques tenant few.0 few.1 in
+      let below : length c.self.inside.history.items < c.self.inside.places = search rules in
+      omega (arith, few.2, same, room, below),
+)
 
 pub invariant_of-self-2 : goal.invariant_of-self-2
 invariant_of-self-2 c = record {
