@@ -4,8 +4,11 @@ ghost use Rattle.std.specs.Prelude.{◌≡◌, ℕ, ◌<◌, List, Some, slice_g
 ghost use Rattle.lists.specs.Lists.{BeginsWith};
 ghost use Rattle.mc_model.specs.declared.id.Ticket.{Ticket};
 ghost use Rattle.mc_model.specs.declared.shown.LogSize.{LogSize};
+ghost use Rattle.mc_model.specs.Replay.{empty_tables};
+ghost use Rattle.mc_model.specs.Settings.{Configuration};
 ghost use Rattle.uc_places.specs.Calls.{last_of, state_of, worker_of};
-ghost use Rattle.uc_places.specs.CoreRun.{RunsAsCore};
+ghost use Rattle.uc_core.specs.Core.{new_core};
+ghost use Rattle.uc_places.specs.CoreRun.{RunsAsCore, core_over};
 ghost use Rattle.uc_places.specs.End.{IsEnd};
 ghost use Rattle.uc_places.specs.OneRun.{CallsLieOnOneRun, EachEventIsACall, OthersLeaveIt, RunsBetween};
 ghost use Rattle.uc_places.specs.Seats.{desk_of};
@@ -36,7 +39,10 @@ pub fn a_worker_stays_between_two_moments()
 /// Any run of the log is a run of the core, the machine of the headline, whatever was announced under
 /// its tickets by known tenants, and however much of what it has learned each worker has replayed.
 pub fn a_run_of_the_log_is_one_of_the_core()
-    ensures { RunsAsCore }
+    ensures run { RunsAsCore }
+    // Over empty tables the core opens as it does in the headline's runs.
+    ensures opening { (settings : Configuration) →
+        core_over settings (empty_tables settings.tenants) ≡ new_core settings }
 {}
 
 /// The log that `close` gives goes on from where its first seat was.
