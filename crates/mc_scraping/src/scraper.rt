@@ -14,14 +14,14 @@ use std::time::{Duration, Instant};
 /// How many connections there are at most. Others wait at the listener.
 const MOST_VISITS: usize = 16;
 
-/// After what time a connection is closed, whatever it does.
-const MOST_TIME: Duration = Duration::from_secs(10);
+/// After how many seconds a connection is closed, whatever it does.
+const MOST_SECONDS: u64 = 10;
 
 /// How many events a poll reports at most.
 const EVENTS: usize = 64;
 
-/// How long a poll waits at most, so that connections are closed in time.
-const TICK: Duration = Duration::from_secs(1);
+/// How many milliseconds a poll waits at most, so that connections are closed in time.
+const TICK_MILLIS: u64 = 1_000;
 
 /// The token of the listener, after those of the connections.
 const LISTENER: Token = Token(MOST_VISITS);
@@ -93,7 +93,7 @@ impl Scraper {
         let now = Instant::now(rt)?;
         for visit in self.visits.iter_mut() {
             let is_late = match visit {
-                Some(visit) => now.duration_since(visit.begun) > MOST_TIME,
+                Some(visit) => now.duration_since(visit.begun) > Duration::from_secs(MOST_SECONDS),
                 None => false,
             };
             if is_late {
@@ -113,7 +113,7 @@ impl Scraper {
         rt: &R,
         numbers: &mut N,
     ) -> io::Result<()> {
-        self.poll.poll(&mut self.events, Some(TICK))?;
+        self.poll.poll(&mut self.events, Some(Duration::from_millis(TICK_MILLIS)))?;
         self.close_late(rt)?;
         if self.events.iter().any(|event| event.token() != LISTENER) {
             let snapshot = numbers.now(self.alloc)?;
