@@ -37,7 +37,8 @@ def of_tenants(name, help_text, kind, value):
 
 
 def by_kind(name, help_text, label, kinds, value):
-    samples = [([("tenant", tenant), (label, kind)], value(unit)) for tenant, unit in TENANTS for kind in kinds]
+    samples = [([("tenant", tenant), (label, kind)], value(unit, place))
+               for tenant, unit in TENANTS for place, kind in enumerate(kinds)]
     return metric(name, help_text, "counter", samples)
 
 
@@ -52,10 +53,12 @@ def metrics():
         of_tenants("wfmc_tenant_quota_items", "Items that the tenant may hold.", "gauge", lambda unit: 7000 * unit),
         of_tenants("wfmc_tenant_quota_bytes", "Bytes of keys and data that the tenant may hold.", "gauge",
                    lambda unit: 80000 * unit),
-        by_kind("wfmc_tenant_commands_total", "Commands that were answered.", "command", COMMANDS, lambda unit: unit),
+        by_kind("wfmc_tenant_commands_total", "Commands that were answered.", "command", COMMANDS,
+                lambda unit, place: unit * (place + 1)),
         of_tenants("wfmc_tenant_hits_total", "Items that retrievals found.", "counter", lambda unit: 3 * unit),
         of_tenants("wfmc_tenant_misses_total", "Keys of retrievals that had no item.", "counter", lambda unit: 4 * unit),
-        by_kind("wfmc_tenant_refusals_total", "Requests that were refused.", "refusal", REFUSALS, lambda unit: 2 * unit),
+        by_kind("wfmc_tenant_refusals_total", "Requests that were refused.", "refusal", REFUSALS,
+                lambda unit, place: unit * (place + 20)),
         of_tenants("wfmc_tenant_connections", "Connections of the tenant.", "gauge", lambda unit: 9 * unit),
         metric("wfmc_worker_lag_places", "Used places of the log that the worker has yet to replay.", "gauge",
                [([("worker", number)], lag) for number, lag, _ in WORKERS]),

@@ -16,7 +16,8 @@ label_text label = label.0 ++ (codes "=\"" ++ (label.1 ++ codes "\""))
 abbrev pub labels_text : List LabelText → List ℕ
 labels_text [] = []
 labels_text (first ∷ others) =
-    codes "{" ++ (label_text first ++ (flat_map (λ label. codes "," ++ label_text label) others ++ codes "}"))
+    codes "{" ++ (label_text first
+    ++ (flat_map (λ label. codes "," ++ label_text label) others ++ codes "}"))
 
 -- the line of a sample: a name, labels and a value
 unfoldable pub sample_line : List ℕ → List LabelText → List ℕ → List ℕ
@@ -29,4 +30,5 @@ comment_line front name text = front ++ (name ++ (codes " " ++ (text ++ codes "\
 
 -- the lines before a metric's samples: what it tells, and its type
 abbrev pub head_lines : List ℕ → List ℕ → List ℕ → List ℕ
-head_lines name help type = comment_line (codes "# HELP ") name help ++ comment_line (codes "# TYPE ") name type
+head_lines name help type =
+    comment_line (codes "# HELP ") name help ++ comment_line (codes "# TYPE ") name type

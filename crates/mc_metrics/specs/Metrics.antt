@@ -194,7 +194,8 @@ samples_of snapshot Build = build_sample
 -- a metric: its head and its samples
 unfoldable pub metric_text : Snapshot → Metric → List ℕ
 metric_text snapshot metric =
-    head_lines (metric_name metric) (metric_help metric) (metric_type metric) ++ samples_of snapshot metric
+    head_lines (metric_name metric) (metric_help metric) (metric_type metric)
+    ++ samples_of snapshot metric
 
 -- what a scrape gets: all metrics
 unfoldable pub metrics_text : Snapshot → List ℕ

@@ -89,7 +89,8 @@ fn answer(
     response: &mut Response,
 ) -> Result<(), AllocError>
     requires { IsBlank response.old }
-    ensures { OnOk result (GivesAnswer (http_answer_to snapshot.now method.now path.now) response.new) }
+    ensures { OnOk result
+        (GivesAnswer (http_answer_to snapshot.now method.now path.now) response.new) }
 {
     if method != "GET" && method != "HEAD" {
         refuse_method(response)
@@ -105,9 +106,9 @@ fn answer(
 impl Service for Scrape {
     // The status, the fields and the body are those for the request's method and path and the
     // snapshot, which stays as it is.
-    ghost answers = { λ old request response new.
-        GivesAnswer (http_answer_to old.snapshot (head_of request).method (uri_path (head_of request).uri))
-        response × (new ≡ old) };
+    ghost answers = { λ old request response new. let head = head_of request in
+        GivesAnswer (http_answer_to old.snapshot head.method (uri_path head.uri)) response
+        × (new ≡ old) };
 
     fn call(
         &mut self,

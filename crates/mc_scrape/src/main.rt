@@ -12,16 +12,22 @@ use std::hash::RandomState;
 use std::io;
 use std::process::ExitCode;
 
-/// Returns a tally of `rounds` commands of each kind and twice as many refusals of each.
-fn tally_of(rounds: u64) -> Tally {
+/// Returns a tally of `unit` commands of the first kind, twice as many of the second and so on, and
+/// likewise of refusals, from 20 times as many of the first kind on.
+fn tally_of(unit: usize) -> Tally {
     let mut tally = Tally::new();
-    for _ in 0..rounds {
-        for kind in COMMAND_KINDS {
-            tally.count(&Some(Asked { kind, keys: 0 }), &Reply::Ok);
+    for (place, kind) in COMMAND_KINDS.iter().enumerate() {
+        for _ in 0..unit.saturating_mul(place + 1) {
+            let asked = Asked {
+                kind: *kind,
+                keys: 0,
+            };
+            tally.count(&Some(asked), &Reply::Ok);
         }
-        for refusal in REFUSAL_KINDS {
-            tally.count(&None, &Reply::Refused(refusal));
-            tally.count(&None, &Reply::Refused(refusal));
+    }
+    for (place, refusal) in REFUSAL_KINDS.iter().enumerate() {
+        for _ in 0..unit.saturating_mul(place + 20) {
+            tally.count(&None, &Reply::Refused(*refusal));
         }
     }
     tally
@@ -32,7 +38,7 @@ fn tenant(alloc: Global, name: &[u8], unit: u64) -> io::Result<TenantNumbers> {
     let Ok(Some(name)) = Name::new(alloc, name) else {
         return Err(io::ErrorKind::OutOfMemory.into());
     };
-    let mut tally = tally_of(unit);
+    let mut tally = tally_of(unit as usize);
     tally.hits = unit.saturating_mul(3);
     tally.misses = unit.saturating_mul(4);
     Ok(TenantNumbers {
