@@ -1,5 +1,5 @@
 -- Lemmas on counting one request more.
-use Rattle.std.proofs.Common.{◌≡◌, ◌≢◌, ℕ, ◌+◌, ◌^◌, ◌-◌, ◌<◌, ◌≤◌, ◌==◌, ◌⊎◌, ◌∷◌, ◌∙◌, arith, ap, eq-eqb, inl, inr, sym, true, false, cond, List, length, Option, Some, None, min, refl, slice_index, slice_set, count_by, sum_by}
+use Rattle.std.proofs.Common.{◌≡◌, ℕ, ◌+◌, ◌^◌, ◌-◌, ◌<◌, ◌==◌, ◌∷◌, ◌∙◌, arith, ap, eq-eqb, inl, inr, sym, true, false, cond, List, length, Option, Some, None, min, refl, slice_index, count_by, sum_by}
 use Rattle.std.proofs.Math.Nat.{min-eq_left, min-eq_right}
 use Rattle.std.proofs.lemmas.Bool.{cases_eq, cases_lt, ne_eqb}
 use Rattle.std.proofs.lemmas.List.Sums.{sum_by-cons}

@@ -1,11 +1,10 @@
 -- The parts of counting one request.
-use Rattle.std.specs.Prelude.{◌≡◌, ℕ, ◌+◌, Option, Some, None, List, slice_index, slice_set}
+use Rattle.std.specs.Prelude.{ℕ, ◌+◌, Option, Some, None, List, slice_index, slice_set}
 use Rattle.mc_model.specs.declared.reply.Reply.{Reply}
 use Rattle.mc_model.specs.declared.reply.Reply.TheVariants.{Refused}
 use Rattle.mc_counters.specs.Kinds.{place_of_kind, place_of_refusal}
 use Rattle.mc_counters.specs.Tallied.{capped}
 use Rattle.mc_counters.specs.declared.kinds.Asked.{Asked}
-use Rattle.mc_counters.specs.declared.tally.Tally.{Tally}
 
 -- counts with one more at a place
 abbrev pub more_at : List ℕ → ℕ → List ℕ

@@ -1,7 +1,7 @@
 -- What is counted of requests that were answered; this project's profile, after the counters of
 -- memcached's doc/protocol.txt, "General-purpose statistics". There an item that isn't found is a
 -- miss; so it is here, for each key of a line.
-use Rattle.std.specs.Prelude.{◌≡◌, ℕ, ◌+◌, ◌-◌, ◌^◌, ◌<◌, ◌==◌, Bool, false, List, [], ◌∷◌, Option, Some, None, count_by, length, min, slice_index, sum_by}
+use Rattle.std.specs.Prelude.{◌≡◌, ℕ, ◌-◌, ◌^◌, ◌<◌, ◌==◌, Bool, false, List, Option, Some, None, count_by, length, min, slice_index, sum_by}
 use Rattle.mc_model.specs.declared.reply.Reply.{Reply}
 use Rattle.mc_model.specs.declared.reply.Reply.TheVariants.{Refused, Values}
 use Rattle.mc_counters.specs.Kinds.{place_of_kind, place_of_refusal}

@@ -1,4 +1,4 @@
-use Rattle.std.proofs.Common.{◌≡◌, ◌∙◌, ◌+◌, ℕ, ap, min}
+use Rattle.std.proofs.Common.{◌∙◌, ◌+◌, ℕ, ap, min}
 use Rattle.mc_counters.proofs.Tallies.{tally-more}
 use Rattle.mc_counters.proofs.tally.Tally.count.Goals as goal
 
