@@ -52,7 +52,7 @@ admins_among connections = count_by has_admin connections.slots
 abbrev pub tenants_among : ℕ → Slab Connection → ℕ
 tenants_among tenant connections = count_by (has_tenant tenant) connections.slots
 
--- each of so many tenants, and administrators, hold as many places as they have connections
+-- each of this many tenants, and administrators, hold as many places as they have connections
 pub record AreCounted (tenants : ℕ) (places : WorkerPlaces) (connections : Slab Connection) : Type 0 where
   pub of_tenants : (tenant : ℕ) → tenant < tenants → held_by places.tenants tenant ≡ tenants_among tenant connections
   pub of_admins : places.admins ≡ admins_among connections

@@ -60,7 +60,7 @@ IsEmpty connections = (slab_len connections.by_key == 0) ≡ true
 abbrev pub IsUnused : Connections → Type 0
 IsUnused connections = IsEmpty connections × (connections.ended.connections ≡ [])
 
--- so many places are kept for each tenant
+-- this many places are kept for each tenant
 abbrev pub KeepsPlaces : ℕ → Connections → Type 0
 KeepsPlaces reserve connections = connections.places.tenants.reserve ≡ reserve
 

@@ -33,7 +33,7 @@ IsFor tenants event_loop = event_loop.ready.connections.tenants ≡ tenants
 abbrev pub IsNewLoop : ℕ → EventLoop → Type 0
 IsNewLoop tenants event_loop = IsNewFor tenants event_loop.ready.connections
 
--- at the event loop so many places are kept for each tenant
+-- at the event loop this many places are kept for each tenant
 abbrev pub KeepsAt : ℕ → EventLoop → Type 0
 KeepsAt reserve event_loop = KeepsPlaces reserve event_loop.ready.connections
 

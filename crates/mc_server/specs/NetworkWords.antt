@@ -158,7 +158,7 @@ abbrev pub reserved_names : Option SocketAddrV4 → List Text
 reserved_names None = []
 reserved_names (Some address) = admin_name ∷ []
 
--- a worker has places enough to keep this many for each of so many tenants
+-- a worker has places enough to keep this many for each of these tenants
 abbrev pub AreReservesWithin : ℕ → ℕ → Type 0
 AreReservesWithin reserve tenants = tenants * reserve ≤ MOST_CONNECTIONS
 

@@ -194,7 +194,7 @@ fn check_all_names<'a>(words: &NetworkWords<'a>) -> Result<(), Complaint<'a>>
     }
 }
 
-/// Returns the complaint about the reserve, if a worker hasn't so many places for each tenant.
+/// Returns the complaint about the reserve, if a worker hasn't that many places for each tenant.
 fn check_reserve(reserve: u64, tenants: usize) -> Result<(), Complaint<'static>>
     ensures { MatchResult result (λ _. AreReservesWithin reserve tenants)
         (λ complaint. (given : NetworkGiven) → given.reserve ≡ reserve →
