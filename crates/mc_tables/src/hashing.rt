@@ -21,8 +21,8 @@ pub enum Hashing {
 /// The two keys of a hash, which nobody outside of the program knows.
 #[derive(Clone, Copy)]
 pub struct HashKeys {
-    pub(crate) first: u64,
-    pub(crate) second: u64,
+    first: u64,
+    second: u64,
 }
 
 impl HashKeys {

@@ -9,16 +9,16 @@ use std::marker::Model;
 /// into a word by a shift, where `DefaultHasher` calls its `write` for a slice of one byte.
 #[derive(Drop)]
 pub struct SipHasher {
-    pub(crate) v0: u64,
-    pub(crate) v1: u64,
-    pub(crate) v2: u64,
-    pub(crate) v3: u64,
+    v0: u64,
+    v1: u64,
+    v2: u64,
+    v3: u64,
 
     /// The last eight bytes, the last of them highest.
-    pub(crate) latest: u64,
+    latest: u64,
 
     /// How many bytes were written, modulo 2^64.
-    pub(crate) written: u64,
+    written: u64,
 }
 
 impl Model for SipHasher {
