@@ -1,11 +1,11 @@
 //! The keys by which the tables of a program hash.
 ghost use Rattle.std.specs.Prelude.{◌≡◌, IfOk, IsOkUnless};
-ghost use Rattle.std.specs.declared.hash.RandomState.{RandomState};
 ghost use Rattle.mc_model.specs.declared.fault.Fault.TheVariants as faults;
+ghost use Rattle.mc_tables.specs.declared.hashing.HashKeys.{HashKeys};
 ghost use Rattle.mc_tables.specs.declared.hashing.Hashing.TheVariants.{Random};
 
 use mc_model::Fault;
-use std::collections::hash_map::RandomState;
+use mc_tables::HashKeys;
 use std::random::RandomSource;
 use uc_worker::Hashing;
 
@@ -13,11 +13,9 @@ use uc_worker::Hashing;
 ///
 /// Returns `Input` if random numbers are refused.
 pub fn random_hashing(rt: &impl RandomSource) -> Result<Hashing, Fault>
-    ensures random { IfOk result (λ hashing. (keys : RandomState) × (hashing ≡ Random keys)) }
+    ensures random { IfOk result (λ hashing. (keys : HashKeys) × (hashing ≡ Random keys)) }
     ensures refused { IsOkUnless result faults.Input }
 {
-    match RandomState::new(rt) {
-        Ok(keys) => Ok(Hashing::Random(keys)),
-        Err(_) => Err(Fault::Input),
-    }
+    let keys = HashKeys::draw(rt)?;
+    Ok(Hashing::Random(keys))
 }

@@ -2,3 +2,4 @@ mod Stands
 mod Totals
 mod Layering
 mod Copying
+mod Bytes

@@ -3,7 +3,7 @@
 //! are those that the definitions of `mc_model` give. Begin with `Table::apply`.
 #![tactic(auto)]
 
-pub use hashing::Hashing;
+pub use hashing::{HashKeys, Hashing};
 pub use layered::CellItems;
 pub use metered::Metered;
 pub use owned::OwnedItems;
@@ -17,6 +17,7 @@ pub mod hashing;
 pub mod layered;
 pub mod metered;
 pub mod owned;
+pub mod sip;
 pub mod storage;
 pub mod table;
 #[cfg(test)]

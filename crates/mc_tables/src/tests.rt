@@ -1,13 +1,38 @@
 //! Tests of what no clause says: with ample memory each kind of table answers, and keeps what it was
 //! given.
-use crate::hashing::Hashing;
+use crate::hashing::{HashKeys, Hashing};
 use crate::layered::CellItems;
 use crate::owned::OwnedItems;
 use crate::table::Table;
 use mc_model::{Command, Data, Fault, Key, KeyList, Limits, Reply, Value, ValueList, Verb};
 use std::alloc::Global;
-use std::collections::hash_map::RandomState;
+use std::hash::{BuildHasher, Hasher};
+use std::io;
+use std::random::RandomSource;
 use std::test::Fail;
+
+/// The keys that CPython 3.11 takes if PYTHONHASHSEED is 42. It hashes bytes by SipHash-1-3.
+const BYTES: [u8; 16] = [
+    0xaf, 0x90, 0xcd, 0x68, 0xd3, 0x4f, 0x50, 0xdc, 0xc1, 0xe9, 0x99, 0xfe, 0x9f, 0xbb, 0x20, 0xb9,
+];
+
+/// A source whose numbers aren't random.
+struct Known;
+
+impl RandomSource for Known {
+    fn fill_bytes(&self, buf: &mut [u8]) -> io::Result<()> {
+        for place in 0..buf.len() {
+            buf[place] = BYTES[place % 16];
+        }
+        Ok(())
+    }
+}
+
+fn hash_of(hashing: Hashing, bytes: &[u8]) -> u64 {
+    let mut hasher = hashing.build_hasher();
+    hasher.write(bytes);
+    hasher.finish()
+}
 
 const QUOTAS: Limits = Limits {
     items: 3,
@@ -121,7 +146,7 @@ fn left_over<'a>(below: &'a OwnedItems, command: &'a Command) -> Result<u64, Fau
 fn joins_data_of_its_own(rt: HostRuntime) -> Result<(), Fail> {
     let commands = joining(rt.alloc())?;
     let gets = gets(rt.alloc())?;
-    let mut items = OwnedItems::new(rt.alloc(), QUOTAS, Hashing::Random(RandomState::new(&rt)?));
+    let mut items = OwnedItems::new(rt.alloc(), QUOTAS, Hashing::Random(HashKeys::draw(&rt)?));
     answer_all(&mut items, commands.as_slice())?;
     assert!(rt; answer(&mut items, &gets)? == shown(rt.alloc())?);
     Ok(())
@@ -131,7 +156,7 @@ fn joins_data_of_its_own(rt: HostRuntime) -> Result<(), Fail> {
 fn joins_data_of_commands(rt: HostRuntime) -> Result<(), Fail> {
     let commands = joining(rt.alloc())?;
     let gets = gets(rt.alloc())?;
-    let mut items = CellItems::new(rt.alloc(), QUOTAS, Hashing::Random(RandomState::new(&rt)?));
+    let mut items = CellItems::new(rt.alloc(), QUOTAS, Hashing::Random(HashKeys::draw(&rt)?));
     answer_all(&mut items, commands.as_slice())?;
     assert!(rt; answer(&mut items, &gets)? == shown(rt.alloc())?);
     Ok(())
@@ -142,7 +167,7 @@ fn shows_what_a_copied_table_holds(rt: HostRuntime) -> Result<(), Fail> {
     let commands = joining(rt.alloc())?;
     let below = copied(
         rt.alloc(),
-        Hashing::Random(RandomState::new(&rt)?),
+        Hashing::Random(HashKeys::draw(&rt)?),
         commands.as_slice(),
     )?;
     let gets = gets(rt.alloc())?;
@@ -156,11 +181,28 @@ fn deletes_over_a_table_that_stays(rt: HostRuntime) -> Result<(), Fail> {
     let commands = joining(rt.alloc())?;
     let below = copied(
         rt.alloc(),
-        Hashing::Random(RandomState::new(&rt)?),
+        Hashing::Random(HashKeys::draw(&rt)?),
         commands.as_slice(),
     )?;
     let delete = delete(rt.alloc())?;
     assert!(rt; left_over(&below, &delete) == Ok(0));
     assert!(rt; below.count() == 1);
+    Ok(())
+}
+
+#[test]
+fn hashes_by_the_keys_that_were_drawn(rt: HostRuntime) -> Result<(), Fail> {
+    let hashing = Hashing::Random(HashKeys::draw(&Known)?);
+    assert!(rt; hash_of(hashing, b"key-of-16-bytes!") == 0xf0bf_c95b_1181_c089);
+    assert!(rt; hash_of(hashing, b"0123456789abc") == 0xf71f_47a1_ce00_5ab3);
+    Ok(())
+}
+
+// What the `DefaultHasher` of Rust 1.95 gives.
+#[test]
+fn hashes_a_slice_as_rust_does(rt: HostRuntime) -> Result<(), Fail> {
+    let key: &[u8] = b"key-of-16-bytes!";
+    assert!(rt; hash_of(Hashing::Fixed, key) == 0xf87a_4ccc_65ea_b47e);
+    assert!(rt; Hashing::Fixed.hash_one(key) == 0x4e55_b631_79bf_a4fc);
     Ok(())
 }
