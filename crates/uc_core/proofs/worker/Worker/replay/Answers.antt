@@ -1,4 +1,5 @@
 use Rattle.uc_core.proofs.Workers.{UniquesFew-taken}
+use Rattle.uc_core.proofs.Retrieved.{retrieval_keeps}
 use Rattle.uc_core.proofs.worker.Worker.replay.Goals as goal
 
 pub returns-clause-order : goal.returns-clause-order
