@@ -1,6 +1,5 @@
 //! Tests of what no clause says: with ample memory data are joined.
-use crate::fragments::Fragments;
-use mc_model::{Data, Fault};
+use crate::{Data, Fault, Fragments};
 use std::alloc::Global;
 use std::test::Fail;
 

@@ -1,7 +1,7 @@
 use Rattle.std.proofs.Common.{◌≡◌, ◌+◌, ◌≤◌, ◌<◌, flat_map, get_or, length, take, vec_capacity, vec_len, ap, ◌∙◌, arith, length-append, rules}
 use Rattle.std.proofs.lemmas.List.Folds.{length-flat_map-take}
-use Rattle.mc_fragments.specs.Joined.{fragment_bytes}
-use Rattle.mc_fragments.proofs.fragments.write_pieces.Goals as goal
+use Rattle.mc_model.specs.Joined.{fragment_bytes}
+use Rattle.mc_model.proofs.fragments.write_pieces.Goals as goal
 
 pub returns-in_err-extend_from_slice-in-Many-clause-room : goal.returns-in_err-extend_from_slice-in-Many-clause-room
 returns-in_err-extend_from_slice-in-Many-clause-room c = λ room.

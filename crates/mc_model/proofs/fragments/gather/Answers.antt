@@ -1,8 +1,8 @@
 use Rattle.std.proofs.Common.{◌≡◌, ◌≤◌, ◌<◌, length, get_or, ap, ◌∙◌, arith, rules}
 use Rattle.std.specs.Prelude.{flat_map}
 use Rattle.std.proofs.lemmas.List.Folds.{length-flat_map-take}
-use Rattle.mc_fragments.specs.Joined.{fragment_bytes}
-use Rattle.mc_fragments.proofs.fragments.gather.Goals as goal
+use Rattle.mc_model.specs.Joined.{fragment_bytes}
+use Rattle.mc_model.proofs.fragments.gather.Goals as goal
 
 pub put_at-at-requires : goal.put_at-at-requires
 put_at-at-requires c =

@@ -1,7 +1,7 @@
 use Rattle.std.proofs.Common.{◌≡◌, length, take}
 use Rattle.std.specs.Prelude.{flat_map}
-use Rattle.mc_fragments.specs.Joined.{fragment_bytes}
-use Rattle.mc_fragments.proofs.fragments.gather.Given as goal
+use Rattle.mc_model.specs.Joined.{fragment_bytes}
+use Rattle.mc_model.proofs.fragments.gather.Given as goal
 
 -- the bytes of the fragments so far are at the front
 abbrev pub invariant-loop-place : goal.invariant-loop-place

@@ -1,7 +1,7 @@
 use Rattle.std.proofs.Common.{◌≡◌, ◌≤◌, ◌++◌, take}
 use Rattle.std.specs.Prelude.{flat_map, vec_capacity}
-use Rattle.mc_fragments.specs.Joined.{fragment_bytes}
-use Rattle.mc_fragments.proofs.fragments.write_pieces.Given as goal
+use Rattle.mc_model.specs.Joined.{fragment_bytes}
+use Rattle.mc_model.proofs.fragments.write_pieces.Given as goal
 
 -- the bytes of the fragments so far are at the end
 abbrev pub invariant-loop-place : goal.invariant-loop-place
