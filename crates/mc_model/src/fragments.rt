@@ -208,7 +208,10 @@ impl<'a> Fragments<'a> {
             Pieces::Block(block) => Pieces::Own(Box::new(alloc, block.try_clone()?)?),
             Pieces::Digits(digits) => Pieces::Digits(digits),
             Pieces::Own(block) => Pieces::Own(block),
-            Pieces::Many(list) => Pieces::Own(Box::new(alloc, joined(alloc, len as usize, &Pieces::Many(list))?)?),
+            Pieces::Many(list) => {
+                let block = joined(alloc, len as usize, &Pieces::Many(list))?;
+                Pieces::Own(Box::new(alloc, block)?)
+            }
         };
         Ok(Fragments { len, pieces })
     }
@@ -302,7 +305,8 @@ fn push_back<'a>(alloc: Global, pieces: &mut Pieces<'a>, block: &'a Data) -> Res
         return Ok(());
     }
     let mut list = room(alloc)?;
-    list.push_back_reserved(take_single(pieces));
+    let first = take_single(pieces);
+    list.push_back_reserved(first);
     list.push_back_reserved(Fragment::Block(block));
     *pieces = Pieces::Many(list);
     Ok(())
@@ -319,8 +323,9 @@ fn push_front<'a>(alloc: Global, pieces: &mut Pieces<'a>, block: &'a Data) -> Re
         return Ok(());
     }
     let mut list = room(alloc)?;
-    list.push_back_reserved(Fragment::Block(block));
-    list.push_back_reserved(take_single(pieces));
+    let last = take_single(pieces);
+    list.push_back_reserved(last);
+    list.push_front_reserved(Fragment::Block(block));
     *pieces = Pieces::Many(list);
     Ok(())
 }
@@ -413,9 +418,9 @@ fn are_same(left: &Pieces<'_>, right: &Pieces<'_>) -> bool
 {
     let mut rest = unread(right);
     match left {
-        Pieces::Block(block) => rest.reads(block.as_bytes()),
-        Pieces::Digits(digits) => rest.reads(digits.as_bytes()),
-        Pieces::Own(block) => rest.reads(block.as_bytes()),
+        Pieces::Block(block) => rest.is(block.as_bytes()),
+        Pieces::Digits(digits) => rest.is(digits.as_bytes()),
+        Pieces::Own(block) => rest.is(block.as_bytes()),
         Pieces::Many(many) => {
             for place in 0..many.len() {
                 if !rest.reads(many[place].as_bytes()) {

@@ -135,7 +135,7 @@ impl<'a> ValueList<'a> {
         ensures same { IfOk result (λ list. list ≡ self.entry) }
         ensures memory { IsOkUnless result Fault.Memory }
     {
-        let Self { values } = self;
+        let values = self.into_values();
         let mut owned = Vec::with_capacity(alloc, values.len())?;
         for value in values {
             owned.push(value.into_owned(alloc)?)?;

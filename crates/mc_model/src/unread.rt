@@ -1,5 +1,6 @@
 //! What is left of fragments, to compare them with others.
-ghost use Rattle.std.specs.Prelude.{◌≡◌, ◌≢◌, ◌≤◌, ◌⊎◌, [], ◌++◌, IsFalse, IsTrue, flat_map, length, take};
+ghost use Rattle.std.specs.Cmp.Lexicographic.{pointwise};
+ghost use Rattle.std.specs.Prelude.{◌≡◌, ◌≢◌, ◌≤◌, ◌⊎◌, [], ◌++◌, IsFalse, IsTrue, flat_map, length, nat_eq, take};
 ghost use Rattle.mc_model.specs.Joined.{fragment_bytes, fragments_left, unread_bytes};
 
 use crate::fragments::Fragment;
@@ -41,22 +42,31 @@ impl<'f, 'a> Unread<'f, 'a> {
         ensures read { IsTrue result → unread_bytes self.old ≡ bytes.now ++ unread_bytes self.new }
         ensures others { IsFalse result → take (length bytes.now) (unread_bytes self.old) ≢ bytes.now }
     {
+        let Some(list) = self.list else {
+            return self.reads_here(bytes);
+        };
         let mut wanted = bytes;
-        if let Some(list) = self.list {
-            for place in self.next..list.len() {
-                if wanted.len() <= self.rest.len() {
-                    return self.reads_here(wanted);
-                }
-                let (front, back) = wanted.split_at(self.rest.len());
-                if front != self.rest {
-                    return false;
-                }
-                wanted = back;
-                self.rest = list[place].as_bytes();
-                self.next = place + 1;
+        for place in self.next..list.len() {
+            if wanted.len() <= self.rest.len() {
+                return self.reads_here(wanted);
             }
+            let (front, back) = wanted.split_at(self.rest.len());
+            if front != self.rest {
+                return false;
+            }
+            wanted = back;
+            self.rest = list[place].as_bytes();
+            self.next = place + 1;
         }
         self.reads_here(wanted)
+    }
+
+    /// Reads all that is left, and returns whether it is these bytes, of which there are as many.
+    pub(crate) fn is(&mut self, bytes: &[u8]) -> bool
+        requires { length bytes.now ≡ length (unread_bytes self.old) }
+        ensures { result ≡ pointwise nat_eq bytes.now (unread_bytes self.old) }
+    {
+        self.reads(bytes)
     }
 
     /// Does as `reads` for bytes that can come in one fragment alone.
