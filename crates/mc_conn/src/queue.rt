@@ -9,6 +9,7 @@ ghost use Rattle.mc_write.specs.Text.{text, value_line, value_text};
 
 use crate::conn::QUEUE_BYTES;
 use crate::run::Run;
+use mc_model::item::SHARED_BYTES;
 use mc_model::{Data, Fault, Reply, Sink, Value};
 use mc_stream::{Output, push_while_taken};
 use mc_write::{write_line, write_reply, write_value};
@@ -23,8 +24,8 @@ const KEPT_BYTES: usize = 65_536;
 const RUN_BYTES: usize = 32_768;
 
 /// Nor is a block of this many bytes or more where more than `QUEUE_BYTES` were copied and are to
-/// be pushed: a long reply isn't held twice. A run costs memory too, so shorter blocks are copied.
-const SHORT_RUN_BYTES: usize = 256;
+/// be pushed: a long reply isn't held twice. A run costs memory too, and shorter ones aren't shared.
+const SHORT_RUN_BYTES: usize = SHARED_BYTES;
 
 /// No memory holds more bytes than this in runs.
 const MOST_IN_RUNS: usize = usize::MAX / 2;
