@@ -24,7 +24,7 @@ const KEPT_BYTES: usize = 65_536;
 const RUN_BYTES: usize = 32_768;
 
 /// Nor is a block of this many bytes or more where more than `QUEUE_BYTES` were copied and are to
-/// be pushed: a long reply isn't held twice. A run costs memory too, and shorter ones aren't shared.
+/// be pushed: a long reply isn't held twice. Shorter ones aren't shared.
 const SHORT_RUN_BYTES: usize = SHARED_BYTES;
 
 /// No memory holds more bytes than this in runs.

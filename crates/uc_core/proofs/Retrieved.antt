@@ -61,7 +61,7 @@ module _ (state : TableState) where
   none_shown command none shown = absurd (true≢false (sym shown ∙ none))
 
   keeps : (command : Command) → Keeps command
-  keeps (Get keys uniques) shown = ap (λ number. record state { last_unique = number }) (omega arith)
+  keeps (Get keys uniques) = λ shown. ap (λ number. record state { last_unique = number }) (omega arith)
   keeps (Store Set key flags block) = none_shown (Store Set key flags block) (none_stored state.limits state.table 0 key _ Stored refl)
   keeps (Store Add key flags block) = none_shown (Store Add key flags block)
       (none_of_both (map.get state.table key) _ _ (none_stored state.limits state.table 0 key _ Stored refl) (λ old. refl))
