@@ -159,11 +159,7 @@ impl<S: Storage> Metered<S> {
     }
 
     /// Returns the items under these keys.
-    pub(crate) fn retrieve<'a>(
-        &mut self,
-        keys: &KeyList,
-        uniques: bool,
-    ) -> Result<Reply<'a>, Fault>
+    pub(crate) fn retrieve<'a>(&mut self, keys: &KeyList, uniques: bool) -> Result<Reply<'a>, Fault>
     where
         S: StorageFor<'a>,
         ensures reply { IfOk result (λ reply. reply ≡ next_reply self.old (Get keys.now uniques)) }
@@ -221,7 +217,7 @@ impl<S: Storage> Metered<S> {
     }
 
     /// Removes a key. Allocates nothing.
-    pub(crate) fn delete(&mut self, key: &Key) -> Reply<'static>
+    pub(crate) fn delete<'a>(&mut self, key: &Key) -> Reply<'a>
         ensures reply { result ≡ next_reply self.old (Delete key.now) }
         ensures state { self.new ≡ next_state self.old (Delete key.now) }
     {
@@ -235,7 +231,7 @@ impl<S: Storage> Metered<S> {
     }
 
     /// Removes all keys. Allocates nothing.
-    pub(crate) fn flush(&mut self) -> Reply<'static>
+    pub(crate) fn flush<'a>(&mut self) -> Reply<'a>
         ensures reply { result ≡ next_reply self.old Flush }
         ensures state { self.new ≡ next_state self.old Flush }
     {
@@ -246,7 +242,7 @@ impl<S: Storage> Metered<S> {
     }
 
     /// Sets the quotas. Items stay, even if there are more than these allow. Allocates nothing.
-    pub(crate) fn set_limits(&mut self, limits: Limits) -> Reply<'static>
+    pub(crate) fn set_limits<'a>(&mut self, limits: Limits) -> Reply<'a>
         ensures reply { result ≡ next_reply self.old (Limit limits) }
         ensures state { self.new ≡ next_state self.old (Limit limits) }
     {
@@ -357,7 +353,7 @@ fn shown<'a, S: StorageFor<'a>>(
 }
 
 /// Returns the reply to a storage command, by whether the quotas allow it.
-fn stored_if(fits: bool) -> Reply<'static>
+fn stored_if<'a>(fits: bool) -> Reply<'a>
     ensures { result ≡ (if fits then Stored else Refused NO_ROOM) }
 {
     if fits {
@@ -368,7 +364,7 @@ fn stored_if(fits: bool) -> Reply<'static>
 }
 
 /// Returns the reply to an arithmetic command, by whether the quotas allow it.
-fn number_if(fits: bool, number: u64) -> Reply<'static>
+fn number_if<'a>(fits: bool, number: u64) -> Reply<'a>
     ensures { result ≡ (if fits then Number number else Refused NO_ROOM) }
 {
     if fits {

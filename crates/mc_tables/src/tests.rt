@@ -4,7 +4,9 @@ use crate::hashing::Hashing;
 use crate::layered::CellItems;
 use crate::owned::OwnedItems;
 use crate::table::Table;
-use mc_model::{Command, Data, Fault, Fragments, Key, KeyList, Limits, Reply, Value, ValueList, Verb};
+use mc_model::{
+    Command, Data, Fault, Fragments, Key, KeyList, Limits, Reply, Value, ValueList, Verb,
+};
 use std::alloc::Global;
 use std::collections::hash_map::RandomState;
 use std::test::Fail;
