@@ -29,7 +29,7 @@ fn count_at(counts: &mut [u64], place: usize)
 }
 
 /// Returns how many items a reply shows.
-fn found_in(reply: &Reply) -> u64
+fn found_in(reply: &Reply<'_>) -> u64
     ensures { result ≡ items_found reply.now }
 {
     match reply {
@@ -49,7 +49,7 @@ fn wanted_by(asked: &Option<Asked>) -> u64
 }
 
 /// Returns how many keys had no item, if the reply shows items.
-fn missed_in(asked: &Option<Asked>, reply: &Reply) -> u64
+fn missed_in(asked: &Option<Asked>, reply: &Reply<'_>) -> u64
     ensures { result ≡ keys_missed asked.now reply.now }
 {
     match reply {
@@ -83,7 +83,7 @@ impl Tally {
     }
 
     /// Counts a refusal, if the reply is one.
-    fn count_refusal(&mut self, reply: &Reply)
+    fn count_refusal(&mut self, reply: &Reply<'_>)
         ensures counts { self.new ≡ record self.old
             { refusals = counts_with_reply reply.now self.old.refusals } }
         ensures long { length self.old.refusals ≡ REFUSALS }
@@ -94,7 +94,7 @@ impl Tally {
     }
 
     /// Counts a request that was answered: what its command asked for, if it had one, and its reply.
-    pub fn count(&mut self, asked: &Option<Asked>, reply: &Reply)
+    pub fn count(&mut self, asked: &Option<Asked>, reply: &Reply<'_>)
         // What was counted before is counted still, and now this one too.
         ensures { (past : List CountedRequest) → IsTallyOf past self.old →
             IsTallyOf (record { asked = asked.now; reply = reply.now } ∷ past) self.new }

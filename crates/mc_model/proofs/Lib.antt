@@ -1,2 +1,3 @@
 mod Numerals
+mod Pieces
 mod Places

@@ -4,6 +4,7 @@ pub mod Number
 pub mod Numerals
 pub mod Settings
 pub mod Octets
+pub mod Joined
 pub mod Keys
 pub mod Table
 pub mod Use

@@ -13,6 +13,10 @@ use std::marker::Model;
 /// The largest number of bytes in a data block.
 pub const DATA_BYTES: usize = 1_048_576;
 
+/// The least number of bytes of a block whose copies share its bytes: fewer are copied sooner than
+/// they are counted.
+pub const SHARED_BYTES: usize = 256;
+
 /// How many bytes of a block's own need no allocation: as many as a shared block takes besides.
 const INLINE_BYTES: usize = 24;
 
@@ -56,6 +60,19 @@ impl Data {
         } else {
             None
         }
+    }
+
+    /// Returns the block of these bytes, or `None` if there are more than `DATA_BYTES`. Copies of a
+    /// block of at least `SHARED_BYTES` share its bytes, which takes an allocation. Returns `Memory`
+    /// if that fails.
+    pub fn shareable(bytes: Vec<u8>) -> Result<Option<Data>, Fault>
+        ensures block { IfOk result (λ block. SomeIff block (vec_len bytes ≤ DATA_BYTES) bytes.items) }
+        ensures memory { IsOkUnless result Fault.Memory }
+    {
+        if bytes.len() < SHARED_BYTES {
+            return Ok(Data::new(bytes));
+        }
+        Ok(Data::from_bytes(Bytes::from_vec(bytes)?))
     }
 
     /// Returns the block of these bytes, which it shares, or `None` if there are more than

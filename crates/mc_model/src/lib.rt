@@ -7,6 +7,7 @@
 
 pub use command::{Command, Verb};
 pub use fault::Fault;
+pub use fragments::Fragments;
 pub use id::{TenantId, Ticket, WorkerId};
 pub use item::{Data, Item};
 pub use key::{Key, KeyList};
@@ -16,10 +17,13 @@ pub use reply::{Reply, Value, ValueList, WireNo};
 pub use request::{Entry, Request};
 pub use settings::{Limits, Settings};
 pub use shown::{LogSize, Phase, ShownState, WorkerState};
+pub use sink::Sink;
 
 pub mod command;
 mod compare;
+pub mod digits;
 pub mod fault;
+pub mod fragments;
 pub mod id;
 pub mod item;
 pub mod key;
@@ -29,3 +33,7 @@ pub mod reply;
 pub mod request;
 pub mod settings;
 pub mod shown;
+pub mod sink;
+#[cfg(test)]
+mod tests;
+mod unread;

@@ -1,7 +1,8 @@
 //! Replies, and the refusals among them.
-ghost use Rattle.std.specs.Prelude.{◌≡◌};
+ghost use Rattle.std.specs.Prelude.{◌≡◌, IfOk, IsOkUnless};
 
-use crate::{Data, Key};
+use crate::{Fault, Fragments, Key};
+use std::alloc::Global;
 use std::marker::Model;
 
 /// A refusal. Each variant is documented by the line that the client reads.
@@ -69,20 +70,35 @@ impl WireNo {
 
 /// An item as a retrieval shows it; `unique` is `Some` if the retrieval shows uniques.
 #[derive(Debug, PartialEq, Eq, Drop)]
-pub struct Value {
+pub struct Value<'a> {
     pub key: Key,
     pub flags: u32,
-    pub block: Data,
+    pub block: Fragments<'a>,
     pub unique: Option<u64>,
+}
+
+impl<'a> Value<'a> {
+    /// Returns the same value, which borrows nothing. Returns `Memory` if an allocation fails.
+    pub fn into_owned(self, alloc: Global) -> Result<Value<'static>, Fault>
+        ensures same { IfOk result (λ value. value ≡ self.entry) }
+        ensures memory { IsOkUnless result Fault.Memory }
+    {
+        Ok(Value {
+            key: self.key,
+            flags: self.flags,
+            block: self.block.into_owned(alloc)?,
+            unique: self.unique,
+        })
+    }
 }
 
 /// The items that a retrieval found, in the line's order.
 #[derive(Debug, Drop)]
-pub struct ValueList {
-    values: Vec<Value>,
+pub struct ValueList<'a> {
+    values: Vec<Value<'a>>,
 }
 
-impl Model for ValueList {
+impl<'a> Model for ValueList<'a> {
     ghost use Rattle.std.specs.Prelude.{List};
     ghost use Rattle.mc_model.specs.declared.reply.Value.{Value as Shown};
 
@@ -91,31 +107,44 @@ impl Model for ValueList {
     ghost view = { λ list. list.values.items };
 }
 
-impl ValueList {
+impl<'a> ValueList<'a> {
     /// Returns the list of these values.
-    pub fn new(values: Vec<Value>) -> ValueList
-        ensures { result ≡ values.items }
+    pub fn new(values: Vec<Value<'a>>) -> ValueList<'a>
+        ensures { result ≡ values.entry.items }
     {
         ValueList { values }
     }
 
     /// Returns the values as a slice.
-    pub fn as_slice(&self) -> &[Value]
+    pub fn as_slice(&self) -> &[Value<'a>]
         ensures { result.now ≡ self.now }
     {
         self.values.as_slice()
     }
 
     /// Returns the values, in the vector that they were given in.
-    pub fn into_values(self) -> Vec<Value>
-        ensures { result.items ≡ self }
+    pub fn into_values(self) -> Vec<Value<'a>>
+        ensures { result.items ≡ self.entry }
     {
         let Self { values } = self;
         values
     }
+
+    /// Returns the same values, which borrow nothing. Returns `Memory` if an allocation fails.
+    pub fn into_owned(self, alloc: Global) -> Result<ValueList<'static>, Fault>
+        ensures same { IfOk result (λ list. list ≡ self.entry) }
+        ensures memory { IsOkUnless result Fault.Memory }
+    {
+        let values = self.into_values();
+        let mut owned = Vec::with_capacity(alloc, values.len())?;
+        for value in values {
+            owned.push(value.into_owned(alloc)?)?;
+        }
+        Ok(ValueList { values: owned })
+    }
 }
 
-impl PartialEq for ValueList {
+impl<'a> PartialEq for ValueList<'a> {
     ghost use Rattle.std.specs.Cmp.{partial_equiv_from_equiv};
     ghost use Rattle.std.specs.Cmp.Lexicographic.{lists_equiv, pointwise};
     ghost use Rattle.mc_model.specs.contracts.reply.ValuePartialEq.TheImpl as shown;
@@ -125,12 +154,12 @@ impl PartialEq for ValueList {
 
     ghost laws = { partial_equiv_from_equiv (lists_equiv shown_laws.lawful.laws) };
 
-    fn eq(&self, other: &ValueList) -> bool {
+    fn eq(&self, other: &ValueList<'a>) -> bool {
         self.values == other.values
     }
 }
 
-impl Eq for ValueList {
+impl<'a> Eq for ValueList<'a> {
     ghost use Rattle.std.specs.Cmp.Lexicographic.{lists_equiv};
     ghost use Rattle.mc_model.specs.contracts.reply.ValueEq.TheImpl.Laws as shown_laws;
 
@@ -139,7 +168,7 @@ impl Eq for ValueList {
 
 /// The reply to a request.
 #[derive(Debug, PartialEq, Eq, Drop)]
-pub enum Reply {
+pub enum Reply<'a> {
     /// `STORED`
     Stored,
     /// `NOT_STORED`
@@ -155,9 +184,30 @@ pub enum Reply {
     /// The number after an arithmetic command.
     Number(u64),
     /// The items found, then `END`.
-    Values(ValueList),
+    Values(ValueList<'a>),
     /// `VERSION 1.0.0`
     Version,
     /// A refusal.
     Refused(WireNo),
+}
+
+impl<'a> Reply<'a> {
+    /// Returns the same reply, which borrows nothing. Returns `Memory` if an allocation fails.
+    pub fn into_owned(self, alloc: Global) -> Result<Reply<'static>, Fault>
+        ensures same { IfOk result (λ reply. reply ≡ self.entry) }
+        ensures memory { IsOkUnless result Fault.Memory }
+    {
+        Ok(match self {
+            Reply::Stored => Reply::Stored,
+            Reply::NotStored => Reply::NotStored,
+            Reply::Exists => Reply::Exists,
+            Reply::NotFound => Reply::NotFound,
+            Reply::Deleted => Reply::Deleted,
+            Reply::Ok => Reply::Ok,
+            Reply::Number(number) => Reply::Number(number),
+            Reply::Values(values) => Reply::Values(values.into_owned(alloc)?),
+            Reply::Version => Reply::Version,
+            Reply::Refused(refusal) => Reply::Refused(refusal),
+        })
+    }
 }

@@ -11,7 +11,7 @@ pub enum Request {
     },
     /// A request that is answered without the log.
     Local {
-        reply: Reply,
+        reply: Reply<'static>,
         quiet: bool,
     },
     /// The quotas of the tenant with this name are to be set.

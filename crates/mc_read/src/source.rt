@@ -17,8 +17,9 @@ use memchr::memchr;
 use std::alloc::Global;
 use std::marker::Model;
 
-/// The least number of bytes of a block that shares the memory in which it arrived.
-const SHARED_BYTES: usize = 4_096;
+/// The least number of bytes of a block that shares the memory in which it arrived. A shorter one
+/// would keep too much of it.
+const LONG_BYTES: usize = 4_096;
 
 /// The most bytes for which an awaited block has room behind it.
 const SPARE_BYTES: usize = 16_384;
@@ -128,7 +129,7 @@ impl Source {
         ensures memory { IsOkUnless result Fault.Memory }
         ensures unchanged { OnErr result (self.new ≡ self.old) }
     {
-        if piece.len() < SHARED_BYTES {
+        if piece.len() < LONG_BYTES {
             return self.extend(piece.as_slice());
         }
         if !self.piece.is_empty() {
@@ -157,7 +158,7 @@ impl Source {
         requires { (line ≤ LINE_BYTES) × (size ≤ DATA_BYTES) }
         ensures { self.new ≡ self.old }
     {
-        if size >= SHARED_BYTES {
+        if size >= LONG_BYTES {
             self.rest.expect(line + size + (size / 2).min(SPARE_BYTES));
         }
     }
@@ -253,7 +254,7 @@ impl Source {
         }
         let end = start + (size + 2);
         Source::gather(&mut self.rest, &mut self.piece, end)?;
-        if size >= SHARED_BYTES {
+        if size >= LONG_BYTES {
             let taken = take_long(alloc, &mut self.rest, &mut self.piece, start, size)?;
             return Ok(Some(taken));
         }
@@ -272,7 +273,7 @@ fn is_line_end(after: &[u8]) -> bool
 }
 
 /// Copies a block out of the bytes after its line, and returns with it whether the two bytes after
-/// it are a line end. Returns `Memory` if the allocation fails.
+/// it are a line end. Returns `Memory` if an allocation fails.
 #[inline(always)]
 fn copy_block(alloc: Global, size: usize, body: &[u8]) -> Result<(Data, bool), Fault>
     requires small { size ≤ DATA_BYTES }
@@ -282,7 +283,7 @@ fn copy_block(alloc: Global, size: usize, body: &[u8]) -> Result<(Data, bool), F
     ensures memory { IsOkUnless result Fault.Memory }
 {
     let ends_well = is_line_end(&body[size..]);
-    match Data::new(Vec::from_slice(alloc, &body[..size])?) {
+    match Data::shareable(Vec::from_slice(alloc, &body[..size])?)? {
         Some(block) => Ok((block, ends_well)),
         None => unreachable!(),
     }

@@ -9,12 +9,12 @@ ghost use Rattle.mc_write.specs.Faults.{fault_text};
 ghost use Rattle.mc_write.specs.Text.{text, value_line, value_text};
 
 use itoa::Buffer;
-use mc_model::{Fault, Reply, Value, WireNo};
+use mc_model::{Fault, Fragments, Reply, Value, WireNo};
 use std::alloc::AllocError;
 
 /// Appends a reply's text. Returns `Memory` if an allocation fails; the vector's bytes are
 /// unchanged then.
-pub fn write_reply(reply: &Reply, out: &mut Vec<u8>) -> Result<(), Fault>
+pub fn write_reply(reply: &Reply<'_>, out: &mut Vec<u8>) -> Result<(), Fault>
     ensures text { OnOk result (out.new.items ≡ out.old.items ++ text reply.now) }
     ensures kept { OnErr result (out.new.items ≡ out.old.items) }
     ensures memory { IsOkUnless result Fault.Memory }
@@ -31,7 +31,7 @@ pub fn write_reply(reply: &Reply, out: &mut Vec<u8>) -> Result<(), Fault>
 }
 
 /// Appends the text of an item. The vector's bytes are unchanged if an allocation fails.
-pub fn write_value(value: &Value, out: &mut Vec<u8>) -> Result<(), AllocError>
+pub fn write_value(value: &Value<'_>, out: &mut Vec<u8>) -> Result<(), AllocError>
     ensures text { OnOk result (out.new.items ≡ out.old.items ++ value_text value.now) }
     ensures kept { OnErr result (out.new.items ≡ out.old.items) }
 {
@@ -45,7 +45,7 @@ pub fn write_value(value: &Value, out: &mut Vec<u8>) -> Result<(), AllocError>
 
 /// Appends the line of an item, for a caller that has its data elsewhere. The vector's bytes are
 /// unchanged if an allocation fails.
-pub fn write_line(value: &Value, out: &mut Vec<u8>) -> Result<(), AllocError>
+pub fn write_line(value: &Value<'_>, out: &mut Vec<u8>) -> Result<(), AllocError>
     ensures text { OnOk result
         (out.new.items ≡ out.old.items ++ (value_line value.now ++ codes "\r\n")) }
     ensures kept { OnErr result (out.new.items ≡ out.old.items) }
@@ -78,7 +78,7 @@ pub fn refusal_text(refusal: WireNo) -> &'static [u8]
 }
 
 /// Appends a reply's text, which may be written in part if an allocation fails.
-fn append_reply(reply: &Reply, out: &mut Vec<u8>) -> Result<(), AllocError>
+fn append_reply(reply: &Reply<'_>, out: &mut Vec<u8>) -> Result<(), AllocError>
     ensures text { OnOk result (out.new.items ≡ out.old.items ++ text reply.now) }
     ensures begun { StartsWith out.new.items out.old.items }
     ensures room { vec_len out.old + length (text reply.now) ≤ vec_capacity out.old → IsOk result }
@@ -104,7 +104,7 @@ fn append_reply(reply: &Reply, out: &mut Vec<u8>) -> Result<(), AllocError>
     }
 }
 
-fn append_values(values: &[Value], out: &mut Vec<u8>) -> Result<(), AllocError>
+fn append_values(values: &[Value<'_>], out: &mut Vec<u8>) -> Result<(), AllocError>
     ensures text { OnOk result (out.new.items ≡ out.old.items ++ flat_map value_text values.now) }
     ensures begun { StartsWith out.new.items out.old.items }
     ensures room { vec_len out.old + length
@@ -118,7 +118,7 @@ fn append_values(values: &[Value], out: &mut Vec<u8>) -> Result<(), AllocError>
 }
 
 /// Appends an item.
-fn append_value(value: &Value, out: &mut Vec<u8>) -> Result<(), AllocError>
+fn append_value(value: &Value<'_>, out: &mut Vec<u8>) -> Result<(), AllocError>
     ensures text { OnOk result (out.new.items ≡ out.old.items ++ value_text value.now) }
     ensures begun { StartsWith out.new.items out.old.items }
     ensures room { vec_len out.old + length (value_text value.now) ≤ vec_capacity out.old →
@@ -126,11 +126,11 @@ fn append_value(value: &Value, out: &mut Vec<u8>) -> Result<(), AllocError>
     ensures capacity { vec_capacity out.old ≤ vec_capacity out.new }
 {
     append_line(value, out)?;
-    append_block(value.block.as_bytes(), out)
+    append_block(&value.block, out)
 }
 
 /// Appends the line of an item, with its end.
-fn append_line_and_end(value: &Value, out: &mut Vec<u8>) -> Result<(), AllocError>
+fn append_line_and_end(value: &Value<'_>, out: &mut Vec<u8>) -> Result<(), AllocError>
     ensures text { OnOk result
         (out.new.items ≡ out.old.items ++ (value_line value.now ++ codes "\r\n")) }
     ensures begun { StartsWith out.new.items out.old.items }
@@ -140,7 +140,7 @@ fn append_line_and_end(value: &Value, out: &mut Vec<u8>) -> Result<(), AllocErro
 }
 
 /// Appends the line of an item, without its end.
-fn append_line(value: &Value, out: &mut Vec<u8>) -> Result<(), AllocError>
+fn append_line(value: &Value<'_>, out: &mut Vec<u8>) -> Result<(), AllocError>
     ensures text { OnOk result (out.new.items ≡ out.old.items ++ value_line value.now) }
     ensures begun { StartsWith out.new.items out.old.items }
     ensures room { vec_len out.old + length (value_line value.now) ≤ vec_capacity out.old →
@@ -150,7 +150,7 @@ fn append_line(value: &Value, out: &mut Vec<u8>) -> Result<(), AllocError>
     out.extend_from_slice(b"VALUE ")?;
     out.extend_from_slice(value.key.as_bytes())?;
     append_number(u64::from(value.flags), out)?;
-    append_number(value.block.as_bytes().len() as u64, out)?;
+    append_number(value.block.len() as u64, out)?;
     if let Some(unique) = value.unique {
         append_number(unique, out)?;
     }
@@ -158,7 +158,7 @@ fn append_line(value: &Value, out: &mut Vec<u8>) -> Result<(), AllocError>
 }
 
 /// Appends the end of an item's line, and its data.
-fn append_block(block: &[u8], out: &mut Vec<u8>) -> Result<(), AllocError>
+fn append_block(block: &Fragments<'_>, out: &mut Vec<u8>) -> Result<(), AllocError>
     ensures text { OnOk result
         (out.new.items ≡ out.old.items ++ (codes "\r\n" ++ block.now ++ codes "\r\n")) }
     ensures begun { StartsWith out.new.items out.old.items }
@@ -167,7 +167,7 @@ fn append_block(block: &[u8], out: &mut Vec<u8>) -> Result<(), AllocError>
     ensures capacity { vec_capacity out.old ≤ vec_capacity out.new }
 {
     append_line_end(out)?;
-    out.extend_from_slice(block)?;
+    block.write(out)?;
     append_line_end(out)
 }
 
