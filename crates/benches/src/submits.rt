@@ -204,29 +204,30 @@ fn now(clock: &impl Clock) -> u64 {
 
 /// What answers commands.
 trait Server {
-    /// Returns the reply to a command, and how many proposals were made for it.
-    fn serve(&mut self, ask: Ask, steps: &mut Steps) -> Result<(Reply, u64), Fault>;
+    /// Returns whether the reply to a command is that it stored, and how many proposals were made
+    /// for it.
+    fn serve(&mut self, ask: Ask, steps: &mut Steps) -> Result<(bool, u64), Fault>;
 }
 
 /// Does nothing with a command.
 impl Server for () {
-    fn serve(&mut self, ask: Ask, _steps: &mut Steps) -> Result<(Reply, u64), Fault> {
+    fn serve(&mut self, ask: Ask, _steps: &mut Steps) -> Result<(bool, u64), Fault> {
         mem::forget(ask);
-        Ok((Reply::Ok, 0))
+        Ok((false, 0))
     }
 }
 
 /// Tables without a log. The memory of a command is leaked, as a log keeps it.
 impl Server for Vec<Items> {
-    fn serve(&mut self, ask: Ask, _steps: &mut Steps) -> Result<(Reply, u64), Fault> {
+    fn serve(&mut self, ask: Ask, _steps: &mut Steps) -> Result<(bool, u64), Fault> {
         let place = usize::from(ask.tenant.number());
         let table = self.get_mut(place).ok_or(Fault::BadSettings)?;
         if table.last_unique() == u64::MAX {
             return Err(Fault::LogFull);
         }
-        let reply = table.apply(&ask.command)?;
+        let stored = table.apply(&ask.command)? == Reply::Stored;
         mem::forget(ask);
-        Ok((reply, 0))
+        Ok((stored, 0))
     }
 }
 
@@ -239,13 +240,13 @@ struct Client<'a> {
 }
 
 impl<'a> Server for Client<'a> {
-    fn serve(&mut self, ask: Ask, steps: &mut Steps) -> Result<(Reply, u64), Fault> {
+    fn serve(&mut self, ask: Ask, steps: &mut Steps) -> Result<(bool, u64), Fault> {
         let Ask { tenant, command } = ask;
         if usize::from(tenant.number()) >= self.log.settings().tenants().len() {
             return Err(Fault::BadSettings);
         }
         let answer = self.worker.submit(tenant, command, steps)?;
-        Ok((answer.reply, answer.proposals))
+        Ok((answer.reply == Reply::Stored, answer.proposals))
     }
 }
 
@@ -267,10 +268,9 @@ fn serve_all<R: Clock, S: Server>(
     let mut times = [now(rt); PARTS + 1];
     for (time, part) in times.iter_mut().skip(1).zip(parts) {
         for ask in part {
-            let (reply, proposals) = server.serve(ask, &mut work.steps)?;
-            let stored = u64::from(reply == Reply::Stored);
+            let (stored, proposals) = server.serve(ask, &mut work.steps)?;
             work.answered = work.answered.saturating_add(1);
-            work.stored = work.stored.saturating_add(stored);
+            work.stored = work.stored.saturating_add(u64::from(stored));
             work.most = work.most.max(proposals);
         }
         *time = now(rt);

@@ -105,7 +105,7 @@ pub fn take_effect<'a, S: StorageFor<'a>>(
     tables: &mut Vec<Metered<S>>,
     asker: Option<WorkerId>,
     found: Option<&'a Entry>,
-) -> Result<Option<Reply>, Fault>
+) -> Result<Option<Reply<'a>>, Fault>
     requires { (tenant : ℕ) (state : TableState) → slice_get tables.old.items tenant ≡ Some state →
         state.last_unique < 2 ^ 64 - 1 }
     ensures reply { IfOk result

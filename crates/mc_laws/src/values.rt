@@ -107,7 +107,10 @@ pub fn key_lists_are_equal_by_their_keys(keys: &KeyList, others: &KeyList) -> bo
 }
 
 /// Two lists of values are equal exactly when they have the same values in the same order.
-pub fn value_lists_are_equal_by_their_values(values: &ValueList, others: &ValueList) -> bool
+pub fn value_lists_are_equal_by_their_values<'a>(
+    values: &ValueList<'a>,
+    others: &ValueList<'a>,
+) -> bool
     ensures { IsTrue result ↔ (values.now ≡ others.now) }
 {
     values == others

@@ -118,7 +118,7 @@ impl<'a> Replica<'a> {
     /// changes no table. Returns the reply if the entry is this worker's own; a command of another
     /// worker is applied without one. Returns `Memory` if an allocation fails; nothing changes
     /// then. The history itself never allocates.
-    pub fn replay(&mut self, seen: Seen<'a>) -> Result<Option<Reply>, Fault>
+    pub fn replay(&mut self, seen: Seen<'a>) -> Result<Option<Reply<'a>>, Fault>
         requires { length self.old.history < self.old.places }
         ensures reply { IfOk result (λ reply.
             reply ≡ answer_to self.old.worker self.old.openings (entries self.old.history)
@@ -145,7 +145,7 @@ impl<'a> Replica<'a> {
         &mut self,
         asker: Option<WorkerId>,
         seen: Seen<'a>,
-    ) -> Result<Option<Reply>, Fault>
+    ) -> Result<Option<Reply<'a>>, Fault>
         requires { length self.old.history < self.old.places }
         ensures reply { IfOk result (λ reply.
             reply ≡ answer_for asker self.old.openings (entries self.old.history)

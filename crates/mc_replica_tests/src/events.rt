@@ -177,7 +177,7 @@ fn tell(
     said: &mut Vec<u8>,
     worker: u8,
     place: u64,
-    reply: &Reply,
+    reply: &Reply<'_>,
 ) -> Result<(), Fault> {
     let who = format!(in alloc; "{worker} {place} ")?;
     said.extend_from_slice(who.as_bytes())?;
@@ -190,7 +190,7 @@ fn tell_some(
     said: &mut Vec<u8>,
     worker: u8,
     place: u64,
-    reply: Option<Reply>,
+    reply: Option<Reply<'_>>,
 ) -> Result<(), Fault> {
     match reply {
         Some(reply) => tell(alloc, said, worker, place, &reply),
@@ -232,7 +232,7 @@ pub(crate) fn ran(alloc: Global, core: &mut Core, text: &str) -> Result<Vec<u8>,
     told(alloc, &replies)
 }
 
-fn told(alloc: Global, replies: &[(WorkerId, u64, Reply)]) -> Result<Vec<u8>, Fault> {
+fn told(alloc: Global, replies: &[(WorkerId, u64, Reply<'_>)]) -> Result<Vec<u8>, Fault> {
     let mut said = Vec::new(alloc);
     for (worker, place, reply) in replies {
         tell(alloc, &mut said, worker.number(), *place, reply)?;

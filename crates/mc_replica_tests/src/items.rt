@@ -34,7 +34,7 @@ struct Twins {
     advanced: Items,
 }
 
-fn apply(items: &mut Items, command: &Command) -> Result<Reply, Fault> {
+fn apply<'a>(items: &mut Items, command: &'a Command) -> Result<Reply<'a>, Fault> {
     if items.last_unique() == u64::MAX {
         return Err(Fault::BadEvent);
     }
@@ -532,12 +532,12 @@ fn started(alloc: Global) -> Result<Items, Fault> {
 
 /// Returns the reply to the command, at once or after memory ran out. Returns `BadEvent` if
 /// something changed then.
-fn apply_at_last(
+fn apply_at_last<'a>(
     alloc: Global,
     items: &mut Items,
     before: &Items,
-    command: &Command,
-) -> Result<Reply, Fault> {
+    command: &'a Command,
+) -> Result<Reply<'a>, Fault> {
     match apply(items, command) {
         Err(Fault::Memory) => {}
         reply => return reply,

@@ -79,7 +79,7 @@ fn seen_of<'a>(
     see(rt, alloc, cells, ticket)
 }
 
-fn replay<'a>(replica: &mut Replica<'a>, seen: Seen<'a>) -> Result<Option<Reply>, Fault> {
+fn replay<'a>(replica: &mut Replica<'a>, seen: Seen<'a>) -> Result<Option<Reply<'a>>, Fault> {
     if !replica.has_place() {
         return Err(Fault::LogFull);
     }
@@ -100,7 +100,7 @@ pub(crate) fn unique_of(replica: &Replica<'_>, tenant: u8) -> Option<u64> {
 }
 
 /// Returns whether a client reads this text for the reply, and nothing if there is none.
-fn is_shown(alloc: Global, reply: Option<Reply>, want: &str) -> Result<bool, Fault> {
+fn is_shown(alloc: Global, reply: Option<Reply<'_>>, want: &str) -> Result<bool, Fault> {
     match reply {
         Some(reply) => reads_as(alloc, reply, want.as_bytes()),
         None => Ok(want.is_empty()),

@@ -63,7 +63,7 @@ fn writes_refusals(rt: HostRuntime) {
 }
 
 /// Returns the reply that shows one item.
-fn one_value(alloc: Global) -> Result<Reply, Fault> {
+fn one_value(alloc: Global) -> Result<Reply<'static>, Fault> {
     let value = value_of(alloc, ("k", 1, "data", Some(2)))?;
     Ok(Reply::Values(ValueList::new(vec![in alloc; value]?)))
 }
@@ -73,7 +73,7 @@ const ONE_VALUE: &str = "VALUE k 1 4 2\r\ndata\r\nEND\r\n";
 const AFTER_OLD_BYTES: &str = "oldVALUE k 1 4 2\r\ndata\r\nEND\r\n";
 
 /// Writes the reply after what was there.
-fn write(reply: Reply, out: &mut Vec<u8>) -> Result<(), Fault> {
+fn write(reply: Reply<'_>, out: &mut Vec<u8>) -> Result<(), Fault> {
     let written = write_reply(&reply, out);
     drop(reply);
     written
@@ -90,7 +90,7 @@ fn appends_to_old_bytes(rt: HostRuntime) -> Result<(), Fail> {
 }
 
 /// Returns the reply that shows two items.
-fn two_values(alloc: Global) -> Result<Reply, Fault> {
+fn two_values(alloc: Global) -> Result<Reply<'static>, Fault> {
     let first = value_of(alloc, ("abc", 5, "a\r\nEND\r\nb", Some(70)))?;
     let second = value_of(alloc, ("d", u32::MAX, "", None))?;
     Ok(Reply::Values(ValueList::new(vec![in alloc; first, second]?)))

@@ -1,5 +1,5 @@
 //! What the tests share: values made of plain data, and replies as a client reads them.
-use mc_model::{Command, Data, Fault, Key, Limits, Reply, Request, Value};
+use mc_model::{Command, Data, Fault, Fragments, Key, Limits, Reply, Request, Value};
 use mc_read::Reader;
 use mc_write::write_reply;
 use std::alloc::Global;
@@ -15,10 +15,10 @@ pub(crate) fn block_of(alloc: Global, text: &[u8]) -> Result<Data, Fault> {
 /// A value by its key, its flags, its data and its unique.
 pub(crate) type Shown = (&'static str, u32, &'static str, Option<u64>);
 
-pub(crate) fn value_of(alloc: Global, shown: Shown) -> Result<Value, Fault> {
+pub(crate) fn value_of(alloc: Global, shown: Shown) -> Result<Value<'static>, Fault> {
     let (name, flags, text, unique) = shown;
     let key = key_of(alloc, name)?;
-    let block = block_of(alloc, text.as_bytes())?;
+    let block = Fragments::from_data(alloc, block_of(alloc, text.as_bytes())?)?;
     Ok(Value {
         key,
         flags,
@@ -68,7 +68,7 @@ pub(crate) fn copied(alloc: Global, text: &str) -> Result<Command, Fault> {
 }
 
 /// Returns what a client reads for the reply.
-pub(crate) fn text_of(alloc: Global, reply: Reply) -> Result<Vec<u8>, Fault> {
+pub(crate) fn text_of(alloc: Global, reply: Reply<'_>) -> Result<Vec<u8>, Fault> {
     let mut text = Vec::new(alloc);
     let written = write_reply(&reply, &mut text);
     drop(reply);
@@ -77,7 +77,7 @@ pub(crate) fn text_of(alloc: Global, reply: Reply) -> Result<Vec<u8>, Fault> {
 }
 
 /// Returns whether a client reads this text for the reply.
-pub(crate) fn reads_as(alloc: Global, reply: Reply, want: &[u8]) -> Result<bool, Fault> {
+pub(crate) fn reads_as(alloc: Global, reply: Reply<'_>, want: &[u8]) -> Result<bool, Fault> {
     let text = text_of(alloc, reply)?;
     Ok(text.as_slice() == want)
 }

@@ -1,5 +1,5 @@
 -- What stands for a list of commands stands for one more, once it has had that command's effect.
-use Rattle.std.proofs.Common.{◌≡◌, Bool, Result, Ok, Err, OnOk, sym, subst, add-zero}
+use Rattle.std.proofs.Common.{◌≡◌, Bool, Result, Ok, Err, OnOk, sym, subst, ◌∙◌, add-zero}
 use Rattle.mc_model.specs.declared.command.Command.{Command}
 use Rattle.mc_model.specs.declared.command.Command.TheVariants.{Get}
 use Rattle.mc_model.specs.declared.key.KeyList.{KeyList}
@@ -23,6 +23,7 @@ next_state-get state keys uniques = λ i. record { limits = state.limits; table 
 pub StandsForMore-get : (state : TableState) (keys : KeyList) (uniques : Bool) → StandsForMore state (Get keys uniques) state
 StandsForMore-get state keys uniques = StandsForMore-next (Get keys uniques) state state (next_state-get state keys uniques)
 
-pub OnOk-StandsForMore-get : {A E : Type 0} (result : Result A E) (state : TableState) (keys : KeyList) (uniques : Bool) → OnOk result (StandsForMore state (Get keys uniques) state)
-OnOk-StandsForMore-get (Ok value) state keys uniques = StandsForMore-get state keys uniques
-OnOk-StandsForMore-get (Err error) state keys uniques = tt
+pub OnOk-StandsForMore-get : {A E : Type 0} (result : Result A E) (old new : TableState) (keys : KeyList) (uniques : Bool) → new ≡ old →
+    OnOk result (StandsForMore old (Get keys uniques) new)
+OnOk-StandsForMore-get (Ok value) old new keys uniques is = StandsForMore-next (Get keys uniques) old new (is ∙ next_state-get old keys uniques)
+OnOk-StandsForMore-get (Err error) old new keys uniques is = tt

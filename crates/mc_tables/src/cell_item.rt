@@ -1,5 +1,5 @@
 //! An item that borrows its data.
-use mc_fragments::Fragments;
+use mc_model::Fragments;
 
 /// An item whose data are borrowed from commands, or are the digits of a number.
 #[derive(Debug, Drop)]

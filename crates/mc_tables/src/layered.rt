@@ -3,6 +3,7 @@ ghost use Rattle.std.specs.FinMap as map;
 ghost use Rattle.std.specs.Option.{option_copied, option_map};
 ghost use Rattle.std.specs.Prelude.{◌≡◌, [], ◌+◌, ◌≤◌, ◌++◌, length, IfOk, OnOk, OnErr, IsOkUnless};
 ghost use Rattle.mc_model.specs.declared.item.TheConstants.{DATA_BYTES};
+ghost use Rattle.mc_model.specs.Effect.{shown_item};
 ghost use Rattle.mc_model.specs.History.{StandsFor};
 ghost use Rattle.mc_model.specs.State.{empty_table};
 ghost use Rattle.mc_tables.specs.Changes.{block_under, data_after, flags_under, with_change};
@@ -17,8 +18,7 @@ use crate::metered::Metered;
 use crate::owned::{Owned, OwnedItems};
 use crate::storage::{Change, Found, Storage, StorageFor};
 use crate::view::View;
-use mc_fragments::Fragments;
-use mc_model::{Data, Fault, Item, Key, Limits, Value};
+use mc_model::{Data, Fault, Fragments, Item, Key, Limits, Value};
 use std::alloc::Global;
 use std::collections::HashMap;
 
@@ -270,26 +270,6 @@ impl<'a> Storage for Layered<'a> {
         }
     }
 
-    fn show(&self, key: &Key, uniques: bool) -> Result<Option<Value>, Fault> {
-        if let Some(kept) = self.over.get(key.as_bytes()) {
-            return Ok(Some(Value {
-                key: key.try_clone()?,
-                flags: kept.flags,
-                block: kept.block.to_data(self.alloc)?,
-                unique: if uniques { Some(kept.unique) } else { None },
-            }));
-        }
-        match self.under(key) {
-            Some(item) => Ok(Some(Value {
-                key: key.try_clone()?,
-                flags: item.flags,
-                block: item.block.try_clone()?,
-                unique: if uniques { Some(item.unique) } else { None },
-            })),
-            None => Ok(None),
-        }
-    }
-
     fn remove(&mut self, key: &Key) {
         self.over.remove(key.as_bytes());
         self.mark(key);
@@ -302,6 +282,17 @@ impl<'a> Storage for Layered<'a> {
 }
 
 impl<'a> StorageFor<'a> for Layered<'a> {
+    fn show(&mut self, key: &Key, uniques: bool) -> Result<Option<Value<'a>>, Fault> {
+        let alloc = self.alloc;
+        if let Some(kept) = self.over.get_mut(key.as_bytes()) {
+            return Ok(Some(show_kept(alloc, key, kept, uniques)?));
+        }
+        match self.under(key) {
+            Some(item) => Ok(Some(show_item(key, item, uniques)?)),
+            None => Ok(None),
+        }
+    }
+
     fn change(&mut self, key: &'a Key, change: &Change<'a>, unique: u64) -> Result<(), Fault> {
         match change {
             Change::Put(flags, block) => self.put(
@@ -369,4 +360,39 @@ fn push_front<'a>(
     kept.block.prepend(alloc, block)?;
     kept.unique = unique;
     Ok(())
+}
+
+/// Returns what a retrieval shows of what is kept under a key. Data in several fragments are joined
+/// first, so that a later call copies none of them. Returns `Memory` if an allocation fails.
+fn show_kept<'a>(
+    alloc: Global,
+    key: &Key,
+    kept: &mut CellItem<'a>,
+    uniques: bool,
+) -> Result<Value<'a>, Fault>
+    ensures shown { IfOk result (λ shown. shown ≡ shown_item uniques key.now (item_of_cell kept.old)) }
+    ensures memory { IsOkUnless result Fault.Memory }
+    ensures unchanged { kept.new ≡ kept.old }
+{
+    kept.block.join(alloc)?;
+    Ok(Value {
+        key: key.try_clone()?,
+        flags: kept.flags,
+        block: kept.block.shared(alloc)?,
+        unique: if uniques { Some(kept.unique) } else { None },
+    })
+}
+
+/// Returns what a retrieval shows of an item of the base, whose data it borrows. Returns `Memory` if
+/// the allocation for the key fails.
+fn show_item<'a>(key: &Key, item: &'a Item, uniques: bool) -> Result<Value<'a>, Fault>
+    ensures shown { IfOk result (λ shown. shown ≡ shown_item uniques key.now item.now) }
+    ensures memory { IsOkUnless result Fault.Memory }
+{
+    Ok(Value {
+        key: key.try_clone()?,
+        flags: item.flags,
+        block: Fragments::new(&item.block),
+        unique: if uniques { Some(item.unique) } else { None },
+    })
 }

@@ -91,7 +91,7 @@ impl<S: Storage> Metered<S> {
         key: &'a Key,
         flags: u32,
         block: &'a Data,
-    ) -> Result<Reply, Fault>
+    ) -> Result<Reply<'a>, Fault>
     where
         S: StorageFor<'a>,
         requires { self.old.last_unique < 2 ^ 64 - 1 }
@@ -134,7 +134,7 @@ impl<S: Storage> Metered<S> {
         flags: u32,
         block: &'a Data,
         seen: u64,
-    ) -> Result<Reply, Fault>
+    ) -> Result<Reply<'a>, Fault>
     where
         S: StorageFor<'a>,
         requires { self.old.last_unique < 2 ^ 64 - 1 }
@@ -159,32 +159,19 @@ impl<S: Storage> Metered<S> {
     }
 
     /// Returns the items under these keys.
-    pub(crate) fn retrieve(&self, keys: &KeyList, uniques: bool) -> Result<Reply, Fault>
-        ensures reply { IfOk result (λ reply. reply ≡ next_reply self.now (Get keys.now uniques)) }
+    pub(crate) fn retrieve<'a>(&mut self, keys: &KeyList, uniques: bool) -> Result<Reply<'a>, Fault>
+    where
+        S: StorageFor<'a>,
+        ensures reply { IfOk result (λ reply. reply ≡ next_reply self.old (Get keys.now uniques)) }
         ensures memory { IsOkUnless result Fault.Memory }
+        ensures unchanged { self.new ≡ self.old }
     {
-        let values = self.shown(keys.as_slice(), uniques)?;
+        let values = shown(self.alloc, &mut self.storage, keys.as_slice(), uniques)?;
         Ok(Reply::Values(ValueList::new(values)))
     }
 
-    /// Returns what a retrieval shows of these keys, in their order; a key that isn't held is left
-    /// out.
-    fn shown(&self, keys: &[Key], uniques: bool) -> Result<Vec<Value>, Fault>
-        ensures values { IfOk result (λ values.
-            values.items ≡ filter_map (shown_at self.now.table uniques) keys.now) }
-        ensures memory { IsOkUnless result Fault.Memory }
-    {
-        let mut values = Vec::new(self.alloc);
-        for key in keys {
-            if let Some(value) = self.storage.show(key, uniques)? {
-                values.push(value)?;
-            }
-        }
-        Ok(values)
-    }
-
     /// Adds to the number under a key, modulo 2^64.
-    pub(crate) fn incr<'a>(&mut self, key: &'a Key, by: u64) -> Result<Reply, Fault>
+    pub(crate) fn incr<'a>(&mut self, key: &'a Key, by: u64) -> Result<Reply<'a>, Fault>
     where
         S: StorageFor<'a>,
         requires { self.old.last_unique < 2 ^ 64 - 1 }
@@ -207,7 +194,7 @@ impl<S: Storage> Metered<S> {
     }
 
     /// Subtracts from the number under a key, stopping at 0.
-    pub(crate) fn decr<'a>(&mut self, key: &'a Key, by: u64) -> Result<Reply, Fault>
+    pub(crate) fn decr<'a>(&mut self, key: &'a Key, by: u64) -> Result<Reply<'a>, Fault>
     where
         S: StorageFor<'a>,
         requires { self.old.last_unique < 2 ^ 64 - 1 }
@@ -230,7 +217,7 @@ impl<S: Storage> Metered<S> {
     }
 
     /// Removes a key. Allocates nothing.
-    pub(crate) fn delete(&mut self, key: &Key) -> Reply
+    pub(crate) fn delete<'a>(&mut self, key: &Key) -> Reply<'a>
         ensures reply { result ≡ next_reply self.old (Delete key.now) }
         ensures state { self.new ≡ next_state self.old (Delete key.now) }
     {
@@ -244,7 +231,7 @@ impl<S: Storage> Metered<S> {
     }
 
     /// Removes all keys. Allocates nothing.
-    pub(crate) fn flush(&mut self) -> Reply
+    pub(crate) fn flush<'a>(&mut self) -> Reply<'a>
         ensures reply { result ≡ next_reply self.old Flush }
         ensures state { self.new ≡ next_state self.old Flush }
     {
@@ -255,7 +242,7 @@ impl<S: Storage> Metered<S> {
     }
 
     /// Sets the quotas. Items stay, even if there are more than these allow. Allocates nothing.
-    pub(crate) fn set_limits(&mut self, limits: Limits) -> Reply
+    pub(crate) fn set_limits<'a>(&mut self, limits: Limits) -> Reply<'a>
         ensures reply { result ≡ next_reply self.old (Limit limits) }
         ensures state { self.new ≡ next_state self.old (Limit limits) }
     {
@@ -343,8 +330,30 @@ impl<S: Storage> Metered<S> {
     }
 }
 
+/// Returns what a retrieval shows of these keys, in their order; a key that isn't held is left out.
+/// Returns `Memory` if an allocation fails. The table stays the same either way.
+fn shown<'a, S: StorageFor<'a>>(
+    alloc: Global,
+    storage: &mut S,
+    keys: &[Key],
+    uniques: bool,
+) -> Result<Vec<Value<'a>>, Fault>
+    ensures values { IfOk result (λ values.
+        values.items ≡ filter_map (shown_at (S.Storage.table storage.old) uniques) keys.now) }
+    ensures memory { IsOkUnless result Fault.Memory }
+    ensures unchanged { S.Storage.table storage.new ≡ S.Storage.table storage.old }
+{
+    let mut values = Vec::new(alloc);
+    for key in keys {
+        if let Some(value) = storage.show(key, uniques)? {
+            values.push(value)?;
+        }
+    }
+    Ok(values)
+}
+
 /// Returns the reply to a storage command, by whether the quotas allow it.
-fn stored_if(fits: bool) -> Reply
+fn stored_if<'a>(fits: bool) -> Reply<'a>
     ensures { result ≡ (if fits then Stored else Refused NO_ROOM) }
 {
     if fits {
@@ -355,7 +364,7 @@ fn stored_if(fits: bool) -> Reply
 }
 
 /// Returns the reply to an arithmetic command, by whether the quotas allow it.
-fn number_if(fits: bool, number: u64) -> Reply
+fn number_if<'a>(fits: bool, number: u64) -> Reply<'a>
     ensures { result ≡ (if fits then Number number else Refused NO_ROOM) }
 {
     if fits {

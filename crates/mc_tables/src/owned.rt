@@ -17,8 +17,7 @@ use crate::metered::Metered;
 use crate::storage::{Change, Found, Storage, StorageFor};
 use indexmap::IndexMap;
 use itoa::Buffer;
-use mc_fragments::Fragments;
-use mc_model::{Data, Fault, Item, Key, Limits, Value};
+use mc_model::{Data, Fault, Fragments, Item, Key, Limits, Value};
 use std::alloc::Global;
 
 /// Items in memory of their own, each with a place among them, in a hash map with a keyed hash.
@@ -275,18 +274,6 @@ impl Storage for Owned {
         }
     }
 
-    fn show(&self, key: &Key, uniques: bool) -> Result<Option<Value>, Fault> {
-        let Some(item) = self.item(key) else {
-            return Ok(None);
-        };
-        Ok(Some(Value {
-            key: key.try_clone()?,
-            flags: item.flags,
-            block: item.block.try_clone()?,
-            unique: if uniques { Some(item.unique) } else { None },
-        }))
-    }
-
     fn remove(&mut self, key: &Key) {
         self.held.swap_remove(key.as_bytes());
     }
@@ -297,6 +284,18 @@ impl Storage for Owned {
 }
 
 impl<'a> StorageFor<'a> for Owned {
+    fn show(&mut self, key: &Key, uniques: bool) -> Result<Option<Value<'a>>, Fault> {
+        let Some(item) = self.item(key) else {
+            return Ok(None);
+        };
+        Ok(Some(Value {
+            key: key.try_clone()?,
+            flags: item.flags,
+            block: Fragments::from_data(self.alloc, item.block.try_clone()?)?,
+            unique: if uniques { Some(item.unique) } else { None },
+        }))
+    }
+
     fn change(&mut self, key: &'a Key, change: &Change<'a>, unique: u64) -> Result<(), Fault> {
         match change {
             Change::Put(flags, block) => {

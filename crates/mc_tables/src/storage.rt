@@ -45,11 +45,6 @@ pub trait Storage: Drop {
     fn number(&self, key: &Key) -> Option<u64>
         ensures { result ≡ number_under (map.get (table self.now) key.now) };
 
-    /// Returns what a retrieval shows of a key. Returns `Memory` if an allocation fails.
-    fn show(&self, key: &Key, uniques: bool) -> Result<Option<Value>, Fault>
-        ensures shown { IfOk result (λ shown. shown ≡ shown_at (table self.now) uniques key.now) }
-        ensures memory { IsOkUnless result Fault.Memory };
-
     /// Removes a key, if it is held. Allocates nothing.
     fn remove(&mut self, key: &Key)
         ensures { table self.new ≡ map.remove (table self.old) key.now };
@@ -61,6 +56,14 @@ pub trait Storage: Drop {
 
 /// A storage that can hold parts of commands that live for `'a`.
 pub trait StorageFor<'a>: Storage {
+    /// Returns what a retrieval shows of a key. Data that live for `'a` are borrowed, and data in
+    /// several fragments are joined where they are kept: later calls copy none of them. Returns
+    /// `Memory` if an allocation fails. The table stays the same either way.
+    fn show(&mut self, key: &Key, uniques: bool) -> Result<Option<Value<'a>>, Fault>
+        ensures shown { IfOk result (λ shown. shown ≡ shown_at (Self.table self.old) uniques key.now) }
+        ensures memory { IsOkUnless result Fault.Memory }
+        ensures unchanged { Self.table self.new ≡ Self.table self.old };
+
     /// Changes what a key holds, and gives it this unique. Returns `Memory` if an allocation fails;
     /// nothing changes then.
     fn change(&mut self, key: &'a Key, change: &Change<'a>, unique: u64) -> Result<(), Fault>

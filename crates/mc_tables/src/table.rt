@@ -19,7 +19,7 @@ pub trait Table<'a>: Drop {
     /// Carries out a command on the table and returns the reply. Returns `Memory` if an allocation
     /// fails; the table is unchanged then. A command that is refused never fails so, nor does a
     /// delete, a flush or one that sets quotas.
-    fn apply(&mut self, command: &'a Command) -> Result<Reply, Fault>
+    fn apply(&mut self, command: &'a Command) -> Result<Reply<'a>, Fault>
         requires { (state self.old).last_unique < 2 ^ 64 - 1 }
 
         // What the definitions say of this command on this table.
@@ -83,7 +83,7 @@ pub trait Table<'a>: Drop {
 impl<'a, S: StorageFor<'a>> Table<'a> for Metered<S> {
     ghost state = { λ table. table };
 
-    fn apply(&mut self, command: &'a Command) -> Result<Reply, Fault> {
+    fn apply(&mut self, command: &'a Command) -> Result<Reply<'a>, Fault> {
         match command {
             Command::Store {
                 verb,

@@ -4,7 +4,9 @@ use crate::hashing::{HashKeys, Hashing};
 use crate::layered::CellItems;
 use crate::owned::OwnedItems;
 use crate::table::Table;
-use mc_model::{Command, Data, Fault, Key, KeyList, Limits, Reply, Value, ValueList, Verb};
+use mc_model::{
+    Command, Data, Fault, Fragments, Key, KeyList, Limits, Reply, Value, ValueList, Verb,
+};
 use std::alloc::Global;
 use std::hash::{BuildHasher, Hasher};
 use std::io;
@@ -74,9 +76,9 @@ fn gets(alloc: Global) -> Result<Command, Fault> {
 }
 
 /// Returns what a `gets` shows after the commands of `joining`.
-fn shown(alloc: Global) -> Result<Reply, Fault> {
+fn shown(alloc: Global) -> Result<Reply<'static>, Fault> {
     let key = key_of(alloc, "n")?;
-    let block = block_of(alloc, "215ab")?;
+    let block = Fragments::from_data(alloc, block_of(alloc, "215ab")?)?;
     let mut values = Vec::new(alloc);
     values.push(Value {
         key,
@@ -99,7 +101,7 @@ fn joining(alloc: Global) -> Result<Vec<Command>, Fault> {
     Ok(commands)
 }
 
-fn answer<'a, T: Table<'a>>(table: &mut T, command: &'a Command) -> Result<Reply, Fault> {
+fn answer<'a, T: Table<'a>>(table: &mut T, command: &'a Command) -> Result<Reply<'a>, Fault> {
     if table.last_unique() == u64::MAX {
         return Err(Fault::BadEvent);
     }
@@ -128,7 +130,7 @@ fn copied<'a>(
 fn answers_over<'a>(
     below: &'a OwnedItems,
     command: &'a Command,
-    want: &Reply,
+    want: &Reply<'_>,
 ) -> Result<bool, Fault> {
     let mut items = CellItems::over(below)?;
     let reply = answer(&mut items, command)?;

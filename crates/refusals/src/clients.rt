@@ -49,7 +49,7 @@ impl<'a> Client<'a> {
     }
 
     /// Submits for the first tenant, if there is one.
-    pub(crate) fn submit(&mut self, command: Command) -> Result<Answer, Fault>
+    pub(crate) fn submit(&mut self, command: Command) -> Result<Answer<'a>, Fault>
         ensures { self.new.log ≡ self.old.log }
     {
         // A local enum that its block drops is proved variant by variant, on each way out.

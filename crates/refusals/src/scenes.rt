@@ -17,7 +17,7 @@ use uc_worker::{Answer, Base, Next, Worker, turn_over_alone};
 /// Room for the text of each reply, so that printing one needs no memory.
 const TEXT: usize = 256;
 
-fn print_reply<R: Print>(rt: &R, reply: &Reply, text: &mut Vec<u8>) -> Result<(), Fault> {
+fn print_reply<R: Print>(rt: &R, reply: &Reply<'_>, text: &mut Vec<u8>) -> Result<(), Fault> {
     text.clear();
     write_reply(reply, text)?;
     let _ = println!(rt; "{}", str::from_utf8(text).unwrap_or("no text"));
@@ -26,7 +26,7 @@ fn print_reply<R: Print>(rt: &R, reply: &Reply, text: &mut Vec<u8>) -> Result<()
 
 fn print_answer<R: Print>(
     rt: &R,
-    answer: Result<Answer, Fault>,
+    answer: Result<Answer<'_>, Fault>,
     text: &mut Vec<u8>,
 ) -> Result<(), Fault> {
     match answer {

@@ -38,7 +38,7 @@ impl<'a> Worker<'a> {
     /// and returns the reply to that command.
     ///
     /// Returns `Memory` if memory runs out; some of it may be replayed then.
-    pub(crate) fn reply_last<G: Gate>(&mut self, gate: &mut G) -> Result<Reply, Fault>
+    pub(crate) fn reply_last<G: Gate>(&mut self, gate: &mut G) -> Result<Reply<'a>, Fault>
         requires behind { length (history_of self.old) < length (learned self.old.pass) }
         requires last { slice_get (learned self.old.pass) (length (learned self.old.pass) - 1)
             ≡ Some (last_entry self.old.pass).ticket }

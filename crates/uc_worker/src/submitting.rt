@@ -47,7 +47,7 @@ impl<'a> Worker<'a> {
         tenant: TenantId,
         command: Command,
         gate: &mut G,
-    ) -> Result<Answer, Fault>
+    ) -> Result<Answer<'a>, Fault>
         requires all { IsUpToDate self.old }
         requires idle { (seat_of self.old).state.phase ≡ phase.Idle }
         requires tenant { tenant < length (openings_of self.old) }
@@ -85,7 +85,7 @@ impl<'a> Worker<'a> {
         tenant: TenantId,
         command: Command,
         gate: &mut G,
-    ) -> Result<Answer, Fault>
+    ) -> Result<Answer<'a>, Fault>
         requires { tenant < length (tenants_of self.old) }
         // Whatever comes of it, it is the same worker later on.
         ensures continues { Continues self.old self.new }

@@ -28,10 +28,10 @@ pub struct Worker<'a> {
 
 /// The answer to a command.
 #[derive(Debug, PartialEq, Eq, Drop)]
-pub struct Answer {
+pub struct Answer<'a> {
     /// The place of the log where the command stands.
     pub place: usize,
-    pub reply: Reply,
+    pub reply: Reply<'a>,
     /// How many proposals were made for it: at most one more than there are workers.
     pub proposals: u64,
 }

@@ -40,10 +40,10 @@ const TEXTS: [&str; 24] = [
 
 /// A command that was submitted, and its answer.
 #[derive(Drop)]
-pub(crate) struct Asked {
+pub(crate) struct Asked<'a> {
     pub(crate) tenant: u8,
     pub(crate) text: String,
-    pub(crate) answer: Answer,
+    pub(crate) answer: Answer<'a>,
 }
 
 /// Returns a number that looks random, and is the same in each run.
@@ -67,13 +67,13 @@ fn text_of(alloc: Global, text: &str, unique: u64) -> Result<String, Fault> {
     })
 }
 
-fn ask_next<G: Gate>(
+fn ask_next<'a, G: Gate>(
     alloc: Global,
-    client: &mut Client<'_>,
+    client: &mut Client<'a>,
     number: u64,
     unique: u64,
     gate: &mut G,
-) -> Result<Asked, Fault>
+) -> Result<Asked<'a>, Fault>
     ensures { client.new.log ≡ client.old.log }
 {
     let (tenant, text) = chosen(client.number(), number);
@@ -87,7 +87,7 @@ fn ask_next<G: Gate>(
 }
 
 /// Returns the unique that the reply shows first, if it shows one.
-fn shown_unique(reply: &Reply) -> Option<u64> {
+fn shown_unique(reply: &Reply<'_>) -> Option<u64> {
     match reply {
         Reply::Values(values) => values.as_slice().first()?.unique,
         _ => None,
@@ -95,12 +95,12 @@ fn shown_unique(reply: &Reply) -> Option<u64> {
 }
 
 /// Submits this many commands, one after another.
-pub(crate) fn ask_all<G: Gate>(
+pub(crate) fn ask_all<'a, G: Gate>(
     alloc: Global,
-    client: &mut Client<'_>,
+    client: &mut Client<'a>,
     count: u64,
     gate: &mut G,
-) -> Result<Vec<Asked>, Fault>
+) -> Result<Vec<Asked<'a>>, Fault>
     ensures { client.new.log ≡ client.old.log }
 {
     let mut all = Vec::new(alloc);

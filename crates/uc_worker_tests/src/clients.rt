@@ -51,7 +51,7 @@ impl<'a> Client<'a> {
         tenant: u8,
         command: Command,
         gate: &mut G,
-    ) -> Result<Answer, Fault>
+    ) -> Result<Answer<'a>, Fault>
         ensures { self.new.log ≡ self.old.log }
     {
         // A local enum that its block drops is proved variant by variant, on each way out.
@@ -73,7 +73,7 @@ impl<'a> Client<'a> {
         tenant: u8,
         text: &str,
         gate: &mut G,
-    ) -> Result<Answer, Fault>
+    ) -> Result<Answer<'a>, Fault>
         ensures { self.new.log ≡ self.old.log }
     {
         let command = command_of(alloc, text)?;
@@ -137,7 +137,7 @@ impl<'a> Client<'a> {
 }
 
 /// Returns whether the answer's reply is read as this text.
-pub(crate) fn is_said(alloc: Global, answer: Answer, want: &str) -> Result<bool, Fault> {
+pub(crate) fn is_said(alloc: Global, answer: Answer<'_>, want: &str) -> Result<bool, Fault> {
     let said = reads_as(alloc, &answer.reply, want);
     drop(answer);
     said
@@ -146,7 +146,7 @@ pub(crate) fn is_said(alloc: Global, answer: Answer, want: &str) -> Result<bool,
 /// Returns whether the answer has this place, and its reply is read as this text.
 pub(crate) fn is_answer(
     alloc: Global,
-    answer: Answer,
+    answer: Answer<'_>,
     place: usize,
     want: &str,
 ) -> Result<bool, Fault> {

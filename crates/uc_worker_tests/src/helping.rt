@@ -33,7 +33,12 @@ fn announce(log: &Log, alloc: Global, pass: &mut Pass, text: &str) -> Result<(),
 
 /// Returns the second worker's answer to a get, after the first has announced a set and done
 /// nothing else.
-fn get_beside(alloc: Global, log: &Log, mut first: Pass, second: Pass) -> Result<Answer, Fault>
+fn get_beside<'a>(
+    alloc: Global,
+    log: &'a Log,
+    mut first: Pass,
+    second: Pass,
+) -> Result<Answer<'a>, Fault>
     requires one { IsUnusedPass log.now first }
     requires two { IsUnusedPass log.now second }
 {
@@ -159,7 +164,11 @@ struct Flags {
 
 /// Has worker 0 begin once the other has looked, and holds it after its first read until the other
 /// has ended.
-fn helped(alloc: Global, client: &mut Client<'_>, flags: &Flags) -> Result<Answer, Fault>
+fn helped<'a>(
+    alloc: Global,
+    client: &mut Client<'a>,
+    flags: &Flags,
+) -> Result<Answer<'a>, Fault>
     ensures { client.new.log ≡ client.old.log }
 {
     if !comes(&flags.looked) {
@@ -174,7 +183,7 @@ fn helped(alloc: Global, client: &mut Client<'_>, flags: &Flags) -> Result<Answe
     answer
 }
 
-fn place_of(answer: Answer) -> usize {
+fn place_of(answer: Answer<'_>) -> usize {
     let place = answer.place;
     drop(answer);
     place
@@ -182,7 +191,11 @@ fn place_of(answer: Answer) -> usize {
 
 /// Holds worker 1 after it has first looked, until the other has read; then worker 1 finishes its
 /// three commands.
-fn helping(alloc: Global, client: &mut Client<'_>, flags: &Flags) -> Result<Answer, Fault>
+fn helping<'a>(
+    alloc: Global,
+    client: &mut Client<'a>,
+    flags: &Flags,
+) -> Result<Answer<'a>, Fault>
     ensures { client.new.log ≡ client.old.log }
 {
     let mut gate = Held::after(Step::Look, &flags.looked, &flags.read);
@@ -204,22 +217,22 @@ fn both_ended<'a, R: Threads + Sync>(
     second: Client<'a>,
     flags: &Flags,
 ) -> (
-    (Client<'a>, Result<Answer, Fault>),
-    (Client<'a>, Result<Answer, Fault>),
+    (Client<'a>, Result<Answer<'a>, Fault>),
+    (Client<'a>, Result<Answer<'a>, Fault>),
 )
     ensures one { result.0.0.log ≡ first.entry.log }
     ensures two { result.1.0.log ≡ second.entry.log }
 {
     thread::join(
         rt,
-        move || -> (Client<'_>, Result<Answer, Fault>)
+        move || -> (Client<'_>, Result<Answer<'_>, Fault>)
             ensures { result.0.log ≡ first.entry.log }
         {
             let mut first = first;
             let answer = helped(alloc, &mut first, flags);
             (first, answer)
         },
-        move || -> (Client<'_>, Result<Answer, Fault>)
+        move || -> (Client<'_>, Result<Answer<'_>, Fault>)
             ensures { result.0.log ≡ second.entry.log }
         {
             let mut second = second;
@@ -241,7 +254,7 @@ fn have_met<'a>(first: &mut Client<'a>, second: &mut Client<'a>) -> Result<bool,
 /// as this text.
 fn is_proposed(
     alloc: Global,
-    answer: Result<Answer, Fault>,
+    answer: Result<Answer<'_>, Fault>,
     proposals: u64,
     place: usize,
     want: &str,

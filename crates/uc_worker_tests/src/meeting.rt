@@ -11,7 +11,7 @@ use uc_log::Log;
 #[derive(Drop)]
 pub(crate) struct Ended<'a> {
     pub(crate) client: Client<'a>,
-    pub(crate) asked: Result<Vec<Asked>, Fault>,
+    pub(crate) asked: Result<Vec<Asked<'a>>, Fault>,
 }
 
 /// Has the one meet the other.

@@ -11,7 +11,7 @@ use mc_model::{Command, Entry, Fault, Key, Limits, Reply, TenantId, Ticket};
 use std::alloc::Global;
 use uc_cells::Seen;
 
-fn applied(items: &mut Items, command: &Command) -> Result<Reply, Fault> {
+fn applied<'a>(items: &mut Items, command: &'a Command) -> Result<Reply<'a>, Fault> {
     if items.last_unique() == u64::MAX {
         return Err(Fault::BadEvent);
     }
@@ -19,7 +19,7 @@ fn applied(items: &mut Items, command: &Command) -> Result<Reply, Fault> {
 }
 
 /// Returns the reply to the entry on its tenant's table.
-fn reply_to(tables: &mut [Items], entry: &Entry) -> Result<Reply, Fault> {
+fn reply_to<'a>(tables: &mut [Items], entry: &'a Entry) -> Result<Reply<'a>, Fault> {
     match tables.get_mut(usize::from(entry.tenant.number())) {
         Some(items) => applied(items, &entry.command),
         None => Err(Fault::BadEvent),
@@ -29,10 +29,10 @@ fn reply_to(tables: &mut [Items], entry: &Entry) -> Result<Reply, Fault> {
 /// Returns whether the entry is what was asked for, and this is the answer to it.
 fn is_answer_to(
     alloc: Global,
-    asked: &Asked,
+    asked: &Asked<'_>,
     entry: &Entry,
     place: usize,
-    reply: &Reply,
+    reply: &Reply<'_>,
 ) -> Result<bool, Fault> {
     let command = command_of(alloc, asked.text.as_str())?;
     let is_command = entry.command == command;
@@ -46,7 +46,7 @@ fn is_answer_to(
 }
 
 /// Returns what the ticket's worker asked for under its number.
-fn asked_under<'e>(ended: &'e [Ended<'_>], ticket: Ticket) -> Option<&'e Asked> {
+fn asked_under<'e, 'a>(ended: &'e [Ended<'a>], ticket: Ticket) -> Option<&'e Asked<'a>> {
     let Ticket { worker, number } = ticket;
     let asked = ended
         .get(usize::from(worker.number()))?

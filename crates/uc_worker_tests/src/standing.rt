@@ -66,12 +66,12 @@ impl<'f> Gate for Stop<'f> {
 }
 
 /// Has worker 0 alone finish some commands, and stop in the next.
-fn stand_still(
+fn stand_still<'a>(
     alloc: Global,
-    client: &mut Client<'_>,
+    client: &mut Client<'a>,
     step: Step,
     flags: &Flags,
-) -> Result<Vec<Asked>, Fault>
+) -> Result<Vec<Asked<'a>>, Fault>
     ensures { client.new.log ≡ client.old.log }
 {
     let mut gate = Stop {
@@ -90,7 +90,11 @@ fn stand_still(
 }
 
 /// Has another worker begin once worker 0 is held, and finish its commands.
-fn go_on(alloc: Global, client: &mut Client<'_>, flags: &Flags) -> Result<Vec<Asked>, Fault>
+fn go_on<'a>(
+    alloc: Global,
+    client: &mut Client<'a>,
+    flags: &Flags,
+) -> Result<Vec<Asked<'a>>, Fault>
     ensures { client.new.log ≡ client.old.log }
 {
     if !comes(&flags.stands) {

@@ -25,7 +25,7 @@ pub(crate) fn command_of(alloc: Global, text: &str) -> Result<Command, Fault> {
 }
 
 /// Returns whether a client reads this text for the reply.
-pub(crate) fn reads_as(alloc: Global, reply: &Reply, want: &str) -> Result<bool, Fault> {
+pub(crate) fn reads_as(alloc: Global, reply: &Reply<'_>, want: &str) -> Result<bool, Fault> {
     let mut text = Vec::new(alloc);
     write_reply(reply, &mut text)?;
     Ok(text.as_slice() == want.as_bytes())

@@ -1,9 +1,9 @@
-use Rattle.std.proofs.Common.{◌≡◌, ◌+◌, ◌≤◌, ◌||◌, Bool, true, false, drop, get_or, length, Option, ℕ, ap, sym, ◌∙◌, arith, rules}
+use Rattle.std.proofs.Common.{◌≡◌, ◌+◌, ◌≤◌, ◌||◌, true, false, drop, length, Option, ℕ, ap, sym, ◌∙◌, arith, rules}
 use Rattle.std.proofs.lemmas.List.{drop_all}
 use Rattle.mc_tables.specs.Copies.{is_hidden}
 use Rattle.mc_tables.specs.Entries.{is_marked}
 use Rattle.mc_tables.specs.Layers.{owned_table}
-use Rattle.mc_tables.proofs.Copying.{IsCopyingLeft, all_copied_left, is_gone_from, none_copied_left, one_copied_left, one_gone}
+use Rattle.mc_tables.proofs.Copying.{all_copied_left, is_gone_from, none_copied_left, one_copied_left, one_gone}
 use Rattle.mc_tables.proofs.copied.copy_left.Goals as goal
 use Rattle.mc_tables.proofs.copied.copy_left.Goals.{then-not-is_gone+in_ok-put_copy, else-not-is_gone}
 

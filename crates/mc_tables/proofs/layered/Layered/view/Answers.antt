@@ -1,7 +1,6 @@
-use Rattle.std.proofs.Common.{◌≡◌, ℕ, List, Some, None, sym, ap, ◌∙◌}
-use Rattle.std.specs.FinMap as map
+use Rattle.std.proofs.Common.{◌≡◌, ℕ, List, None, sym, ap, ◌∙◌}
 use Rattle.std.specs.Option.{option_copied}
-use Rattle.mc_tables.specs.Entries.{item_of_cell, laid_over, text_of_slice}
+use Rattle.mc_tables.specs.Entries.{item_of_cell, text_of_slice}
 use Rattle.mc_tables.specs.Layers.{below}
 use Rattle.mc_tables.proofs.Layering.{held_over, held_under, entry_at}
 use Rattle.mc_tables.proofs.layered.Layered.view.Goals as goal

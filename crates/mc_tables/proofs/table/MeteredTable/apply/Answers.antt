@@ -8,7 +8,7 @@ pub returns-in-Cas-clause-stands : goal.returns-in-Cas-clause-stands
 returns-in-Cas-clause-stands g c = rw c.in-Cas.is (OnOk-StandsForMore c.check_and_set.result _ c.args.self.now c.check_and_set.new.self c.check_and_set.ensures.state)
 
 pub returns-in-Get-clause-stands : goal.returns-in-Get-clause-stands
-returns-in-Get-clause-stands g c = rw c.in-Get.is (OnOk-StandsForMore-get c.retrieve.result c.args.self.now _ _)
+returns-in-Get-clause-stands g c = rw c.in-Get.is (OnOk-StandsForMore-get c.retrieve.result c.args.self.now c.retrieve.new.self _ _ c.retrieve.ensures.unchanged)
 
 pub returns-in-Delete-clause-stands : goal.returns-in-Delete-clause-stands
 returns-in-Delete-clause-stands g c = rw c.in-Delete.is (StandsForMore-next _ c.args.self.now c.delete.new.self c.delete.ensures.state)
