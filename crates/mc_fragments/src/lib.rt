@@ -6,5 +6,3 @@ pub use fragments::Fragments;
 
 pub mod digits;
 pub mod fragments;
-#[cfg(test)]
-mod tests;

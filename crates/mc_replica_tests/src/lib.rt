@@ -9,6 +9,8 @@ mod agreeing;
 #[cfg(test)]
 mod bad_lines;
 #[cfg(test)]
+mod counts;
+#[cfg(test)]
 mod event_lists;
 #[cfg(test)]
 mod events;
@@ -32,6 +34,8 @@ mod rows;
 mod states;
 #[cfg(test)]
 mod streams;
+#[cfg(test)]
+mod tables;
 #[cfg(test)]
 mod text;
 #[cfg(test)]

@@ -19,7 +19,5 @@ pub mod metered;
 pub mod owned;
 pub mod storage;
 pub mod table;
-#[cfg(test)]
-mod tests;
 pub mod view;
 mod weights;
