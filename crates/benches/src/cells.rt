@@ -1,6 +1,8 @@
 //! The cells: a put of an entry and four sightings of it, compared with a push of an entry to a
 //! plain vector and four reads of it. Of each pass it prints how often an entry was seen and read,
 //! and if timed the nanoseconds of an entry.
+ghost use Rattle.uc_cells.specs.Cells.{HasCell};
+
 use crate::figures::{Decimal, nanoseconds_of, print_figure};
 use mc_model::{Command, Entry, Key, KeyList, TenantId, Ticket, WorkerId};
 use std::alloc::{AllocError, Global};
@@ -44,21 +46,35 @@ fn entries(alloc: Global) -> Option<Vec<Entry>> {
     Some(made)
 }
 
+/// Returns how often an entry is seen in the ticket's cell, of `READS` times.
+fn see_often(alloc: Global, cells: &Cells, ticket: Ticket) -> Option<u64>
+    requires { HasCell cells.now ticket }
+{
+    let Ticket { worker, number } = ticket;
+    let mut count = 0u64;
+    for _ in 0..READS {
+        let seen = cells.see(alloc, Ticket { worker, number }).ok()?;
+        count = count.saturating_add(u64::from(seen.entry().is_some()));
+    }
+    Some(count)
+}
+
+/// Puts an entry into its cell, and returns how often it is seen there.
+fn put_and_see_often(alloc: Global, cells: &Cells, entry: Entry) -> Option<u64> {
+    let ticket = entry.ticket;
+    let Ticket { worker, number } = ticket;
+    if worker.number() < cells.workers() && number < cells.places() {
+        cells.put(alloc, entry).ok()?;
+        return see_often(alloc, cells, Ticket { worker, number });
+    }
+    Some(0)
+}
+
 /// Puts each entry into its cell and sees it four times. Returns how many entries were seen.
 fn put_and_see(alloc: Global, cells: &Cells, entries: Vec<Entry>) -> Option<u64> {
     let mut count = 0u64;
     for entry in entries {
-        let ticket = entry.ticket;
-        let Ticket { worker, number } = ticket;
-        if worker.number() < cells.workers() && number < cells.places() {
-            cells.put(alloc, entry).ok()?;
-            for _ in 0..READS {
-                let seen = cells.see(alloc, Ticket { worker, number }).ok()?;
-                if seen.entry().is_some() {
-                    count = count.saturating_add(1);
-                }
-            }
-        }
+        count = count.saturating_add(put_and_see_often(alloc, cells, entry)?);
     }
     Some(count)
 }

@@ -16,7 +16,8 @@ pub(crate) fn print_figure(
 
 /// Returns the nanoseconds of a time, or the most that there can be.
 pub(crate) fn nanoseconds_of(time: Duration) -> u64 {
-    u64::try_from(time.as_nanos()).unwrap_or(u64::MAX)
+    let seconds = time.as_secs().saturating_mul(1_000_000_000);
+    seconds.saturating_add(u64::from(time.subsec_nanos()))
 }
 
 /// A number with three decimals.

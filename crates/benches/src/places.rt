@@ -103,17 +103,13 @@ impl Each {
         sum
     }
 
-    /// Returns the sums of both, kind by kind.
-    fn plus(&self, other: &Each) -> Each {
-        Each {
-            announce: self.announce.saturating_add(other.announce),
-            find: self.find.saturating_add(other.find),
-            miss: self.miss.saturating_add(other.miss),
-            look: self.look.saturating_add(other.look),
-            propose: self.propose.saturating_add(other.propose),
-            nothing: self.nothing.saturating_add(other.nothing),
-            stopped: self.stopped.saturating_add(other.stopped),
+    /// Adds the other's numbers, kind by kind.
+    fn add_all(&mut self, other: &Each) {
+        for (_, kind) in STEPS {
+            self.add(kind, other.of(kind));
         }
+        self.add(Kind::Nothing, other.nothing);
+        self.add(Kind::Stopped, other.stopped);
     }
 }
 
@@ -294,8 +290,8 @@ fn run_threads<R: Threads + Clock + Sync>(
         step_nanoseconds: Each::default(),
     };
     for (steps, nanoseconds) in &worked {
-        run.steps = run.steps.plus(steps);
-        run.step_nanoseconds = run.step_nanoseconds.plus(nanoseconds);
+        run.steps.add_all(steps);
+        run.step_nanoseconds.add_all(nanoseconds);
     }
     Ok(run)
 }

@@ -161,26 +161,59 @@ fn command_of(alloc: Global, text: &str) -> Result<Command, Fault> {
     }
 }
 
-/// What the steps of a submit are called, in the order of `Step`.
-const STEPS: [&str; 5] = ["announce", "read", "look", "propose", "replay"];
+/// The steps of a submit, and what they are called.
+const STEPS: [(&str, Step); 5] = [
+    ("announce", Step::Announce),
+    ("read", Step::Read),
+    ("look", Step::Look),
+    ("propose", Step::Propose),
+    ("replay", Step::Replay),
+];
 
 /// How many steps of each kind a worker took.
 #[derive(Clone, Copy, Default)]
-struct Steps([u64; 5]);
+struct Steps {
+    announce: u64,
+    read: u64,
+    look: u64,
+    propose: u64,
+    replay: u64,
+}
 
 impl Gate for Steps {
     fn at(&mut self, step: Step) {
-        if let Some(count) = self.0.get_mut(step as usize) {
-            *count = count.saturating_add(1);
-        }
+        self.add(step, 1);
     }
 }
 
 impl Steps {
+    /// Adds to the number of a kind.
+    fn add(&mut self, step: Step, more: u64) {
+        let count = match step {
+            Step::Announce => &mut self.announce,
+            Step::Read => &mut self.read,
+            Step::Look => &mut self.look,
+            Step::Propose => &mut self.propose,
+            Step::Replay => &mut self.replay,
+        };
+        *count = count.saturating_add(more);
+    }
+
+    /// Returns the number of a kind.
+    fn of(&self, step: Step) -> u64 {
+        match step {
+            Step::Announce => self.announce,
+            Step::Read => self.read,
+            Step::Look => self.look,
+            Step::Propose => self.propose,
+            Step::Replay => self.replay,
+        }
+    }
+
     /// Adds the steps of another worker.
-    fn add(&mut self, other: Steps) {
-        for (sum, count) in self.0.iter_mut().zip(other.0) {
-            *sum = sum.saturating_add(count);
+    fn add_all(&mut self, other: &Steps) {
+        for (_, step) in STEPS {
+            self.add(step, other.of(step));
         }
     }
 }
@@ -217,17 +250,24 @@ impl Server for () {
     }
 }
 
+/// Applies a command to its tenant's table, and returns whether it stored.
+fn stores(tables: &mut [Items], ask: &Ask) -> Result<bool, Fault> {
+    let place = usize::from(ask.tenant.number());
+    match tables.get_mut(place) {
+        Some(table) if table.last_unique() < u64::MAX => {
+            Ok(table.apply(&ask.command)? == Reply::Stored)
+        }
+        Some(_) => Err(Fault::LogFull),
+        None => Err(Fault::BadSettings),
+    }
+}
+
 /// Tables without a log. The memory of a command is leaked, as a log keeps it.
 impl Server for Vec<Items> {
     fn serve(&mut self, ask: Ask, _steps: &mut Steps) -> Result<(bool, u64), Fault> {
-        let place = usize::from(ask.tenant.number());
-        let table = self.get_mut(place).ok_or(Fault::BadSettings)?;
-        if table.last_unique() == u64::MAX {
-            return Err(Fault::LogFull);
-        }
-        let stored = table.apply(&ask.command)? == Reply::Stored;
+        let stored = stores(self, &ask);
         mem::forget(ask);
-        Ok((stored, 0))
+        Ok((stored?, 0))
     }
 }
 
@@ -372,12 +412,12 @@ fn print_submits(rt: &impl Print, works: &[Work]) -> io::Result<()> {
         start = start.min(work.times[0]);
         end = end.max(work.times[PARTS]);
         most = most.max(work.most);
-        steps.add(work.steps);
+        steps.add_all(&work.steps);
     }
     let each = Decimal::quotient(end.saturating_sub(start), answered);
     print_figure(rt, "a submit", each, "ns")?;
-    for (name, count) in STEPS.iter().zip(steps.0) {
-        let each = Decimal::quotient(count, answered);
+    for (name, step) in STEPS {
+        let each = Decimal::quotient(steps.of(step), answered);
         print_figure(rt, format_args!("{name} of a submit"), each, "steps")?;
     }
     print_figure(rt, "most proposals for a command", most, "proposals")

@@ -3,7 +3,5 @@
 #![tactic(auto)]
 
 mod fair_places;
-#[cfg(test)]
-mod tests;
 
 pub use fair_places::FairPlaces;

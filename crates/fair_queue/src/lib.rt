@@ -9,7 +9,5 @@
 mod fair_queue;
 mod flow;
 pub mod laws;
-#[cfg(test)]
-mod tests;
 
 pub use fair_queue::{FairQueue, Ready};

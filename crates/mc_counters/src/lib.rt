@@ -10,5 +10,3 @@ pub use tally::Tally;
 pub mod board;
 pub mod kinds;
 pub mod tally;
-#[cfg(test)]
-mod tests;

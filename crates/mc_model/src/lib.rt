@@ -34,6 +34,4 @@ pub mod request;
 pub mod settings;
 pub mod shown;
 pub mod sink;
-#[cfg(test)]
-mod tests;
 mod unread;

@@ -10,6 +10,8 @@ mod apart;
 #[cfg(test)]
 mod clients;
 #[cfg(test)]
+mod flows;
+#[cfg(test)]
 mod holding;
 #[cfg(test)]
 mod house;
@@ -19,6 +21,8 @@ mod leaving;
 mod logs;
 #[cfg(test)]
 mod pairing;
+#[cfg(test)]
+mod reserves;
 #[cfg(test)]
 mod signals;
 #[cfg(test)]

@@ -40,32 +40,28 @@ fn commands_of_no_form(rt: HostRuntime) {
     assert_bad_lines(&rt, rt.alloc(), "submit 0 0 ", commands);
 }
 
-#[test]
-fn lines_out_of_their_places(rt: HostRuntime) {
-    let alloc = rt.alloc();
-    assert_bad(&rt, alloc, "core 1 4\ntenant 4 100\njump 0\n", 3);
-    assert_bad(&rt, alloc, "tenant 4 100\ncore 1 4\n", 1);
-    assert_bad(&rt, alloc, "#\n\nread 0\n", 3);
-    assert_bad(&rt, alloc, "core 1 4\nread 0\n", 2);
-    assert_bad(&rt, alloc, "core 1 4\ncore 1 4\ntenant 4 100\n", 2);
-    assert_bad(
-        &rt,
-        alloc,
-        "core 1 4\ntenant 4 100\nread 0\ntenant 4 100\n",
-        4,
-    );
-    assert_bad(&rt, alloc, "core 1 4\ntenant 4 100\nread 0\ncore 1 4\n", 4);
-    assert_bad(&rt, alloc, "core 1 18446744073709551616\n", 1);
-}
+/// Lists, and at which line each is bad: lines out of their places, and lists without tenants.
+const BAD: [(&str, u64); 13] = [
+    ("core 1 4\ntenant 4 100\njump 0\n", 3),
+    ("tenant 4 100\ncore 1 4\n", 1),
+    ("#\n\nread 0\n", 3),
+    ("core 1 4\nread 0\n", 2),
+    ("core 1 4\ncore 1 4\ntenant 4 100\n", 2),
+    ("core 1 4\ntenant 4 100\nread 0\ntenant 4 100\n", 4),
+    ("core 1 4\ntenant 4 100\nread 0\ncore 1 4\n", 4),
+    ("core 1 18446744073709551616\n", 1),
+    ("", 0),
+    ("\n\n", 0),
+    ("# core 1 4\n", 0),
+    ("core 1 4", 0),
+    ("core 99 0\n\n#\n", 0),
+];
 
 #[test]
-fn lists_without_tenants(rt: HostRuntime) {
-    let alloc = rt.alloc();
-    assert_bad(&rt, alloc, "", 0);
-    assert_bad(&rt, alloc, "\n\n", 0);
-    assert_bad(&rt, alloc, "# core 1 4\n", 0);
-    assert_bad(&rt, alloc, "core 1 4", 0);
-    assert_bad(&rt, alloc, "core 99 0\n\n#\n", 0);
+fn lines_out_of_their_places(rt: HostRuntime) {
+    for (text, line) in BAD {
+        assert_bad(&rt, rt.alloc(), text, line);
+    }
 }
 
 /// Returns a list of `count` tenants.

@@ -181,45 +181,179 @@ fn set_then_get(rt: HostRuntime) {
     assert!(rt; is_one(rt.alloc(), &items) == Ok(true));
 }
 
-#[test]
-fn keys_in_the_order_asked(rt: HostRuntime) {
-    const ROWS: [Row; 4] = [
-        ("set a 0 0 1\r\nx\r\n", "STORED\r\n"),
-        ("set b 0 0 1\r\ny\r\n", "STORED\r\n"),
-        ("set a 0 0 1\r\nz\r\n", "STORED\r\n"),
-        (
-            "gets b c a a\r\n",
-            "VALUE b 0 1 2\r\ny\r\nVALUE a 0 1 3\r\nz\r\nVALUE a 0 1 3\r\nz\r\nEND\r\n",
-        ),
-    ];
-    assert_answers(&rt, rt.alloc(), &ROWS);
+/// A run of one table: each command in turn, with its reply.
+#[derive(Clone, Copy)]
+struct Run {
+    name: &'static str,
+    quotas: Limits,
+    rows: &'static [Row],
+    /// How many bytes and items there are in the end, if that is checked.
+    left: Option<(u64, u64)>,
+}
+
+const RUNS: [Run; 9] = [
+    Run {
+        name: "keys in the order asked",
+        quotas: QUOTAS,
+        rows: &[
+            ("set a 0 0 1\r\nx\r\n", "STORED\r\n"),
+            ("set b 0 0 1\r\ny\r\n", "STORED\r\n"),
+            ("set a 0 0 1\r\nz\r\n", "STORED\r\n"),
+            (
+                "gets b c a a\r\n",
+                "VALUE b 0 1 2\r\ny\r\nVALUE a 0 1 3\r\nz\r\nVALUE a 0 1 3\r\nz\r\nEND\r\n",
+            ),
+        ],
+        left: None,
+    },
+    Run {
+        name: "outcomes of cas",
+        quotas: QUOTAS,
+        rows: &[
+            ("set a 0 0 1\r\nx\r\n", "STORED\r\n"),
+            ("cas a 0 0 1 1\r\ny\r\n", "STORED\r\n"),
+            ("cas a 0 0 1 1\r\nz\r\n", "EXISTS\r\n"),
+            ("cas b 0 0 1 1\r\nw\r\n", "NOT_FOUND\r\n"),
+            ("gets a\r\n", "VALUE a 0 1 2\r\ny\r\nEND\r\n"),
+        ],
+        left: None,
+    },
+    Run {
+        name: "arithmetic wraps and stops at zero",
+        quotas: QUOTAS,
+        rows: &[
+            ("set n 7 0 20\r\n18446744073709551615\r\n", "STORED\r\n"),
+            ("incr n 1\r\n", "0\r\n"),
+            ("gets n\r\n", "VALUE n 7 1 2\r\n0\r\nEND\r\n"),
+            ("set n 0 0 1\r\n5\r\n", "STORED\r\n"),
+            ("decr n 9\r\n", "0\r\n"),
+            ("set n 0 0 2\r\n10\r\n", "STORED\r\n"),
+            ("decr n 1\r\n", "9\r\n"),
+            ("gets n\r\n", "VALUE n 0 1 6\r\n9\r\nEND\r\n"),
+        ],
+        left: None,
+    },
+    Run {
+        name: "flush keeps uniques",
+        quotas: QUOTAS,
+        rows: &[
+            ("set a 0 0 1\r\nx\r\n", "STORED\r\n"),
+            ("flush_all\r\n", "OK\r\n"),
+            ("gets a\r\n", "END\r\n"),
+            ("append a 0 0 1\r\ny\r\n", "NOT_STORED\r\n"),
+            ("set a 0 0 1\r\nz\r\n", "STORED\r\n"),
+            ("gets a\r\n", "VALUE a 0 1 2\r\nz\r\nEND\r\n"),
+        ],
+        left: None,
+    },
+    Run {
+        name: "prepend replace add",
+        quotas: QUOTAS,
+        rows: &[
+            ("set p 4 0 2\r\nbc\r\n", "STORED\r\n"),
+            ("prepend p 9 0 1\r\na\r\n", "STORED\r\n"),
+            ("replace q 0 0 1\r\nx\r\n", "NOT_STORED\r\n"),
+            ("add p 0 0 1\r\nx\r\n", "NOT_STORED\r\n"),
+            ("gets p\r\n", "VALUE p 4 3 2\r\nabc\r\nEND\r\n"),
+            ("replace p 1 0 1\r\nx\r\n", "STORED\r\n"),
+            ("add q 2 0 1\r\ny\r\n", "STORED\r\n"),
+            ("gets p\r\n", "VALUE p 1 1 3\r\nx\r\nEND\r\n"),
+            ("gets q\r\n", "VALUE q 2 1 4\r\ny\r\nEND\r\n"),
+        ],
+        left: None,
+    },
+    Run {
+        name: "delete takes out",
+        quotas: QUOTAS,
+        rows: &[
+            ("set a 0 0 1\r\nx\r\n", "STORED\r\n"),
+            ("set e 0 0 0\r\n\r\n", "STORED\r\n"),
+            ("add a 0 0 1\r\ny\r\n", "NOT_STORED\r\n"),
+            ("delete a\r\n", "DELETED\r\n"),
+            ("delete a\r\n", "NOT_FOUND\r\n"),
+            ("gets e a\r\n", "VALUE e 0 0 2\r\n\r\nEND\r\n"),
+            ("set a 0 0 1\r\nz\r\n", "STORED\r\n"),
+            ("gets a\r\n", "VALUE a 0 1 3\r\nz\r\nEND\r\n"),
+        ],
+        left: None,
+    },
+    Run {
+        name: "fragments joined",
+        quotas: QUOTAS,
+        rows: &[
+            ("set n 3 0 1\r\n1\r\n", "STORED\r\n"),
+            ("append n 0 0 1\r\n0\r\n", "STORED\r\n"),
+            ("prepend n 0 0 1\r\n2\r\n", "STORED\r\n"),
+            ("incr n 5\r\n", "215\r\n"),
+            ("append n 0 0 2\r\nab\r\n", "STORED\r\n"),
+            ("gets n\r\n", "VALUE n 3 5 5\r\n215ab\r\nEND\r\n"),
+        ],
+        left: None,
+    },
+    // A key that is held may be stored again even if the count is at its quota.
+    Run {
+        name: "quota of items",
+        quotas: Limits {
+            items: 1,
+            bytes: 100,
+        },
+        rows: &[
+            ("set a 0 0 1\r\nx\r\n", "STORED\r\n"),
+            ("set b 0 0 1\r\ny\r\n", FULL),
+            ("add b 0 0 1\r\ny\r\n", FULL),
+            ("set a 0 0 2\r\nyz\r\n", "STORED\r\n"),
+            ("gets a b\r\n", "VALUE a 0 2 2\r\nyz\r\nEND\r\n"),
+            ("delete a\r\n", "DELETED\r\n"),
+            ("set b 0 0 1\r\ny\r\n", "STORED\r\n"),
+            ("flush_all\r\n", "OK\r\n"),
+            ("add a 0 0 3\r\nxyz\r\n", "STORED\r\n"),
+            ("gets a b\r\n", "VALUE a 0 3 4\r\nxyz\r\nEND\r\n"),
+        ],
+        left: Some((4, 1)),
+    },
+    // Keys and data count, before a change and after it, and a refused change leaves the item and its
+    // unique.
+    Run {
+        name: "quota of bytes",
+        quotas: Limits { items: 3, bytes: 4 },
+        rows: &[
+            ("set n 0 0 3\r\n999\r\n", "STORED\r\n"),
+            ("append n 0 0 1\r\n9\r\n", FULL),
+            ("prepend n 0 0 1\r\n9\r\n", FULL),
+            ("set n 0 0 4\r\n9999\r\n", FULL),
+            ("replace n 0 0 4\r\n9999\r\n", FULL),
+            ("cas n 0 0 4 1\r\n9999\r\n", FULL),
+            ("incr n 1\r\n", FULL),
+            ("set b 0 0 0\r\n\r\n", FULL),
+            ("gets n b\r\n", "VALUE n 0 3 1\r\n999\r\nEND\r\n"),
+            ("decr n 900\r\n", "99\r\n"),
+            ("set b 0 0 0\r\n\r\n", "STORED\r\n"),
+            ("incr n 1\r\n", FULL),
+            ("delete b\r\n", "DELETED\r\n"),
+            ("incr n 1\r\n", "100\r\n"),
+            ("gets n\r\n", "VALUE n 0 3 4\r\n100\r\nEND\r\n"),
+            ("flush_all\r\n", "OK\r\n"),
+            ("set a 0 0 3\r\nxyz\r\n", "STORED\r\n"),
+        ],
+        left: Some((4, 1)),
+    },
+];
+
+/// Returns whether the table is filled like this, if that is checked.
+fn is_left_with(items: &Items, left: Option<(u64, u64)>) -> bool {
+    left.is_none() || left == Some((items.used(), items.count()))
+}
+
+fn assert_run(rt: &impl Abort, alloc: Global, run: Run) {
+    let items = answered(rt, alloc, run.quotas, run.rows);
+    assert!(rt; is_left_with(&items, run.left), "{}", run.name);
 }
 
 #[test]
-fn cas_outcomes(rt: HostRuntime) {
-    const ROWS: [Row; 5] = [
-        ("set a 0 0 1\r\nx\r\n", "STORED\r\n"),
-        ("cas a 0 0 1 1\r\ny\r\n", "STORED\r\n"),
-        ("cas a 0 0 1 1\r\nz\r\n", "EXISTS\r\n"),
-        ("cas b 0 0 1 1\r\nw\r\n", "NOT_FOUND\r\n"),
-        ("gets a\r\n", "VALUE a 0 1 2\r\ny\r\nEND\r\n"),
-    ];
-    assert_answers(&rt, rt.alloc(), &ROWS);
-}
-
-#[test]
-fn arithmetic_wraps_and_stops_at_zero(rt: HostRuntime) {
-    const ROWS: [Row; 8] = [
-        ("set n 7 0 20\r\n18446744073709551615\r\n", "STORED\r\n"),
-        ("incr n 1\r\n", "0\r\n"),
-        ("gets n\r\n", "VALUE n 7 1 2\r\n0\r\nEND\r\n"),
-        ("set n 0 0 1\r\n5\r\n", "STORED\r\n"),
-        ("decr n 9\r\n", "0\r\n"),
-        ("set n 0 0 2\r\n10\r\n", "STORED\r\n"),
-        ("decr n 1\r\n", "9\r\n"),
-        ("gets n\r\n", "VALUE n 0 1 6\r\n9\r\nEND\r\n"),
-    ];
-    assert_answers(&rt, rt.alloc(), &ROWS);
+fn runs_of_one_table(rt: HostRuntime) {
+    for run in RUNS {
+        assert_run(&rt, rt.alloc(), run);
+    }
 }
 
 /// Asserts that an increment of these data is answered like this, and one of a missing item in its
@@ -248,63 +382,6 @@ fn arithmetic_refusals(rt: HostRuntime) {
     for (set, want) in CASES {
         assert_increment(&rt, rt.alloc(), set, want);
     }
-}
-
-#[test]
-fn flush_keeps_uniques(rt: HostRuntime) {
-    const ROWS: [Row; 6] = [
-        ("set a 0 0 1\r\nx\r\n", "STORED\r\n"),
-        ("flush_all\r\n", "OK\r\n"),
-        ("gets a\r\n", "END\r\n"),
-        ("append a 0 0 1\r\ny\r\n", "NOT_STORED\r\n"),
-        ("set a 0 0 1\r\nz\r\n", "STORED\r\n"),
-        ("gets a\r\n", "VALUE a 0 1 2\r\nz\r\nEND\r\n"),
-    ];
-    assert_answers(&rt, rt.alloc(), &ROWS);
-}
-
-#[test]
-fn prepend_replace_add(rt: HostRuntime) {
-    const ROWS: [Row; 9] = [
-        ("set p 4 0 2\r\nbc\r\n", "STORED\r\n"),
-        ("prepend p 9 0 1\r\na\r\n", "STORED\r\n"),
-        ("replace q 0 0 1\r\nx\r\n", "NOT_STORED\r\n"),
-        ("add p 0 0 1\r\nx\r\n", "NOT_STORED\r\n"),
-        ("gets p\r\n", "VALUE p 4 3 2\r\nabc\r\nEND\r\n"),
-        ("replace p 1 0 1\r\nx\r\n", "STORED\r\n"),
-        ("add q 2 0 1\r\ny\r\n", "STORED\r\n"),
-        ("gets p\r\n", "VALUE p 1 1 3\r\nx\r\nEND\r\n"),
-        ("gets q\r\n", "VALUE q 2 1 4\r\ny\r\nEND\r\n"),
-    ];
-    assert_answers(&rt, rt.alloc(), &ROWS);
-}
-
-#[test]
-fn delete_takes_out(rt: HostRuntime) {
-    const ROWS: [Row; 8] = [
-        ("set a 0 0 1\r\nx\r\n", "STORED\r\n"),
-        ("set e 0 0 0\r\n\r\n", "STORED\r\n"),
-        ("add a 0 0 1\r\ny\r\n", "NOT_STORED\r\n"),
-        ("delete a\r\n", "DELETED\r\n"),
-        ("delete a\r\n", "NOT_FOUND\r\n"),
-        ("gets e a\r\n", "VALUE e 0 0 2\r\n\r\nEND\r\n"),
-        ("set a 0 0 1\r\nz\r\n", "STORED\r\n"),
-        ("gets a\r\n", "VALUE a 0 1 3\r\nz\r\nEND\r\n"),
-    ];
-    assert_answers(&rt, rt.alloc(), &ROWS);
-}
-
-#[test]
-fn fragments_joined(rt: HostRuntime) {
-    const ROWS: [Row; 6] = [
-        ("set n 3 0 1\r\n1\r\n", "STORED\r\n"),
-        ("append n 0 0 1\r\n0\r\n", "STORED\r\n"),
-        ("prepend n 0 0 1\r\n2\r\n", "STORED\r\n"),
-        ("incr n 5\r\n", "215\r\n"),
-        ("append n 0 0 2\r\nab\r\n", "STORED\r\n"),
-        ("gets n\r\n", "VALUE n 3 5 5\r\n215ab\r\nEND\r\n"),
-    ];
-    assert_answers(&rt, rt.alloc(), &ROWS);
 }
 
 /// Returns the block between these texts.
@@ -360,57 +437,6 @@ fn object_too_large(rt: HostRuntime) -> Result<(), Fail> {
     assert_largest(&rt, rt.alloc(), &mut twins, &largest);
     assert_joined(&rt, rt.alloc(), &mut twins, &smaller, &largest);
     Ok(())
-}
-
-/// A key that is held may be stored again even if the count is at its quota.
-#[test]
-fn quota_of_items(rt: HostRuntime) {
-    const ROWS: [Row; 10] = [
-        ("set a 0 0 1\r\nx\r\n", "STORED\r\n"),
-        ("set b 0 0 1\r\ny\r\n", FULL),
-        ("add b 0 0 1\r\ny\r\n", FULL),
-        ("set a 0 0 2\r\nyz\r\n", "STORED\r\n"),
-        ("gets a b\r\n", "VALUE a 0 2 2\r\nyz\r\nEND\r\n"),
-        ("delete a\r\n", "DELETED\r\n"),
-        ("set b 0 0 1\r\ny\r\n", "STORED\r\n"),
-        ("flush_all\r\n", "OK\r\n"),
-        ("add a 0 0 3\r\nxyz\r\n", "STORED\r\n"),
-        ("gets a b\r\n", "VALUE a 0 3 4\r\nxyz\r\nEND\r\n"),
-    ];
-    let quotas = Limits {
-        items: 1,
-        bytes: 100,
-    };
-    let items = answered(&rt, rt.alloc(), quotas, &ROWS);
-    assert!(rt; is_filled(&items, 4, 1));
-}
-
-/// Keys and data count, before a change and after it, and a refused change leaves the item and its
-/// unique.
-#[test]
-fn quota_of_bytes(rt: HostRuntime) {
-    const ROWS: [Row; 17] = [
-        ("set n 0 0 3\r\n999\r\n", "STORED\r\n"),
-        ("append n 0 0 1\r\n9\r\n", FULL),
-        ("prepend n 0 0 1\r\n9\r\n", FULL),
-        ("set n 0 0 4\r\n9999\r\n", FULL),
-        ("replace n 0 0 4\r\n9999\r\n", FULL),
-        ("cas n 0 0 4 1\r\n9999\r\n", FULL),
-        ("incr n 1\r\n", FULL),
-        ("set b 0 0 0\r\n\r\n", FULL),
-        ("gets n b\r\n", "VALUE n 0 3 1\r\n999\r\nEND\r\n"),
-        ("decr n 900\r\n", "99\r\n"),
-        ("set b 0 0 0\r\n\r\n", "STORED\r\n"),
-        ("incr n 1\r\n", FULL),
-        ("delete b\r\n", "DELETED\r\n"),
-        ("incr n 1\r\n", "100\r\n"),
-        ("gets n\r\n", "VALUE n 0 3 4\r\n100\r\nEND\r\n"),
-        ("flush_all\r\n", "OK\r\n"),
-        ("set a 0 0 3\r\nxyz\r\n", "STORED\r\n"),
-    ];
-    let quotas = Limits { items: 3, bytes: 4 };
-    let items = answered(&rt, rt.alloc(), quotas, &ROWS);
-    assert!(rt; is_filled(&items, 4, 1));
 }
 
 /// Returns whether setting these quotas is answered.
@@ -488,12 +514,17 @@ fn advanced_by(alloc: Global, quotas: Limits, texts: &[&str]) -> Result<Items, F
     Ok(items)
 }
 
-/// Returns whether a copy of the table is like it, and what the run below leaves.
+/// Returns whether the copy of a table is like it, and what the run below leaves.
+fn is_copy_left(alloc: Global, copy: &Items, items: &Items) -> Result<bool, Fault> {
+    let has_ab = is_held(alloc, copy, "ab")?;
+    let has_c = holds(alloc, copy, "c", 0, "yyy", 3)?;
+    Ok(has_c && !has_ab && is_filled(copy, 4, 1) && are_alike(alloc, copy, items)?)
+}
+
+/// Returns whether that is so for a copy of the table.
 fn is_left(alloc: Global, items: &Items) -> Result<bool, Fault> {
     let copy = items.try_clone()?;
-    let has_ab = is_held(alloc, &copy, "ab")?;
-    let has_c = holds(alloc, &copy, "c", 0, "yyy", 3)?;
-    Ok(has_c && !has_ab && is_filled(&copy, 4, 1) && are_alike(alloc, &copy, items)?)
+    is_copy_left(alloc, &copy, items)
 }
 
 /// The golden run of the same name, by copies of its commands, and what it leaves in a copy of the

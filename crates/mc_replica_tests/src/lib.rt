@@ -9,9 +9,13 @@ mod agreeing;
 #[cfg(test)]
 mod bad_lines;
 #[cfg(test)]
+mod counts;
+#[cfg(test)]
 mod event_lists;
 #[cfg(test)]
 mod events;
+#[cfg(test)]
+mod hashing;
 #[cfg(test)]
 mod items;
 #[cfg(test)]
@@ -32,6 +36,8 @@ mod rows;
 mod states;
 #[cfg(test)]
 mod streams;
+#[cfg(test)]
+mod tables;
 #[cfg(test)]
 mod text;
 #[cfg(test)]

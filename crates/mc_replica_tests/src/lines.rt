@@ -8,83 +8,82 @@ use std::alloc::Global;
 use std::process::Abort;
 use uc_core::Event;
 
-#[test]
-fn tenants_are_apart(rt: HostRuntime) {
-    let text = "core 1 8\ntenant 4 100\ntenant 4 100\nsubmit 0 0 set a 0 x\nsubmit 0 0 set a 0 x\n\
-        submit 0 0 set a 0 x\nsubmit 0 1 set a 0 q\nsubmit 0 1 gets a\n";
-    assert_list(
-        &rt,
-        rt.alloc(),
-        text,
+/// A list, how many workers and places it opens a core with, its tenants' quotas, and the lines at
+/// which its items stand.
+type List = (&'static str, (u64, u64), &'static [Limits], &'static [u64]);
+
+const LISTS: [List; 8] = [
+    // Tenants are apart.
+    (
+        "core 1 8\ntenant 4 100\ntenant 4 100\nsubmit 0 0 set a 0 x\nsubmit 0 0 set a 0 x\n\
+        submit 0 0 set a 0 x\nsubmit 0 1 set a 0 q\nsubmit 0 1 gets a\n",
         (1, 8),
         &[AMPLE, AMPLE],
         &[4, 5, 6, 7, 8],
-    );
-}
-
-#[test]
-fn helped_after_stop(rt: HostRuntime) {
-    let text = "core 2 8\ntenant 4 100\nannounce 0 0 set a 0 x\nstop 0\nsubmit 1 0 get a\n";
-    assert_list(&rt, rt.alloc(), text, (2, 8), &[AMPLE], &[3, 4, 5]);
-}
-
-#[test]
-fn helping_changes_the_proposal(rt: HostRuntime) {
-    let text =
+    ),
+    // A worker is helped after it has stopped.
+    (
+        "core 2 8\ntenant 4 100\nannounce 0 0 set a 0 x\nstop 0\nsubmit 1 0 get a\n",
+        (2, 8),
+        &[AMPLE],
+        &[3, 4, 5],
+    ),
+    // Helping changes the proposal.
+    (
         "core 2 8\ntenant 4 100\nannounce 1 0 set a 0 x\nread 1\nlook 1\nannounce 0 0 set b 0 y\nread 0\npropose 1\n\
         submit 1 0 set a 0 z\nsubmit 1 0 get b\nlook 0\npropose 0\nlook 0\npropose 0\nlook 0\npropose 0\n\
-        replay 0\nreplay 0\nreplay 0\n";
-    let lines = [3, 4, 5, 6, 7, 8, 9, 10, 11, 12, 13, 14, 15, 16, 17, 18, 19];
-    assert_list(&rt, rt.alloc(), text, (2, 8), &[AMPLE], &lines);
-}
-
-#[test]
-fn the_log_gets_full(rt: HostRuntime) {
-    let text = "core 2 1\ntenant 4 100\nsubmit 0 0 set a 0 x\nsubmit 1 0 get a\n";
-    assert_list(&rt, rt.alloc(), text, (2, 1), &[AMPLE], &[3, 4]);
-}
-
-#[test]
-fn three_workers_and_two_tenants(rt: HostRuntime) {
-    let text = "core 3 9\ntenant 2 50\ntenant 1 9\nsubmit 2 1 set a 0 q\nsubmit 1 0 set a 0 x\n\
-        submit 0 1 set b 0 q\nsubmit 2 0 gets a\n";
-    let tenants = [
-        Limits {
-            items: 2,
-            bytes: 50,
-        },
-        Limits { items: 1, bytes: 9 },
-    ];
-    assert_list(&rt, rt.alloc(), text, (3, 9), &tenants, &[4, 5, 6, 7]);
-}
-
-#[test]
-fn a_replay_that_is_not_enabled_is_read(rt: HostRuntime) {
-    let text = "core 1 4\ntenant 4 100\nreplay 0\n";
-    assert_list(&rt, rt.alloc(), text, (1, 4), &[AMPLE], &[3]);
-}
-
-#[test]
-fn skipped_lines_are_counted(rt: HostRuntime) {
-    let text = "# core\r\n\n  core  1 4 \n   \n#\ntenant 4 100\n\n#read 0\nread 0\n \nlook 0";
-    assert_list(&rt, rt.alloc(), text, (1, 4), &[AMPLE], &[9, 11]);
-}
-
-#[test]
-fn opening_numbers_may_be_out_of_range(rt: HostRuntime) {
-    let text = "core 0 18446744073709551615\ntenant 018446744073709551615 0";
-    let tenant = Limits {
-        items: 18_446_744_073_709_551_615,
-        bytes: 0,
-    };
-    assert_list(
-        &rt,
-        rt.alloc(),
-        text,
+        replay 0\nreplay 0\nreplay 0\n",
+        (2, 8),
+        &[AMPLE],
+        &[3, 4, 5, 6, 7, 8, 9, 10, 11, 12, 13, 14, 15, 16, 17, 18, 19],
+    ),
+    // The log gets full.
+    (
+        "core 2 1\ntenant 4 100\nsubmit 0 0 set a 0 x\nsubmit 1 0 get a\n",
+        (2, 1),
+        &[AMPLE],
+        &[3, 4],
+    ),
+    // Three workers serve two tenants.
+    (
+        "core 3 9\ntenant 2 50\ntenant 1 9\nsubmit 2 1 set a 0 q\nsubmit 1 0 set a 0 x\n\
+        submit 0 1 set b 0 q\nsubmit 2 0 gets a\n",
+        (3, 9),
+        &[
+            Limits {
+                items: 2,
+                bytes: 50,
+            },
+            Limits { items: 1, bytes: 9 },
+        ],
+        &[4, 5, 6, 7],
+    ),
+    // A replay that isn't enabled is read.
+    ("core 1 4\ntenant 4 100\nreplay 0\n", (1, 4), &[AMPLE], &[3]),
+    // Lines that are skipped are counted.
+    (
+        "# core\r\n\n  core  1 4 \n   \n#\ntenant 4 100\n\n#read 0\nread 0\n \nlook 0",
+        (1, 4),
+        &[AMPLE],
+        &[9, 11],
+    ),
+    // The numbers that open a core may be out of range.
+    (
+        "core 0 18446744073709551615\ntenant 018446744073709551615 0",
         (0, 18_446_744_073_709_551_615),
-        &[tenant],
+        &[Limits {
+            items: 18_446_744_073_709_551_615,
+            bytes: 0,
+        }],
         &[],
-    );
+    ),
+];
+
+#[test]
+fn lists_are_read(rt: HostRuntime) {
+    for (text, size, tenants, lines) in LISTS {
+        assert_list(&rt, rt.alloc(), text, size, tenants, lines);
+    }
 }
 
 /// Returns whether the line asks for this.

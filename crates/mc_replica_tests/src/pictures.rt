@@ -24,11 +24,10 @@ fn assert_picture(rt: &impl Abort, alloc: Global, list: &str, picture: &str) {
     assert_eq!(rt; is_picture(alloc, list, picture), Ok(true), "{picture}");
 }
 
-#[test]
-fn a_stopped_worker_is_helped(rt: HostRuntime) {
-    assert_picture(
-        &rt,
-        rt.alloc(),
+/// Lists, and the pictures of their runs.
+const PICTURES: [(&str, &str); 4] = [
+    // A stopped worker is helped.
+    (
         "core 2 8\ntenant 4 100\nannounce 0 0 set a 0 x\nstop 0\nsubmit 1 0 get a\n",
         "   line  worker 0    worker 1    log
       3  announce    |
@@ -41,14 +40,9 @@ fn a_stopped_worker_is_helped(rt: HostRuntime) {
       5              propose *   1 (1,0)
       5              replay
       5              replay",
-    );
-}
-
-#[test]
-fn a_worker_learns_its_command_by_reading(rt: HostRuntime) {
-    assert_picture(
-        &rt,
-        rt.alloc(),
+    ),
+    // A worker learns its command by reading.
+    (
         "core 2 8\ntenant 4 100\nannounce 0 0 get a\nsubmit 1 0 get a\nread 0\nread 0\nread 0\n",
         "   line  worker 0    worker 1    log
       3  announce    |
@@ -63,14 +57,9 @@ fn a_worker_learns_its_command_by_reading(rt: HostRuntime) {
       5  read *      |
       6  read        |
       7  read empty  |",
-    );
-}
-
-#[test]
-fn nobody_to_help_and_a_place_decided_before(rt: HostRuntime) {
-    assert_picture(
-        &rt,
-        rt.alloc(),
+    ),
+    // Nobody to help and a place decided before.
+    (
         "core 2 8\ntenant 4 100\nannounce 1 0 get a\nread 1\nlook 1\nsubmit 0 0 get a\npropose 1\nreplay 1\nread 9\n",
         "   line  worker 0    worker 1    log
       3  |           announce
@@ -83,17 +72,16 @@ fn nobody_to_help_and_a_place_decided_before(rt: HostRuntime) {
       6  replay      |
       7  |           propose
       8  |           replay",
-    );
-}
+    ),
+    // Nothing happens.
+    ("core 1 8\ntenant 4 100\n", "   line  worker 0    log"),
+];
 
 #[test]
-fn nothing_happens(rt: HostRuntime) {
-    assert_picture(
-        &rt,
-        rt.alloc(),
-        "core 1 8\ntenant 4 100\n",
-        "   line  worker 0    log",
-    );
+fn runs_are_drawn(rt: HostRuntime) {
+    for (list, picture) in PICTURES {
+        assert_picture(&rt, rt.alloc(), list, picture);
+    }
 }
 
 /// Returns the length of the longest line of the list's picture.

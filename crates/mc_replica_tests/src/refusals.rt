@@ -38,79 +38,99 @@ fn assert_each_refused(
     }
 }
 
-/// Asserts that each of the events `refused` is refused by this fault after the events `before`.
-fn assert_all_refused(
-    rt: &impl Abort,
-    alloc: Global,
-    places: u64,
-    before: &str,
-    refused: &str,
-    fault: Fault,
-) {
-    match after(alloc, places, before) {
-        Ok(mut core) => assert_each_refused(rt, alloc, &mut core, refused, fault),
+/// How many places there are, events, and then events of which each is refused, by which fault.
+type Row = (u64, &'static str, &'static str, Fault);
+
+/// Asserts that each of a row's last events is refused by its fault after the first ones.
+fn assert_all_refused(rt: &impl Abort, alloc: Global, row: Row) {
+    match after(alloc, row.0, row.1) {
+        Ok(mut core) => assert_each_refused(rt, alloc, &mut core, row.2, row.3),
         Err(fault) => panic!(rt; "{fault}"),
     }
 }
 
-const GET: &str = "announce 0 0 get a\r\n";
-
-#[test]
-fn an_idle_worker_announces_and_reads_alone(rt: HostRuntime) {
-    let refused = "look 0/propose 0/replay 0/announce 0 1 get a\r\n/announce 0 255 get a\r\n";
-    assert_all_refused(&rt, rt.alloc(), 4, "", refused, Fault::BadEvent);
-}
-
-#[test]
-fn a_pending_worker_looks_once_it_has_a_mark(rt: HostRuntime) {
-    let refused = "announce 0 0 get a\r\n/look 0/propose 0/replay 0";
-    assert_all_refused(&rt, rt.alloc(), 4, GET, refused, Fault::BadEvent);
-    let marked = "announce 0 0 get a\r\n/read 0";
-    let refused = "announce 0 0 get a\r\n/propose 0/replay 0";
-    assert_all_refused(&rt, rt.alloc(), 4, marked, refused, Fault::BadEvent);
-}
-
-#[test]
-fn a_worker_that_has_looked_proposes(rt: HostRuntime) {
-    let looked = "announce 0 0 get a\r\n/read 0/look 0";
-    let refused = "announce 0 0 get a\r\n/read 0/look 0/replay 0";
-    assert_all_refused(&rt, rt.alloc(), 4, looked, refused, Fault::BadEvent);
-}
-
-/// Whatever its phase was, and with a place left to replay.
-#[test]
-fn a_stopped_worker_does_nothing(rt: HostRuntime) {
-    const ALL: &str = "announce 0 0 get a\r\n/read 0/look 0/propose 0/replay 0/stop 0";
-    let waiting = "announce 0 0 get a\r\n/read 0/stop 0";
-    assert_all_refused(&rt, rt.alloc(), 4, waiting, ALL, Fault::BadEvent);
-    let looked = "announce 0 0 get a\r\n/read 0/look 0/stop 0";
-    assert_all_refused(&rt, rt.alloc(), 4, looked, ALL, Fault::BadEvent);
-    let idle = "announce 0 0 get a\r\n/read 0/look 0/propose 0/stop 0";
-    assert_all_refused(&rt, rt.alloc(), 4, idle, ALL, Fault::BadEvent);
-}
-
-#[test]
-fn a_worker_that_does_not_exist_does_nothing(rt: HostRuntime) {
-    const SECOND: &str = "announce 2 0 get a\r\n/read 2/look 2/propose 2/replay 2/stop 2";
-    const LAST: &str = "announce 255 0 get a\r\n/read 255/look 255/propose 255/replay 255/stop 255";
-    assert_all_refused(&rt, rt.alloc(), 4, "", SECOND, Fault::BadEvent);
-    assert_all_refused(&rt, rt.alloc(), 4, "", LAST, Fault::BadEvent);
-}
+/// Each event of worker 0 that a tenant's command allows.
+const ALL: &str = "announce 0 0 get a\r\n/read 0/look 0/propose 0/replay 0/stop 0";
 
 /// The only place is decided, and learned by both workers; worker 1's command is pending.
 const FULL: &str = "announce 0 0 set a 0 0 1\r\nx\r\n/read 0/look 0/propose 0/replay 0\
     /announce 1 0 get a\r\n/read 1";
 
-#[test]
-fn a_full_log_is_told(rt: HostRuntime) {
-    let told = "announce 0 0 get a\r\n/look 1";
-    assert_all_refused(&rt, rt.alloc(), 1, FULL, told, Fault::LogFull);
-}
+const ROWS: [Row; 11] = [
+    // An idle worker announces and reads alone.
+    (
+        4,
+        "",
+        "look 0/propose 0/replay 0/announce 0 1 get a\r\n/announce 0 255 get a\r\n",
+        Fault::BadEvent,
+    ),
+    // A pending worker looks once it has a mark.
+    (
+        4,
+        "announce 0 0 get a\r\n",
+        "announce 0 0 get a\r\n/look 0/propose 0/replay 0",
+        Fault::BadEvent,
+    ),
+    (
+        4,
+        "announce 0 0 get a\r\n/read 0",
+        "announce 0 0 get a\r\n/propose 0/replay 0",
+        Fault::BadEvent,
+    ),
+    // A worker that has looked proposes.
+    (
+        4,
+        "announce 0 0 get a\r\n/read 0/look 0",
+        "announce 0 0 get a\r\n/read 0/look 0/replay 0",
+        Fault::BadEvent,
+    ),
+    // A stopped worker does nothing, whatever its phase was, and with a place left to replay.
+    (
+        4,
+        "announce 0 0 get a\r\n/read 0/stop 0",
+        ALL,
+        Fault::BadEvent,
+    ),
+    (
+        4,
+        "announce 0 0 get a\r\n/read 0/look 0/stop 0",
+        ALL,
+        Fault::BadEvent,
+    ),
+    (
+        4,
+        "announce 0 0 get a\r\n/read 0/look 0/propose 0/stop 0",
+        ALL,
+        Fault::BadEvent,
+    ),
+    // A worker that doesn't exist does nothing.
+    (
+        4,
+        "",
+        "announce 2 0 get a\r\n/read 2/look 2/propose 2/replay 2/stop 2",
+        Fault::BadEvent,
+    ),
+    (
+        4,
+        "",
+        "announce 255 0 get a\r\n/read 255/look 255/propose 255/replay 255/stop 255",
+        Fault::BadEvent,
+    ),
+    // A full log is told, isn't read, and knows no other tenant.
+    (1, FULL, "announce 0 0 get a\r\n/look 1", Fault::LogFull),
+    (
+        1,
+        FULL,
+        "announce 0 1 get a\r\n/read 0/read 1/look 0",
+        Fault::BadEvent,
+    ),
+];
 
 #[test]
-fn a_full_log_is_not_read_and_knows_no_other_tenant(rt: HostRuntime) {
-    let refused = "announce 0 1 get a\r\n/read 0/read 1/look 0";
-    assert_all_refused(&rt, rt.alloc(), 1, FULL, refused, Fault::BadEvent);
+fn events_out_of_their_phases(rt: HostRuntime) {
+    for row in ROWS {
+        assert_all_refused(&rt, rt.alloc(), row);
+    }
 }
 
 /// Returns whether a run of these events on one place gives one reply, ends at this fault, and

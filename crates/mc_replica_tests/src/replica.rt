@@ -204,18 +204,96 @@ fn stands(replica: &Replica<'_>, places: usize, uniques: (u64, u64)) -> bool {
         && unique_of(replica, 1) == Some(uniques.1)
 }
 
+/// A run of one worker's replica, of eight places.
+#[derive(Clone, Copy)]
+struct Run {
+    worker: u8,
+    limits: &'static [Limits],
+    rows: &'static [Row],
+    /// The uniques of the first two tenants' tables in the end, if they are checked.
+    uniques: Option<(u64, u64)>,
+}
+
+const RUNS: [Run; 3] = [
+    // Tenants are apart.
+    Run {
+        worker: 0,
+        limits: &[QUOTAS, QUOTAS],
+        rows: &[
+            (0, 0, "set a 0 0 1\r\nx\r\n", "STORED\r\n"),
+            (0, 0, "set a 0 0 1\r\nx\r\n", "STORED\r\n"),
+            (0, 0, "set a 0 0 1\r\nx\r\n", "STORED\r\n"),
+            (0, 1, "set a 0 0 1\r\nq\r\n", "STORED\r\n"),
+            (0, 1, "gets a\r\n", "VALUE a 0 1 1\r\nq\r\nEND\r\n"),
+        ],
+        uniques: Some((3, 1)),
+    },
+    // Another worker's commands are applied without a reply.
+    Run {
+        worker: 1,
+        limits: &[QUOTAS],
+        rows: &[
+            (0, 0, "set a 0 0 1\r\nx\r\n", ""),
+            (0, 0, "set b 0 0 1\r\ny\r\n", ""),
+            (1, 0, "gets b\r\n", "VALUE b 0 1 2\r\ny\r\nEND\r\n"),
+            (2, 0, "delete b\r\n", ""),
+            (0, 0, "gets b\r\n", ""),
+            (1, 0, "gets b\r\n", "END\r\n"),
+            (1, 0, "delete a\r\n", "DELETED\r\n"),
+        ],
+        uniques: None,
+    },
+    // Quotas are each tenant's own.
+    Run {
+        worker: 0,
+        limits: &[
+            Limits {
+                items: 1,
+                bytes: 100,
+            },
+            Limits {
+                items: 100,
+                bytes: 3,
+            },
+            QUOTAS,
+        ],
+        rows: &[
+            (0, 0, "set a 0 0 1\r\nx\r\n", "STORED\r\n"),
+            (0, 1, "set a 0 0 1\r\nx\r\n", "STORED\r\n"),
+            (0, 2, "set a 0 0 1\r\nx\r\n", "STORED\r\n"),
+            (0, 0, "set b 0 0 1\r\ny\r\n", FULL),
+            (0, 1, "set b 0 0 1\r\ny\r\n", FULL),
+            (0, 2, "set b 0 0 1\r\ny\r\n", "STORED\r\n"),
+            (0, 0, "set a 0 0 1\r\nz\r\n", "STORED\r\n"),
+            (0, 1, "gets b\r\n", "END\r\n"),
+        ],
+        uniques: None,
+    },
+];
+
+/// Returns whether the replica is what the run leaves.
+fn is_left(replica: &Replica<'_>, run: Run) -> bool {
+    replica.worker().number() == run.worker
+        && replica.history().len() == run.rows.len()
+        && replica.has_place() == (run.rows.len() < 8)
+        && match run.uniques {
+            Some(uniques) => stands(replica, run.rows.len(), uniques),
+            None => true,
+        }
+}
+
+/// Returns whether a replica is what the run leaves, after asserting the run's answers.
+fn is_run(rt: &impl Abort, alloc: Global, cells: &Cells, run: Run) -> Result<bool, Fault> {
+    let replica = replayed(rt, alloc, cells, run.worker, run.limits, run.rows)?;
+    Ok(is_left(&replica, run))
+}
+
 #[test]
-fn tenants_are_apart(rt: HostRuntime) -> Result<(), Fail> {
-    const ROWS: [Row; 5] = [
-        (0, 0, "set a 0 0 1\r\nx\r\n", "STORED\r\n"),
-        (0, 0, "set a 0 0 1\r\nx\r\n", "STORED\r\n"),
-        (0, 0, "set a 0 0 1\r\nx\r\n", "STORED\r\n"),
-        (0, 1, "set a 0 0 1\r\nq\r\n", "STORED\r\n"),
-        (0, 1, "gets a\r\n", "VALUE a 0 1 1\r\nq\r\nEND\r\n"),
-    ];
-    let cells = cells_of(rt.alloc())?;
-    let replica = replayed(&rt, rt.alloc(), &cells, 0, &[QUOTAS, QUOTAS], &ROWS)?;
-    assert!(rt; replica.worker().number() == 0 && stands(&replica, 5, (3, 1)));
+fn runs_of_one_replica(rt: HostRuntime) -> Result<(), Fail> {
+    for run in RUNS {
+        let cells = cells_of(rt.alloc())?;
+        assert!(rt; is_run(&rt, rt.alloc(), &cells, run) == Ok(true));
+    }
     Ok(())
 }
 
@@ -254,15 +332,6 @@ fn are_nobodys<'a>(
     Ok(is_absent && is_silent && !knows_tenant(replica, 2) && stands(replica, 3, (0, 1)))
 }
 
-#[test]
-fn nobodys_entries_change_no_table(rt: HostRuntime) -> Result<(), Fail> {
-    const KNOWN: [Row; 1] = [(0, 1, "set a 0 0 1\r\nx\r\n", "STORED\r\n")];
-    let cells = cells_of(rt.alloc())?;
-    let mut replica = replayed(&rt, rt.alloc(), &cells, 0, &[QUOTAS, QUOTAS], &KNOWN)?;
-    assert!(rt; are_nobodys(&rt, rt.alloc(), &cells, &mut replica) == Ok(true));
-    Ok(())
-}
-
 /// Returns whether the cell of a ticket counts as absent while those of the next ticket, and of
 /// another worker's ticket of the same number, hold entries.
 fn counts_as_absent<'a>(
@@ -278,57 +347,36 @@ fn counts_as_absent<'a>(
     Ok(is_absent && stands(replica, 2, (0, 1)))
 }
 
-/// The contents of the cells of the next ticket, and of another worker's ticket of the same number,
-/// don't matter to this one.
-#[test]
-fn an_entry_of_another_ticket_counts_as_absent(rt: HostRuntime) -> Result<(), Fail> {
+/// Which entries are tried after a known one.
+#[derive(Clone, Copy)]
+enum Others {
+    /// Those of nobody.
+    Nobodys,
+    /// Those of the next ticket, and of another worker's ticket of the same number.
+    Strange,
+}
+
+/// Returns whether these entries change no table.
+fn change_no_table(
+    rt: &impl Abort,
+    alloc: Global,
+    cells: &Cells,
+    others: Others,
+) -> Result<bool, Fault> {
     const KNOWN: [Row; 1] = [(0, 1, "set a 0 0 1\r\nx\r\n", "STORED\r\n")];
-    let cells = cells_of(rt.alloc())?;
-    let mut replica = replayed(&rt, rt.alloc(), &cells, 0, &[QUOTAS, QUOTAS], &KNOWN)?;
-    assert!(rt; counts_as_absent(&rt, rt.alloc(), &cells, &mut replica) == Ok(true));
-    Ok(())
+    let mut replica = replayed(rt, alloc, cells, 0, &[QUOTAS, QUOTAS], &KNOWN)?;
+    match others {
+        Others::Nobodys => are_nobodys(rt, alloc, cells, &mut replica),
+        Others::Strange => counts_as_absent(rt, alloc, cells, &mut replica),
+    }
 }
 
 #[test]
-fn another_workers_commands_are_applied_without_reply(rt: HostRuntime) -> Result<(), Fail> {
-    const ROWS: [Row; 7] = [
-        (0, 0, "set a 0 0 1\r\nx\r\n", ""),
-        (0, 0, "set b 0 0 1\r\ny\r\n", ""),
-        (1, 0, "gets b\r\n", "VALUE b 0 1 2\r\ny\r\nEND\r\n"),
-        (2, 0, "delete b\r\n", ""),
-        (0, 0, "gets b\r\n", ""),
-        (1, 0, "gets b\r\n", "END\r\n"),
-        (1, 0, "delete a\r\n", "DELETED\r\n"),
-    ];
-    let cells = cells_of(rt.alloc())?;
-    let _ = replayed(&rt, rt.alloc(), &cells, 1, &[QUOTAS], &ROWS)?;
-    Ok(())
-}
-
-#[test]
-fn quotas_are_each_tenants_own(rt: HostRuntime) -> Result<(), Fail> {
-    let one_item = Limits {
-        items: 1,
-        bytes: 100,
-    };
-    let three_bytes = Limits {
-        items: 100,
-        bytes: 3,
-    };
-    const ROWS: [Row; 8] = [
-        (0, 0, "set a 0 0 1\r\nx\r\n", "STORED\r\n"),
-        (0, 1, "set a 0 0 1\r\nx\r\n", "STORED\r\n"),
-        (0, 2, "set a 0 0 1\r\nx\r\n", "STORED\r\n"),
-        (0, 0, "set b 0 0 1\r\ny\r\n", FULL),
-        (0, 1, "set b 0 0 1\r\ny\r\n", FULL),
-        (0, 2, "set b 0 0 1\r\ny\r\n", "STORED\r\n"),
-        (0, 0, "set a 0 0 1\r\nz\r\n", "STORED\r\n"),
-        (0, 1, "gets b\r\n", "END\r\n"),
-    ];
-    let limits = [one_item, three_bytes, QUOTAS];
-    let cells = cells_of(rt.alloc())?;
-    let replica = replayed(&rt, rt.alloc(), &cells, 0, &limits, &ROWS)?;
-    assert!(rt; !replica.has_place());
+fn entries_that_change_no_table(rt: HostRuntime) -> Result<(), Fail> {
+    for others in [Others::Nobodys, Others::Strange] {
+        let cells = cells_of(rt.alloc())?;
+        assert!(rt; change_no_table(&rt, rt.alloc(), &cells, others) == Ok(true));
+    }
     Ok(())
 }
 

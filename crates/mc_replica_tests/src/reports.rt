@@ -63,36 +63,50 @@ const HELPED: Run = Run {
     fault: None,
 };
 
-#[test]
-fn each_line_of_a_report(rt: HostRuntime) {
-    let text = "reply 1 1 VALUE a 0 1\\r\\nx\\r\\nEND\\r\\n\nlog (0,0) (1,0)\n\
+/// The log is full at its only place.
+const FULL: Run = Run {
+    size: (2, 1),
+    events: "announce 0 0 set a 0 0 1\r\nx\r\n/read 0/look 0/propose 0/replay 0\
+        /announce 1 0 get a\r\n/read 1",
+    fault: Some((4, Fault::LogFull)),
+};
+
+/// Runs, whether their reports are quiet, and these.
+const REPORTS: [(Run, bool, &str); 4] = [
+    (
+        HELPED,
+        false,
+        "reply 1 1 VALUE a 0 1\\r\\nx\\r\\nEND\\r\\n\nlog (0,0) (1,0)\n\
         worker 0 stopped learned 0 replayed 0 proposals 0\n\
-        worker 1 idle learned 2 replayed 2 proposals 2\n";
-    assert_report(&rt, rt.alloc(), &HELPED, false, text);
-}
-
-#[test]
-fn a_quiet_report_has_no_replies(rt: HostRuntime) {
-    let text = "log (0,0) (1,0)\nworker 0 stopped learned 0 replayed 0 proposals 0\n\
-        worker 1 idle learned 2 replayed 2 proposals 2\n";
-    assert_report(&rt, rt.alloc(), &HELPED, true, text);
-}
-
-#[test]
-fn the_fault_stands_before_the_log(rt: HostRuntime) {
-    let run = Run {
-        size: (2, 1),
-        events: "announce 0 0 set a 0 0 1\r\nx\r\n/read 0/look 0/propose 0/replay 0\
-            /announce 1 0 get a\r\n/read 1",
-        fault: Some((4, Fault::LogFull)),
-    };
-    let rest = "fault 4 log full\nlog (0,0)\nworker 0 idle learned 1 replayed 1 proposals 1\n\
-        worker 1 pending learned 1 replayed 0 proposals 0\n";
-    assert_report(&rt, rt.alloc(), &run, true, rest);
-    let all = "reply 0 0 STORED\\r\\n\nfault 4 log full\nlog (0,0)\n\
+        worker 1 idle learned 2 replayed 2 proposals 2\n",
+    ),
+    (
+        HELPED,
+        true,
+        "log (0,0) (1,0)\nworker 0 stopped learned 0 replayed 0 proposals 0\n\
+        worker 1 idle learned 2 replayed 2 proposals 2\n",
+    ),
+    // The fault stands before the log.
+    (
+        FULL,
+        true,
+        "fault 4 log full\nlog (0,0)\nworker 0 idle learned 1 replayed 1 proposals 1\n\
+        worker 1 pending learned 1 replayed 0 proposals 0\n",
+    ),
+    (
+        FULL,
+        false,
+        "reply 0 0 STORED\\r\\n\nfault 4 log full\nlog (0,0)\n\
         worker 0 idle learned 1 replayed 1 proposals 1\n\
-        worker 1 pending learned 1 replayed 0 proposals 0\n";
-    assert_report(&rt, rt.alloc(), &run, false, all);
+        worker 1 pending learned 1 replayed 0 proposals 0\n",
+    ),
+];
+
+#[test]
+fn lines_of_reports(rt: HostRuntime) {
+    for (run, quiet, text) in REPORTS {
+        assert_report(&rt, rt.alloc(), &run, quiet, text);
+    }
 }
 
 #[test]

@@ -9,6 +9,7 @@ use std::process::Abort;
 /// shows this at the end.
 #[derive(Clone, Copy)]
 struct Row<'a> {
+    name: &'a str,
     size: (u64, u64),
     tenants: &'a [Limits],
     events: &'a str,
@@ -31,13 +32,13 @@ fn is_run(alloc: Global, row: &Row<'_>) -> Result<bool, Fault> {
 }
 
 fn assert_row(rt: &impl Abort, alloc: Global, row: &Row<'_>) {
-    assert!(rt; is_stepped(alloc, row) == Ok(true));
-    assert!(rt; is_run(alloc, row) == Ok(true));
+    assert!(rt; is_stepped(alloc, row) == Ok(true), "{}", row.name);
+    assert!(rt; is_run(alloc, row) == Ok(true), "{}", row.name);
 }
 
-#[test]
-fn tenants_are_apart(rt: HostRuntime) {
-    let row = Row {
+const ROWS: [Row<'static>; 5] = [
+    Row {
+        name: "tenants are apart",
         size: (1, 8),
         tenants: &[AMPLE, AMPLE],
         events: "announce 0 0 set a 0 0 1\r\nx\r\n/read 0/look 0/propose 0/replay 0\
@@ -49,13 +50,9 @@ fn tenants_are_apart(rt: HostRuntime) {
             0 4 VALUE a 0 1 1\r\nq\r\nEND\r\n",
         shows: "log (0,0) (0,1) (0,2) (0,3) (0,4)\n\
             worker 0 idle learned 5 replayed 5 proposals 1\n",
-    };
-    assert_row(&rt, rt.alloc(), &row);
-}
-
-#[test]
-fn helped_after_stop(rt: HostRuntime) {
-    let row = Row {
+    },
+    Row {
+        name: "helped after stop",
         size: (2, 8),
         tenants: &[AMPLE],
         events: "announce 0 0 set a 0 0 1\r\nx\r\n/stop 0\
@@ -64,13 +61,9 @@ fn helped_after_stop(rt: HostRuntime) {
         shows: "log (0,0) (1,0)\n\
             worker 0 stopped learned 0 replayed 0 proposals 0\n\
             worker 1 idle learned 2 replayed 2 proposals 2\n",
-    };
-    assert_row(&rt, rt.alloc(), &row);
-}
-
-#[test]
-fn helping_changes_the_proposal(rt: HostRuntime) {
-    let row = Row {
+    },
+    Row {
+        name: "helping changes the proposal",
         size: (2, 8),
         tenants: &[AMPLE],
         events: "announce 1 0 set a 0 0 1\r\nx\r\n/read 1/look 1\
@@ -82,13 +75,9 @@ fn helping_changes_the_proposal(rt: HostRuntime) {
         shows: "log (1,0) (1,1) (0,0) (1,2)\n\
             worker 0 idle learned 3 replayed 3 proposals 3\n\
             worker 1 idle learned 4 replayed 4 proposals 2\n",
-    };
-    assert_row(&rt, rt.alloc(), &row);
-}
-
-#[test]
-fn three_workers_two_tenants(rt: HostRuntime) {
-    let row = Row {
+    },
+    Row {
+        name: "three workers two tenants",
         size: (3, 9),
         tenants: &[
             Limits {
@@ -107,15 +96,11 @@ fn three_workers_two_tenants(rt: HostRuntime) {
             worker 0 idle learned 3 replayed 3 proposals 1\n\
             worker 1 idle learned 2 replayed 2 proposals 1\n\
             worker 2 idle learned 4 replayed 4 proposals 1\n",
-    };
-    assert_row(&rt, rt.alloc(), &row);
-}
-
-/// This log agrees for its tenant with that of `three_workers_two_tenants` for the first of its
-/// two, and the replies to the tenant's commands are the same.
-#[test]
-fn agreeing_logs_answer_alike(rt: HostRuntime) {
-    let row = Row {
+    },
+    // This log agrees for its tenant with that of `three_workers_two_tenants` for the first of its
+    // two, and the replies to the tenant's commands are the same.
+    Row {
+        name: "agreeing logs answer alike",
         size: (1, 4),
         tenants: &[Limits {
             items: 2,
@@ -125,6 +110,12 @@ fn agreeing_logs_answer_alike(rt: HostRuntime) {
             /announce 0 0 gets a\r\n/read 0/look 0/propose 0/replay 0",
         replies: "0 0 STORED\r\n0 1 VALUE a 0 1 1\r\nx\r\nEND\r\n",
         shows: "log (0,0) (0,1)\nworker 0 idle learned 2 replayed 2 proposals 1\n",
-    };
-    assert_row(&rt, rt.alloc(), &row);
+    },
+];
+
+#[test]
+fn golden_runs(rt: HostRuntime) {
+    for row in ROWS {
+        assert_row(&rt, rt.alloc(), &row);
+    }
 }

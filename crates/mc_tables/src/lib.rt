@@ -20,7 +20,5 @@ pub mod owned;
 pub mod sip;
 pub mod storage;
 pub mod table;
-#[cfg(test)]
-mod tests;
 pub mod view;
 mod weights;

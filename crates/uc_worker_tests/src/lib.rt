@@ -34,6 +34,7 @@ mod hundred;
 mod meeting;
 #[cfg(test)]
 mod parts;
+pub mod places;
 #[cfg(test)]
 mod recomputing;
 #[cfg(test)]

@@ -1,5 +1,5 @@
 //! Reserves are kept, and what is above them goes to whoever comes first.
-use crate::FairPlaces;
+use fair_places::FairPlaces;
 use std::alloc::{AllocError, Global};
 
 /// Takes as many of ten places as a holder may, with so many kept for each of two holders; then as many

@@ -1,10 +1,10 @@
 //! Golden runs of two workers on eight places, on one thread.
-ghost use Rattle.uc_places_tests.specs.Held.{IsHeldAt, held_desk};
+ghost use Rattle.uc_worker_tests.specs.Held.{IsHeldAt, held_desk};
 ghost use Rattle.std.specs.Prelude.{◌≡◌, ℕ, slice_get, Some, IfSome, IfOk};
 ghost use Rattle.uc_places.specs.Calls.{IsSeatOf};
 ghost use Rattle.uc_places.specs.Seats.{desk_of};
 
-use crate::moves::{Held, Move, moved};
+use crate::places::moves::{Held, Move, moved};
 use mc_model::{Fault, Ticket};
 use std::alloc::Global;
 use std::test::Fail;

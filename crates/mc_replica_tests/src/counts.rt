@@ -1,8 +1,7 @@
-//! Tests of what no clause says: with requests of every kind each number is
-//! counted once, and what is published is shown.
-use crate::board::{TenantShown, WorkerShown, new_board};
-use crate::kinds::{Asked, COMMAND_KINDS, CommandKind, REFUSAL_KINDS};
-use crate::tally::Tally;
+//! Of requests of every kind each number is counted once, and what is published is shown.
+use mc_counters::{
+    Asked, COMMAND_KINDS, CommandKind, REFUSAL_KINDS, Tally, TenantShown, WorkerShown, new_board,
+};
 use mc_model::{Command, Key, Limits, Reply, TenantId};
 use std::test::Fail;
 

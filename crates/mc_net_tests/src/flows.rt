@@ -1,5 +1,5 @@
 //! Flows are served in turn, each up to its quantum.
-use crate::{FairQueue, Ready};
+use fair_queue::{FairQueue, Ready};
 use std::alloc::{AllocError, Global};
 
 /// A quantum of ten, three flows, two keys in the first and one in the third, each of which costs this
