@@ -150,6 +150,9 @@ def try_stdin(environment, every):
 ROWS = ("arithmetic-wraps-and-stops-at-zero", "item-quota", "fragments-joined")
 LARGE = b"set k 5 0 300000\r\n" + 300_000 * b"z" + b"\r\nget k k k k k\r\nappend k 0 0 1\r\n>\r\ngets k\r\nget k nothing k\r\n"
 
+# Replies whose data the log lends: blocks that the queue shares, one long, and many short ones behind more bytes than may be queued.
+LENT = b"set b 1 0 40000\r\n" + 40_000 * b"b" + b"\r\nset m 0 0 300\r\n" + 300 * b"m" + b"\r\nget b\r\nget" + 4_000 * b" m" + b"\r\ngets m b\r\n"
+
 
 def try_stream(environment, every, name, words, stream, wanted):
     """A client whose stream comes whole: from the allocation on that reserves the history it is answered, and some run is refused after replies."""
@@ -175,8 +178,9 @@ def try_rows(environment, every):
         row = repository.ROOT / "tests/rows/mc_stdin" / name
         stream, wanted = (row / "input").read_bytes(), (row / "output").read_bytes()
         try_stream(environment, every, name, (row / "words").read_text(encoding="utf-8").split(), stream, wanted)
-    whole = list(prefixes(Table(protocol.MOST_ITEMS, protocol.MOST_BYTES), protocol.requests(LARGE)))[-1]
-    try_stream(environment, every, "large replies", [], LARGE, whole)
+    for name, stream in (("large replies", LARGE), ("lent replies", LENT)):
+        whole = list(prefixes(Table(protocol.MOST_ITEMS, protocol.MOST_BYTES), protocol.requests(stream)))[-1]
+        try_stream(environment, every, name, [], stream, whole)
 
 
 CALLS = repository.program("refusals")

@@ -3,7 +3,8 @@
 
 wfmc gets that many bytes of address space (RLIMIT_AS), and clients do what takes most: two tenants fill their quotas, and each alone fills
 logs that are closed by their bytes, while other connections hold a block of a mebibyte up to its last byte, or ask for replies of several
-and don't read them. Nobody may be refused for want of memory. Then wfmc gets much less, and the same connections come: those whose own
+and don't read them. Nobody may be refused for want of memory. Then it gets less than the replies to two lines have bytes: one of 500 items
+of a mebibyte, and one of many of 4,000 bytes; both come whole. Then wfmc gets much less, and the same connections come: those whose own
 allocation is refused are told so and closed, and no other. Prints what was used; the last line is 'N passed, M failed'.
 """
 
@@ -21,17 +22,24 @@ BLOCK = MEBIBYTE - 1_000
 QUOTA = (1_000, 8 * MEBIBYTE)
 WORKERS, PLACES, LOG_BYTES = 2, 4_096, 16 * MEBIBYTE
 CONNECTIONS, SETS = 40, 64
+# What a reply takes for each name of its line, besides the data that it shares.
+NAME_BYTES = 600
 NO_ROOM = b"SERVER_ERROR out of memory storing object\r\n"
 results = Results()
 check = results.check
 
 
-def number(workers, places, log_bytes, quotas, connections, largest_reply):
-    """The bytes of address space that wfmc takes at most, as docs/OPERATING.md has them."""
-    logs = 2 * (places * (273 + 60 * workers) + log_bytes)
-    tables = (workers + 2) * sum(size + 170 * items for items, size in quotas)
-    held = connections * (2 * MEBIBYTE + 2 * (MEBIBYTE + largest_reply))
-    return (4 + 140 * workers) * MEBIBYTE + logs + tables + held
+def held(names, data):
+    """The bytes that a connection takes at most, as docs/OPERATING.md has them, where a line asks for this many names, and the items among them
+    have this much data."""
+    return 2 * MEBIBYTE + data + 2 * (MEBIBYTE + NAME_BYTES * names)
+
+
+def number(quotas, connections):
+    """The bytes of address space that wfmc takes at most, where its connections take this many."""
+    logs = 2 * (PLACES * (273 + 60 * WORKERS) + LOG_BYTES)
+    tables = (WORKERS + 2) * sum(size + 170 * items for items, size in quotas)
+    return (4 + 140 * WORKERS) * MEBIBYTE + logs + tables + connections
 
 
 def block_line(key):
@@ -79,8 +87,7 @@ def hold_blocks(server, count):
 
 
 def check_number():
-    largest = BLOCK + 100
-    most = number(WORKERS, PLACES, LOG_BYTES, [QUOTA, QUOTA], CONNECTIONS, largest)
+    most = number([QUOTA, QUOTA], CONNECTIONS * held(names=1, data=BLOCK))
     with limited(most) as server:
         writers = {name: server.connect(name) for name in "ab"}
         for name, writer in writers.items():
@@ -112,6 +119,28 @@ def check_number():
         check("it serves", server.is_running())
 
 
+def comes(connection, value, count):
+    """Whether this value comes so often, and then the end of its reply."""
+    return all(whole(connection, len(value)) == value for _ in range(count)) and line_of(connection) == b"END\r\n"
+
+
+def check_large_replies():
+    """A line asks for far more bytes than there is memory for: what the log and the tables have is sent from there."""
+    for key, size, names in ((b"k", BLOCK, 500), (b"m", 4_000, 30_000)):
+        most = held(names, data=size)
+        with limited(number([QUOTA, QUOTA], most)) as server, server.client("a").socket as client:
+            send_all(client, b"set %s 0 0 %d\r\n%s\r\n" % (key, size, b"v" * size))
+            stored = line_of(client)
+            before = server.figure("VmPeak")
+            send_all(client, b"get" + names * (b" " + key) + b"\r\n")
+            value = b"VALUE %s 0 %d\r\n%s\r\n" % (key, size, b"v" * size)
+            what = f"a reply of {names:,} items of {size:,} bytes"
+            check(f"{what} comes whole", stored == b"STORED\r\n" and comes(client, value, names))
+            more = server.figure("VmPeak") - before
+            print(f"{what}: {names * size // MEBIBYTE} MiB of data, {more // MEBIBYTE} MiB of address space more, of {most // MEBIBYTE}")
+            check(f"{what} takes no more than a connection may", more <= most, more)
+
+
 def check_own_allocation():
     """With room for some of these blocks those that are refused are told so and closed, and nobody else is."""
     with contextlib.ExitStack() as open_ones:
@@ -141,6 +170,7 @@ def check_own_allocation():
 def main():
     repository.enter(PROGRAM)
     check_number()
+    check_large_replies()
     check_own_allocation()
     results.finish()
 

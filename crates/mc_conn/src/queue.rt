@@ -1,7 +1,7 @@
 //! The reply bytes that are to be pushed.
 ghost use Rattle.std.specs.Bool.{OnFalse, OnTrue};
 ghost use Rattle.std.specs.Io.{StartsWith};
-ghost use Rattle.std.specs.Prelude.{◌≡◌, ◌==◌, ◌-◌, ◌<◌, ◌≤◌, [], ◌++◌, codes, drop, length, take, MatchResult, OnErr, OnOk};
+ghost use Rattle.std.specs.Prelude.{◌≡◌, ◌==◌, ◌-◌, ◌<◌, ◌≤◌, [], ◌++◌, codes, drop, flat_map, length, take, MatchResult, OnErr, OnOk};
 ghost use Rattle.mc_model.specs.declared.fault.Fault.TheVariants as faults;
 ghost use Rattle.mc_stream.specs.Event.{waits};
 ghost use Rattle.mc_stream.specs.Pushing.{IsStopped, IsUnfailed, Pushes, PushesAtOnce};
@@ -9,7 +9,8 @@ ghost use Rattle.mc_write.specs.Text.{text, value_line, value_text};
 
 use crate::conn::QUEUE_BYTES;
 use crate::run::Run;
-use mc_model::{Data, Fault, Reply, Value, ValueList};
+use mc_model::item::SHARED_BYTES;
+use mc_model::{Data, Fault, Reply, Sink, Value};
 use mc_stream::{Output, push_while_taken};
 use mc_write::{write_line, write_reply, write_value};
 use std::alloc::{AllocError, Global};
@@ -23,8 +24,8 @@ const KEPT_BYTES: usize = 65_536;
 const RUN_BYTES: usize = 32_768;
 
 /// Nor is a block of this many bytes or more where more than `QUEUE_BYTES` were copied and are to
-/// be pushed: a long reply isn't held twice. A run costs memory too, so shorter blocks are copied.
-const SHORT_RUN_BYTES: usize = 256;
+/// be pushed: a long reply isn't held twice. Shorter ones aren't shared.
+const SHORT_RUN_BYTES: usize = SHARED_BYTES;
 
 /// No memory holds more bytes than this in runs.
 const MOST_IN_RUNS: usize = usize::MAX / 2;
@@ -222,7 +223,7 @@ impl Queue {
     }
 
     /// Appends the text of an item.
-    fn put_value(&mut self, value: &Value) -> Result<(), AllocError>
+    fn put_value(&mut self, value: &Value<'_>) -> Result<(), AllocError>
         ensures queued { OnOk result (self.new ≡ self.old ++ value_text value.now) }
         ensures unchanged { OnErr result (self.new ≡ self.old) }
     {
@@ -231,7 +232,7 @@ impl Queue {
     }
 
     /// Appends the line of an item.
-    fn put_line(&mut self, value: &Value) -> Result<(), AllocError>
+    fn put_line(&mut self, value: &Value<'_>) -> Result<(), AllocError>
         ensures queued { OnOk result
             (self.new ≡ self.old ++ (value_line value.now ++ codes "\r\n")) }
         ensures unchanged { OnErr result (self.new ≡ self.old) }
@@ -267,31 +268,32 @@ impl Queue {
     }
 
     /// Appends an item. It may be appended in part if memory runs out.
-    fn append_value(&mut self, value: Value) -> Result<(), AllocError>
-        ensures text { OnOk result (self.new ≡ self.old ++ value_text value) }
+    fn append_value(&mut self, value: &Value<'_>) -> Result<(), AllocError>
+        ensures text { OnOk result (self.new ≡ self.old ++ value_text value.now) }
         ensures begun { StartsWith self.new self.old }
     {
-        if !self.is_run(value.block.as_bytes().len()) {
-            return self.put_value(&value);
+        if !self.is_run(value.block.len()) {
+            return self.put_value(value);
         }
-        self.put_line(&value)?;
-        self.put_run(value.block)?;
+        self.put_line(value)?;
+        value.block.give(self)?;
         self.put(b"\r\n")
     }
 
     /// Appends items. They may be appended in part if memory runs out.
-    fn append_values(&mut self, values: ValueList) -> Result<(), AllocError>
-        ensures text { OnOk result (self.new ≡ self.old ++ text (Reply.Values values)) }
+    fn append_values(&mut self, values: &[Value<'_>]) -> Result<(), AllocError>
+        ensures text { OnOk result
+            (self.new ≡ self.old ++ (flat_map value_text values.now ++ codes "END\r\n")) }
         ensures begun { StartsWith self.new self.old }
     {
-        for value in values.into_values() {
+        for value in values {
             self.append_value(value)?;
         }
         self.put(b"END\r\n")
     }
 
     /// Appends the text of a reply that isn't the items of a retrieval.
-    fn put_reply(&mut self, reply: &Reply) -> Result<(), Fault>
+    fn put_reply(&mut self, reply: &Reply<'_>) -> Result<(), Fault>
         ensures { MatchResult result (λ _. self.new ≡ self.old ++ text reply.now)
             (λ fault. (fault ≡ faults.Memory) × (self.new ≡ self.old)) }
     {
@@ -338,22 +340,42 @@ impl Queue {
         }
     }
 
-    /// Appends a reply's text. Long blocks aren't copied.
+    /// Appends a reply's text. Long blocks aren't copied: the queue shares their bytes, so it keeps
+    /// nothing of what the reply borrows.
     ///
     /// Returns `Memory` if memory runs out; the queue is unchanged then.
-    pub fn append(&mut self, reply: Reply) -> Result<(), Fault>
-        ensures { MatchResult result (λ _. self.new ≡ self.old ++ text reply)
+    pub fn append(&mut self, reply: &Reply<'_>) -> Result<(), Fault>
+        ensures { MatchResult result (λ _. self.new ≡ self.old ++ text reply.now)
             (λ fault. (fault ≡ faults.Memory) × (self.new ≡ self.old)) }
     {
         self.settle();
         let Reply::Values(values) = reply else {
-            return self.put_reply(&reply);
+            return self.put_reply(reply);
         };
         let start = self.len();
-        let appended = self.append_values(values);
+        let appended = self.append_values(values.as_slice());
         if appended.is_err() {
             self.truncate(start);
         }
         Ok(appended?)
+    }
+}
+
+/// What a queue is given of a reply's data: a long block isn't copied.
+impl Sink for Queue {
+    ghost taken = { λ queue. queue };
+
+    fn take_block(&mut self, block: &Data) -> Result<(), AllocError> {
+        if !self.is_run(block.as_bytes().len()) {
+            return self.put(block.as_bytes());
+        }
+        match block.try_clone() {
+            Ok(shared) => self.put_run(shared),
+            Err(_) => Err(AllocError),
+        }
+    }
+
+    fn take_bytes(&mut self, bytes: &[u8]) -> Result<(), AllocError> {
+        self.put(bytes)
     }
 }

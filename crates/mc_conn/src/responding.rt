@@ -16,12 +16,12 @@ use uc_worker::{Gate, Worker};
 /// Submits a command and returns its reply. A full log is a reply, not an error.
 ///
 /// Returns `Memory` and `Taken` as `Worker::submit` does.
-fn answer<G: Gate>(
+fn answer<'a, G: Gate>(
     tenant: TenantId,
     command: Command,
-    worker: &mut Worker<'_>,
+    worker: &mut Worker<'a>,
     gate: &mut G,
-) -> Result<Reply, Fault>
+) -> Result<Reply<'a>, Fault>
     requires tenant { tenant < length (tenants_of worker.old) }
     ensures onward { Continues worker.old worker.new }
     ensures outcome { MatchResult result
@@ -41,8 +41,8 @@ fn answer<G: Gate>(
 /// Queues a reply, unless the request is quiet.
 ///
 /// Returns `Memory` if memory runs out; the queue is unchanged then.
-fn queue_reply(reply: Reply, quiet: bool, queue: &mut Queue) -> Result<(), Fault>
-    ensures { MatchResult result (λ _. queue.new ≡ queue.old ++ answered quiet reply)
+fn queue_reply(reply: &Reply<'_>, quiet: bool, queue: &mut Queue) -> Result<(), Fault>
+    ensures { MatchResult result (λ _. queue.new ≡ queue.old ++ answered quiet reply.now)
         (λ fault. (fault ≡ faults.Memory) × (queue.new ≡ queue.old)) }
 {
     if quiet {
@@ -71,7 +71,7 @@ fn respond_by_log<G: Gate>(
         (Refuses worker.old worker.new role request queue.old queue.new) }
 {
     let reply = answer(tenant, command, worker, gate)?;
-    queue_reply(reply, quiet, queue)
+    queue_reply(&reply, quiet, queue)
 }
 
 /// Does what a request asks for, and queues the reply.
@@ -94,24 +94,24 @@ pub(crate) fn respond<G: Gate>(
     match request {
         Request::Logged { command, quiet } => match role {
             Role::Tenant(tenant) => respond_by_log(*tenant, command, quiet, queue, worker, gate),
-            Role::Admin(_) => queue_reply(Reply::Refused(WireNo::UNKNOWN_COMMAND), quiet, queue),
+            Role::Admin(_) => queue_reply(&Reply::Refused(WireNo::UNKNOWN_COMMAND), quiet, queue),
         },
         Request::Limit {
             name,
             limits,
             quiet,
         } => match role {
-            Role::Tenant(_) => queue_reply(Reply::Refused(WireNo::UNKNOWN_COMMAND), quiet, queue),
+            Role::Tenant(_) => queue_reply(&Reply::Refused(WireNo::UNKNOWN_COMMAND), quiet, queue),
             Role::Admin(names) => match names.tenant(&name) {
                 Some(tenant) => {
                     let command = Command::Limit { limits };
                     respond_by_log(tenant, command, quiet, queue, worker, gate)
                 }
-                None => queue_reply(Reply::Refused(WireNo::BAD_FORMAT), false, queue),
+                None => queue_reply(&Reply::Refused(WireNo::BAD_FORMAT), false, queue),
             },
         },
-        Request::Local { reply, quiet } => queue_reply(reply, quiet, queue),
+        Request::Local { reply, quiet } => queue_reply(&reply, quiet, queue),
         Request::Quit => Ok(()),
-        Request::TooLong => queue_reply(Reply::Refused(WireNo::LINE_TOO_LONG), false, queue),
+        Request::TooLong => queue_reply(&Reply::Refused(WireNo::LINE_TOO_LONG), false, queue),
     }
 }

@@ -1,11 +1,11 @@
-//! A run of bytes that stand in a reply's data.
+//! A run of bytes that stand in a block.
 ghost use Rattle.std.specs.Prelude.{◌≡◌, ◌≤◌, length, take, drop};
 
 use mc_model::Data;
 use std::marker::Model;
 
 /// The bytes of a block, or those between a front and an end that were dropped. They aren't copied:
-/// the run has the block.
+/// the run is one of the block's owners, so it outlives the log that the block came from.
 #[derive(Drop)]
 pub struct Run {
     block: Data,

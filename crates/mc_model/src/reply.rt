@@ -1,5 +1,5 @@
 //! Replies, and the refusals among them.
-ghost use Rattle.std.specs.Prelude.{◌≡◌, IfOk, IsOkUnless};
+ghost use Rattle.std.specs.Prelude.{◌≡◌, List, IfErr, IfOk, IsOkUnless};
 
 use crate::{Fault, Fragments, Key};
 use std::alloc::Global;
@@ -192,10 +192,15 @@ pub enum Reply<'a> {
 }
 
 impl<'a> Reply<'a> {
-    /// Returns the same reply, which borrows nothing. Returns `Memory` if an allocation fails.
+    ghost use Rattle.mc_model.specs.declared.reply.Value.{Value as Shown};
+
+    /// Returns the same reply, which borrows nothing. Returns `Memory` if an allocation fails; only
+    /// the items of a retrieval need one.
     pub fn into_owned(self, alloc: Global) -> Result<Reply<'static>, Fault>
         ensures same { IfOk result (λ reply. reply ≡ self.entry) }
         ensures memory { IsOkUnless result Fault.Memory }
+        ensures items { IfErr result
+            (λ fault. (values : List Shown) × (self.entry ≡ Reply.Values values)) }
     {
         Ok(match self {
             Reply::Stored => Reply::Stored,

@@ -35,7 +35,7 @@ impl Outcome {
 /// Appends a line for each reply.
 fn append_replies(
     alloc: Global,
-    replies: &[(WorkerId, u64, Reply)],
+    replies: &[(WorkerId, u64, Reply<'static>)],
     out: &mut Vec<u8>,
 ) -> Result<(), Fault>
     ensures text { OnOk result (out.new.items ≡ out.old.items ++ flat_map reply_line replies.now) }

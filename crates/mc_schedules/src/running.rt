@@ -18,7 +18,7 @@ pub struct Outcome {
     /// The core as the run left it.
     pub core: Core,
     /// The replies in order, each with its worker and the place of its command in the log.
-    pub replies: Vec<(WorkerId, u64, Reply)>,
+    pub replies: Vec<(WorkerId, u64, Reply<'static>)>,
     /// What ended the run before its last event, if anything: the number of the event's line, and
     /// the fault that it met.
     pub fault: Option<(u64, Fault)>,
@@ -29,7 +29,7 @@ fn take<W: Watch>(
     core: &mut Core,
     line: u64,
     event: Event,
-    replies: &mut Vec<(WorkerId, u64, Reply)>,
+    replies: &mut Vec<(WorkerId, u64, Reply<'static>)>,
     watch: &mut W,
 ) -> Result<(), Fault>
     ensures { Did (TakesEvent line event) line core.old core.new replies.old.items replies.new.items
@@ -48,7 +48,7 @@ fn finish<W: Watch>(
     core: &mut Core,
     line: u64,
     worker: u8,
-    replies: &mut Vec<(WorkerId, u64, Reply)>,
+    replies: &mut Vec<(WorkerId, u64, Reply<'static>)>,
     watch: &mut W,
 ) -> Result<(), Fault>
     ensures { (events : ℕ)
@@ -68,7 +68,7 @@ fn act<W: Watch>(
     core: &mut Core,
     line: u64,
     action: Action,
-    replies: &mut Vec<(WorkerId, u64, Reply)>,
+    replies: &mut Vec<(WorkerId, u64, Reply<'static>)>,
     watch: &mut W,
 ) -> Result<(), Fault>
     ensures { Did (Acts line action) line core.old core.new replies.old.items replies.new.items
@@ -89,7 +89,7 @@ fn act<W: Watch>(
 fn do_all<W: Watch>(
     core: &mut Core,
     items: Vec<Item>,
-    replies: &mut Vec<(WorkerId, u64, Reply)>,
+    replies: &mut Vec<(WorkerId, u64, Reply<'static>)>,
     watch: &mut W,
 ) -> Option<(u64, Fault)>
     ensures { (given : List Given) × DoesAll items.items core.old core.new given result

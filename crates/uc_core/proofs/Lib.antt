@@ -1,6 +1,7 @@
 mod Rows
 mod CoreRows
 mod Lookups
+mod Retrieved
 mod Moves
 mod Entries
 mod Replays

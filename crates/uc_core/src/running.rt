@@ -20,7 +20,7 @@ impl Core {
     pub fn run(
         &mut self,
         events: &[Event],
-        replies: &mut Vec<(WorkerId, u64, Reply)>,
+        replies: &mut Vec<(WorkerId, u64, Reply<'static>)>,
     ) -> Result<(), RunFault>
         ensures ran { (given : List Given) ×
             Runs self.old (take (done events.now result) events.now) self.new given
@@ -51,7 +51,7 @@ impl Core {
     fn run_one(
         &mut self,
         event: &Event,
-        replies: &mut Vec<(WorkerId, u64, Reply)>,
+        replies: &mut Vec<(WorkerId, u64, Reply<'static>)>,
     ) -> Result<(), Fault>
         ensures step { OnOk result ((reply : Option Reply) ×
             CoreStep self.old event.now self.new reply

@@ -14,7 +14,7 @@ impl Core {
     /// Takes one event, and returns the reply if it answers a command. Returns the fault of the
     /// first condition that fails if the event isn't enabled, and `Memory` if an allocation fails;
     /// nothing changes then.
-    pub fn step(&mut self, event: Event) -> Result<Option<Reply>, Fault>
+    pub fn step(&mut self, event: Event) -> Result<Option<Reply<'static>>, Fault>
         ensures step { IfOk result (λ reply. CoreStep self.old event self.new reply) }
         ensures refused { (fault : Fault) → refusal self.old event ≡ Some fault →
             result ≡ Err fault }
@@ -80,7 +80,7 @@ impl Core {
     }
 
     /// Takes an event that is enabled.
-    pub(crate) fn take(&mut self, event: Event) -> Result<Option<Reply>, Fault>
+    pub(crate) fn take(&mut self, event: Event) -> Result<Option<Reply<'static>>, Fault>
         requires { refusal self.old event ≡ None }
         ensures step { IfOk result (λ reply. CoreStep self.old event self.new reply) }
         ensures memory { IsOkUnless result Fault.Memory }
@@ -156,7 +156,7 @@ impl Core {
     }
 
     /// Replays the worker's next place.
-    fn replay(&mut self, number: u8) -> Result<Option<Reply>, Fault>
+    fn replay(&mut self, number: u8) -> Result<Option<Reply<'static>>, Fault>
         requires { refusal self.old (Replay number) ≡ None }
         ensures step { IfOk result (λ reply. CoreStep self.old (Replay number) self.new reply) }
         ensures memory { IsOkUnless result Fault.Memory }

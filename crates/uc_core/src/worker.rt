@@ -1,7 +1,9 @@
 //! One worker of the core, and what each event makes of it.
 ghost use Rattle.std.specs.Option.{option_copied, unwrap_or};
-ghost use Rattle.std.specs.Prelude.{◌≡◌, ◌≢◌, ◌+◌, ◌-◌, ◌^◌, ◌<◌, ◌≤◌, ℕ, List, [], ◌∷◌, ◌++◌, length, take, vec_len, vec_capacity, slice_get, if◌then◌else◌, Some, IfOk, OnOk, OnErr, IsOkUnless};
+ghost use Rattle.std.specs.Prelude.{◌≡◌, ◌≢◌, ◌+◌, ◌-◌, ◌^◌, ◌<◌, ◌≤◌, ℕ, List, [], ◌∷◌, ◌++◌, length, take, vec_len, vec_capacity, slice_get, if◌then◌else◌, Some, IfErr, IfOk, OnOk, OnErr, IsOkUnless};
 ghost use Rattle.mc_model.specs.declared.id.Ticket.{Ticket};
+ghost use Rattle.mc_model.specs.declared.reply.Reply.TheVariants.{Values};
+ghost use Rattle.mc_model.specs.declared.reply.Value.{Value};
 ghost use Rattle.mc_model.specs.declared.shown.Phase.TheVariants.{Idle, Looked};
 ghost use Rattle.mc_model.specs.Lawful.{decided_with};
 ghost use Rattle.mc_model.specs.Replay.{TakeEffect, reply_from};
@@ -190,7 +192,7 @@ impl Worker {
         &mut self,
         number: WorkerId,
         found: Option<&Entry>,
-    ) -> Result<Option<Reply>, Fault>
+    ) -> Result<Option<Reply<'static>>, Fault>
         requires few { self.old.replayed < 2 ^ 64 - 1 }
         requires uniques { (tenant : ℕ) (state : TableState) →
             slice_get self.old.tables.items tenant ≡ Some state →
@@ -208,6 +210,7 @@ impl Worker {
         ensures unchanged { OnErr result (replay_of self.new ≡ replay_of self.old) }
     {
         let reply = take_effect(&mut self.tables, Some(number), found)?;
+        let reply = owned(*self.tables.allocator(), reply)?;
         self.replayed += 1;
         Ok(reply)
     }
@@ -221,6 +224,19 @@ impl Worker {
         ensures replay { replay_of self.new ≡ replay_of self.old }
     {
         self.phase = Phase::Stopped;
+    }
+}
+
+/// Returns the same reply, which borrows nothing. Returns `Memory` if an allocation fails, which only
+/// the items of a retrieval need: so no table has changed then.
+fn owned(alloc: Global, reply: Option<Reply<'_>>) -> Result<Option<Reply<'static>>, Fault>
+    ensures same { IfOk result (λ owned. owned ≡ reply.entry) }
+    ensures items { IfErr result (λ fault. (values : List Value) × (reply.entry ≡ Some (Values values))) }
+    ensures memory { IsOkUnless result Fault.Memory }
+{
+    match reply {
+        Some(reply) => Ok(Some(reply.into_owned(alloc)?)),
+        None => Ok(None),
     }
 }
 
