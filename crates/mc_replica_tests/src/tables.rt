@@ -195,6 +195,26 @@ fn a_table_below_stays_as_it_is(rt: HostRuntime) -> Result<(), Fail> {
     Ok(())
 }
 
+/// Returns whether data that a get has joined are appended to, and joined again.
+fn joins_again(alloc: Global) -> Result<bool, Fault> {
+    let commands = commands_of(alloc, &JOINING)?;
+    let asked = commands_of(alloc, &[ASKED, "append n 0 0 2\r\ncd\r\n", ASKED])?;
+    let wanted = [JOINED, "STORED\r\n", "VALUE n 3 7 6\r\n215abcd\r\nEND\r\n"];
+    let mut items = CellItems::new(alloc, QUOTAS, Hashing::Fixed);
+    advance_all(&mut items, &commands)?;
+    for (command, want) in asked.iter().zip(wanted) {
+        if !answers(alloc, &mut items, command, want)? {
+            return Ok(false);
+        }
+    }
+    Ok(true)
+}
+
+#[test]
+fn data_are_joined_again_after_a_get(rt: HostRuntime) {
+    assert!(rt; joins_again(rt.alloc()) == Ok(true));
+}
+
 /// Appends a block if there is room for it.
 fn append_to<'a>(alloc: Global, parts: &mut Fragments<'a>, block: &'a Data) -> Result<(), Fault> {
     if parts.len() + block.as_bytes().len() <= 100 {
