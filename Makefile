@@ -1,6 +1,6 @@
 # `make run` and `make test` do all set-up on a machine that has the kit (`rt` on the PATH).
 .PHONY: help try try-stdin serve run schedule build install uninstall package test mutants golden network compatibility proxy moving fuzz \
-	coverage-fuzz linearizability allocation-failures differential wrong-definitions core-states manual trying packaging bench picture documents exposition layers definitions kit
+	coverage-fuzz linearizability allocation-failures differential wrong-definitions core-states outliving manual trying packaging bench picture documents exposition layers definitions kit
 
 help: ## prints this list
 	@awk -F ':.*## ' '/^[a-z-]+:.*## / { printf "make %-20s %s\n", $$1, $$2 }' Makefile
@@ -102,6 +102,9 @@ wrong-definitions: ## prints which law each wrong definition of the shared log b
 
 core-states: ## counts the reachable states of a small core
 	@python3 tests/core_states.py
+
+outliving: kit ## tests that the borrow checker refuses a replica, a reply and tables that are kept past what they borrow from, in some minutes
+	@python3 tests/outliving.py
 
 manual: ## checks the manual pages against the programs as built, and tests installing into temporary folders
 	@tests/manual.sh

@@ -195,7 +195,7 @@ fn keys_compared(rt: HostRuntime) {
     }
 }
 
-fn values_of(alloc: Global, first: Shown, second: Shown) -> Result<ValueList, Fault> {
+fn values_of(alloc: Global, first: Shown, second: Shown) -> Result<ValueList<'static>, Fault> {
     let (first, second) = (value_of(alloc, first)?, value_of(alloc, second)?);
     Ok(ValueList::new(vec![in alloc; first, second]?))
 }

@@ -50,18 +50,23 @@ fn gets(alloc: Global) -> Result<Command, Fault> {
     })
 }
 
-/// Returns what a `gets` shows after the commands of `joining`.
-fn shown(alloc: Global) -> Result<Reply<'static>, Fault> {
+/// Returns what a `gets` shows of these data under this unique.
+fn shown_as(alloc: Global, text: &str, unique: u64) -> Result<Reply<'static>, Fault> {
     let key = key_of(alloc, "n")?;
-    let block = Fragments::from_data(alloc, block_of(alloc, "215ab")?)?;
+    let block = Fragments::from_data(alloc, block_of(alloc, text)?)?;
     let mut values = Vec::new(alloc);
     values.push(Value {
         key,
         flags: 3,
         block,
-        unique: Some(5),
+        unique: Some(unique),
     })?;
     Ok(Reply::Values(ValueList::new(values)))
+}
+
+/// Returns what a `gets` shows after the commands of `joining`.
+fn shown(alloc: Global) -> Result<Reply<'static>, Fault> {
+    shown_as(alloc, "215ab", 5)
 }
 
 /// Returns commands that join a key's data: 1, 10, 210, 215, 215ab.
@@ -136,6 +141,20 @@ fn joins_data_of_commands(rt: HostRuntime) -> Result<(), Fail> {
     let mut items = CellItems::new(rt.alloc(), QUOTAS, Hashing::Random(RandomState::new(&rt)?));
     answer_all(&mut items, commands.as_slice())?;
     assert!(rt; answer(&mut items, &gets)? == shown(rt.alloc())?);
+    Ok(())
+}
+
+/// Data that a get has joined are appended to, and joined again.
+#[test]
+fn joins_again_after_a_get(rt: HostRuntime) -> Result<(), Fail> {
+    let commands = joining(rt.alloc())?;
+    let gets = gets(rt.alloc())?;
+    let append = store(rt.alloc(), Verb::Append, "cd")?;
+    let mut items = CellItems::new(rt.alloc(), QUOTAS, Hashing::Fixed);
+    answer_all(&mut items, commands.as_slice())?;
+    assert!(rt; answer(&mut items, &gets)? == shown(rt.alloc())?);
+    assert!(rt; answer(&mut items, &append)? == Reply::Stored);
+    assert!(rt; answer(&mut items, &gets)? == shown_as(rt.alloc(), "215abcd", 6)?);
     Ok(())
 }
 
