@@ -46,3 +46,6 @@ returns-in-TooLong-clause-once c = omega (arith, c.in-TooLong.ensures, line_leng
 
 pub returns-in-Open-clause-once : goal.returns-in-Open-clause-once
 returns-in-Open-clause-once c = omega (arith, c.in-Open.ensures.0, c.in-Open.ensures.1, c.len-held.ensures)
+
+pub returns-in_ok-request-in-Found-clause-refused : goal.returns-in_ok-request-in-Found-clause-refused
+returns-in_ok-request-in-Found-clause-refused c = λ request left is. c.in_ok-request-in-Found.ensures.refused request left is
