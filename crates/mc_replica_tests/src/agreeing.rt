@@ -55,16 +55,33 @@ fn agree_on_three<'a>(
     Ok(())
 }
 
+/// Puts two entries into their cells.
+fn put_two(rt: &impl Abort, alloc: Global, cells: &Cells) -> Result<(), Fault> {
+    put_row(rt, alloc, cells, 0, (0, 1, "set a 0 0 1\r\nx\r\n", ""))?;
+    put_row(rt, alloc, cells, 1, (0, 1, "set a 0 0 1\r\ny\r\n", ""))
+}
+
+/// Returns whether both have replayed three places and two changes of the second tenant.
+fn have_come_to_the_same(one: &Replica<'_>, other: &Replica<'_>) -> bool {
+    one.len() == 3
+        && other.len() == 3
+        && unique_of(one, 1) == Some(2)
+        && unique_of(other, 1) == Some(2)
+}
+
+/// Returns whether two workers that have replayed the cells have come to the same.
+fn are_agreed(rt: &impl Abort, alloc: Global, cells: &Cells) -> Result<bool, Fault> {
+    let mut one = opened(alloc, 0, &[QUOTAS, QUOTAS], 3)?;
+    let mut other = opened(alloc, 1, &[QUOTAS, QUOTAS], 3)?;
+    agree_on_three(rt, alloc, cells, &mut one, &mut other)?;
+    Ok(have_come_to_the_same(&one, &other))
+}
+
 #[test]
 fn replicas_of_the_same_cells_agree(rt: HostRuntime) -> Result<(), Fail> {
     let alloc = rt.alloc();
     let cells = Cells::open(alloc, 1, 3)?;
-    put_row(&rt, alloc, &cells, 0, (0, 1, "set a 0 0 1\r\nx\r\n", ""))?;
-    put_row(&rt, alloc, &cells, 1, (0, 1, "set a 0 0 1\r\ny\r\n", ""))?;
-    let mut one = opened(alloc, 0, &[QUOTAS, QUOTAS], 3)?;
-    let mut other = opened(alloc, 1, &[QUOTAS, QUOTAS], 3)?;
-    agree_on_three(&rt, alloc, &cells, &mut one, &mut other)?;
-    assert!(rt; one.len() == 3 && other.len() == 3);
-    assert!(rt; unique_of(&one, 1) == Some(2) && unique_of(&other, 1) == Some(2));
+    put_two(&rt, alloc, &cells)?;
+    assert!(rt; are_agreed(&rt, alloc, &cells) == Ok(true));
     Ok(())
 }

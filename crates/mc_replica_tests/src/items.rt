@@ -590,13 +590,24 @@ fn advance_at_last(items: &mut Items, command: &Command) -> Result<(), Fault> {
 }
 
 /// Returns whether the command is answered like this, at once or after memory ran out and nothing
-/// changed.
+/// changed, and whether a table that is advanced stays like the one that answers.
+fn is_answered_alike(
+    alloc: Global,
+    items: &mut Items,
+    advanced: &mut Items,
+    command: &Command,
+    want: &[u8],
+) -> Result<bool, Fault> {
+    let text = text_of(alloc, apply_at_last(alloc, items, advanced, command)?)?;
+    advance_at_last(advanced, command)?;
+    Ok(text.as_slice() == want && are_alike(alloc, items, advanced)?)
+}
+
+/// Returns whether that is so of two tables that are started alike.
 fn is_answered_at_last(alloc: Global, command: &Command, want: &[u8]) -> Result<bool, Fault> {
     let mut advanced = started(alloc)?;
     let mut items = started(alloc)?;
-    let text = text_of(alloc, apply_at_last(alloc, &mut items, &advanced, command)?)?;
-    advance_at_last(&mut advanced, command)?;
-    Ok(text.as_slice() == want && are_alike(alloc, &items, &advanced)?)
+    is_answered_alike(alloc, &mut items, &mut advanced, command, want)
 }
 
 /// Returns whether this is so for the command that a client writes as this text.
