@@ -164,11 +164,7 @@ struct Flags {
 
 /// Has worker 0 begin once the other has looked, and holds it after its first read until the other
 /// has ended.
-fn helped<'a>(
-    alloc: Global,
-    client: &mut Client<'a>,
-    flags: &Flags,
-) -> Result<Answer<'a>, Fault>
+fn helped<'a>(alloc: Global, client: &mut Client<'a>, flags: &Flags) -> Result<Answer<'a>, Fault>
     ensures { client.new.log ≡ client.old.log }
 {
     if !comes(&flags.looked) {
@@ -191,11 +187,7 @@ fn place_of(answer: Answer<'_>) -> usize {
 
 /// Holds worker 1 after it has first looked, until the other has read; then worker 1 finishes its
 /// three commands.
-fn helping<'a>(
-    alloc: Global,
-    client: &mut Client<'a>,
-    flags: &Flags,
-) -> Result<Answer<'a>, Fault>
+fn helping<'a>(alloc: Global, client: &mut Client<'a>, flags: &Flags) -> Result<Answer<'a>, Fault>
     ensures { client.new.log ≡ client.old.log }
 {
     let mut gate = Held::after(Step::Look, &flags.looked, &flags.read);

@@ -90,11 +90,7 @@ fn stand_still<'a>(
 }
 
 /// Has another worker begin once worker 0 is held, and finish its commands.
-fn go_on<'a>(
-    alloc: Global,
-    client: &mut Client<'a>,
-    flags: &Flags,
-) -> Result<Vec<Asked<'a>>, Fault>
+fn go_on<'a>(alloc: Global, client: &mut Client<'a>, flags: &Flags) -> Result<Vec<Asked<'a>>, Fault>
     ensures { client.new.log ≡ client.old.log }
 {
     if !comes(&flags.stands) {
