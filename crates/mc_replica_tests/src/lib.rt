@@ -15,6 +15,8 @@ mod event_lists;
 #[cfg(test)]
 mod events;
 #[cfg(test)]
+mod fragments;
+#[cfg(test)]
 mod hashing;
 #[cfg(test)]
 mod items;

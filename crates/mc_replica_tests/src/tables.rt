@@ -1,8 +1,7 @@
 //! Both kinds of table over the same commands, with ample memory and keys hashed at random: data are
-//! joined, a copied table shows what it holds, and a table below another stays as it is. And parts of
-//! data are joined by themselves.
-use crate::values::{block_of, command_of, reads_as};
-use mc_model::{Command, Data, Fault, Fragments, Limits};
+//! joined, a copied table shows what it holds, and a table below another stays as it is.
+use crate::values::{command_of, reads_as};
+use mc_model::{Command, Fault, Limits};
 use mc_tables::{CellItems, HashKeys, Hashing, OwnedItems, Table};
 use std::alloc::Global;
 use std::test::Fail;
@@ -213,54 +212,4 @@ fn joins_again(alloc: Global) -> Result<bool, Fault> {
 #[test]
 fn data_are_joined_again_after_a_get(rt: HostRuntime) {
     assert!(rt; joins_again(rt.alloc()) == Ok(true));
-}
-
-/// Appends a block if there is room for it.
-fn append_to<'a>(alloc: Global, parts: &mut Fragments<'a>, block: &'a Data) -> Result<(), Fault> {
-    if parts.len() + block.as_bytes().len() <= 100 {
-        parts.append(alloc, block)?;
-    }
-    Ok(())
-}
-
-/// Prepends a block if there is room for it.
-fn prepend_to<'a>(alloc: Global, parts: &mut Fragments<'a>, block: &'a Data) -> Result<(), Fault> {
-    if parts.len() + block.as_bytes().len() <= 100 {
-        parts.prepend(alloc, block)?;
-    }
-    Ok(())
-}
-
-/// Returns the second block with the third after it and then the first before it.
-fn joined(alloc: Global, first: &Data, second: &Data, third: &Data) -> Result<Data, Fault> {
-    let mut parts = Fragments::new(second);
-    append_to(alloc, &mut parts, third)?;
-    prepend_to(alloc, &mut parts, first)?;
-    parts.to_data(alloc)
-}
-
-/// Returns blocks of these texts.
-fn blocks_of(alloc: Global, texts: &[&str]) -> Result<Vec<Data>, Fault> {
-    let mut blocks = Vec::new(alloc);
-    for text in texts {
-        blocks.push(block_of(alloc, text.as_bytes())?)?;
-    }
-    Ok(blocks)
-}
-
-/// Returns whether three parts are joined in the order of their places.
-fn parts_are_joined(alloc: Global) -> Result<bool, Fault> {
-    let blocks = blocks_of(alloc, &["ab", "c", "def"])?;
-    match blocks.as_slice() {
-        [first, second, third] => {
-            let data = joined(alloc, first, second, third)?;
-            Ok(data.as_bytes() == b"abcdef".as_slice())
-        }
-        _ => Ok(false),
-    }
-}
-
-#[test]
-fn joins_with_ample_memory(rt: HostRuntime) {
-    assert!(rt; parts_are_joined(rt.alloc()) == Ok(true));
 }
