@@ -78,13 +78,13 @@ def metrics():
 
 def page():
     rows = "".join(
-        f"<tr><th>{name}" + "".join(f"<td>{number * unit}" for number in (5, 7000, 600, 80000, 3, 4, 9)) + "\n"
+        f"<tr><th>{name}" + "".join(f"<td>{number * unit}" for number in (5, 7000, 600, 80000, 9)) + "\n"
         for name, unit in TENANTS)
     return (
         '<!DOCTYPE html>\n<html lang="en">\n<meta charset="utf-8">\n<title>wfmc</title>\n'
         "<style>body{font:1em sans-serif;margin:2em}td,th{padding:.2em .8em;text-align:right}</style>\n"
         '<h1>wfmc</h1>\n<p>For Prometheus: <a href="/metrics">/metrics</a></p>\n<table>\n'
-        "<tr><th>tenant<th>items<th>of<th>bytes<th>of<th>hits<th>misses<th>connections\n"
+        "<tr><th>tenant<th>items<th>of<th>bytes<th>of<th>connections\n"
         + rows + "</table>\n<table>\n<tr><th>log<th>places used<th>of<th>bytes<th>turn overs\n<tr>"
         "<td>3<td>1234<td>65536<td>567890<td>2\n</table>\n</html>\n")
 

@@ -51,7 +51,7 @@ pub enum Metric {
     Build,
 }
 
-/// All metrics, in the order in which they are written.
+/// All metrics, in the order in which they are written where requests are counted.
 pub const METRICS: [Metric; 18] = [
     Metric::OfTenant(TenantMetric::Items),
     Metric::OfTenant(TenantMetric::Bytes),
@@ -61,6 +61,25 @@ pub const METRICS: [Metric; 18] = [
     Metric::OfTenant(TenantMetric::Hits),
     Metric::OfTenant(TenantMetric::Misses),
     Metric::Refusals,
+    Metric::OfTenant(TenantMetric::Connections),
+    Metric::OfWorker(WorkerMetric::Lag),
+    Metric::OfWorker(WorkerMetric::Connections),
+    Metric::OfServer(ServerMetric::Places),
+    Metric::OfServer(ServerMetric::UsedPlaces),
+    Metric::OfServer(ServerMetric::LogBytes),
+    Metric::OfServer(ServerMetric::Generation),
+    Metric::TurnOvers,
+    Metric::OfServer(ServerMetric::ResidentBytes),
+    Metric::Build,
+];
+
+/// The metrics that count no requests, in the order in which they are written where requests aren't
+/// counted.
+pub const UNCOUNTED_METRICS: [Metric; 14] = [
+    Metric::OfTenant(TenantMetric::Items),
+    Metric::OfTenant(TenantMetric::Bytes),
+    Metric::OfTenant(TenantMetric::ItemQuota),
+    Metric::OfTenant(TenantMetric::ByteQuota),
     Metric::OfTenant(TenantMetric::Connections),
     Metric::OfWorker(WorkerMetric::Lag),
     Metric::OfWorker(WorkerMetric::Connections),
@@ -114,15 +133,15 @@ impl WorkerMetric {
 }
 
 impl ServerMetric {
-    /// Returns the server's number.
-    pub(crate) fn value(self, snapshot: &Snapshot) -> u64
+    /// Returns the server's number, or `None` if it isn't known.
+    pub(crate) fn value(self, snapshot: &Snapshot) -> Option<u64>
         ensures { result ≡ server_value self snapshot.now }
     {
         match self {
-            ServerMetric::Places => snapshot.log.places,
-            ServerMetric::UsedPlaces => snapshot.log.used_places,
-            ServerMetric::LogBytes => snapshot.log.bytes,
-            ServerMetric::Generation => snapshot.log.generation,
+            ServerMetric::Places => Some(snapshot.log.places),
+            ServerMetric::UsedPlaces => Some(snapshot.log.used_places),
+            ServerMetric::LogBytes => Some(snapshot.log.bytes),
+            ServerMetric::Generation => Some(snapshot.log.generation),
             ServerMetric::ResidentBytes => snapshot.resident_bytes,
         }
     }

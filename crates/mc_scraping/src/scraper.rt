@@ -1,0 +1,195 @@
+//! The loop of the listener for scrapes.
+use crate::boards::Boards;
+use crate::visit::Visit;
+use mc_metrics::Scrape;
+use mc_model::Fault;
+use mio::net::TcpListener;
+use mio::{Events, Interest, Poll, Token, Waker};
+use std::alloc::Global;
+use std::fs::Files;
+use std::hash::RandomState;
+use std::net::Net;
+use std::sync::Wait;
+use std::sync::atomic::{AtomicBool, Ordering};
+use std::time::{Clock, Duration, Instant};
+
+/// How many connections there are at most. Others wait at the listener.
+const MOST_VISITS: usize = 16;
+
+/// After how many seconds a connection is closed, whatever it does.
+const MOST_SECONDS: u64 = 10;
+
+/// How many events a poll reports at most.
+const EVENTS: usize = 64;
+
+/// How long a poll waits at most while there are connections, in milliseconds, so that they are closed
+/// in time.
+const TICK_MILLIS: u64 = 1_000;
+
+/// The token of the listener, after those of the connections.
+const LISTENER: Token = Token(MOST_VISITS);
+
+/// The token of the waker.
+const WAKER: Token = Token(MOST_VISITS + 1);
+
+/// Stops the loop of a listener for scrapes.
+#[derive(Drop)]
+pub struct Stop {
+    is_stopped: AtomicBool,
+    waker: Waker,
+}
+
+impl Stop {
+    /// Stops the loop. If it can't be woken it stops after its next event.
+    pub fn stop(&self) {
+        self.is_stopped.store(true, Ordering::SeqCst);
+        let _ = self.waker.wake();
+    }
+}
+
+/// The listener for scrapes, with its connections.
+#[derive(Drop)]
+pub struct Scraper {
+    listener: TcpListener,
+    boards: Boards,
+    poll: Poll,
+    events: Events,
+    visits: Vec<Option<Visit>>,
+    // By these the fields of requests are hashed, whose names clients choose.
+    keys: RandomState,
+    alloc: Global,
+}
+
+/// Returns the loop of a listener without connections, which answers by these boards, and what stops
+/// it.
+///
+/// Returns `Memory` if memory runs out, and `Input` if the poll can't be made or the listener can't be
+/// registered.
+pub fn new_scraper<R: Net>(
+    rt: &R,
+    alloc: Global,
+    keys: RandomState,
+    listener: TcpListener,
+    boards: Boards,
+) -> Result<(Scraper, Stop), Fault> {
+    let mut listener = listener;
+    let Ok(poll) = Poll::new(rt) else {
+        return Err(Fault::Input);
+    };
+    let registered = poll
+        .registry()
+        .register(&mut listener, LISTENER, Interest::READABLE);
+    let (Ok(()), Ok(waker)) = (registered, Waker::new(poll.registry(), WAKER)) else {
+        return Err(Fault::Input);
+    };
+    let mut visits = Vec::with_capacity(alloc, MOST_VISITS)?;
+    for _ in 0..MOST_VISITS {
+        visits.push(None)?;
+    }
+    let scraper = Scraper {
+        listener,
+        boards,
+        poll,
+        events: Events::with_capacity(alloc, EVENTS)?,
+        visits,
+        keys,
+        alloc,
+    };
+    let stop = Stop {
+        is_stopped: AtomicBool::new(false),
+        waker,
+    };
+    Ok((scraper, stop))
+}
+
+impl Scraper {
+    /// Accepts the streams that wait, as far as there are places for them. A stream that can't be
+    /// registered is closed.
+    fn accept_waiting(&mut self, now: Instant) {
+        for (place, visit) in self.visits.iter_mut().enumerate() {
+            if visit.is_some() {
+                continue;
+            }
+            let Ok((mut stream, _)) = self.listener.accept() else {
+                return;
+            };
+            let both = Interest::READABLE | Interest::WRITABLE;
+            let registry = self.poll.registry();
+            if registry.register(&mut stream, Token(place), both).is_ok() {
+                *visit = Some(Visit::new(self.alloc, self.keys, stream, now));
+            }
+        }
+    }
+
+    /// Closes the connections that have had their time.
+    fn close_late(&mut self, now: Instant) {
+        let most = Duration::from_secs(MOST_SECONDS);
+        for place in self.visits.iter_mut() {
+            let is_late = match place {
+                Some(visit) => now.duration_since(visit.begun) >= most,
+                None => false,
+            };
+            if is_late {
+                *place = None;
+            }
+        }
+    }
+
+    /// Serves the connections for which there is an event, all by the numbers that are shown now.
+    ///
+    /// If memory runs out they are closed.
+    fn serve_events<R: Files>(&mut self, rt: &R) {
+        if self.events.iter().all(|event| event.token().0 >= MOST_VISITS) {
+            return;
+        }
+        let mut scrape = match self.boards.snapshot(rt, self.alloc) {
+            Ok(snapshot) => Some(Scrape {
+                alloc: self.alloc,
+                snapshot,
+            }),
+            Err(_) => None,
+        };
+        for event in &self.events {
+            let Some(place) = self.visits.get_mut(event.token().0) else {
+                continue;
+            };
+            let stays = match (place.as_mut(), &mut scrape) {
+                (Some(visit), Some(scrape)) => visit.serve(scrape),
+                (_, _) => false,
+            };
+            if !stays {
+                *place = None;
+            }
+        }
+    }
+
+    /// Polls once, serves the connections for which there is an event, closes those that have had
+    /// their time, and accepts others.
+    ///
+    /// Returns `Input` if the poll or the clock fails.
+    fn make_round<R: Clock + Files>(&mut self, rt: &R) -> Result<(), Fault> {
+        let is_idle = self.visits.iter().all(|visit| visit.is_none());
+        let tick = Duration::from_millis(TICK_MILLIS);
+        let timeout = if is_idle { None } else { Some(tick) };
+        if self.poll.poll(&mut self.events, timeout).is_err() {
+            return Err(Fault::Input);
+        }
+        let Ok(now) = Instant::now(rt) else {
+            return Err(Fault::Input);
+        };
+        self.serve_events(rt);
+        self.close_late(now);
+        self.accept_waiting(now);
+        Ok(())
+    }
+
+    /// Answers scrapes until the loop is stopped, or its poll or the clock fails: then nobody is
+    /// answered any more, and all else goes on.
+    pub fn run<R: Wait + Clock + Files>(&mut self, rt: &R, stop: &Stop) {
+        for _ in rt.forever() {
+            if stop.is_stopped.load(Ordering::SeqCst) || self.make_round(rt).is_err() {
+                return;
+            }
+        }
+    }
+}
