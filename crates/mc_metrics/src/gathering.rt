@@ -225,18 +225,26 @@ pub fn snapshot_of(alloc: Global, names: &[Name], shown: &ServerShown) -> Result
 {
     let mut tenants = Vec::new(alloc);
     let mut workers = Vec::new(alloc);
-    let mut log = log_numbers(shown, &NO_WORKER);
-    if let Some(leader) = furthest(&shown.workers) {
-        log = log_numbers(shown, &leader.worker);
-        write_tenants(alloc, names, leader, &shown.workers, &mut tenants)?;
-        let generation = shown.logs.generation;
-        write_workers(generation, log.used_places, &shown.workers, &mut workers)?;
-    }
+    let resident_bytes = shown.resident_bytes;
+    let Some(leader) = furthest(&shown.workers) else {
+        let log = log_numbers(shown, &NO_WORKER);
+        return Ok(Snapshot {
+            tenants,
+            workers,
+            log,
+            resident_bytes,
+            counts_requests: false,
+        });
+    };
+    let log = log_numbers(shown, &leader.worker);
+    let all = &shown.workers;
+    write_tenants(alloc, names, leader, all, &mut tenants)?;
+    write_workers(log.generation, log.used_places, all, &mut workers)?;
     Ok(Snapshot {
         tenants,
         workers,
         log,
-        resident_bytes: shown.resident_bytes,
+        resident_bytes,
         counts_requests: false,
     })
 }
