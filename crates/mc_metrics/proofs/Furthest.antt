@@ -1,6 +1,6 @@
 -- The worker that has come furthest of the rest has come furthest of all, unless it has come no
 -- further than the first.
-use Rattle.std.proofs.Common.{◌≡◌, ◌≤◌, ◌<◌, ◌-◌, ◌⊎◌, ◌↔◌, inl, inr, ⊎_elim, Bool, true, false, IsTrue, ℕ, suc, List, [], ◌∷◌, All, Contains, length, take, drop, get_or, refl, sym, subst, arith}
+use Rattle.std.proofs.Common.{◌≡◌, ◌≤◌, ◌<◌, ◌-◌, ◌↔◌, inl, inr, ⊎_elim, Bool, true, false, IsTrue, suc, List, [], ◌∷◌, length, take, drop, get_or, sym, subst, arith}
 use Rattle.std.proofs.lemmas.Bool.{cases_lt}
 use Rattle.std.proofs.Math.Nat.{eq-or-lt_of_le}
 use Rattle.std.proofs.lemmas.List.{take_all}

@@ -5,14 +5,17 @@ use crate::runs::output_of;
 use mc_programs::{Hashing, OutputStep};
 use mc_server::run_wfmc;
 use std::alloc::AllocError;
+use std::fs::Files;
 use std::net::Net;
 use std::process::Abort;
+use std::random::RandomSource;
 use std::sync::Wait;
 use std::test::Fail;
 use std::thread::Threads;
+use std::time::Clock;
 
 /// Asserts that a run with these words, whose outputs follow these steps, leaves what it must.
-fn check_steps<R: Threads + Wait + Net + Sync + AllocGlobal + Abort>(
+fn check_steps<R: Threads + Wait + Net + Clock + Files + RandomSource + Sync + AllocGlobal + Abort>(
     rt: &R,
     given: &str,
     pushes: &[OutputStep],
@@ -43,7 +46,7 @@ fn check_steps<R: Threads + Wait + Net + Sync + AllocGlobal + Abort>(
 }
 
 /// Does as `check_steps` for a run that ends with this status and prints this error.
-fn check_told<R: Threads + Wait + Net + Sync + AllocGlobal + Abort>(
+fn check_told<R: Threads + Wait + Net + Clock + Files + RandomSource + Sync + AllocGlobal + Abort>(
     rt: &R,
     given: &str,
     status: u8,
@@ -100,7 +103,7 @@ const SHOWN: [(&str, &str); 3] = [
 
 /// Asserts that a run with these words prints this text, and that it stops after five bytes if
 /// pushing more fails.
-fn check_shown<R: Threads + Wait + Net + Sync + AllocGlobal + Abort>(
+fn check_shown<R: Threads + Wait + Net + Clock + Files + RandomSource + Sync + AllocGlobal + Abort>(
     rt: &R,
     given: &str,
     text: &[u8],
@@ -331,7 +334,7 @@ fn what_cannot_be_served_is_refused(rt: HostRuntime) -> Result<(), AllocError> {
 
 /// Asserts that a run with these words, and `--check` before them, ends with this status, and prints
 /// and reports this.
-fn check_checked<R: Threads + Wait + Net + Sync + AllocGlobal + Abort>(
+fn check_checked<R: Threads + Wait + Net + Clock + Files + RandomSource + Sync + AllocGlobal + Abort>(
     rt: &R,
     given: &str,
     wanted: Wanted,
