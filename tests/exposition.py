@@ -71,8 +71,8 @@ def metrics():
         metric("wfmc_turn_over_seconds", "Time from the end of a log to the beginning of the next.", "summary",
                [([], "1.002030", "_sum"), ([], 2, "_count")]),
         plain("process_resident_memory_bytes", "Resident memory of the process in bytes.", LARGEST),
-        metric("wfmc_build_info", "The version that runs, and the kit that it is proved with.", "gauge",
-               [([("version", "1.0.0"), ("kit", "rattle-kit-13b")], 1)]),
+        metric("wfmc_build_info", "The version that runs, and the logic that it is proved in.", "gauge",
+               [([("version", "1.0.0"), ("logic", "dac8208d650f15bf")], 1)]),
     ])
 
 

@@ -16,7 +16,7 @@ use Rattle.mc_metrics.specs.declared.metric.TenantMetric.{TenantMetric}
 use Rattle.mc_metrics.specs.declared.metric.TenantMetric.TheVariants.{Items, Bytes, ItemQuota, ByteQuota, Hits, Misses, Connections}
 use Rattle.mc_metrics.specs.declared.metric.WorkerMetric.{WorkerMetric}
 use Rattle.mc_metrics.specs.declared.metric.WorkerMetric.TheVariants as worker
-use Rattle.mc_metrics.specs.declared.metric.TheConstants.{KIT, METRICS, TURN_OVER_COUNT, TURN_OVER_SUM, UNCOUNTED_METRICS, VERSION}
+use Rattle.mc_metrics.specs.declared.metric.TheConstants.{LOGIC, METRICS, TURN_OVER_COUNT, TURN_OVER_SUM, UNCOUNTED_METRICS, VERSION}
 use Rattle.mc_metrics.specs.declared.snapshot.LogNumbers.{LogNumbers}
 use Rattle.mc_metrics.specs.declared.snapshot.Snapshot.{Snapshot}
 use Rattle.mc_metrics.specs.declared.snapshot.TenantNumbers.{TenantNumbers}
@@ -60,7 +60,7 @@ metric_help (OfServer LogBytes) = codes "Bytes that the commands in the log keep
 metric_help (OfServer Generation) = codes "Which log is served, counted from 1."
 metric_help (OfServer ResidentBytes) = codes "Resident memory of the process in bytes."
 metric_help TurnOvers = codes "Time from the end of a log to the beginning of the next."
-metric_help Build = codes "The version that runs, and the kit that it is proved with."
+metric_help Build = codes "The version that runs, and the logic that it is proved in."
 
 abbrev pub metric_type : Metric → List ℕ
 metric_type (OfTenant Hits) = codes "counter"
@@ -181,7 +181,7 @@ turn_over_samples log =
 -- the sample that names the build
 abbrev pub build_sample : List ℕ
 build_sample =
-    sample_line (metric_name Build) ((codes "version", VERSION.now) ∷ (codes "kit", KIT.now) ∷ [])
+    sample_line (metric_name Build) ((codes "version", VERSION.now) ∷ (codes "logic", LOGIC.now) ∷ [])
     (codes "1")
 
 -- the samples of a metric

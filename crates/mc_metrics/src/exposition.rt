@@ -4,7 +4,7 @@ ghost use Rattle.mc_metrics.specs.Exposition.{comment_line, head_lines, label_te
 ghost use Rattle.mc_metrics.specs.Metrics.{build_sample, command_sample, metric_help, metric_text, metrics_text, metric_name, refusal_sample, samples_of, seconds_text, server_sample, tenant_label, tenant_sample, turn_over_samples, metric_type, worker_sample};
 
 use crate::metric::{
-    KIT, METRICS, Metric, ServerMetric, TURN_OVER_COUNT, TURN_OVER_SUM, TenantMetric,
+    LOGIC, METRICS, Metric, ServerMetric, TURN_OVER_COUNT, TURN_OVER_SUM, TenantMetric,
     UNCOUNTED_METRICS, VERSION, WorkerMetric, command_label, refusal_label,
 };
 use crate::snapshot::{LogNumbers, Snapshot, TenantNumbers, WorkerNumbers};
@@ -347,7 +347,7 @@ fn write_turn_overs(log: &LogNumbers, out: &mut Vec<u8>) -> Result<(), AllocErro
     write_sample(TURN_OVER_COUNT, &[], count.as_bytes(), out)
 }
 
-/// Appends which version runs, and the kit that it is proved with.
+/// Appends which version runs, and the logic that it is proved in.
 fn write_build(out: &mut Vec<u8>) -> Result<(), AllocError>
     ensures { OnOk result (out.new.items ≡ out.old.items ++ build_sample) }
 {
@@ -355,11 +355,11 @@ fn write_build(out: &mut Vec<u8>) -> Result<(), AllocError>
         name: b"version",
         value: VERSION,
     };
-    let kit = Label {
-        name: b"kit",
-        value: KIT,
+    let logic = Label {
+        name: b"logic",
+        value: LOGIC,
     };
-    write_sample(Metric::Build.name(), &[version, kit], b"1", out)
+    write_sample(Metric::Build.name(), &[version, logic], b"1", out)
 }
 
 /// Appends the samples of a metric.

@@ -100,8 +100,8 @@ pub(crate) const TURN_OVER_COUNT: &[u8] = b"wfmc_turn_over_seconds_count";
 /// The version that the metrics show.
 pub(crate) const VERSION: &[u8] = b"1.0.0";
 
-/// The kit that the server is proved and built with.
-pub(crate) const KIT: &[u8] = b"rattle-kit-13b";
+/// The logic of the kit that the server is proved with, as `rt version` prints it.
+pub(crate) const LOGIC: &[u8] = b"dac8208d650f15bf";
 
 impl TenantMetric {
     /// Returns a tenant's number.
@@ -206,7 +206,7 @@ impl Metric {
                 b"Resident memory of the process in bytes."
             }
             Metric::TurnOvers => b"Time from the end of a log to the beginning of the next.",
-            Metric::Build => b"The version that runs, and the kit that it is proved with.",
+            Metric::Build => b"The version that runs, and the logic that it is proved in.",
         }
     }
 

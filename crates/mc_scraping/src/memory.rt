@@ -33,15 +33,9 @@ fn resident_in(lines: &[u8]) -> Option<u64> {
 pub(crate) fn resident_bytes<R: Files>(rt: &R) -> Option<u64> {
     let mut file = File::open(rt, "/proc/self/status").ok()?;
     let mut lines = [0; MOST_BYTES];
-    let mut len = 0;
-    while len < MOST_BYTES {
-        let count = file.read(&mut lines[len..]).ok()?;
-        if count == 0 {
-            break;
-        }
-        len += count;
-    }
-    resident_in(&lines[..len])
+    // One read gets all of such a file that there is room for.
+    let count = file.read(&mut lines).ok()?;
+    resident_in(&lines[..count])
 }
 
 #[cfg(test)]

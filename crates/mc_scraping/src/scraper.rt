@@ -1,4 +1,6 @@
 //! The loop of the listener for scrapes.
+ghost use Rattle.std.specs.Prelude.{◌≡◌, ◌⊎◌, IfErr};
+
 use crate::boards::Boards;
 use crate::visit::Visit;
 use mc_metrics::Scrape;
@@ -71,7 +73,9 @@ pub fn new_scraper<R: Net>(
     keys: RandomState,
     listener: TcpListener,
     boards: Boards,
-) -> Result<(Scraper, Stop), Fault> {
+) -> Result<(Scraper, Stop), Fault>
+    ensures { IfErr result (λ fault. (fault ≡ Fault.Memory) ⊎ (fault ≡ Fault.Input)) }
+{
     let mut listener = listener;
     let Ok(poll) = Poll::new(rt) else {
         return Err(Fault::Input);
