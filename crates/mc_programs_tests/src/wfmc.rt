@@ -77,11 +77,13 @@ Options:
       --connections <N>  After how many connections of tenants it ends; 0 for never [default: 0]
       --check            Checks whether the words can be served, reports the first that can't, and serves nothing
       --admin <ADDR>     At which IPv4 address and port administrators connect; without it there are none
+      --metrics <ADDR>   At which IPv4 address and port metrics are scraped by HTTP; without it they aren't
   -h, --help             Print help
   -V, --version          Print version
 
 Each TENANT is NAME=ADDR,ITEMS,BYTES:
-  NAME   1 to 32 of a to z, 0 to 9, - and _; no name twice, and with --admin none is admin
+  NAME   1 to 32 of a to z, 0 to 9, - and _; no name twice, with --admin none is admin, and
+         with --metrics none is metrics
   ADDR   an IPv4 address and a port, as numbers, at which the tenant's clients connect;
          the port from 0 to 65535, where 0 takes a free one
   ITEMS  how many items the tenant may hold, from 1 to 1048576
@@ -90,6 +92,7 @@ Where a word is of another form, a number out of its range, or a name used twice
 With --check wfmc says which word that is, and serves nothing.
 
 With --admin, whoever connects at ADDR may set a tenant's quotas: limit NAME ITEMS BYTES.
+With --metrics, whoever connects at ADDR may read numbers of all tenants: GET /metrics, by HTTP.
 
 Example, two tenants apart from each other on two ports:
   wfmc shop=127.0.0.1:11211,1000,1048576 blog=127.0.0.1:11212,1000,1048576
