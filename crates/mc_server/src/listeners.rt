@@ -107,9 +107,9 @@ pub(crate) fn bind_metrics<'a, R: Net>(
     let Some(address) = address else {
         return Ok(None);
     };
-    let Ok((listener, listening)) = bind(rt, METRICS, address) else {
+    let Ok((listener, line)) = bind(rt, METRICS, address) else {
         return Err(Stop::CannotListen(METRICS));
     };
-    told.push(listening)?;
+    told.push(line)?;
     Ok(Some(listener))
 }
