@@ -106,6 +106,17 @@ pub fn new_scraper<R: Net>(
     Ok((scraper, stop))
 }
 
+/// Returns whether there is a connection at this place that is to be served: there is an event for it, or
+/// it has more to do.
+fn is_ready(events: &Events, place: usize, visit: &Option<Visit>) -> bool {
+    match visit {
+        Some(visit) => {
+            visit.has_more || events.iter().any(|event| event.token() == Token(place))
+        }
+        None => false,
+    }
+}
+
 impl Scraper {
     /// Accepts the streams that wait, as far as there are places for them. A stream that can't be
     /// registered is closed.
@@ -139,11 +150,17 @@ impl Scraper {
         }
     }
 
-    /// Serves the connections for which there is an event, all by the numbers that are shown now.
+    /// Serves the connections that are ready, all by the numbers that are shown now.
     ///
     /// If memory runs out they are closed.
-    fn serve_events<R: Files>(&mut self, rt: &R) {
-        if self.events.iter().all(|event| event.token().0 >= MOST_VISITS) {
+    fn serve_ready<R: Files>(&mut self, rt: &R) {
+        let events = &self.events;
+        if !self
+            .visits
+            .iter()
+            .enumerate()
+            .any(|(place, visit)| is_ready(events, place, visit))
+        {
             return;
         }
         let mut scrape = match self.boards.snapshot(rt, self.alloc) {
@@ -153,10 +170,10 @@ impl Scraper {
             }),
             Err(_) => None,
         };
-        for event in &self.events {
-            let Some(place) = self.visits.get_mut(event.token().0) else {
+        for (number, place) in self.visits.iter_mut().enumerate() {
+            if !is_ready(events, number, place) {
                 continue;
-            };
+            }
             let stays = match (place.as_mut(), &mut scrape) {
                 (Some(visit), Some(scrape)) => visit.serve(scrape),
                 (_, _) => false,
@@ -167,21 +184,31 @@ impl Scraper {
         }
     }
 
-    /// Polls once, serves the connections for which there is an event, closes those that have had
+    /// Returns how long a poll may wait: not at all if a connection is to be served without an event, a
+    /// second if there are connections, so that they are closed in time, and otherwise until an event
+    /// comes.
+    fn timeout(&self) -> Option<Duration> {
+        let mut visits = self.visits.iter().flatten();
+        if visits.any(|visit| visit.has_more) {
+            return Some(Duration::ZERO);
+        }
+        let is_idle = self.visits.iter().all(|visit| visit.is_none());
+        (!is_idle).then_some(Duration::from_millis(TICK_MILLIS))
+    }
+
+    /// Polls once, serves the connections that are ready, closes those that have had
     /// their time, and accepts others.
     ///
     /// Returns `Input` if the poll or the clock fails.
     fn make_round<R: Clock + Files>(&mut self, rt: &R) -> Result<(), Fault> {
-        let is_idle = self.visits.iter().all(|visit| visit.is_none());
-        let tick = Duration::from_millis(TICK_MILLIS);
-        let timeout = if is_idle { None } else { Some(tick) };
+        let timeout = self.timeout();
         if self.poll.poll(&mut self.events, timeout).is_err() {
             return Err(Fault::Input);
         }
         let Ok(now) = Instant::now(rt) else {
             return Err(Fault::Input);
         };
-        self.serve_events(rt);
+        self.serve_ready(rt);
         self.close_late(now);
         self.accept_waiting(now);
         Ok(())

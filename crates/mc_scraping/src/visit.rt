@@ -15,8 +15,8 @@ const MOST_HEAD: usize = 8_192;
 /// How many bytes a read is given room for at least.
 const READ_SIZE: usize = 1_024;
 
-/// How many reads and writes a connection gets for one event.
-const STEPS: u32 = 64;
+/// How many reads and writes a connection gets in a round at most, so that the others get theirs soon.
+const STEPS: u32 = 16;
 
 /// A stream, what is held of its requests and answers, and when it began.
 #[derive(Drop)]
@@ -24,6 +24,8 @@ pub(crate) struct Visit {
     stream: TcpStream,
     connection: Connection,
     pub(crate) begun: Instant,
+    /// It is to be served again, even if no event comes.
+    pub(crate) has_more: bool,
 }
 
 /// Returns the limits of a connection: a request has no body, and the next one is read once its
@@ -48,6 +50,7 @@ impl Visit {
             stream,
             connection: Connection::new(alloc, keys, limits()),
             begun,
+            has_more: false,
         }
     }
 
@@ -72,9 +75,10 @@ impl Visit {
         }
     }
 
-    /// Serves the connection for an event. Returns whether it stays: not once it is done or has
-    /// failed, and not if it has had `STEPS`.
+    /// Serves the connection until its stream has nothing and takes nothing more, or it has had
+    /// `STEPS`. Returns whether it stays: not once it is done or has failed.
     pub(crate) fn serve(&mut self, scrape: &mut Scrape) -> bool {
+        self.has_more = false;
         for _ in 0..STEPS {
             match self.step(scrape) {
                 Ok(true) => {}
@@ -82,6 +86,7 @@ impl Visit {
                 Err(_) => return false,
             }
         }
-        false
+        self.has_more = true;
+        true
     }
 }
