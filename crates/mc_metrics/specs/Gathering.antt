@@ -25,11 +25,11 @@ pub record IsFurthest (workers : List Shown) (one : Shown) : Type 0 where
 
 -- how many places a worker has replayed of the log of this number, and how many bytes their commands
 -- keep
-abbrev pub replayed_by : ℕ → WorkerShown → ℕ
-replayed_by generation worker = if worker.generation == generation then worker.replayed else 0
+abbrev pub replayed_in : ℕ → WorkerShown → ℕ
+replayed_in generation worker = if worker.generation == generation then worker.replayed else 0
 
-abbrev pub kept_by : ℕ → WorkerShown → ℕ
-kept_by generation worker = if worker.generation == generation then worker.bytes else 0
+abbrev pub kept_in : ℕ → WorkerShown → ℕ
+kept_in generation worker = if worker.generation == generation then worker.bytes else 0
 
 -- what a worker shows of the tenant of this number
 abbrev pub tenant_shown : ℕ → Shown → TenantShown
@@ -66,7 +66,7 @@ workers_shown generation used number [] = []
 workers_shown generation used number (first ∷ rest) =
     record {
       number = number;
-      lag = used - replayed_by generation first.worker;
+      lag = used - replayed_in generation first.worker;
       connections = first.worker.connections;
     } ∷ workers_shown generation used (number + 1) rest
 
@@ -75,8 +75,8 @@ workers_shown generation used number (first ∷ rest) =
 abbrev pub log_shown : ServerShown → WorkerShown → LogNumbers
 log_shown shown leader = record {
   places = shown.places;
-  used_places = replayed_by shown.logs.generation leader;
-  bytes = kept_by shown.logs.generation leader;
+  used_places = replayed_in shown.logs.generation leader;
+  bytes = kept_in shown.logs.generation leader;
   generation = shown.logs.generation;
   turn_overs = shown.logs.turn_overs;
   turn_over_micros = shown.logs.turn_over_micros;
@@ -89,7 +89,7 @@ pub record Gathers (names : List (List ℕ)) (shown : ServerShown) (snapshot : S
   pub furthest : IsFurthest shown.workers.items leader
   pub tenants : snapshot.tenants.items ≡ tenants_shown shown.workers.items leader 0 names
   pub workers : snapshot.workers.items
-      ≡ workers_shown shown.logs.generation (replayed_by shown.logs.generation leader.worker) 0
+      ≡ workers_shown shown.logs.generation (replayed_in shown.logs.generation leader.worker) 0
       shown.workers.items
   pub log : snapshot.log ≡ log_shown shown leader.worker
   pub memory : snapshot.resident_bytes ≡ shown.resident_bytes

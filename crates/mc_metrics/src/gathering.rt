@@ -1,7 +1,7 @@
 //! The numbers of a server at one time, by what its workers show.
 ghost use Rattle.std.specs.Option.{MatchOption};
 ghost use Rattle.std.specs.Prelude.{◌≡◌, ◌++◌, ◌↔◌, ◌<◌, [], IfOk, IsTrue, OnOk, length};
-ghost use Rattle.mc_metrics.specs.Gathering.{Gathers, IsFurthest, IsNoFurther, connections_shown, kept_by, log_shown, replayed_by, tenant_numbers, tenant_shown, tenants_shown, workers_shown};
+ghost use Rattle.mc_metrics.specs.Gathering.{Gathers, IsFurthest, IsNoFurther, connections_shown, kept_in, log_shown, replayed_in, tenant_numbers, tenant_shown, tenants_shown, workers_shown};
 
 use crate::snapshot::{LogNumbers, Snapshot, TenantNumbers, WorkerNumbers};
 use mc_counters::{LogShown, Tally, TenantShown, WorkerShown};
@@ -78,8 +78,8 @@ fn furthest(workers: &[Shown]) -> Option<&Shown>
 }
 
 /// Returns how many places of the log of this number a worker has replayed.
-fn replayed_by(generation: u64, worker: &WorkerShown) -> u64
-    ensures { result ≡ replayed_by generation worker.now }
+fn replayed_in(generation: u64, worker: &WorkerShown) -> u64
+    ensures { result ≡ replayed_in generation worker.now }
 {
     if worker.generation == generation {
         worker.replayed
@@ -89,8 +89,8 @@ fn replayed_by(generation: u64, worker: &WorkerShown) -> u64
 }
 
 /// Returns how many bytes the commands of the log of this number keep that a worker has replayed.
-fn kept_by(generation: u64, worker: &WorkerShown) -> u64
-    ensures { result ≡ kept_by generation worker.now }
+fn kept_in(generation: u64, worker: &WorkerShown) -> u64
+    ensures { result ≡ kept_in generation worker.now }
 {
     if worker.generation == generation {
         worker.bytes
@@ -191,7 +191,7 @@ fn write_workers(
             let number = out.len() as u64;
             out.push(WorkerNumbers {
                 number,
-                lag: used.saturating_sub(replayed_by(generation, &first.worker)),
+                lag: used.saturating_sub(replayed_in(generation, &first.worker)),
                 connections: first.worker.connections,
             })?;
             write_workers(generation, used, rest, out)
@@ -206,8 +206,8 @@ fn log_numbers(shown: &ServerShown, leader: &WorkerShown) -> LogNumbers
     let generation = shown.logs.generation;
     LogNumbers {
         places: shown.places,
-        used_places: replayed_by(generation, leader),
-        bytes: kept_by(generation, leader),
+        used_places: replayed_in(generation, leader),
+        bytes: kept_in(generation, leader),
         generation,
         turn_overs: shown.logs.turn_overs,
         turn_over_micros: shown.logs.turn_over_micros,
