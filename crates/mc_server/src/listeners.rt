@@ -1,9 +1,9 @@
 //! The listeners of wfmc's tenants and administrators, and for metrics.
 ghost use Rattle.std.specs.List.{AllZip};
-ghost use Rattle.std.specs.Prelude.{◌≡◌, ◌∷◌, ◌++◌, [], IfOk, List, MatchResult, map};
+ghost use Rattle.std.specs.Prelude.{◌≡◌, ◌++◌, IfOk, List, MatchResult, map};
 ghost use Rattle.mc_model.specs.declared.fault.Fault.TheVariants.{Memory};
 ghost use Rattle.mc_server.specs.Listeners.{AreBound, IsListeningFor, ListenerAsked, StopsListening, asked_at, listener_if};
-ghost use Rattle.mc_server.specs.NetworkWords.{metrics_name};
+ghost use Rattle.mc_server.specs.NetworkWords.{metrics_name, name_if};
 ghost use Rattle.mc_server.specs.declared.listeners.Stop.TheVariants.{Failed};
 
 use crate::network_texts::{Listening, METRICS, told_address};
@@ -102,7 +102,7 @@ pub(crate) fn bind_metrics<'a, R: Net>(
     ensures outcome { MatchResult result (λ _. (asked : List ListenerAsked) →
         AllZip IsListeningFor asked told.old.items →
         AllZip IsListeningFor (asked ++ listener_if metrics_name address) told.new.items)
-        (StopsListening (metrics_name ∷ [])) }
+        (StopsListening (name_if metrics_name address)) }
 {
     let Some(address) = address else {
         return Ok(None);
