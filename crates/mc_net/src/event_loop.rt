@@ -12,7 +12,7 @@ use crate::halt::Halt;
 use crate::mailbox::{Mailboxes, Offer, Signal};
 use crate::publishing::publish;
 use mc_conn::PULL_BYTES;
-use mc_connections::{Admission, MOST_CONNECTIONS, ReadyQueue};
+use mc_connections::{Admission, MOST_CONNECTIONS, PastConnections, ReadyQueue};
 use mc_counters::Publisher;
 use mio::{Events, Poll};
 use std::alloc::Global;
@@ -111,6 +111,13 @@ impl EventLoop {
             publisher,
             alloc,
         })
+    }
+
+    /// Returns the connections that have ended here.
+    pub(crate) fn into_ended(self) -> PastConnections
+        ensures { result ≡ self.ready.connections.ended }
+    {
+        self.ready.connections.ended.again()
     }
 
     /// Admits an arrival; if there is no place for it here, it is passed on.

@@ -270,7 +270,7 @@ impl Front {
             let Some(event_loop) = event_loops.next() else {
                 unreachable!();
             };
-            let ended = event_loop.ready.connections.ended.again();
+            let ended = event_loop.into_ended();
             back.push(Returned { worker, ended })?;
         }
         Ok(back)
