@@ -337,11 +337,9 @@ fn what_cannot_be_served_is_refused(rt: HostRuntime) -> Result<(), AllocError> {
 
 /// Asserts that a run with these words, and `--check` before them, ends with this status, and prints
 /// and reports this.
-fn check_checked<R: Threads + Wait + Net + Clock + Files + RandomSource + Sync + AllocGlobal + Abort>(
-    rt: &R,
-    given: &str,
-    wanted: Wanted,
-) -> Result<(), AllocError> {
+fn check_checked<
+    R: Threads + Wait + Net + Clock + Files + RandomSource + Sync + AllocGlobal + Abort,
+>(rt: &R, given: &str, wanted: Wanted) -> Result<(), AllocError> {
     let words = format!(in rt.alloc(); "--check {given}")?;
     check_steps(rt, &words, &[], &[], wanted)
 }

@@ -13,7 +13,10 @@ const RESIDENT: &[u8] = b"VmRSS:";
 fn first_number(text: &[u8]) -> Option<u64> {
     let begin = text.iter().position(|byte| byte.is_ascii_digit())?;
     let mut number = 0u64;
-    for byte in text[begin..].iter().take_while(|byte| byte.is_ascii_digit()) {
+    for byte in text[begin..]
+        .iter()
+        .take_while(|byte| byte.is_ascii_digit())
+    {
         number = number.checked_mul(10)?;
         number = number.checked_add(u64::from(byte.wrapping_sub(b'0')))?;
     }

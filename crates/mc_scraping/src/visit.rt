@@ -45,7 +45,12 @@ fn limits() -> Config {
 
 impl Visit {
     /// Returns the connection of a stream, of which nothing was read yet. Allocates nothing.
-    pub(crate) fn new(alloc: Global, keys: RandomState, stream: TcpStream, begun: Instant) -> Visit {
+    pub(crate) fn new(
+        alloc: Global,
+        keys: RandomState,
+        stream: TcpStream,
+        begun: Instant,
+    ) -> Visit {
         Visit {
             stream,
             connection: Connection::new(alloc, keys, limits()),

@@ -121,9 +121,11 @@ listening_stops names asked (Failed fault) before e stops = inl (stops, refl)
 
 -- nor was the one for metrics
 pub metrics_stop : (asked : NetworkAsked) (stop : Stop) (before : Outflow) → StopsListening (name_if metrics_name asked.metrics) stop → StopsRun asked before before stop
-metrics_stop asked (CannotListen name) before stops =
-    (subst (λ (known : List (List ℕ)). Contains known name.now) (sym (names_are asked))
-    (Contains-append_right (map (λ listener. listener.name) (clients_asked asked)) (name_if metrics_name asked.metrics) name.now stops), refl)
+metrics_stop asked (CannotListen name) before stops = (
+  subst (λ (known : List (List ℕ)). Contains known name.now) (sym (names_are asked))
+      (Contains-append_right (map (λ listener. listener.name) (clients_asked asked)) (name_if metrics_name asked.metrics) name.now stops),
+  refl,
+)
 metrics_stop asked (Failed fault) before stops = inl (stops, refl)
 
 -- what the words that were read ask for is what the words ask for

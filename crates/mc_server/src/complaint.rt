@@ -216,10 +216,7 @@ fn check_reserve(reserve: u64, tenants: usize) -> Result<(), Complaint<'static>>
 }
 
 /// Returns the complaint about the address of an option, if what is written for it isn't one.
-fn check_address<'a>(
-    option: AddressOption,
-    text: Option<&'a str>,
-) -> Result<(), Complaint<'a>>
+fn check_address<'a>(option: AddressOption, text: Option<&'a str>) -> Result<(), Complaint<'a>>
     ensures { let written = option_map (λ word. word.now) text.entry in
         MatchResult result (λ _. (address : Option SocketAddrV4) × SpellsAddress written address)
         (λ complaint. (given : NetworkGiven) → given_address given option ≡ written →

@@ -203,7 +203,9 @@ fn serve_opened<R: Threads + Wait + Clock + Sync, B: Begin<S>, S>(
 {
     let workers = open_workers(rt, alloc, hashing, &log, passes, &base)?;
     watch.note_begin(rt);
-    let served = serve_log(rt, alloc, watch, front, &log, workers, is_last, begin, state)?;
+    let served = serve_log(
+        rt, alloc, watch, front, &log, workers, is_last, begin, state,
+    )?;
     Ok((served, Closed { log, base }))
 }
 

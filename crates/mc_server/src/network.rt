@@ -204,12 +204,13 @@ where
         (StopsRun (served_by service.now) (O.tells output.old) (O.tells output.new)) }
 {
     let wanted = wanted_by(alloc, service)?;
-    let Listeners { listeners, mut told } = bind_all(rt, alloc, &wanted)?;
+    let Listeners {
+        listeners,
+        mut told,
+    } = bind_all(rt, alloc, &wanted)?;
     let metrics = bind_metrics(rt, service.metrics, &mut told)?;
     let bound = Listeners { listeners, told };
-    Ok(serve_tenants(
-        rt, alloc, hashing, service, bound, metrics, output,
-    )?)
+    Ok(serve_tenants(rt, alloc, hashing, service, bound, metrics, output)?)
 }
 
 /// Reports why a run stopped. A failure of `errors` is ignored.
