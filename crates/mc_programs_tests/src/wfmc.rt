@@ -15,13 +15,17 @@ use std::thread::Threads;
 use std::time::Clock;
 
 /// Asserts that a run with these words, whose outputs follow these steps, leaves what it must.
-fn check_steps<R: Threads + Wait + Net + Clock + Files + RandomSource + Sync + AllocGlobal + Abort>(
+fn check_steps<R>(
     rt: &R,
     given: &str,
     pushes: &[OutputStep],
     tells: &[OutputStep],
     wanted: Wanted,
-) -> Result<(), AllocError> {
+) -> Result<(), AllocError>
+where
+    R: Threads + Wait + Net + Clock + Files<File: Send, Dir: Send> + RandomSource + Sync
+        + AllocGlobal + Abort,
+{
     let words = words_of(rt.alloc(), given)?;
     let mut output = output_of(rt.alloc(), pushes)?;
     let mut errors = output_of(rt.alloc(), tells)?;
@@ -46,12 +50,16 @@ fn check_steps<R: Threads + Wait + Net + Clock + Files + RandomSource + Sync + A
 }
 
 /// Does as `check_steps` for a run that ends with this status and prints this error.
-fn check_told<R: Threads + Wait + Net + Clock + Files + RandomSource + Sync + AllocGlobal + Abort>(
+fn check_told<R>(
     rt: &R,
     given: &str,
     status: u8,
     told: &str,
-) -> Result<(), AllocError> {
+) -> Result<(), AllocError>
+where
+    R: Threads + Wait + Net + Clock + Files<File: Send, Dir: Send> + RandomSource + Sync
+        + AllocGlobal + Abort,
+{
     let wanted = Wanted {
         status,
         output: b"",
@@ -106,11 +114,15 @@ const SHOWN: [(&str, &str); 3] = [
 
 /// Asserts that a run with these words prints this text, and that it stops after five bytes if
 /// pushing more fails.
-fn check_shown<R: Threads + Wait + Net + Clock + Files + RandomSource + Sync + AllocGlobal + Abort>(
+fn check_shown<R>(
     rt: &R,
     given: &str,
     text: &[u8],
-) -> Result<(), AllocError> {
+) -> Result<(), AllocError>
+where
+    R: Threads + Wait + Net + Clock + Files<File: Send, Dir: Send> + RandomSource + Sync
+        + AllocGlobal + Abort,
+{
     let wanted = Wanted {
         status: 0,
         output: text,
@@ -337,9 +349,11 @@ fn what_cannot_be_served_is_refused(rt: HostRuntime) -> Result<(), AllocError> {
 
 /// Asserts that a run with these words, and `--check` before them, ends with this status, and prints
 /// and reports this.
-fn check_checked<
-    R: Threads + Wait + Net + Clock + Files + RandomSource + Sync + AllocGlobal + Abort,
->(rt: &R, given: &str, wanted: Wanted) -> Result<(), AllocError> {
+fn check_checked<R>(rt: &R, given: &str, wanted: Wanted) -> Result<(), AllocError>
+where
+    R: Threads + Wait + Net + Clock + Files<File: Send, Dir: Send> + RandomSource + Sync
+        + AllocGlobal + Abort,
+{
     let words = format!(in rt.alloc(); "--check {given}")?;
     check_steps(rt, &words, &[], &[], wanted)
 }

@@ -158,12 +158,12 @@ metrics_twice (Some word) admin metrics words has e found used =
 pub none_twice : (chief scrapes : Option (Bor Text)) (admin metrics : Option Text) (words : List (Bor Text)) (has used : Bool) → admin ≡ option_map (λ word. word.now) chief
     → metrics ≡ option_map (λ word. word.now) scrapes → IsFound chief admin_name words has → IsFound scrapes metrics_name words used → has ≡ false → used ≡ false
     → IsDistinct bytes_eq (parts_of_words words) → IsDistinct bytes_eq (reserved_names admin metrics ++ parts_of_words words)
+unfolding IsDistinct
 none_twice chief scrapes admin metrics words has used a m found shown free apart distinct =
     subst (λ (pair : Option Text × Option Text). IsDistinct bytes_eq (reserved_names pair.0 pair.1 ++ parts_of_words words)) (λ i. (sym a i, sym m i)) (go chief scrapes found shown)
   where
     go : (chief scrapes : Option (Bor Text)) → IsFound chief admin_name words has → IsFound scrapes metrics_name words used
         → IsDistinct bytes_eq (reserved_names (option_map (λ (word : Bor Text). word.now) chief) (option_map (λ (word : Bor Text). word.now) scrapes) ++ parts_of_words words)
-    unfolding IsDistinct
     go None None found shown = distinct
     go (Some x) None found shown = (none_uses admin_name words (sym found ∙ free), distinct)
     go None (Some y) found shown = (none_uses metrics_name words (sym shown ∙ apart), distinct)

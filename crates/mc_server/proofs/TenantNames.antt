@@ -1,5 +1,5 @@
 -- Names that are used once: the first is used by none of the others, which are used once.
-use Rattle.std.proofs.Common.{◌≡◌, ◌≤◌, ◌<◌, ◌-◌, ◌||◌, ◌↔◌, Bool, true, false, not, IsTrue, ℕ, List, [], ◌∷◌, ◌++◌, Option, Some, None, length, map, take, drop, get_or, refl, sym, ap, ◌∙◌, arith, subst}
+use Rattle.std.proofs.Common.{◌≡◌, ◌≤◌, ◌<◌, ◌-◌, ◌||◌, ◌↔◌, ◌⊎◌, ⊎_elim, Bool, true, false, not, IsTrue, ℕ, List, [], ◌∷◌, ◌++◌, Option, Some, None, length, map, take, drop, get_or, refl, sym, ap, ◌∙◌, arith, subst}
 use Rattle.std.proofs.lemmas.List.{take_all}
 use Rattle.std.specs.List.{AllByRecursion, IsDistinct, list_any}
 use Rattle.std.specs.Option.{MatchOption}
@@ -93,3 +93,23 @@ distinct_are_apart None None tenants chief scrapes a b own = (a, b, own)
 distinct_are_apart (Some x) None tenants chief scrapes a b own = (found_free admin_name tenants chief a own.0, b, own.1)
 distinct_are_apart None (Some y) tenants chief scrapes a b own = (a, found_free metrics_name tenants scrapes b own.0, own.1)
 distinct_are_apart (Some x) (Some y) tenants chief scrapes a b own = (found_free admin_name tenants chief a own.0.1, found_free metrics_name tenants scrapes b own.1.0, own.1.1)
+
+-- so all names are used once if those of the tenants are
+pub own_are_free : (admin metrics : Option SocketAddrV4) (tenants : List Tenant) (chief scrapes own : Bool) → IsApart admin admin_name tenants chief → IsApart metrics metrics_name tenants scrapes
+    → chief ≡ true → scrapes ≡ true → IsTrue own ↔ IsDistinct bytes_eq (names_of tenants) → IsTrue own ↔ IsDistinct bytes_eq (reserved_names admin metrics ++ names_of tenants)
+own_are_free admin metrics tenants chief scrapes own a b c s known = (
+  (λ passes. apart_are_distinct admin metrics tenants chief scrapes a b c s (known.0 passes)),
+  λ distinct. known.1 (distinct_are_apart admin metrics tenants chief scrapes a b distinct).2,
+)
+
+-- and not if a tenant has the name of a listener
+pub one_is_used : (admin metrics : Option SocketAddrV4) (tenants : List Tenant) (chief scrapes : Bool) → IsApart admin admin_name tenants chief → IsApart metrics metrics_name tenants scrapes
+    → (result : Bool) → result ≡ false → (chief ≡ false) ⊎ (scrapes ≡ false) → IsTrue result ↔ IsDistinct bytes_eq (reserved_names admin metrics ++ names_of tenants)
+one_is_used admin metrics tenants chief scrapes a b result not_free used = (
+  (λ (passes : result ≡ true). absurd cc),
+  λ distinct.
+      let free = distinct_are_apart admin metrics tenants chief scrapes a b distinct in
+      let chief_is = free.0 in
+      let scrapes_is = free.1 in
+      ⊎_elim (λ (c : chief ≡ false). absurd cc) (λ (s : scrapes ≡ false). absurd cc) used,
+)

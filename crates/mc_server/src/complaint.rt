@@ -174,7 +174,7 @@ fn check_names<'a>(words: &[&'a str]) -> Result<(), &'a str>
 
 /// Returns whether a listener is asked for whose name one of the tenants' words has.
 fn is_name_taken(address: Option<&str>, words: &[&str], name: &str) -> bool
-    ensures { MatchOption address (result ≡ false) (λ _.
+    ensures { MatchOption address.entry (result ≡ false) (λ _.
         result ≡ list_any (λ word. bytes_eq name.now (name_part word.now)) words.now) }
 {
     match address {

@@ -90,7 +90,7 @@ fn serve_and_stop<R: Threads + Wait + Clock + Sync, B: Begin<S>, S>(
 
 /// Does as `serve_all`, with the loop of the listener for metrics in a thread of its own, if there is
 /// one and a thread can be made.
-fn serve_scraped<R: Threads + Wait + Clock + Files + Sync, B: Begin<S>, S>(
+fn serve_scraped<R, B: Begin<S>, S>(
     rt: &R,
     alloc: Global,
     hashing: Hashing,
@@ -101,6 +101,8 @@ fn serve_scraped<R: Threads + Wait + Clock + Files + Sync, B: Begin<S>, S>(
     begin: &B,
     state: &mut S,
 ) -> Result<u64, Fault>
+where
+    R: Threads + Wait + Clock + Files<File: Send, Dir: Send> + Sync,
     requires checked { IsChecked service.now }
     requires front { IsFrontOf service.now.settings front.old }
     requires new { All (IsNewLoop (length service.now.settings.tenants))
@@ -116,7 +118,12 @@ fn serve_scraped<R: Threads + Wait + Clock + Files + Sync, B: Begin<S>, S>(
     let (_, outcome) = join_mut(
         rt,
         &mut || scraper.run(rt, &stop),
-        &mut || {
+        &mut ||
+            requires checked { IsChecked service.now }
+            requires front { IsFrontOf service.now.settings front.now }
+            requires new { All (IsNewLoop (length service.now.settings.tenants))
+                front.now.event_loops.items }
+        {
             serve_and_stop(
                 rt, alloc, hashing, service, watch, front, begin, state, &stop,
             )
@@ -142,7 +149,7 @@ fn serve_tenants<R, O: Output>(
     output: &mut O,
 ) -> Result<(), Fault>
 where
-    R: Threads + Wait + Net + Clock + Files + RandomSource + Sync,
+    R: Threads + Wait + Net + Clock + Files<File: Send, Dir: Send> + RandomSource + Sync,
     requires checked { IsChecked service.now }
     requires bound { AreListenersOf (served_by service.now) bound }
     ensures outcome { let settings = settings_asked (served_by service.now) in
@@ -197,7 +204,7 @@ fn run_service<'a, R, O: Output>(
     output: &mut O,
 ) -> Result<(), Stop<'a>>
 where
-    R: Threads + Wait + Net + Clock + Files + RandomSource + Sync,
+    R: Threads + Wait + Net + Clock + Files<File: Send, Dir: Send> + RandomSource + Sync,
     requires { IsChecked service.now }
     ensures outcome { MatchResult result
         (λ _. ServesTenants (served_by service.now) (O.tells output.old) (O.tells output.new))
@@ -255,7 +262,7 @@ pub fn run_wfmc<R, O: Output, E: Output>(
     errors: &mut E,
 ) -> u8
 where
-    R: Threads + Wait + Net + Clock + Files + RandomSource + Sync,
+    R: Threads + Wait + Net + Clock + Files<File: Send, Dir: Send> + RandomSource + Sync,
     // How the run ends and what is printed, by what the words ask for.
     ensures { WfmcEnds (map string_bytes words.items) result
         (O.tells output.old) (O.tells output.new) (E.tells errors.old) (E.tells errors.new) }
