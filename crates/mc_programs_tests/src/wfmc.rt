@@ -23,8 +23,15 @@ fn check_steps<R>(
     wanted: Wanted,
 ) -> Result<(), AllocError>
 where
-    R: Threads + Wait + Net + Clock + Files<File: Send, Dir: Send> + RandomSource + Sync
-        + AllocGlobal + Abort,
+    R: Threads
+        + Wait
+        + Net
+        + Clock
+        + Files<File: Send, Dir: Send>
+        + RandomSource
+        + Sync
+        + AllocGlobal
+        + Abort,
 {
     let words = words_of(rt.alloc(), given)?;
     let mut output = output_of(rt.alloc(), pushes)?;
@@ -50,15 +57,17 @@ where
 }
 
 /// Does as `check_steps` for a run that ends with this status and prints this error.
-fn check_told<R>(
-    rt: &R,
-    given: &str,
-    status: u8,
-    told: &str,
-) -> Result<(), AllocError>
+fn check_told<R>(rt: &R, given: &str, status: u8, told: &str) -> Result<(), AllocError>
 where
-    R: Threads + Wait + Net + Clock + Files<File: Send, Dir: Send> + RandomSource + Sync
-        + AllocGlobal + Abort,
+    R: Threads
+        + Wait
+        + Net
+        + Clock
+        + Files<File: Send, Dir: Send>
+        + RandomSource
+        + Sync
+        + AllocGlobal
+        + Abort,
 {
     let wanted = Wanted {
         status,
@@ -114,14 +123,17 @@ const SHOWN: [(&str, &str); 3] = [
 
 /// Asserts that a run with these words prints this text, and that it stops after five bytes if
 /// pushing more fails.
-fn check_shown<R>(
-    rt: &R,
-    given: &str,
-    text: &[u8],
-) -> Result<(), AllocError>
+fn check_shown<R>(rt: &R, given: &str, text: &[u8]) -> Result<(), AllocError>
 where
-    R: Threads + Wait + Net + Clock + Files<File: Send, Dir: Send> + RandomSource + Sync
-        + AllocGlobal + Abort,
+    R: Threads
+        + Wait
+        + Net
+        + Clock
+        + Files<File: Send, Dir: Send>
+        + RandomSource
+        + Sync
+        + AllocGlobal
+        + Abort,
 {
     let wanted = Wanted {
         status: 0,
@@ -351,8 +363,15 @@ fn what_cannot_be_served_is_refused(rt: HostRuntime) -> Result<(), AllocError> {
 /// and reports this.
 fn check_checked<R>(rt: &R, given: &str, wanted: Wanted) -> Result<(), AllocError>
 where
-    R: Threads + Wait + Net + Clock + Files<File: Send, Dir: Send> + RandomSource + Sync
-        + AllocGlobal + Abort,
+    R: Threads
+        + Wait
+        + Net
+        + Clock
+        + Files<File: Send, Dir: Send>
+        + RandomSource
+        + Sync
+        + AllocGlobal
+        + Abort,
 {
     let words = format!(in rt.alloc(); "--check {given}")?;
     check_steps(rt, &words, &[], &[], wanted)

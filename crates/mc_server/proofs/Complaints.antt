@@ -1,6 +1,6 @@
 -- What is wrong can't be served, and where nothing is wrong all can be served.
-use Rattle.std.proofs.Common.{◌≡◌, ◌≢◌, ◌≤◌, ◌==◌, ◌∙◌, ◌↔◌, ℕ, zero, suc, Bool, true, false, List, [], ◌∷◌, ◌++◌, All, IsTrue, Option, Some, None, Result, Ok, Err, Bor, Contains, length, map, take, ◌<◌, min, if◌then◌else◌, get_or, refl, sym, ap, arith, subst}
-use Rattle.std.proofs.Math.Nat.{min-le_left, min-le_right}
+use Rattle.std.proofs.Common.{◌≡◌, ◌≢◌, ◌≤◌, ◌==◌, ◌∙◌, ℕ, zero, suc, Bool, true, false, List, [], ◌∷◌, ◌++◌, All, Option, Some, None, Result, Ok, Err, Bor, Contains, length, map, take, ◌<◌, min, if◌then◌else◌, get_or, refl, sym, ap, arith, subst}
+use Rattle.std.proofs.Math.Nat.{min-le_left}
 use Rattle.std.proofs.lemmas.List.{length-map, map-append, take_all}
 use Rattle.std.proofs.lemmas.List.Elements.{All-head, All-tail, All-cons, All-nil, All-push}
 use Rattle.std.proofs.lemmas.Slice.Zip.{AllZip-long}
@@ -10,14 +10,12 @@ use Rattle.std.specs.Option.{IsSomeAnd}
 use Rattle.std.specs.Prelude.{MatchResult, is_err}
 use Rattle.std.specs.Str.{bytes_eq}
 use Rattle.std.specs.declared.net.socket_addr.SocketAddrV4.{SocketAddrV4}
-use Rattle.std.proofs.NetLemmas.Theorems.{IsSocketV4Text_unique}
 use Rattle.clap.specs.Walk.{Text}
-use Rattle.mc_model.specs.Settings.{AreLawfulLimits, IsBetween, IsLawful}
+use Rattle.mc_model.specs.Settings.{AreLawfulLimits, IsBetween}
 use Rattle.mc_model.specs.declared.id.TheConstants.{WORKERS}
-use Rattle.mc_model.specs.declared.settings.Limits.{Limits}
 use Rattle.mc_programs.specs.Words.{u64_of}
-use Rattle.mc_server.specs.Complaints.{CanBeServed, FitsAlone, IsCutInto, IsWrong, IsWrongPart, SpellsQuota, TenantParts, given_number, least, most, name_part, names_given}
-use Rattle.mc_server.specs.NetworkWords.{AreReservesWithin, Asks, AsksInVain, IsServable, NetworkAsked, NetworkGiven, SpellsAddress, admin_name, metrics_name, name_if, reserved_names, settings_asked, workers_for}
+use Rattle.mc_server.specs.Complaints.{CanBeServed, FitsAlone, IsCutInto, IsWrong, IsWrongPart, SpellsQuota, TenantParts, given_number, least, most, names_given}
+use Rattle.mc_server.specs.NetworkWords.{AreReservesWithin, Asks, AsksInVain, NetworkAsked, NetworkGiven, SpellsAddress, admin_name, metrics_name, name_if, reserved_names, workers_for}
 use Rattle.mc_server.specs.TenantWord.{Lacks, Says, TenantAsked, tenant_text}
 use Rattle.mc_server.specs.declared.complaint.AddressOption.TheVariants.{Admin, Metrics}
 use Rattle.mc_server.specs.declared.complaint.Complaint.{Complaint}

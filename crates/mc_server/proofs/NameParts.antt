@@ -1,5 +1,5 @@
 -- The names of tenants' words: what stands before the first `=`, and which of them stand twice.
-use Rattle.std.proofs.Common.{◌≡◌, ◌≢◌, ◌≤◌, ◌<◌, ◌-◌, ◌+◌, ◌==◌, ◌||◌, ◌↔◌, cond, Bool, true, false, not, IsTrue, ℕ, zero, suc, List, [], ◌∷◌, ◌++◌, Option, Some, None, Result, Ok, Err, Bor, length, map, take, drop, get_or, refl, sym, ap, ◌∙◌, arith, subst}
+use Rattle.std.proofs.Common.{◌≡◌, ◌≢◌, ◌≤◌, ◌<◌, ◌-◌, ◌+◌, ◌==◌, ◌||◌, cond, Bool, true, false, not, ℕ, zero, suc, List, [], ◌∷◌, ◌++◌, Option, Some, None, Result, Ok, Err, Bor, length, map, take, drop, get_or, refl, sym, ap, ◌∙◌, arith, subst}
 use Rattle.std.proofs.lemmas.Bool.{ne_eqb}
 use Rattle.std.proofs.lemmas.List.{take_all}
 use Rattle.std.proofs.lemmas.List.Elements.{All-head, All-tail}
@@ -153,7 +153,7 @@ metrics_twice (Some word) admin metrics words has e found used =
   where
     beside : (admin : Option Text) → StandsTwice (metrics_name ∷ parts_of_words words) metrics_name → StandsTwice (reserved_names admin (Some word.now) ++ parts_of_words words) metrics_name
     beside None twice = twice
-    beside (Some text) twice = twice_behind admin_name _ metrics_name twice
+    beside (Some text) twice = twice_behind admin_name (metrics_name ∷ parts_of_words words) metrics_name twice
 
 pub none_twice : (chief scrapes : Option (Bor Text)) (admin metrics : Option Text) (words : List (Bor Text)) (has used : Bool) → admin ≡ option_map (λ word. word.now) chief
     → metrics ≡ option_map (λ word. word.now) scrapes → IsFound chief admin_name words has → IsFound scrapes metrics_name words used → has ≡ false → used ≡ false

@@ -1,6 +1,6 @@
 -- What is printed while tenants are served adds up, and the workers that come back are of the log.
-use Rattle.std.proofs.Common.{◌≡◌, ◌∙◌, ℕ, ◌+◌, ◌<◌, true, false, inl, inr, ⊎_elim, refl, Contains, List, [], ◌∷◌, ◌++◌, All, Option, Some, None, Result, Ok, Err, length, map, ap, sym, subst, arith}
-use Rattle.std.proofs.lemmas.List.{length-map, map-append}
+use Rattle.std.proofs.Common.{◌≡◌, ◌∙◌, ℕ, true, false, inl, inr, ⊎_elim, refl, Contains, List, [], ◌∷◌, ◌++◌, All, Option, Some, None, Result, Ok, Err, length, map, ap, sym, subst, arith}
+use Rattle.std.proofs.lemmas.List.{map-append}
 use Rattle.std.proofs.lemmas.List.Elements.{Contains-append_left, Contains-append_right, All-cons, All-head, All-nil, All-tail}
 use Rattle.std.proofs.lemmas.Slice.Zip.{AllZip-long}
 use Rattle.std.specs.List.{AllZip}
@@ -17,14 +17,13 @@ use Rattle.mc_programs.specs.Waiting.{FailsToPush, PushesAll}
 use Rattle.mc_server.proofs.Waited.{all_more, fails_more}
 use Rattle.mc_server.proofs.Numbered.{asked_roles}
 use Rattle.mc_server.proofs.TenantLists.{mapped}
-use Rattle.mc_server.specs.Listeners.{AreAsked, AreBound, AreListenersOf, CountsFrom, IsListeningFor, ListenerAsked, StopsListening, asked_at, clients_asked, listener_if, roles_asked}
+use Rattle.mc_server.specs.Listeners.{AreAsked, CountsFrom, StopsListening, asked_at, clients_asked, listener_if, roles_asked}
 use Rattle.mc_server.specs.Crew.{AreOf, AreWorkersOf, number_of}
 use Rattle.mc_server.specs.Network.{IsReady, IsServed, StopsRun, StopsServing, names_of}
 use Rattle.mc_server.specs.Logs.{WereServed}
 use Rattle.mc_server.specs.NetworkTexts.{done_line, ready_text}
 use Rattle.mc_server.specs.Checking.{ChecksWords}
 use Rattle.mc_server.specs.NetworkWords.{Asks, WordsGive, AsksForCheck, AsksForNone, AsksForService, AsksInVain, IsChecked, NetworkAsked, NetworkGiven, given_by_words, given_in, metrics_name, name_if, served_by}
-use Rattle.mc_server.specs.declared.listeners.Listeners.{Listeners}
 use Rattle.mc_server.specs.declared.network_words.NetworkWords.{NetworkWords}
 use Rattle.mc_server.specs.declared.network_words.Service.{Service}
 use Rattle.mc_server.specs.declared.listeners.Stop.{Stop}
@@ -101,15 +100,6 @@ names_are asked = map-append (λ listener. listener.name) (clients_asked asked) 
     named : (address : Option SocketAddrV4) → map (λ listener. listener.name) (listener_if metrics_name address) ≡ name_if metrics_name address
     named None = refl
     named (Some address) = refl
-
-pub are_bound : (asked : NetworkAsked) (lent wanted : List Wanted) (bound all : Listeners) → lent ≡ wanted → AreAsked asked wanted
-    → AreBound (map asked_at lent) (map (λ (one : Wanted). one.role) lent) bound → all.listeners.items ≡ bound.listeners.items
-    → ((known : List ListenerAsked) → AllZip IsListeningFor known bound.told.items → AllZip IsListeningFor (known ++ listener_if metrics_name asked.metrics) all.told.items)
-    → AreListenersOf asked all
-are_bound asked lent wanted bound all e are h same more = record {
-  roles_are = ap (map (λ listener. listener.0)) same ∙ h.roles_are ∙ ap (map (λ (one : Wanted). one.role)) e ∙ are.roles;
-  told = more (clients_asked asked) (subst (λ known. AllZip IsListeningFor known bound.told.items) (ap (map asked_at) e ∙ are.listeners) h.told);
-}
 
 -- not all listeners were bound, and nothing was printed
 pub listening_stops : (names : List (List ℕ)) (asked : NetworkAsked) (stop : Stop) (before : Outflow) → names ≡ map (λ listener. listener.name) (clients_asked asked)

@@ -8,7 +8,7 @@ use Rattle.std.specs.declared.net.socket_addr.SocketAddrV4.{SocketAddrV4}
 use Rattle.mc_conn.specs.Owed.{IsAmong}
 use Rattle.mc_conn.specs.declared.conn.Role.{Role}
 use Rattle.mc_conn.specs.declared.conn.Role.TheVariants.{Admin as Chief, Tenant as Own}
-use Rattle.mc_server.specs.Listeners.{AreAsked, AreOfTenants, IsListeningFor, ListenerAsked, admin_role, asked_at, listener_if, listener_of, roles_asked, roles_from}
+use Rattle.mc_server.specs.Listeners.{AreAsked, AreOfTenants, IsListeningFor, admin_role, asked_at, listener_if, listener_of, roles_asked, roles_from}
 use Rattle.mc_server.specs.NetworkWords.{NetworkAsked, admin_name}
 use Rattle.mc_server.specs.TenantWord.{TenantAsked, asked_of}
 use Rattle.mc_server.specs.declared.network_texts.Listening.{Listening}

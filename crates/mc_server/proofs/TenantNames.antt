@@ -78,7 +78,7 @@ unused name tenants free e is = none_uses name tenants (not_true (uses name tena
 found_free : (name : Text) (tenants : List Tenant) (free : Bool) → free ≡ not (uses name tenants) → AllByRecursion (λ other. bytes_eq name other ≡ false) (names_of tenants) → free ≡ true
 found_free name tenants free e all = e ∙ ap not (not_used name tenants all)
 
-pub apart_are_distinct : (admin metrics : Option SocketAddrV4) (tenants : List Tenant) (chief scrapes : Bool) → IsApart admin admin_name tenants chief → IsApart metrics metrics_name tenants scrapes
+apart_are_distinct : (admin metrics : Option SocketAddrV4) (tenants : List Tenant) (chief scrapes : Bool) → IsApart admin admin_name tenants chief → IsApart metrics metrics_name tenants scrapes
     → chief ≡ true → scrapes ≡ true → IsDistinct bytes_eq (names_of tenants) → IsDistinct bytes_eq (reserved_names admin metrics ++ names_of tenants)
 unfolding IsDistinct
 apart_are_distinct None None tenants chief scrapes a b c s own = own
@@ -86,7 +86,7 @@ apart_are_distinct (Some x) None tenants chief scrapes a b c s own = (unused adm
 apart_are_distinct None (Some y) tenants chief scrapes a b c s own = (unused metrics_name tenants scrapes b s, own)
 apart_are_distinct (Some x) (Some y) tenants chief scrapes a b c s own = ((refl, unused admin_name tenants chief a c), (unused metrics_name tenants scrapes b s, own))
 
-pub distinct_are_apart : (admin metrics : Option SocketAddrV4) (tenants : List Tenant) (chief scrapes : Bool) → IsApart admin admin_name tenants chief → IsApart metrics metrics_name tenants scrapes
+distinct_are_apart : (admin metrics : Option SocketAddrV4) (tenants : List Tenant) (chief scrapes : Bool) → IsApart admin admin_name tenants chief → IsApart metrics metrics_name tenants scrapes
     → IsDistinct bytes_eq (reserved_names admin metrics ++ names_of tenants) → (chief ≡ true) × (scrapes ≡ true) × IsDistinct bytes_eq (names_of tenants)
 unfolding IsDistinct
 distinct_are_apart None None tenants chief scrapes a b own = (a, b, own)

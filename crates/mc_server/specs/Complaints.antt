@@ -3,7 +3,7 @@
 use Rattle.std.specs.List.{before_first}
 use Rattle.std.specs.Net.Grammar.{IsSocketV4Text}
 use Rattle.std.specs.Option.{IsSomeAnd}
-use Rattle.std.specs.Prelude.{◌≡◌, ◌==◌, ◌<◌, ◌++◌, ℕ, List, [], ◌∷◌, All, Contains, IsTrue, Option, Some, None, codes, decimal, length, map, slice_get}
+use Rattle.std.specs.Prelude.{◌≡◌, ◌==◌, ◌<◌, ◌++◌, ℕ, List, Contains, IsTrue, Option, Some, codes, decimal, length, map, slice_get}
 use Rattle.std.specs.declared.net.socket_addr.SocketAddrV4.{SocketAddrV4}
 use Rattle.clap.specs.Walk.{Text}
 use Rattle.mc_model.specs.Name.{is_lawful_name}

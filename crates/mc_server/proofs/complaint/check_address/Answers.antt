@@ -1,4 +1,4 @@
-use Rattle.std.proofs.Common.{◌≡◌, ◌∙◌, ℕ, List, Option, Some, Bor, ap, subst, sym}
+use Rattle.std.proofs.Common.{◌∙◌, ℕ, List, Option, Some, Bor, ap, subst, sym}
 use Rattle.std.specs.Option.{option_map}
 use Rattle.std.specs.declared.net.socket_addr.SocketAddrV4.{SocketAddrV4}
 use Rattle.mc_server.specs.NetworkWords.{IsNoAddress, SpellsAddress}

@@ -1,9 +1,7 @@
-use Rattle.std.proofs.Common.{◌≡◌, ◌∙◌, ℕ, List, All, length, ap, subst, sym, arith}
+use Rattle.std.proofs.Common.{◌≡◌, ◌∙◌, ℕ, List, length, ap, subst, arith}
 use Rattle.std.proofs.lemmas.List.{length-map}
-use Rattle.std.proofs.lemmas.Result.{err_from_is_err_and}
 use Rattle.mc_model.specs.Settings.{Configuration}
-use Rattle.mc_net.specs.Running.{IsNewLoop}
-use Rattle.mc_server.proofs.NetworkRuns.{are_among, finished, serving_halts}
+use Rattle.mc_server.proofs.NetworkRuns.{are_among, finished}
 use Rattle.mc_server.proofs.Numbered.{some_listener}
 use Rattle.mc_programs.specs.Waiting.{PushesAll}
 use Rattle.mc_server.specs.Logs.{WereServed}

@@ -11,9 +11,9 @@ pub returns-else-are_free : goal.returns-else-are_free
 returns-else-are_free c =
     let used = one_is_used c.args.admin c.args.metrics c.args.tenants.now _ _ c.is_name_free-is_free.ensures c.is_name_free-are_free.ensures in
     elim c.if-is_free.branch [
-      then-is_free w ↦
-        let scraped : c.is_name_free-are_free.result ≡ false =
-        ⊎_elim (λ one. one.1) (λ (other : c.is_name_free-is_free.result ≡ false). let is = w.if-is_free.true in absurd cc) c.if-are_free.either in
-        used _ (w.t-14-is ∙ scraped) (inr scraped)
+      | then-is_free w ↦
+          let scraped : c.is_name_free-are_free.result ≡ false =
+          ⊎_elim (λ one. one.1) (λ (other : c.is_name_free-is_free.result ≡ false). let is = w.if-is_free.true in absurd cc) c.if-are_free.either in
+          used _ (w.t-14-is ∙ scraped) (inr scraped)
       | else-is_free w ↦ used _ (w.t-14-is ∙ w.if-is_free.false) (inl w.if-is_free.false)
     ]
