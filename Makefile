@@ -1,5 +1,5 @@
 # `make run` and `make test` do all set-up on a machine that has the kit (`rt` on the PATH).
-.PHONY: help try try-stdin serve run schedule build install uninstall package test mutants golden network compatibility proxy moving fuzz \
+.PHONY: help try try-stdin serve run schedule build install uninstall package test mutants golden network metrics compatibility proxy moving fuzz \
 	coverage-fuzz linearizability allocation-failures differential wrong-definitions core-states outliving manual trying packaging bench picture documents exposition layers definitions kit
 
 help: ## prints this list
@@ -55,6 +55,10 @@ golden: ## runs the programs, as make test built them, on their golden tests; in
 network: kit ## tests wfmc over sockets: the golden tests of mc_stdin, and clients that others must not notice; in the gate too
 	@tools/prove.sh wfmc >&2
 	@python3 tests/network.py
+
+metrics: kit ## tests the metrics of wfmc over sockets, in half a minute: numbers, scrapes at full speed beside clients, and requests that are slow, huge or none
+	@tools/prove.sh wfmc >&2
+	@python3 tests/metrics.py
 
 compatibility: kit ## the compatibility suite: wfmc, and mc_stdin behind a relay, by four clients, compared with memcached; installs what it needs where it may
 	@tools/prove.sh wfmc mc_stdin >&2

@@ -71,20 +71,20 @@ def metrics():
         metric("wfmc_turn_over_seconds", "Time from the end of a log to the beginning of the next.", "summary",
                [([], "1.002030", "_sum"), ([], 2, "_count")]),
         plain("process_resident_memory_bytes", "Resident memory of the process in bytes.", LARGEST),
-        metric("wfmc_build_info", "The version that runs, and the kit that it is proved with.", "gauge",
-               [([("version", "1.0.0"), ("kit", "rattle-kit-13b")], 1)]),
+        metric("wfmc_build_info", "The version that runs, and the logic that it is proved in.", "gauge",
+               [([("version", "1.0.0"), ("logic", "dac8208d650f15bf")], 1)]),
     ])
 
 
 def page():
     rows = "".join(
-        f"<tr><th>{name}" + "".join(f"<td>{number * unit}" for number in (5, 7000, 600, 80000, 3, 4, 9)) + "\n"
+        f"<tr><th>{name}" + "".join(f"<td>{number * unit}" for number in (5, 7000, 600, 80000, 9)) + "\n"
         for name, unit in TENANTS)
     return (
         '<!DOCTYPE html>\n<html lang="en">\n<meta charset="utf-8">\n<title>wfmc</title>\n'
         "<style>body{font:1em sans-serif;margin:2em}td,th{padding:.2em .8em;text-align:right}</style>\n"
         '<h1>wfmc</h1>\n<p>For Prometheus: <a href="/metrics">/metrics</a></p>\n<table>\n'
-        "<tr><th>tenant<th>items<th>of<th>bytes<th>of<th>hits<th>misses<th>connections\n"
+        "<tr><th>tenant<th>items<th>of<th>bytes<th>of<th>connections\n"
         + rows + "</table>\n<table>\n<tr><th>log<th>places used<th>of<th>bytes<th>turn overs\n<tr>"
         "<td>3<td>1234<td>65536<td>567890<td>2\n</table>\n</html>\n")
 

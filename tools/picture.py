@@ -18,6 +18,7 @@ SAYS = {
     "mc_items": "all tenants' tables",
     "mc_counters": "counts of requests",
     "mc_metrics": "what a scrape gets",
+    "mc_scraping": "the listener for scrapes",
     "mc_tables": "one table, by its quotas",
     "uc_cells": "contents, set once",
     "mc_replica": "each tenant's table",

@@ -57,6 +57,13 @@ impl FairPlaces {
         self.held.len()
     }
 
+    /// Returns how many places a holder holds: none if it isn't among the holders.
+    pub fn held_by(&self, holder: usize) -> usize
+        ensures { result ≡ held_by self.now holder }
+    {
+        self.held.get(holder).copied().unwrap_or(0)
+    }
+
     /// Returns whether a place is free that is owed to nobody.
     pub fn has_unclaimed(&self) -> bool
         ensures { IsTrue result ↔ owed_places self.now < free self.now }
@@ -68,8 +75,7 @@ impl FairPlaces {
     pub fn may_take(&self, holder: usize) -> bool
         ensures { IsTrue result ↔ MayTake holder self.now }
     {
-        let held = self.held.get(holder).copied().unwrap_or(0);
-        held < self.reserve || self.has_unclaimed()
+        self.held_by(holder) < self.reserve || self.has_unclaimed()
     }
 
     /// Lets a holder take one more place.

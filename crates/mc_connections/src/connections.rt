@@ -1,8 +1,8 @@
 //! The connections of a worker.
-ghost use Rattle.std.specs.Prelude.{◌≡◌, ◌==◌, ◌≤◌, ◌*◌, ◌↔◌, ℕ, [], IfOk, IsTrue, Some, length, true};
+ghost use Rattle.std.specs.Prelude.{◌≡◌, ◌==◌, ◌≤◌, ◌<◌, ◌*◌, ◌↔◌, ℕ, [], IfOk, IsTrue, Some, length, true};
 ghost use Rattle.mc_connections.specs.declared.connections.TheConstants.{MOST_OF_ALL};
 ghost use Rattle.mc_connections.specs.declared.places.TheConstants.{MOST_CONNECTIONS};
-ghost use Rattle.mc_connections.specs.Counting.{AreCounted, is_admin};
+ghost use Rattle.mc_connections.specs.Counting.{AreCounted, is_admin, tenants_among};
 ghost use Rattle.std.proofs.Props.{props};
 ghost use Rattle.mc_conn.specs.Owed.{IsAmong, IsAmong-prop};
 ghost use Rattle.slab.specs.Slab.{get, slab_len};
@@ -82,6 +82,28 @@ impl Connections {
         ensures { result ≡ (slab_len self.now.by_key == 0) }
     {
         self.by_key.is_empty()
+    }
+
+    /// Returns how many connections there are, of tenants and administrators.
+    pub fn len(&self) -> usize
+        ensures { result ≡ slab_len self.now.by_key }
+    {
+        self.by_key.len()
+    }
+
+    /// Returns how many tenants the log has.
+    pub fn tenants(&self) -> usize
+        ensures { result ≡ self.now.tenants }
+    {
+        self.tenants
+    }
+
+    /// Returns how many connections of a tenant there are.
+    pub fn count_of(&self, tenant: usize) -> usize
+        requires { tenant < self.now.tenants }
+        ensures { result ≡ tenants_among tenant self.now.by_key }
+    {
+        self.places.held_by(tenant)
     }
 
     /// Returns whether every place of tenants is held or kept, by connections too that haven't been

@@ -1,5 +1,6 @@
 //! Places for the connections of a worker.
 ghost use Rattle.std.specs.Prelude.{◌≡◌, ◌+◌, ◌-◌, ◌*◌, ◌<◌, ◌≤◌, ◌↔◌, IfOk, IsTrue, length, replicate, sum};
+ghost use Rattle.fair_places.specs.Places.{held_by};
 ghost use Rattle.mc_conn.specs.Owed.{IsAmong};
 ghost use Rattle.mc_connections.specs.Counting.{HasPlace, held_as, with_held_as};
 ghost use Rattle.mc_connections.specs.declared.places.TheConstants.{MOST_ADMINS, MOST_CONNECTIONS};
@@ -62,6 +63,13 @@ impl Places {
             Role::Tenant(tenant) => self.tenants.may_take(usize::from(tenant.number())),
             Role::Admin(_) => self.admins < MOST_ADMINS,
         }
+    }
+
+    /// Returns how many places connections of this tenant hold.
+    pub(crate) fn held_by(&self, tenant: usize) -> usize
+        ensures { result ≡ held_by self.now.tenants tenant }
+    {
+        self.tenants.held_by(tenant)
     }
 
     /// Lets a connection of this role take a place.

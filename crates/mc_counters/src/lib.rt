@@ -1,9 +1,12 @@
 //! What is counted of a tenant's requests: commands by kind, items that retrievals found and keys
 //! that they didn't, and refusals by kind. Begin with `Tally`; `specs/Tallied.antt` says what each
-//! number counts. `board` has the words by which a worker shows such numbers.
+//! number counts. `board` has the words by which a server shows its numbers.
 #![tactic(auto)]
 
-pub use board::{Board, Publisher, TenantShown, WorkerShown, new_board};
+pub use board::{
+    Board, LogBoard, LogPublisher, LogShown, Publisher, TenantShown, WorkerShown, new_board,
+    new_log_board,
+};
 pub use kinds::{Asked, COMMAND_KINDS, CommandKind, REFUSAL_KINDS};
 pub use tally::Tally;
 

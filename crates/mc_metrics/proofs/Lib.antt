@@ -1,1 +1,2 @@
+pub mod Furthest
 pub mod LabelLists

@@ -1,6 +1,6 @@
 -- The metrics that a scrape gets of the numbers of a server. Their names keep Prometheus' "Metric
 -- and label naming": a prefix, base units, and `_total` for what only grows.
-use Rattle.std.specs.Prelude.{ℕ, ◌/◌, ◌%◌, ◌+◌, List, [], ◌∷◌, ◌++◌, codes, decimal, flat_map, slice_index}
+use Rattle.std.specs.Prelude.{ℕ, ◌/◌, ◌%◌, ◌+◌, List, [], ◌∷◌, ◌++◌, Option, Some, None, codes, decimal, flat_map, if◌then◌else◌, slice_index}
 use Rattle.mc_model.specs.declared.reply.WireNo.{WireNo}
 use Rattle.mc_model.specs.declared.reply.WireNo.TheVariants.{E1, E2, E3, E4, E5, E6, E7, E8, E9, E10, E11}
 use Rattle.mc_counters.specs.Kinds.{place_of_kind, place_of_refusal}
@@ -16,7 +16,7 @@ use Rattle.mc_metrics.specs.declared.metric.TenantMetric.{TenantMetric}
 use Rattle.mc_metrics.specs.declared.metric.TenantMetric.TheVariants.{Items, Bytes, ItemQuota, ByteQuota, Hits, Misses, Connections}
 use Rattle.mc_metrics.specs.declared.metric.WorkerMetric.{WorkerMetric}
 use Rattle.mc_metrics.specs.declared.metric.WorkerMetric.TheVariants as worker
-use Rattle.mc_metrics.specs.declared.metric.TheConstants.{KIT, METRICS, TURN_OVER_COUNT, TURN_OVER_SUM, VERSION}
+use Rattle.mc_metrics.specs.declared.metric.TheConstants.{LOGIC, METRICS, TURN_OVER_COUNT, TURN_OVER_SUM, UNCOUNTED_METRICS, VERSION}
 use Rattle.mc_metrics.specs.declared.snapshot.LogNumbers.{LogNumbers}
 use Rattle.mc_metrics.specs.declared.snapshot.Snapshot.{Snapshot}
 use Rattle.mc_metrics.specs.declared.snapshot.TenantNumbers.{TenantNumbers}
@@ -60,7 +60,7 @@ metric_help (OfServer LogBytes) = codes "Bytes that the commands in the log keep
 metric_help (OfServer Generation) = codes "Which log is served, counted from 1."
 metric_help (OfServer ResidentBytes) = codes "Resident memory of the process in bytes."
 metric_help TurnOvers = codes "Time from the end of a log to the beginning of the next."
-metric_help Build = codes "The version that runs, and the kit that it is proved with."
+metric_help Build = codes "The version that runs, and the logic that it is proved in."
 
 abbrev pub metric_type : Metric → List ℕ
 metric_type (OfTenant Hits) = codes "counter"
@@ -118,12 +118,12 @@ abbrev pub worker_value : WorkerMetric → WorkerNumbers → ℕ
 worker_value worker.Lag numbers = numbers.lag
 worker_value worker.Connections numbers = numbers.connections
 
--- the number of the server
-abbrev pub server_value : ServerMetric → Snapshot → ℕ
-server_value Places snapshot = snapshot.log.places
-server_value UsedPlaces snapshot = snapshot.log.used_places
-server_value LogBytes snapshot = snapshot.log.bytes
-server_value Generation snapshot = snapshot.log.generation
+-- the number of the server, if it is known
+abbrev pub server_value : ServerMetric → Snapshot → Option ℕ
+server_value Places snapshot = Some snapshot.log.places
+server_value UsedPlaces snapshot = Some snapshot.log.used_places
+server_value LogBytes snapshot = Some snapshot.log.bytes
+server_value Generation snapshot = Some snapshot.log.generation
 server_value ResidentBytes snapshot = snapshot.resident_bytes
 
 abbrev pub tenant_label : TenantNumbers → LabelText
@@ -162,10 +162,15 @@ seconds_text micros =
     ++ ((48 + micros / 100000 % 10) ∷ (48 + micros / 10000 % 10) ∷ (48 + micros / 1000 % 10)
     ∷ (48 + micros / 100 % 10) ∷ (48 + micros / 10 % 10) ∷ (48 + micros % 10) ∷ []))
 
+-- the sample of a number without labels, if it is known
+abbrev pub known_sample : List ℕ → Option ℕ → List ℕ
+known_sample name None = []
+known_sample name (Some value) = sample_line name [] (decimal value)
+
 -- the sample of the server
 abbrev pub server_sample : ServerMetric → Snapshot → List ℕ
 server_sample metric snapshot =
-    sample_line (metric_name (OfServer metric)) [] (decimal (server_value metric snapshot))
+    known_sample (metric_name (OfServer metric)) (server_value metric snapshot)
 
 -- the samples of a summary without quantiles: the total of what was observed, and how often it was
 abbrev pub turn_over_samples : LogNumbers → List ℕ
@@ -176,7 +181,7 @@ turn_over_samples log =
 -- the sample that names the build
 abbrev pub build_sample : List ℕ
 build_sample =
-    sample_line (metric_name Build) ((codes "version", VERSION.now) ∷ (codes "kit", KIT.now) ∷ [])
+    sample_line (metric_name Build) ((codes "version", VERSION.now) ∷ (codes "logic", LOGIC.now) ∷ [])
     (codes "1")
 
 -- the samples of a metric
@@ -197,6 +202,10 @@ metric_text snapshot metric =
     head_lines (metric_name metric) (metric_help metric) (metric_type metric)
     ++ samples_of snapshot metric
 
--- what a scrape gets: all metrics
+-- the metrics that are shown: all, but none that counts requests where these aren't counted
+abbrev pub metrics_of : Snapshot → List Metric
+metrics_of snapshot = if snapshot.counts_requests then METRICS else UNCOUNTED_METRICS
+
+-- what a scrape gets: these metrics
 unfoldable pub metrics_text : Snapshot → List ℕ
-metrics_text snapshot = flat_map (metric_text snapshot) METRICS
+metrics_text snapshot = flat_map (metric_text snapshot) (metrics_of snapshot)

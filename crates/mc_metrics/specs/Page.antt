@@ -14,8 +14,7 @@ number_cell number = codes "<td>" ++ decimal number
 unfoldable pub tenant_row : TenantNumbers → List ℕ
 tenant_row tenant =
     codes "<tr><th>" ++ (tenant.name ++ (flat_map number_cell (tenant.items ∷ tenant.quotas.items
-    ∷ tenant.bytes ∷ tenant.quotas.bytes ∷ tenant.tally.hits ∷ tenant.tally.misses
-    ∷ tenant.connections ∷ []) ++ codes "\n"))
+    ∷ tenant.bytes ∷ tenant.quotas.bytes ∷ tenant.connections ∷ []) ++ codes "\n"))
 
 -- the numbers in the row of the log
 abbrev pub log_numbers : LogNumbers → List ℕ

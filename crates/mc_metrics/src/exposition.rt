@@ -4,8 +4,8 @@ ghost use Rattle.mc_metrics.specs.Exposition.{comment_line, head_lines, label_te
 ghost use Rattle.mc_metrics.specs.Metrics.{build_sample, command_sample, metric_help, metric_text, metrics_text, metric_name, refusal_sample, samples_of, seconds_text, server_sample, tenant_label, tenant_sample, turn_over_samples, metric_type, worker_sample};
 
 use crate::metric::{
-    KIT, METRICS, Metric, ServerMetric, TURN_OVER_COUNT, TURN_OVER_SUM, TenantMetric, VERSION,
-    WorkerMetric, command_label, refusal_label,
+    LOGIC, METRICS, Metric, ServerMetric, TURN_OVER_COUNT, TURN_OVER_SUM, TenantMetric,
+    UNCOUNTED_METRICS, VERSION, WorkerMetric, command_label, refusal_label,
 };
 use crate::snapshot::{LogNumbers, Snapshot, TenantNumbers, WorkerNumbers};
 use itoa::Buffer;
@@ -308,7 +308,7 @@ fn write_seconds(micros: u64, out: &mut Vec<u8>) -> Result<(), AllocError>
     ])
 }
 
-/// Appends the sample of the server.
+/// Appends the sample of the server, if its number is known.
 fn write_server_sample(
     metric: ServerMetric,
     snapshot: &Snapshot,
@@ -316,9 +316,12 @@ fn write_server_sample(
 ) -> Result<(), AllocError>
     ensures { OnOk result (out.new.items ≡ out.old.items ++ server_sample metric snapshot.now) }
 {
+    let Some(number) = metric.value(snapshot) else {
+        return Ok(());
+    };
     let name = Metric::OfServer(metric).name();
     let mut buffer = Buffer::new();
-    let value = buffer.format(metric.value(snapshot));
+    let value = buffer.format(number);
     write_sample(name, &[], value.as_bytes(), out)
 }
 
@@ -344,7 +347,7 @@ fn write_turn_overs(log: &LogNumbers, out: &mut Vec<u8>) -> Result<(), AllocErro
     write_sample(TURN_OVER_COUNT, &[], count.as_bytes(), out)
 }
 
-/// Appends which version runs, and the kit that it is proved with.
+/// Appends which version runs, and the logic that it is proved in.
 fn write_build(out: &mut Vec<u8>) -> Result<(), AllocError>
     ensures { OnOk result (out.new.items ≡ out.old.items ++ build_sample) }
 {
@@ -352,11 +355,11 @@ fn write_build(out: &mut Vec<u8>) -> Result<(), AllocError>
         name: b"version",
         value: VERSION,
     };
-    let kit = Label {
-        name: b"kit",
-        value: KIT,
+    let logic = Label {
+        name: b"logic",
+        value: LOGIC,
     };
-    write_sample(Metric::Build.name(), &[version, kit], b"1", out)
+    write_sample(Metric::Build.name(), &[version, logic], b"1", out)
 }
 
 /// Appends the samples of a metric.
@@ -396,12 +399,17 @@ fn write_each(metrics: &[Metric], snapshot: &Snapshot, out: &mut Vec<u8>) -> Res
     Ok(())
 }
 
-/// Appends all metrics of a snapshot, as a scrape gets them.
+/// Appends the metrics of a snapshot, as a scrape gets them: all of them if requests are counted, and
+/// otherwise those that count none.
 ///
 /// Returns an error if memory runs out; some of the text may be there then.
 #[tactic(auto, unfolding(crate::specs::Metrics::metrics_text))]
 pub fn write_metrics(snapshot: &Snapshot, out: &mut Vec<u8>) -> Result<(), AllocError>
     ensures { OnOk result (out.new.items ≡ out.old.items ++ metrics_text snapshot.now) }
 {
-    write_each(&METRICS, snapshot, out)
+    if snapshot.counts_requests {
+        write_each(&METRICS, snapshot, out)
+    } else {
+        write_each(&UNCOUNTED_METRICS, snapshot, out)
+    }
 }

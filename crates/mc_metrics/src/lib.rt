@@ -9,11 +9,13 @@
 
 pub use answering::Scrape;
 pub use exposition::write_metrics;
-pub use metric::{METRICS, Metric, ServerMetric, TenantMetric, WorkerMetric};
+pub use gathering::{ServerShown, Shown, snapshot_of};
+pub use metric::{METRICS, Metric, ServerMetric, TenantMetric, UNCOUNTED_METRICS, WorkerMetric};
 pub use snapshot::{LogNumbers, Snapshot, TenantNumbers, WorkerNumbers};
 
 pub mod answering;
 pub mod exposition;
+pub mod gathering;
 pub mod metric;
 mod page;
 pub mod snapshot;

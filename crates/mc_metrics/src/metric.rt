@@ -51,7 +51,7 @@ pub enum Metric {
     Build,
 }
 
-/// All metrics, in the order in which they are written.
+/// All metrics, in the order in which they are written where requests are counted.
 pub const METRICS: [Metric; 18] = [
     Metric::OfTenant(TenantMetric::Items),
     Metric::OfTenant(TenantMetric::Bytes),
@@ -73,6 +73,25 @@ pub const METRICS: [Metric; 18] = [
     Metric::Build,
 ];
 
+/// The metrics that count no requests, in the order in which they are written where requests aren't
+/// counted.
+pub const UNCOUNTED_METRICS: [Metric; 14] = [
+    Metric::OfTenant(TenantMetric::Items),
+    Metric::OfTenant(TenantMetric::Bytes),
+    Metric::OfTenant(TenantMetric::ItemQuota),
+    Metric::OfTenant(TenantMetric::ByteQuota),
+    Metric::OfTenant(TenantMetric::Connections),
+    Metric::OfWorker(WorkerMetric::Lag),
+    Metric::OfWorker(WorkerMetric::Connections),
+    Metric::OfServer(ServerMetric::Places),
+    Metric::OfServer(ServerMetric::UsedPlaces),
+    Metric::OfServer(ServerMetric::LogBytes),
+    Metric::OfServer(ServerMetric::Generation),
+    Metric::TurnOvers,
+    Metric::OfServer(ServerMetric::ResidentBytes),
+    Metric::Build,
+];
+
 /// The samples of the turn overs: how long they took in total, and how many there were.
 pub(crate) const TURN_OVER_SUM: &[u8] = b"wfmc_turn_over_seconds_sum";
 
@@ -81,8 +100,8 @@ pub(crate) const TURN_OVER_COUNT: &[u8] = b"wfmc_turn_over_seconds_count";
 /// The version that the metrics show.
 pub(crate) const VERSION: &[u8] = b"1.0.0";
 
-/// The kit that the server is proved and built with.
-pub(crate) const KIT: &[u8] = b"rattle-kit-13b";
+/// The logic of the kit that the server is proved with, as `rt version` prints it.
+pub(crate) const LOGIC: &[u8] = b"dac8208d650f15bf";
 
 impl TenantMetric {
     /// Returns a tenant's number.
@@ -114,15 +133,15 @@ impl WorkerMetric {
 }
 
 impl ServerMetric {
-    /// Returns the server's number.
-    pub(crate) fn value(self, snapshot: &Snapshot) -> u64
+    /// Returns the server's number, or `None` if it isn't known.
+    pub(crate) fn value(self, snapshot: &Snapshot) -> Option<u64>
         ensures { result ≡ server_value self snapshot.now }
     {
         match self {
-            ServerMetric::Places => snapshot.log.places,
-            ServerMetric::UsedPlaces => snapshot.log.used_places,
-            ServerMetric::LogBytes => snapshot.log.bytes,
-            ServerMetric::Generation => snapshot.log.generation,
+            ServerMetric::Places => Some(snapshot.log.places),
+            ServerMetric::UsedPlaces => Some(snapshot.log.used_places),
+            ServerMetric::LogBytes => Some(snapshot.log.bytes),
+            ServerMetric::Generation => Some(snapshot.log.generation),
             ServerMetric::ResidentBytes => snapshot.resident_bytes,
         }
     }
@@ -187,7 +206,7 @@ impl Metric {
                 b"Resident memory of the process in bytes."
             }
             Metric::TurnOvers => b"Time from the end of a log to the beginning of the next.",
-            Metric::Build => b"The version that runs, and the kit that it is proved with.",
+            Metric::Build => b"The version that runs, and the logic that it is proved in.",
         }
     }
 

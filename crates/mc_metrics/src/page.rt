@@ -16,7 +16,7 @@ pub(crate) const PAGE_FRONT: &[u8] = b"\
 <h1>wfmc</h1>
 <p>For Prometheus: <a href=\"/metrics\">/metrics</a></p>
 <table>
-<tr><th>tenant<th>items<th>of<th>bytes<th>of<th>hits<th>misses<th>connections
+<tr><th>tenant<th>items<th>of<th>bytes<th>of<th>connections
 ";
 
 /// What is between the rows of tenants and the numbers of the log.
@@ -53,8 +53,6 @@ fn write_row(tenant: &TenantNumbers, out: &mut Vec<u8>) -> Result<(), AllocError
         tenant.quotas.items,
         tenant.bytes,
         tenant.quotas.bytes,
-        tenant.tally.hits,
-        tenant.tally.misses,
         tenant.connections,
     ];
     out.extend_from_slice(b"<tr><th>")?;

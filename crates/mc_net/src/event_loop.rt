@@ -10,8 +10,10 @@ ghost use Rattle.uc_worker.specs.declared.worker.Worker.{Worker};
 use crate::ended::Ended;
 use crate::halt::Halt;
 use crate::mailbox::{Mailboxes, Offer, Signal};
+use crate::publishing::publish;
 use mc_conn::PULL_BYTES;
-use mc_connections::{Admission, MOST_CONNECTIONS, ReadyQueue};
+use mc_connections::{Admission, MOST_CONNECTIONS, PastConnections, ReadyQueue};
+use mc_counters::Publisher;
 use mio::{Events, Poll};
 use std::alloc::Global;
 use std::sync::Wait;
@@ -53,6 +55,8 @@ pub(crate) struct EventLoop {
     bytes: u64,
     // A log is closed where its commands keep as many.
     most_bytes: u64,
+    // Shows the worker's numbers, if somebody may look on.
+    publisher: Option<Publisher>,
     alloc: Global,
 }
 
@@ -78,7 +82,8 @@ fn poll_events(
 
 impl EventLoop {
     /// Returns an event loop without connections, for logs of this many tenants, for each of which
-    /// `reserve` places are kept. A log is closed once its commands keep `most_bytes` bytes.
+    /// `reserve` places are kept. A log is closed once its commands keep `most_bytes` bytes. The
+    /// worker's numbers are shown by the publisher, if there is one.
     ///
     /// Returns `Memory` if memory runs out.
     pub(crate) fn new(
@@ -87,6 +92,7 @@ impl EventLoop {
         tenants: usize,
         reserve: usize,
         most_bytes: u64,
+        publisher: Option<Publisher>,
     ) -> Result<EventLoop, Halt>
         requires { tenants * reserve ≤ MOST_CONNECTIONS }
         ensures new { IfOk result (λ event_loop. IsNewFor tenants event_loop.ready.connections) }
@@ -102,8 +108,16 @@ impl EventLoop {
             is_starved: false,
             bytes: 0,
             most_bytes,
+            publisher,
             alloc,
         })
+    }
+
+    /// Returns the connections that have ended here.
+    pub(crate) fn into_ended(self) -> PastConnections
+        ensures { result ≡ self.ready.connections.ended }
+    {
+        self.ready.connections.ended.again()
     }
 
     /// Admits an arrival; if there is no place for it here, it is passed on.
@@ -270,6 +284,8 @@ impl EventLoop {
         let mut signal = None;
         self.bytes = worker.bytes_from(0);
         for _ in rt.forever() {
+            let connections = &self.ready.connections;
+            publish(&mut self.publisher, connections, worker, self.bytes);
             if signal == Some(Signal::Halted) {
                 self.ready.connections.clear();
                 return Err(Halt::Elsewhere);

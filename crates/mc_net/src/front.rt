@@ -22,6 +22,7 @@ use crate::running::{first_failure, parted, run_all, threads_of};
 use crate::worker_thread::Returned;
 use mc_conn::Role;
 use mc_connections::MOST_CONNECTIONS;
+use mc_counters::Publisher;
 use mc_model::Fault;
 use mio::Poll;
 use mio::net::TcpListener;
@@ -64,7 +65,7 @@ fn new_poll<R: Net>(rt: &R, alloc: Global) -> Result<(Poll, Mailbox), Halt> {
 
 /// Returns `count` event loops for logs of this many tenants, for each of which `reserve` places are
 /// kept at each loop, and the mailbox of each. A log is closed once its commands keep `log_bytes`
-/// bytes.
+/// bytes. The first loops show their workers' numbers, each by one of the publishers.
 ///
 /// Returns `Memory` if memory runs out, and `Poll` if a poll or a mailbox can't be made.
 fn new_event_loops<R: Net>(
@@ -74,6 +75,7 @@ fn new_event_loops<R: Net>(
     tenants: usize,
     reserve: usize,
     log_bytes: u64,
+    publishers: Vec<Publisher>,
 ) -> Result<(Vec<Mailbox>, Vec<EventLoop>), Halt>
     requires { tenants * reserve ≤ MOST_CONNECTIONS }
     ensures mailboxes { IfOk result (λ pair. vec_len pair.0 ≡ count) }
@@ -83,10 +85,18 @@ fn new_event_loops<R: Net>(
 {
     let mut mailboxes = Vec::new(alloc);
     let mut event_loops = Vec::new(alloc);
+    let mut publishers = publishers.into_iter();
     for _ in 0..count {
         let (poll, mailbox) = new_poll(rt, alloc)?;
         mailboxes.push(mailbox)?;
-        event_loops.push(EventLoop::new(alloc, poll, tenants, reserve, log_bytes)?)?;
+        event_loops.push(EventLoop::new(
+            alloc,
+            poll,
+            tenants,
+            reserve,
+            log_bytes,
+            publishers.next(),
+        )?)?;
     }
     Ok((mailboxes, event_loops))
 }
@@ -111,7 +121,8 @@ impl Front {
     /// Returns the front of these listeners, for this many workers of each log of this many tenants.
     /// It is to accept `connections` streams of tenants; 0 for no end. Each worker keeps `reserve` of
     /// its places for each tenant. A log that another may follow is closed once its commands keep
-    /// `log_bytes` bytes, before all its places are taken.
+    /// `log_bytes` bytes, before all its places are taken. Between two rounds the first workers show
+    /// their numbers, each by one of the publishers.
     ///
     /// Returns `Memory` if memory runs out, and `Input` if a poll or a mailbox can't be made.
     pub fn new<R: Net>(
@@ -123,6 +134,7 @@ impl Front {
         tenants: usize,
         reserve: usize,
         log_bytes: u64,
+        publishers: Vec<Publisher>,
     ) -> Result<Front, Fault>
         requires reserves { tenants * reserve ≤ MOST_CONNECTIONS }
         requires some { (0 < workers) × (0 < vec_len listeners) }
@@ -137,7 +149,7 @@ impl Front {
         ensures faults { MatchResult result (λ _. ⊤) IsNetworkFault }
     {
         let (of_workers, event_loops) = new_event_loops(
-            rt, alloc, workers, tenants, reserve, log_bytes,
+            rt, alloc, workers, tenants, reserve, log_bytes, publishers,
         )?;
         let (poll, of_acceptor) = new_poll(rt, alloc)?;
         let listeners = role_listeners(alloc, listeners)?;
@@ -258,7 +270,7 @@ impl Front {
             let Some(event_loop) = event_loops.next() else {
                 unreachable!();
             };
-            let ended = event_loop.ready.connections.ended.again();
+            let ended = event_loop.into_ended();
             back.push(Returned { worker, ended })?;
         }
         Ok(back)

@@ -27,6 +27,7 @@ pub mod halt;
 pub mod handing;
 pub mod listener;
 mod mailbox;
+mod publishing;
 mod running;
 mod serving;
 pub mod worker_thread;

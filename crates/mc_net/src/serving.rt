@@ -90,9 +90,10 @@ pub fn serve<'a, R: Threads + Wait + Net + Sync, G: Gate + Send + Drop, B: Begin
     mc_connections::laws::connections_are_answered_over_logs();
     mc_connections::laws::commands_are_asked_for_over_logs();
     let tenants = log.settings().tenants().len();
-    // No tenant has a reserve, and the only log isn't closed before its last place.
+    // No tenant has a reserve, the only log isn't closed before its last place, and nobody looks on.
     let reserve = 0;
     let bytes = u64::MAX;
+    let publishers = Vec::new(alloc);
     let mut front = Front::new(
         rt,
         alloc,
@@ -102,6 +103,7 @@ pub fn serve<'a, R: Threads + Wait + Net + Sync, G: Gate + Send + Drop, B: Begin
         tenants,
         reserve,
         bytes,
+        publishers,
     )?;
     let (workers, _) = front.serve_generation(rt, alloc, log, workers, gates, true, begin, state)?;
     Ok(front.into_returned(alloc, workers)?)

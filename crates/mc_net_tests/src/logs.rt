@@ -120,7 +120,17 @@ fn serve_two<R: Threads + Wait + Net + Sync>(
     }
     let tenants = log.settings().tenants().len();
     let bytes = u64::MAX;
-    let mut front = Front::new(rt, alloc, listeners, connections, count, tenants, 0, bytes)?;
+    let mut front = Front::new(
+        rt,
+        alloc,
+        listeners,
+        connections,
+        count,
+        tenants,
+        0,
+        bytes,
+        Vec::new(alloc),
+    )?;
     let mut begun = 0;
     let (mut workers, first) = front.serve_generation(
         rt, alloc, &log, workers, gates, false, &Counting, &mut begun,

@@ -5,20 +5,34 @@ use crate::runs::output_of;
 use mc_programs::{Hashing, OutputStep};
 use mc_server::run_wfmc;
 use std::alloc::AllocError;
+use std::fs::Files;
 use std::net::Net;
 use std::process::Abort;
+use std::random::RandomSource;
 use std::sync::Wait;
 use std::test::Fail;
 use std::thread::Threads;
+use std::time::Clock;
 
 /// Asserts that a run with these words, whose outputs follow these steps, leaves what it must.
-fn check_steps<R: Threads + Wait + Net + Sync + AllocGlobal + Abort>(
+fn check_steps<R>(
     rt: &R,
     given: &str,
     pushes: &[OutputStep],
     tells: &[OutputStep],
     wanted: Wanted,
-) -> Result<(), AllocError> {
+) -> Result<(), AllocError>
+where
+    R: Threads
+        + Wait
+        + Net
+        + Clock
+        + Files<File: Send, Dir: Send>
+        + RandomSource
+        + Sync
+        + AllocGlobal
+        + Abort,
+{
     let words = words_of(rt.alloc(), given)?;
     let mut output = output_of(rt.alloc(), pushes)?;
     let mut errors = output_of(rt.alloc(), tells)?;
@@ -43,12 +57,18 @@ fn check_steps<R: Threads + Wait + Net + Sync + AllocGlobal + Abort>(
 }
 
 /// Does as `check_steps` for a run that ends with this status and prints this error.
-fn check_told<R: Threads + Wait + Net + Sync + AllocGlobal + Abort>(
-    rt: &R,
-    given: &str,
-    status: u8,
-    told: &str,
-) -> Result<(), AllocError> {
+fn check_told<R>(rt: &R, given: &str, status: u8, told: &str) -> Result<(), AllocError>
+where
+    R: Threads
+        + Wait
+        + Net
+        + Clock
+        + Files<File: Send, Dir: Send>
+        + RandomSource
+        + Sync
+        + AllocGlobal
+        + Abort,
+{
     let wanted = Wanted {
         status,
         output: b"",
@@ -74,11 +94,13 @@ Options:
       --connections <N>  After how many connections of tenants it ends; 0 for never [default: 0]
       --check            Checks whether the words can be served, reports the first that can't, and serves nothing
       --admin <ADDR>     At which IPv4 address and port administrators connect; without it there are none
+      --metrics <ADDR>   At which IPv4 address and port metrics are scraped by HTTP; without it they aren't
   -h, --help             Print help
   -V, --version          Print version
 
 Each TENANT is NAME=ADDR,ITEMS,BYTES:
-  NAME   1 to 32 of a to z, 0 to 9, - and _; no name twice, and with --admin none is admin
+  NAME   1 to 32 of a to z, 0 to 9, - and _; no name twice, with --admin none is admin, and
+         with --metrics none is metrics
   ADDR   an IPv4 address and a port, as numbers, at which the tenant's clients connect;
          the port from 0 to 65535, where 0 takes a free one
   ITEMS  how many items the tenant may hold, from 1 to 1048576
@@ -87,6 +109,7 @@ Where a word is of another form, a number out of its range, or a name used twice
 With --check wfmc says which word that is, and serves nothing.
 
 With --admin, whoever connects at ADDR may set a tenant's quotas: limit NAME ITEMS BYTES.
+With --metrics, whoever connects at ADDR may read numbers of all tenants: GET /metrics, by HTTP.
 
 Example, two tenants apart from each other on two ports:
   wfmc shop=127.0.0.1:11211,1000,1048576 blog=127.0.0.1:11212,1000,1048576
@@ -100,11 +123,18 @@ const SHOWN: [(&str, &str); 3] = [
 
 /// Asserts that a run with these words prints this text, and that it stops after five bytes if
 /// pushing more fails.
-fn check_shown<R: Threads + Wait + Net + Sync + AllocGlobal + Abort>(
-    rt: &R,
-    given: &str,
-    text: &[u8],
-) -> Result<(), AllocError> {
+fn check_shown<R>(rt: &R, given: &str, text: &[u8]) -> Result<(), AllocError>
+where
+    R: Threads
+        + Wait
+        + Net
+        + Clock
+        + Files<File: Send, Dir: Send>
+        + RandomSource
+        + Sync
+        + AllocGlobal
+        + Abort,
+{
     let wanted = Wanted {
         status: 0,
         output: text,
@@ -331,11 +361,18 @@ fn what_cannot_be_served_is_refused(rt: HostRuntime) -> Result<(), AllocError> {
 
 /// Asserts that a run with these words, and `--check` before them, ends with this status, and prints
 /// and reports this.
-fn check_checked<R: Threads + Wait + Net + Sync + AllocGlobal + Abort>(
-    rt: &R,
-    given: &str,
-    wanted: Wanted,
-) -> Result<(), AllocError> {
+fn check_checked<R>(rt: &R, given: &str, wanted: Wanted) -> Result<(), AllocError>
+where
+    R: Threads
+        + Wait
+        + Net
+        + Clock
+        + Files<File: Send, Dir: Send>
+        + RandomSource
+        + Sync
+        + AllocGlobal
+        + Abort,
+{
     let words = format!(in rt.alloc(); "--check {given}")?;
     check_steps(rt, &words, &[], &[], wanted)
 }

@@ -1,6 +1,7 @@
 //! Of requests of every kind each number is counted once, and what is published is shown.
 use mc_counters::{
-    Asked, COMMAND_KINDS, CommandKind, REFUSAL_KINDS, Tally, TenantShown, WorkerShown, new_board,
+    Asked, COMMAND_KINDS, CommandKind, LogShown, REFUSAL_KINDS, Tally, TenantShown, WorkerShown,
+    new_board, new_log_board,
 };
 use mc_model::{Command, Key, Limits, Reply, TenantId};
 use std::test::Fail;
@@ -35,8 +36,8 @@ fn reads_what_a_command_asks_for(rt: HostRuntime) -> Result<(), Fail> {
     Ok(())
 }
 
-/// Returns numbers that are all different.
-fn shown_of(first: u64) -> TenantShown {
+/// Returns counts that are all different.
+fn tally_of(first: u64) -> Tally {
     let mut tally = Tally::new();
     let mut next = first;
     for count in tally.commands.iter_mut() {
@@ -49,46 +50,61 @@ fn shown_of(first: u64) -> TenantShown {
     }
     tally.hits = next.wrapping_add(1);
     tally.misses = next.wrapping_add(2);
+    tally
+}
+
+/// Returns numbers that are all different.
+fn shown_of(first: u64) -> TenantShown {
     TenantShown {
-        tally,
-        connections: next.wrapping_add(3),
-        items: next.wrapping_add(4),
-        bytes: next.wrapping_add(5),
+        connections: first.wrapping_add(30),
+        items: first.wrapping_add(31),
+        bytes: first.wrapping_add(32),
         quotas: Limits {
-            items: next.wrapping_add(6),
-            bytes: next.wrapping_add(7),
+            items: first.wrapping_add(33),
+            bytes: first.wrapping_add(34),
         },
     }
 }
 
-/// Returns whether two tenants are shown alike.
-fn are_alike(one: &TenantShown, other: &TenantShown) -> bool {
-    one.tally.commands == other.tally.commands
-        && one.tally.refusals == other.tally.refusals
-        && one.tally.hits == other.tally.hits
-        && one.tally.misses == other.tally.misses
-        && one.connections == other.connections
-        && one.items == other.items
-        && one.bytes == other.bytes
-        && one.quotas == other.quotas
+/// Returns whether two tallies are alike.
+fn are_alike(one: &Tally, other: &Tally) -> bool {
+    one.commands == other.commands
+        && one.refusals == other.refusals
+        && one.hits == other.hits
+        && one.misses == other.misses
 }
 
 #[test]
 fn shows_what_is_published(rt: HostRuntime) -> Result<(), Fail> {
-    let (mut publisher, board) = new_board(rt.alloc(), 2)?;
+    let (mut log_publisher, log_board) = new_log_board(rt.alloc())?;
+    let (mut publisher, board) = new_board(rt.alloc(), 2, &log_board)?;
     let (Some(first), Some(second)) = (TenantId::new(0), TenantId::new(1)) else {
         return Ok(());
     };
-    publisher.show_tenant(first, &shown_of(100));
-    publisher.show_tenant(second, &shown_of(200));
-    publisher.show_worker(&WorkerShown {
+    log_publisher.show_generation(7);
+    log_publisher.count_turn_over(40);
+    log_publisher.count_turn_over(2);
+    for (tenant, number) in [(first, 100), (second, 200)] {
+        publisher.show_tenant(tenant, &shown_of(number));
+        publisher.show_tally(tenant, &tally_of(number));
+    }
+    publisher.show_worker(1, 2, 3);
+    for (tenant, number) in [(first, 100), (second, 200)] {
+        assert!(rt; board.tenant(tenant) == shown_of(number));
+        assert!(rt; are_alike(&board.tally(tenant), &tally_of(number)));
+    }
+    let wanted = WorkerShown {
+        generation: 7,
         replayed: 1,
         bytes: 2,
         connections: 3,
-    });
-    assert!(rt; are_alike(&board.tenant(first), &shown_of(100)));
-    assert!(rt; are_alike(&board.tenant(second), &shown_of(200)));
-    let worker = board.worker();
-    assert!(rt; worker.replayed == 1 && worker.bytes == 2 && worker.connections == 3);
+    };
+    assert!(rt; board.worker() == wanted);
+    let wanted = LogShown {
+        generation: 7,
+        turn_overs: 2,
+        turn_over_micros: 42,
+    };
+    assert!(rt; log_board.logs() == wanted);
     Ok(())
 }

@@ -81,7 +81,8 @@ fn example(alloc: Global) -> io::Result<Snapshot> {
             turn_overs: 2,
             turn_over_micros: 1_002_030,
         },
-        resident_bytes: u64::MAX,
+        resident_bytes: Some(u64::MAX),
+        counts_requests: true,
     })
 }
 

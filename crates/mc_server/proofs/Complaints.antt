@@ -1,6 +1,6 @@
 -- What is wrong can't be served, and where nothing is wrong all can be served.
-use Rattle.std.proofs.Common.{◌≡◌, ◌≢◌, ◌≤◌, ◌==◌, ◌∙◌, ◌↔◌, ℕ, zero, suc, Bool, true, false, List, [], ◌∷◌, ◌++◌, All, IsTrue, Option, Some, None, Result, Ok, Err, Bor, Contains, length, map, take, ◌<◌, min, if◌then◌else◌, get_or, refl, sym, ap, arith, subst}
-use Rattle.std.proofs.Math.Nat.{min-le_left, min-le_right}
+use Rattle.std.proofs.Common.{◌≡◌, ◌≢◌, ◌≤◌, ◌==◌, ◌∙◌, ℕ, zero, suc, Bool, true, false, List, [], ◌∷◌, ◌++◌, All, Option, Some, None, Result, Ok, Err, Bor, Contains, length, map, take, ◌<◌, min, if◌then◌else◌, get_or, refl, sym, ap, arith, subst}
+use Rattle.std.proofs.Math.Nat.{min-le_left}
 use Rattle.std.proofs.lemmas.List.{length-map, map-append, take_all}
 use Rattle.std.proofs.lemmas.List.Elements.{All-head, All-tail, All-cons, All-nil, All-push}
 use Rattle.std.proofs.lemmas.Slice.Zip.{AllZip-long}
@@ -10,15 +10,14 @@ use Rattle.std.specs.Option.{IsSomeAnd}
 use Rattle.std.specs.Prelude.{MatchResult, is_err}
 use Rattle.std.specs.Str.{bytes_eq}
 use Rattle.std.specs.declared.net.socket_addr.SocketAddrV4.{SocketAddrV4}
-use Rattle.std.proofs.NetLemmas.Theorems.{IsSocketV4Text_unique}
 use Rattle.clap.specs.Walk.{Text}
-use Rattle.mc_model.specs.Settings.{AreLawfulLimits, IsBetween, IsLawful}
+use Rattle.mc_model.specs.Settings.{AreLawfulLimits, IsBetween}
 use Rattle.mc_model.specs.declared.id.TheConstants.{WORKERS}
-use Rattle.mc_model.specs.declared.settings.Limits.{Limits}
 use Rattle.mc_programs.specs.Words.{u64_of}
-use Rattle.mc_server.specs.Complaints.{CanBeServed, FitsAlone, IsCutInto, IsWrong, IsWrongPart, SpellsQuota, TenantParts, given_number, least, most, name_part, names_given, reserved_for}
-use Rattle.mc_server.specs.NetworkWords.{AreReservesWithin, Asks, AsksInVain, IsServable, NetworkAsked, NetworkGiven, SpellsAddress, reserved_names, settings_asked, workers_for}
+use Rattle.mc_server.specs.Complaints.{CanBeServed, FitsAlone, IsCutInto, IsWrong, IsWrongPart, SpellsQuota, TenantParts, given_number, least, most, names_given}
+use Rattle.mc_server.specs.NetworkWords.{AreReservesWithin, Asks, AsksInVain, NetworkAsked, NetworkGiven, SpellsAddress, admin_name, metrics_name, name_if, reserved_names, workers_for}
 use Rattle.mc_server.specs.TenantWord.{Lacks, Says, TenantAsked, tenant_text}
+use Rattle.mc_server.specs.declared.complaint.AddressOption.TheVariants.{Admin, Metrics}
 use Rattle.mc_server.specs.declared.complaint.Complaint.{Complaint}
 use Rattle.mc_server.specs.declared.complaint.Complaint.TheVariants.{LargeReserve, NameTaken, NoAddress, OutOfBounds, WrongPart}
 use Rattle.mc_server.specs.declared.complaint.Counted.{Counted}
@@ -105,20 +104,25 @@ number_in_vain given Tenants number is outside asked asks servable =
     let lawful = servable.lawful.tenants in
     outside (omega (arith, is, long, quotas, lawful.0), omega (arith, is, long, quotas, lawful.1))
 
-reserved_are : (text : Option Text) (address : Option SocketAddrV4) → SpellsAddress text address → reserved_for text ≡ reserved_names address
-reserved_are None address spells = ap reserved_names (sym spells)
-reserved_are (Some text) None spells = absurd spells
-reserved_are (Some text) (Some address) spells = refl
+reserved_is : (name : Text) (text : Option Text) (address : Option SocketAddrV4) → SpellsAddress text address → name_if name text ≡ name_if name address
+reserved_is name None address spells = ap (name_if name) (sym spells)
+reserved_is name (Some text) None spells = absurd spells
+reserved_is name (Some text) (Some address) spells = refl
 
-pub names_are_given : (given : NetworkGiven) (asked : NetworkAsked) → Asks given asked → names_given given ≡ reserved_names asked.admin ++ map (λ (tenant : TenantAsked). tenant.name) asked.tenants
-names_are_given given asked asks = let reserved = reserved_are given.admin asked.admin asks.admin in let names = names_are_said given.tenants asked.tenants asks.tenants in λ i. reserved i ++ names i
+pub names_are_given : (given : NetworkGiven) (asked : NetworkAsked) → Asks given asked → names_given given ≡ reserved_names asked.admin asked.metrics ++ map (λ (tenant : TenantAsked). tenant.name) asked.tenants
+names_are_given given asked asks =
+    let chief = reserved_is admin_name given.admin asked.admin asks.admin in
+    let scrapes = reserved_is metrics_name given.metrics asked.metrics asks.metrics in
+    let names = names_are_said given.tenants asked.tenants asks.tenants in
+    λ i. (chief i ++ scrapes i) ++ names i
 
 pub in_vain : (given : NetworkGiven) (complaint : Complaint) → IsWrong given complaint → AsksInVain given
 in_vain given (OutOfBounds counted number) wrong asked asks servable = number_in_vain given counted number wrong.0 wrong.1 asked asks servable
 in_vain given (LargeReserve reserve tenants) wrong asked asks servable =
     let many : length asked.tenants ≡ tenants = omega (arith, wrong.1, AllZip-long Says given.tenants asked.tenants asks.tenants) in
     wrong.2 (subst (AreReservesWithin reserve) many (subst (λ (one : ℕ). AreReservesWithin one (length asked.tenants)) (asks.reserve ∙ wrong.0) servable.reserve))
-in_vain given (NoAddress word) wrong asked asks servable = wrong.1 asked.admin asks.admin
+in_vain given (NoAddress Admin word) wrong asked asks servable = wrong.1 asked.admin asks.admin
+in_vain given (NoAddress Metrics word) wrong asked asks servable = wrong.1 asked.metrics asks.metrics
 in_vain given (WrongPart word part) wrong asked asks servable = wrong_among given.tenants asked.tenants word.now part wrong.0 wrong.1 asks.tenants servable.lawful.limits
 in_vain given (NameTaken name) wrong asked asks servable = once _ name.now (subst (IsDistinct bytes_eq) (sym (names_are_given given asked asks)) servable.names) wrong
 
@@ -150,10 +154,10 @@ all_said (w ∷ ws) fit =
       lawful = All-cons AreLawfulLimits first.0.limits (map (λ (tenant : TenantAsked). tenant.limits) rest.tenants) first.2 rest.lawful;
     }
 
-pub can_be_served : (given : NetworkGiven) (address : Option SocketAddrV4) → IsBetween (least Workers) (most Workers) given.workers → IsBetween (least Places) (most Places) given.places
+pub can_be_served : (given : NetworkGiven) (address scrapes : Option SocketAddrV4) → IsBetween (least Workers) (most Workers) given.workers → IsBetween (least Places) (most Places) given.places
     → IsBetween (least Generations) (most Generations) given.generations → IsBetween (least LogBytes) (most LogBytes) given.log_bytes → IsBetween (least Tenants) (most Tenants) (length given.tenants)
-    → AreReservesWithin given.reserve (length given.tenants) → SpellsAddress given.admin address → All FitsAlone given.tenants → IsDistinct bytes_eq (names_given given) → CanBeServed given
-can_be_served given address workers places generations log_bytes count reserves spells fit distinct =
+    → AreReservesWithin given.reserve (length given.tenants) → SpellsAddress given.admin address → SpellsAddress given.metrics scrapes → All FitsAlone given.tenants → IsDistinct bytes_eq (names_given given) → CanBeServed given
+can_be_served given address scrapes workers places generations log_bytes count reserves spells shown fit distinct =
     let said = all_said given.tenants fit in
     let asked : NetworkAsked = record {
       workers = workers_for given;
@@ -163,9 +167,10 @@ can_be_served given address workers places generations log_bytes count reserves 
       reserve = given.reserve;
       connections = given.connections;
       admin = address;
+      metrics = scrapes;
       tenants = said.tenants;
     } in
-    let asks : Asks given asked = record { few = workers.1; workers = refl; places = refl; generations = refl; log_bytes = refl; reserve = refl; connections = refl; admin = spells; tenants = said.say } in
+    let asks : Asks given asked = record { few = workers.1; workers = refl; places = refl; generations = refl; log_bytes = refl; reserve = refl; connections = refl; admin = spells; metrics = shown; tenants = said.say } in
     let long = AllZip-long Says given.tenants said.tenants said.say in
     let quotas = length-map said.tenants (λ (tenant : TenantAsked). tenant.limits) in (
       asked,

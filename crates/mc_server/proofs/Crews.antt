@@ -1,5 +1,5 @@
 -- Workers that were opened with passes that were never used.
-use Rattle.std.proofs.Common.{◌≡◌, ◌∙◌, ℕ, ◌+◌, ◌<◌, zero, suc, All, List, [], ◌∷◌, Some, Result, Ok, Err, Vec, Global, MatchResult, length, map, slice_get, slice_index_or, ap, refl, subst, arith}
+use Rattle.std.proofs.Common.{◌≡◌, ◌∙◌, ℕ, ◌+◌, ◌<◌, suc, All, List, [], ◌∷◌, Some, Result, Ok, Err, Vec, Global, MatchResult, length, map, slice_get, slice_index_or, ap, refl, subst, arith}
 use Rattle.std.proofs.Math.ListN.{get_or-map}
 use Rattle.std.proofs.lemmas.List.{length-map, nil_from_length}
 use Rattle.std.proofs.lemmas.Option.{get_or_from_slice_get, slice_get_within}

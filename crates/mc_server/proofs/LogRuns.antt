@@ -1,6 +1,6 @@
 -- Logs one after another: workers that fill and close one, and what those come to that have
 -- served on all of them.
-use Rattle.std.proofs.Common.{◌≡◌, ◌∙◌, ◌⊎◌, ◌<◌, ◌≤◌, ℕ, ◌+◌, ◌-◌, ◌^◌, min, zero, suc, Bool, true, false, List, [], ◌∷◌, ◌++◌, Err, IfOk, Ok, Result, take, Some, All, Contains, get_or, length, map, slice_get, slice_index_or, slice_set, ap, arith, refl, sym, subst, inl, inr, ⊎_elim}
+use Rattle.std.proofs.Common.{◌≡◌, ◌∙◌, ◌⊎◌, ◌<◌, ◌≤◌, ℕ, ◌+◌, ◌-◌, ◌^◌, min, zero, suc, Bool, true, false, List, [], ◌∷◌, ◌++◌, Err, IfOk, Ok, Result, take, Some, All, length, map, slice_get, slice_index_or, ap, arith, refl, sym, subst, inl, inr, ⊎_elim}
 use Rattle.std.proofs.Math.Nat.{min-eq_left}
 use Rattle.std.proofs.Math.Seq.{take-append_seam}
 use Rattle.std.proofs.lemmas.List.Elements.{All-cons, All-contains, All-head, All-nil, All-tail}
@@ -17,12 +17,11 @@ use Rattle.mc_model.specs.Settings.{Configuration}
 use Rattle.mc_model.specs.State.{TableState}
 use Rattle.mc_net.specs.Running.{HasBeenServedBy, IsEmptyLoop, IsNewLoop, ended_at}
 use Rattle.mc_net.specs.declared.ended.Ended.{Ended}
-use Rattle.mc_net.specs.declared.ended.Ended.TheVariants as Ended
 use Rattle.mc_net.specs.declared.event_loop.EventLoop.{EventLoop}
 use Rattle.mc_net.specs.declared.front.Front.{Front}
 use Rattle.mc_server.proofs.NetworkRuns.{are_workers}
-use Rattle.mc_server.specs.Crew.{AreWorkersOf, HaveMet}
-use Rattle.mc_server.specs.Logs.{AreServedBy, CanBeFollowed, Closes, EndsThere, IsAnsweredBy, ServesInTwo, ServesLast, WereServed}
+use Rattle.mc_server.specs.Crew.{AreWorkersOf}
+use Rattle.mc_server.specs.Logs.{CanBeFollowed, Closes, EndsThere, IsAnsweredBy, ServesInTwo, ServesLast, WereServed}
 use Rattle.uc_worker.specs.Cited.{entries}
 use Rattle.uc_log.specs.declared.log.Log.{Log}
 use Rattle.uc_worker.specs.Cited.{Sighting}

@@ -1,16 +1,16 @@
 -- The names of tenants' words: what stands before the first `=`, and which of them stand twice.
-use Rattle.std.proofs.Common.{◌≡◌, ◌≢◌, ◌≤◌, ◌<◌, ◌-◌, ◌+◌, ◌==◌, ◌||◌, ◌↔◌, cond, Bool, true, false, not, IsTrue, ℕ, zero, suc, List, [], ◌∷◌, ◌++◌, Option, Some, None, Result, Ok, Err, Bor, length, map, take, drop, get_or, refl, sym, ap, ◌∙◌, arith, subst}
+use Rattle.std.proofs.Common.{◌≡◌, ◌≢◌, ◌≤◌, ◌<◌, ◌-◌, ◌+◌, ◌==◌, ◌||◌, cond, Bool, true, false, not, ℕ, zero, suc, List, [], ◌∷◌, ◌++◌, Option, Some, None, Result, Ok, Err, Bor, length, map, take, drop, get_or, refl, sym, ap, ◌∙◌, arith, subst}
 use Rattle.std.proofs.lemmas.Bool.{ne_eqb}
 use Rattle.std.proofs.lemmas.List.{take_all}
 use Rattle.std.proofs.lemmas.List.Elements.{All-head, All-tail}
 use Rattle.std.proofs.lemmas.Slice.Eq.{bytes_eq-Decides}
 use Rattle.std.specs.List.{AllByRecursion, AllZip, IsDistinct, before_first, list_any, position_or_len, slice_get}
-use Rattle.std.specs.Option.{option_map}
+use Rattle.std.specs.Option.{MatchOption, option_map}
 use Rattle.std.specs.Prelude.{MatchResult}
 use Rattle.std.specs.Str.{bytes_eq}
 use Rattle.clap.specs.Walk.{Text}
-use Rattle.mc_server.specs.Complaints.{StandsTwice, name_part, names_given, reserved_for}
-use Rattle.mc_server.specs.NetworkWords.{NetworkGiven, admin_name}
+use Rattle.mc_server.specs.Complaints.{StandsTwice, name_part}
+use Rattle.mc_server.specs.NetworkWords.{NetworkGiven, admin_name, metrics_name, name_if, reserved_names}
 use Rattle.mc_server.specs.TenantWord.{Lacks, Says, TenantAsked}
 use Rattle.mc_server.proofs.TenantForms.{name_lacks}
 use Rattle.mc_server.proofs.TenantLists.{mapped}
@@ -107,16 +107,6 @@ unfolding IsDistinct
 no_words [] low = tt
 no_words (x ∷ xs) low = absurd (omega arith)
 
--- a name that is reserved, beside names that are distinct
-pub reserved_beside : (name : Text) (words : List (Bor Text)) (has : Bool) → has ≡ uses name words → has ≡ false
-    → IsDistinct bytes_eq (parts_of_words words) → IsDistinct bytes_eq (name ∷ parts_of_words words)
-unfolding IsDistinct
-reserved_beside name words has e unused rest = (none_uses name words (sym e ∙ unused), rest)
-
-pub reserved_twice : (name : Text) (words : List (Bor Text)) (has : Bool) → has ≡ uses name words → has ≡ true
-    → StandsTwice (name ∷ parts_of_words words) name
-reserved_twice name words has e used = let at = one_uses name words (sym e ∙ used) in (0, suc at.0, omega arith, refl, at.1)
-
 pub twice_behind : (front : Text) (names : List Text) (name : Text) → StandsTwice names name → StandsTwice (front ∷ names) name
 twice_behind front names name twice = (suc twice.0, suc twice.1, omega (arith, twice.2), twice.3, twice.4)
 
@@ -133,21 +123,51 @@ of_rest words some name has low e unused is (Err one) rest = later_stands_twice 
 pub names_given_are : (given : NetworkGiven) (words : List (Bor Text)) → given.tenants ≡ map (λ word. word.now) words → map name_part given.tenants ≡ parts_of_words words
 names_given_are given words e = ap (map name_part) e ∙ mapped (λ (word : Bor Text). word.now) name_part words
 
-pub twice_given : (admin : Option Text) (names : List Text) (name : Text) → StandsTwice names name → StandsTwice (reserved_for admin ++ names) name
-twice_given None names name twice = twice
-twice_given (Some text) names name twice = twice_behind admin_name names name twice
+pub twice_given : (front names : List Text) (name : Text) → StandsTwice names name → StandsTwice (front ++ names) name
+twice_given [] names name twice = twice
+twice_given (x ∷ xs) names name twice = twice_behind x (xs ++ names) name (twice_given xs names name twice)
 
-module _ (given : NetworkGiven) (words : List (Bor Text)) (admin : Option (Bor Text)) (some : Bor Text) (asked : given.admin ≡ option_map (λ word. word.now) admin)
-    (tenants : given.tenants ≡ map (λ word. word.now) words) (are : admin ≡ Some some) (has : Bool) (found : has ≡ uses admin_name words) where
-  with_admin : names_given given ≡ admin_name ∷ parts_of_words words
-  with_admin = let text = asked ∙ ap (option_map (λ (word : Bor Text). word.now)) are in let names = names_given_are given words tenants in λ i. reserved_for (text i) ++ names i
+stands_behind : (front names : List Text) (name : Text) → Stands names name → Stands (front ++ names) name
+stands_behind [] names name at = at
+stands_behind (x ∷ xs) names name at = let rest = stands_behind xs names name at in (suc rest.0, rest.1)
 
-  pub admin_twice : has ≡ true → StandsTwice (names_given given) admin_name
-  admin_twice used = subst (λ names. StandsTwice names admin_name) (sym with_admin) (reserved_twice admin_name words has found used)
+-- the name of a listener is found to be used by a word, if there is to be one
+abbrev pub IsFound : Option (Bor Text) → Text → List (Bor Text) → Bool → Type 0
+IsFound word name words has = MatchOption word (has ≡ false) (λ _. has ≡ uses name words)
 
-  pub admin_free : has ≡ false → IsDistinct bytes_eq (map name_part given.tenants) → IsDistinct bytes_eq (names_given given)
-  admin_free unused distinct =
-      subst (IsDistinct bytes_eq) (sym with_admin) (reserved_beside admin_name words has found unused (subst (IsDistinct bytes_eq) (names_given_are given words tenants) distinct))
+pub admin_twice : (word : Option (Bor Text)) (admin metrics : Option Text) (words : List (Bor Text)) (has : Bool) → admin ≡ option_map (λ word. word.now) word
+    → IsFound word admin_name words has → has ≡ true → StandsTwice (reserved_names admin metrics ++ parts_of_words words) admin_name
+admin_twice None admin metrics words has e found used = absurd cc
+admin_twice (Some word) admin metrics words has e found used =
+    let at = stands_behind (name_if metrics_name metrics) (parts_of_words words) admin_name (one_uses admin_name words (sym found ∙ used)) in
+    let twice : StandsTwice (reserved_names (Some word.now) metrics ++ parts_of_words words) admin_name = (0, suc at.0, omega arith, refl, at.1) in
+    subst (λ admin. StandsTwice (reserved_names admin metrics ++ parts_of_words words) admin_name) (sym e) twice
+
+pub metrics_twice : (word : Option (Bor Text)) (admin metrics : Option Text) (words : List (Bor Text)) (has : Bool) → metrics ≡ option_map (λ word. word.now) word
+    → IsFound word metrics_name words has → has ≡ true → StandsTwice (reserved_names admin metrics ++ parts_of_words words) metrics_name
+metrics_twice None admin metrics words has e found used = absurd cc
+metrics_twice (Some word) admin metrics words has e found used =
+    let at = one_uses metrics_name words (sym found ∙ used) in
+    let twice : StandsTwice (metrics_name ∷ parts_of_words words) metrics_name = (0, suc at.0, omega arith, refl, at.1) in
+    subst (λ metrics. StandsTwice (reserved_names admin metrics ++ parts_of_words words) metrics_name) (sym e) (beside admin twice)
+  where
+    beside : (admin : Option Text) → StandsTwice (metrics_name ∷ parts_of_words words) metrics_name → StandsTwice (reserved_names admin (Some word.now) ++ parts_of_words words) metrics_name
+    beside None twice = twice
+    beside (Some text) twice = twice_behind admin_name (metrics_name ∷ parts_of_words words) metrics_name twice
+
+pub none_twice : (chief scrapes : Option (Bor Text)) (admin metrics : Option Text) (words : List (Bor Text)) (has used : Bool) → admin ≡ option_map (λ word. word.now) chief
+    → metrics ≡ option_map (λ word. word.now) scrapes → IsFound chief admin_name words has → IsFound scrapes metrics_name words used → has ≡ false → used ≡ false
+    → IsDistinct bytes_eq (parts_of_words words) → IsDistinct bytes_eq (reserved_names admin metrics ++ parts_of_words words)
+unfolding IsDistinct
+none_twice chief scrapes admin metrics words has used a m found shown free apart distinct =
+    subst (λ (pair : Option Text × Option Text). IsDistinct bytes_eq (reserved_names pair.0 pair.1 ++ parts_of_words words)) (λ i. (sym a i, sym m i)) (go chief scrapes found shown)
+  where
+    go : (chief scrapes : Option (Bor Text)) → IsFound chief admin_name words has → IsFound scrapes metrics_name words used
+        → IsDistinct bytes_eq (reserved_names (option_map (λ (word : Bor Text). word.now) chief) (option_map (λ (word : Bor Text). word.now) scrapes) ++ parts_of_words words)
+    go None None found shown = distinct
+    go (Some x) None found shown = (none_uses admin_name words (sym found ∙ free), distinct)
+    go None (Some y) found shown = (none_uses metrics_name words (sym shown ∙ apart), distinct)
+    go (Some x) (Some y) found shown = ((refl, none_uses admin_name words (sym found ∙ free)), (none_uses metrics_name words (sym shown ∙ apart), distinct))
 
 -- ---- distinct names stand once
 

@@ -18,18 +18,22 @@ use Rattle.mc_server.specs.declared.complaint.Counted.TheVariants.{Tenants, Work
 
 -- ---- what words give
 
-one_tenant : given_by_words (codes "a=127.0.0.1:0,1,1" ∷ []) ≡ record { workers = 2; places = 65536; generations = 1; log_bytes = 1073741824; reserve = 0; connections = 0; admin = None; tenants = codes "a=127.0.0.1:0,1,1" ∷ [] }
+one_tenant : given_by_words (codes "a=127.0.0.1:0,1,1" ∷ []) ≡ record { workers = 2; places = 65536; generations = 1; log_bytes = 1073741824; reserve = 0; connections = 0; admin = None; metrics = None; tenants = codes "a=127.0.0.1:0,1,1" ∷ [] }
 unfolding clap_on_literals
 one_tenant = refl
 
 all_options : given_by_words (codes "--workers" ∷ codes "3" ∷ codes "a" ∷ codes "--places=4" ∷ codes "--generations" ∷ codes "0" ∷ codes "b" ∷ codes "--connections" ∷ codes "5" ∷ codes "--log-bytes=6" ∷ codes "--reserve" ∷ codes "7" ∷ [])
-    ≡ record { workers = 3; places = 4; generations = 0; log_bytes = 6; reserve = 7; connections = 5; admin = None; tenants = codes "a" ∷ codes "b" ∷ [] }
+    ≡ record { workers = 3; places = 4; generations = 0; log_bytes = 6; reserve = 7; connections = 5; admin = None; metrics = None; tenants = codes "a" ∷ codes "b" ∷ [] }
 unfolding clap_on_literals
 all_options = refl
 
-an_admin : given_by_words (codes "a" ∷ codes "--admin" ∷ codes "127.0.0.1:0" ∷ []) ≡ record { workers = 2; places = 65536; generations = 1; log_bytes = 1073741824; reserve = 0; connections = 0; admin = Some (codes "127.0.0.1:0"); tenants = codes "a" ∷ [] }
+an_admin : given_by_words (codes "a" ∷ codes "--admin" ∷ codes "127.0.0.1:0" ∷ []) ≡ record { workers = 2; places = 65536; generations = 1; log_bytes = 1073741824; reserve = 0; connections = 0; admin = Some (codes "127.0.0.1:0"); metrics = None; tenants = codes "a" ∷ [] }
 unfolding clap_on_literals
 an_admin = refl
+
+scraped : given_by_words (codes "--metrics=127.0.0.1:0" ∷ codes "a" ∷ []) ≡ record { workers = 2; places = 65536; generations = 1; log_bytes = 1073741824; reserve = 0; connections = 0; admin = None; metrics = Some (codes "127.0.0.1:0"); tenants = codes "a" ∷ [] }
+unfolding clap_on_literals
+scraped = refl
 
 two_admins : fault_of network_app (codes "--admin=a" ∷ codes "--admin" ∷ codes "b" ∷ codes "c" ∷ []) ≡ kind.ArgumentConflict ∷ []
 unfolding clap_on_literals

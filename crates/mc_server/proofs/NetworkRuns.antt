@@ -1,9 +1,10 @@
 -- What is printed while tenants are served adds up, and the workers that come back are of the log.
-use Rattle.std.proofs.Common.{◌≡◌, ◌∙◌, ℕ, ◌+◌, ◌<◌, true, false, inl, inr, ⊎_elim, refl, Contains, List, [], ◌∷◌, All, Result, Ok, Err, length, map, ap, sym, subst, arith}
-use Rattle.std.proofs.lemmas.List.{length-map}
-use Rattle.std.proofs.lemmas.List.Elements.{All-cons, All-head, All-nil, All-tail}
+use Rattle.std.proofs.Common.{◌≡◌, ◌∙◌, ℕ, true, false, inl, inr, ⊎_elim, refl, Contains, List, [], ◌∷◌, ◌++◌, All, Option, Some, None, Result, Ok, Err, length, map, ap, sym, subst, arith}
+use Rattle.std.proofs.lemmas.List.{map-append}
+use Rattle.std.proofs.lemmas.List.Elements.{Contains-append_left, Contains-append_right, All-cons, All-head, All-nil, All-tail}
 use Rattle.std.proofs.lemmas.Slice.Zip.{AllZip-long}
 use Rattle.std.specs.List.{AllZip}
+use Rattle.std.specs.declared.net.socket_addr.SocketAddrV4.{SocketAddrV4}
 use Rattle.std.specs.Prelude.{MatchResult}
 use Rattle.clap.specs.Walk.{Text}
 use Rattle.mc_conn.specs.Owed.{IsAmong}
@@ -16,14 +17,13 @@ use Rattle.mc_programs.specs.Waiting.{FailsToPush, PushesAll}
 use Rattle.mc_server.proofs.Waited.{all_more, fails_more}
 use Rattle.mc_server.proofs.Numbered.{asked_roles}
 use Rattle.mc_server.proofs.TenantLists.{mapped}
-use Rattle.mc_server.specs.Listeners.{AreAsked, AreBound, AreListenersOf, CountsFrom, IsListeningFor, StopsListening, asked_at, roles_asked}
+use Rattle.mc_server.specs.Listeners.{AreAsked, CountsFrom, StopsListening, asked_at, clients_asked, listener_if, roles_asked}
 use Rattle.mc_server.specs.Crew.{AreOf, AreWorkersOf, number_of}
 use Rattle.mc_server.specs.Network.{IsReady, IsServed, StopsRun, StopsServing, names_of}
 use Rattle.mc_server.specs.Logs.{WereServed}
 use Rattle.mc_server.specs.NetworkTexts.{done_line, ready_text}
 use Rattle.mc_server.specs.Checking.{ChecksWords}
-use Rattle.mc_server.specs.NetworkWords.{Asks, WordsGive, AsksForCheck, AsksForNone, AsksForService, AsksInVain, IsChecked, NetworkAsked, NetworkGiven, given_by_words, given_in, served_by}
-use Rattle.mc_server.specs.declared.listeners.Listeners.{Listeners}
+use Rattle.mc_server.specs.NetworkWords.{Asks, WordsGive, AsksForCheck, AsksForNone, AsksForService, AsksInVain, IsChecked, NetworkAsked, NetworkGiven, given_by_words, given_in, metrics_name, name_if, served_by}
 use Rattle.mc_server.specs.declared.network_words.NetworkWords.{NetworkWords}
 use Rattle.mc_server.specs.declared.network_words.Service.{Service}
 use Rattle.mc_server.specs.declared.listeners.Stop.{Stop}
@@ -90,20 +90,33 @@ pub are_among : {A : Type 0} (role : A → Role) (listeners : List A) (asked : N
 are_among role listeners asked count e long = from_map role (λ one. IsAmong one count) listeners (subst (All (λ one. IsAmong one count)) (sym e) (asked_roles asked count long))
 
 -- what is to be bound is what is asked for
-pub names_wanted : (asked : NetworkAsked) (wanted : List Wanted) → AreAsked asked wanted → map (λ (one : Wanted). one.name.now) wanted ≡ names_of asked
+pub names_wanted : (asked : NetworkAsked) (wanted : List Wanted) → AreAsked asked wanted → map (λ (one : Wanted). one.name.now) wanted ≡ map (λ listener. listener.name) (clients_asked asked)
 names_wanted asked wanted are = sym (mapped asked_at (λ listener. listener.name) wanted) ∙ ap (map (λ listener. listener.name)) are.listeners
 
-pub are_bound : (asked : NetworkAsked) (lent wanted : List Wanted) (bound : Listeners) → lent ≡ wanted → AreAsked asked wanted
-    → AreBound (map asked_at lent) (map (λ (one : Wanted). one.role) lent) bound → AreListenersOf asked bound
-are_bound asked lent wanted bound e are h = record {
-  roles_are = h.roles_are ∙ ap (map (λ (one : Wanted). one.role)) e ∙ are.roles;
-  told = subst (λ known. AllZip IsListeningFor known bound.told.items) (ap (map asked_at) e ∙ are.listeners) h.told;
-}
+-- the names of the listeners of clients, and that of the one for metrics
+names_are : (asked : NetworkAsked) → names_of asked ≡ map (λ listener. listener.name) (clients_asked asked) ++ name_if metrics_name asked.metrics
+names_are asked = map-append (λ listener. listener.name) (clients_asked asked) (listener_if metrics_name asked.metrics) ∙ ap (λ names. map (λ listener. listener.name) (clients_asked asked) ++ names) (named asked.metrics)
+  where
+    named : (address : Option SocketAddrV4) → map (λ listener. listener.name) (listener_if metrics_name address) ≡ name_if metrics_name address
+    named None = refl
+    named (Some address) = refl
 
 -- not all listeners were bound, and nothing was printed
-pub listening_stops : (names : List (List ℕ)) (asked : NetworkAsked) (stop : Stop) (before : Outflow) → names ≡ names_of asked → StopsListening names stop → StopsRun asked before before stop
-listening_stops names asked (CannotListen name) before e stops = (subst (λ (known : List (List ℕ)). Contains known name.now) e stops, refl)
+pub listening_stops : (names : List (List ℕ)) (asked : NetworkAsked) (stop : Stop) (before : Outflow) → names ≡ map (λ listener. listener.name) (clients_asked asked)
+    → StopsListening names stop → StopsRun asked before before stop
+listening_stops names asked (CannotListen name) before e stops =
+    let among = subst (λ (known : List (List ℕ)). Contains known name.now) e stops in
+    (subst (λ (known : List (List ℕ)). Contains known name.now) (sym (names_are asked)) (Contains-append_left _ (name_if metrics_name asked.metrics) name.now among), refl)
 listening_stops names asked (Failed fault) before e stops = inl (stops, refl)
+
+-- nor was the one for metrics
+pub metrics_stop : (asked : NetworkAsked) (stop : Stop) (before : Outflow) → StopsListening (name_if metrics_name asked.metrics) stop → StopsRun asked before before stop
+metrics_stop asked (CannotListen name) before stops = (
+  subst (λ (known : List (List ℕ)). Contains known name.now) (sym (names_are asked))
+      (Contains-append_right (map (λ listener. listener.name) (clients_asked asked)) (name_if metrics_name asked.metrics) name.now stops),
+  refl,
+)
+metrics_stop asked (Failed fault) before stops = inl (stops, refl)
 
 -- what the words that were read ask for is what the words ask for
 pub for_service : (words : List Text) (read : NetworkWords) (service : Service) → WordsGive words read → read.check ≡ false → Asks (given_in read) (served_by service) → IsChecked service

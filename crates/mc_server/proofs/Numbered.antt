@@ -8,7 +8,7 @@ use Rattle.std.specs.declared.net.socket_addr.SocketAddrV4.{SocketAddrV4}
 use Rattle.mc_conn.specs.Owed.{IsAmong}
 use Rattle.mc_conn.specs.declared.conn.Role.{Role}
 use Rattle.mc_conn.specs.declared.conn.Role.TheVariants.{Admin as Chief, Tenant as Own}
-use Rattle.mc_server.specs.Listeners.{AreAsked, AreOfTenants, IsListeningFor, ListenerAsked, admin_listener, admin_role, asked_at, listener_of, roles_asked, roles_from}
+use Rattle.mc_server.specs.Listeners.{AreAsked, AreOfTenants, IsListeningFor, admin_role, asked_at, listener_if, listener_of, roles_asked, roles_from}
 use Rattle.mc_server.specs.NetworkWords.{NetworkAsked, admin_name}
 use Rattle.mc_server.specs.TenantWord.{TenantAsked, asked_of}
 use Rattle.mc_server.specs.declared.network_texts.Listening.{Listening}
@@ -72,14 +72,14 @@ one_more_role tenants place wanted more one low h e is =
 -- the tenants' listeners are all, or the administrators' comes after them
 pub no_admin_wanted : (asked : NetworkAsked) (wanted : List Wanted) → AreOfTenants asked.tenants wanted → asked.admin ≡ None → AreAsked asked wanted
 no_admin_wanted asked wanted are none = record {
-  listeners = are.listeners_of ∙ sym (append-nil (map listener_of asked.tenants)) ∙ ap (λ admin. map listener_of asked.tenants ++ admin_listener admin) (sym none);
+  listeners = are.listeners_of ∙ sym (append-nil (map listener_of asked.tenants)) ∙ ap (λ admin. map listener_of asked.tenants ++ listener_if admin_name admin) (sym none);
   roles = are.roles_of ∙ sym (append-nil (roles_from 0 asked.tenants)) ∙ ap (λ admin. roles_from 0 asked.tenants ++ admin_role admin (map (λ tenant. tenant.name) asked.tenants)) (sym none);
 }
 
 pub admin_wanted : (asked : NetworkAsked) (wanted more : List Wanted) (one : Wanted) (address : SocketAddrV4) → AreOfTenants asked.tenants wanted → asked.admin ≡ Some address
     → asked_at one ≡ record { name = admin_name; address = address } → one.role ≡ Chief (map (λ tenant. tenant.name) asked.tenants) → more ≡ wanted ++ one ∷ [] → AreAsked asked more
 admin_wanted asked wanted more one address are some at role is = record {
-  listeners = ap (map asked_at) is ∙ map-append asked_at wanted (one ∷ []) ∙ (λ i. are.listeners_of i ++ at i ∷ []) ∙ ap (λ admin. map listener_of asked.tenants ++ admin_listener admin) (sym some);
+  listeners = ap (map asked_at) is ∙ map-append asked_at wanted (one ∷ []) ∙ (λ i. are.listeners_of i ++ at i ∷ []) ∙ ap (λ admin. map listener_of asked.tenants ++ listener_if admin_name admin) (sym some);
   roles = ap (map (λ (one : Wanted). one.role)) is ∙ map-append (λ (one : Wanted). one.role) wanted (one ∷ []) ∙ (λ i. are.roles_of i ++ role i ∷ [])
       ∙ ap (λ admin. roles_from 0 asked.tenants ++ admin_role admin (map (λ tenant. tenant.name) asked.tenants)) (sym some);
 }

@@ -1,8 +1,12 @@
 -- Names that are used once: the first is used by none of the others, which are used once.
-use Rattle.std.proofs.Common.{◌≡◌, ◌≤◌, ◌<◌, ◌-◌, ◌||◌, ◌↔◌, Bool, true, false, not, IsTrue, ℕ, List, [], ◌∷◌, length, map, take, drop, get_or, refl, sym, ap, ◌∙◌, arith, subst}
+use Rattle.std.proofs.Common.{◌≡◌, ◌≤◌, ◌<◌, ◌-◌, ◌||◌, ◌↔◌, ◌⊎◌, ⊎_elim, Bool, true, false, not, IsTrue, ℕ, List, [], ◌∷◌, ◌++◌, Option, Some, None, length, map, take, drop, get_or, refl, sym, ap, ◌∙◌, arith, subst}
 use Rattle.std.proofs.lemmas.List.{take_all}
 use Rattle.std.specs.List.{AllByRecursion, IsDistinct, list_any}
+use Rattle.std.specs.Option.{MatchOption}
 use Rattle.std.specs.Str.{bytes_eq}
+use Rattle.std.specs.declared.net.socket_addr.SocketAddrV4.{SocketAddrV4}
+use Rattle.clap.specs.Walk.{Text}
+use Rattle.mc_server.specs.NetworkWords.{admin_name, metrics_name, reserved_names}
 use Rattle.mc_server.specs.declared.tenant_word.Tenant.{Tenant}
 
 abbrev uses : List ℕ → List Tenant → Bool
@@ -56,17 +60,56 @@ unfolding IsDistinct
 none_is_own [] low = ((λ passes. tt), λ distinct. refl)
 none_is_own (x ∷ xs) low = absurd (omega arith)
 
--- a name that is reserved, beside names that are used once
-pub reserved_is_free : (name : List ℕ) (tenants : List Tenant) (has own : Bool) → has ≡ uses name tenants → has ≡ false
-    → IsTrue own ↔ IsDistinct bytes_eq (map (λ tenant. tenant.name.now) tenants) → IsTrue own ↔ IsDistinct bytes_eq (name ∷ map (λ tenant. tenant.name.now) tenants)
-unfolding IsDistinct
-reserved_is_free name tenants has own e unused h =
-    let free = none_uses name tenants (sym e ∙ unused) in ((λ passes. (free, h.0 passes)), λ distinct. h.1 distinct.1)
+-- names of listeners that no tenant has, beside names that are used once
+not_true : (b : Bool) → not b ≡ true → b ≡ false
+not_true true e = absurd cc
+not_true false e = refl
 
-pub reserved_is_used : (name : List ℕ) (tenants : List Tenant) (has : Bool) → has ≡ uses name tenants → has ≡ true
-    → IsTrue (not has) ↔ IsDistinct bytes_eq (name ∷ map (λ tenant. tenant.name.now) tenants)
+abbrev names_of : List Tenant → List Text
+names_of tenants = map (λ tenant. tenant.name.now) tenants
+
+-- a listener, if there is to be one, has the name of no tenant
+abbrev IsApart : Option SocketAddrV4 → Text → List Tenant → Bool → Type 0
+IsApart address name tenants free = MatchOption address (free ≡ true) (λ _. free ≡ not (uses name tenants))
+
+unused : (name : Text) (tenants : List Tenant) (free : Bool) → free ≡ not (uses name tenants) → free ≡ true → AllByRecursion (λ other. bytes_eq name other ≡ false) (names_of tenants)
+unused name tenants free e is = none_uses name tenants (not_true (uses name tenants) (sym e ∙ is))
+
+found_free : (name : Text) (tenants : List Tenant) (free : Bool) → free ≡ not (uses name tenants) → AllByRecursion (λ other. bytes_eq name other ≡ false) (names_of tenants) → free ≡ true
+found_free name tenants free e all = e ∙ ap not (not_used name tenants all)
+
+apart_are_distinct : (admin metrics : Option SocketAddrV4) (tenants : List Tenant) (chief scrapes : Bool) → IsApart admin admin_name tenants chief → IsApart metrics metrics_name tenants scrapes
+    → chief ≡ true → scrapes ≡ true → IsDistinct bytes_eq (names_of tenants) → IsDistinct bytes_eq (reserved_names admin metrics ++ names_of tenants)
 unfolding IsDistinct
-reserved_is_used name tenants has e used = (
-  (λ (passes : not has ≡ true). let fails : not has ≡ false = ap not used in absurd (cc)),
-  λ distinct. let free = not_used name tenants distinct.0 in absurd (cc),
+apart_are_distinct None None tenants chief scrapes a b c s own = own
+apart_are_distinct (Some x) None tenants chief scrapes a b c s own = (unused admin_name tenants chief a c, own)
+apart_are_distinct None (Some y) tenants chief scrapes a b c s own = (unused metrics_name tenants scrapes b s, own)
+apart_are_distinct (Some x) (Some y) tenants chief scrapes a b c s own = ((refl, unused admin_name tenants chief a c), (unused metrics_name tenants scrapes b s, own))
+
+distinct_are_apart : (admin metrics : Option SocketAddrV4) (tenants : List Tenant) (chief scrapes : Bool) → IsApart admin admin_name tenants chief → IsApart metrics metrics_name tenants scrapes
+    → IsDistinct bytes_eq (reserved_names admin metrics ++ names_of tenants) → (chief ≡ true) × (scrapes ≡ true) × IsDistinct bytes_eq (names_of tenants)
+unfolding IsDistinct
+distinct_are_apart None None tenants chief scrapes a b own = (a, b, own)
+distinct_are_apart (Some x) None tenants chief scrapes a b own = (found_free admin_name tenants chief a own.0, b, own.1)
+distinct_are_apart None (Some y) tenants chief scrapes a b own = (a, found_free metrics_name tenants scrapes b own.0, own.1)
+distinct_are_apart (Some x) (Some y) tenants chief scrapes a b own = (found_free admin_name tenants chief a own.0.1, found_free metrics_name tenants scrapes b own.1.0, own.1.1)
+
+-- so all names are used once if those of the tenants are
+pub own_are_free : (admin metrics : Option SocketAddrV4) (tenants : List Tenant) (chief scrapes own : Bool) → IsApart admin admin_name tenants chief → IsApart metrics metrics_name tenants scrapes
+    → chief ≡ true → scrapes ≡ true → IsTrue own ↔ IsDistinct bytes_eq (names_of tenants) → IsTrue own ↔ IsDistinct bytes_eq (reserved_names admin metrics ++ names_of tenants)
+own_are_free admin metrics tenants chief scrapes own a b c s known = (
+  (λ passes. apart_are_distinct admin metrics tenants chief scrapes a b c s (known.0 passes)),
+  λ distinct. known.1 (distinct_are_apart admin metrics tenants chief scrapes a b distinct).2,
+)
+
+-- and not if a tenant has the name of a listener
+pub one_is_used : (admin metrics : Option SocketAddrV4) (tenants : List Tenant) (chief scrapes : Bool) → IsApart admin admin_name tenants chief → IsApart metrics metrics_name tenants scrapes
+    → (result : Bool) → result ≡ false → (chief ≡ false) ⊎ (scrapes ≡ false) → IsTrue result ↔ IsDistinct bytes_eq (reserved_names admin metrics ++ names_of tenants)
+one_is_used admin metrics tenants chief scrapes a b result not_free used = (
+  (λ (passes : result ≡ true). absurd cc),
+  λ distinct.
+      let free = distinct_are_apart admin metrics tenants chief scrapes a b distinct in
+      let chief_is = free.0 in
+      let scrapes_is = free.1 in
+      ⊎_elim (λ (c : chief ≡ false). absurd cc) (λ (s : scrapes ≡ false). absurd cc) used,
 )

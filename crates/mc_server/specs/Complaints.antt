@@ -3,7 +3,7 @@
 use Rattle.std.specs.List.{before_first}
 use Rattle.std.specs.Net.Grammar.{IsSocketV4Text}
 use Rattle.std.specs.Option.{IsSomeAnd}
-use Rattle.std.specs.Prelude.{◌≡◌, ◌==◌, ◌<◌, ◌++◌, ℕ, List, [], ◌∷◌, All, Contains, IsTrue, Option, Some, None, codes, decimal, length, map, slice_get}
+use Rattle.std.specs.Prelude.{◌≡◌, ◌==◌, ◌<◌, ◌++◌, ℕ, List, Contains, IsTrue, Option, Some, codes, decimal, length, map, slice_get}
 use Rattle.std.specs.declared.net.socket_addr.SocketAddrV4.{SocketAddrV4}
 use Rattle.clap.specs.Walk.{Text}
 use Rattle.mc_model.specs.Name.{is_lawful_name}
@@ -11,8 +11,10 @@ use Rattle.mc_model.specs.Settings.{AreLawfulLimits, IsBetween}
 use Rattle.mc_model.specs.declared.id.TheConstants.{TENANTS, WORKERS}
 use Rattle.mc_model.specs.declared.settings.TheConstants.{MAX_BYTES, MAX_ITEMS, MAX_PLACES}
 use Rattle.mc_programs.specs.Words.{u64_of}
-use Rattle.mc_server.specs.NetworkWords.{AreReservesWithin, Asks, IsNoAddress, IsServable, NetworkAsked, NetworkGiven, admin_name}
+use Rattle.mc_server.specs.NetworkWords.{AreReservesWithin, Asks, IsNoAddress, IsServable, NetworkAsked, NetworkGiven, reserved_names}
 use Rattle.mc_server.specs.TenantWord.{Lacks, Says, TenantAsked, tenant_text}
+use Rattle.mc_server.specs.declared.complaint.AddressOption.{AddressOption}
+use Rattle.mc_server.specs.declared.complaint.AddressOption.TheVariants.{Admin, Metrics}
 use Rattle.mc_server.specs.declared.complaint.Complaint.{Complaint}
 use Rattle.mc_server.specs.declared.complaint.Complaint.TheVariants.{LargeReserve, NameTaken, NoAddress, OutOfBounds, WrongPart}
 use Rattle.mc_server.specs.declared.complaint.Counted.{Counted}
@@ -28,6 +30,11 @@ given_number given Places = given.places
 given_number given Generations = given.generations
 given_number given LogBytes = given.log_bytes
 given_number given Tenants = length given.tenants
+
+-- what is written for the address of an option
+abbrev pub given_address : NetworkGiven → AddressOption → Option Text
+given_address given Admin = given.admin
+given_address given Metrics = given.metrics
 
 -- the least and the greatest number that there may be
 abbrev pub least : Counted → ℕ
@@ -83,13 +90,10 @@ FitsAlone word = (tenant : TenantAsked) × Says word tenant × AreLawfulLimits t
 abbrev pub name_part : Text → Text
 name_part word = before_first (λ byte. byte == 61) word
 
--- the names that no two tenants may have: that of administrators, if there are any, and the tenants'
-abbrev pub reserved_for : Option Text → List Text
-reserved_for None = []
-reserved_for (Some text) = admin_name ∷ []
-
+-- the names that no two listeners may have: those of administrators' and of metrics', if there are to
+-- be such, and the tenants'
 abbrev pub names_given : NetworkGiven → List Text
-names_given given = reserved_for given.admin ++ map name_part given.tenants
+names_given given = reserved_names given.admin given.metrics ++ map name_part given.tenants
 
 -- the name stands at two places of the list
 abbrev pub StandsTwice : List Text → Text → Type 0
@@ -103,7 +107,8 @@ IsWrong given (OutOfBounds counted number) = (given_number given counted ≡ num
     × ¬ (IsBetween (least counted) (most counted) number)
 IsWrong given (LargeReserve reserve tenants) = (given.reserve ≡ reserve)
     × (length given.tenants ≡ tenants) × ¬ (AreReservesWithin reserve tenants)
-IsWrong given (NoAddress word) = (given.admin ≡ Some word.now) × IsNoAddress given.admin
+IsWrong given (NoAddress option word) = (given_address given option ≡ Some word.now)
+    × IsNoAddress (given_address given option)
 IsWrong given (WrongPart word part) = Contains given.tenants word.now
     × IsWrongPart word.now part
 IsWrong given (NameTaken name) = StandsTwice (names_given given) name.now
@@ -119,6 +124,11 @@ counted_text Places = codes "--places"
 counted_text Generations = codes "--generations"
 counted_text LogBytes = codes "--log-bytes"
 counted_text Tenants = codes "tenants"
+
+-- how an address is named there
+abbrev pub address_text : AddressOption → Text
+address_text Admin = codes "--admin"
+address_text Metrics = codes "--metrics"
 
 -- what a part of a tenant's word isn't
 abbrev pub part_text : Part → Text
@@ -137,8 +147,9 @@ complaint_line (OutOfBounds counted number) =
 complaint_line (LargeReserve reserve tenants) =
     codes "wfmc: --reserve " ++ (decimal reserve ++ (codes ": " ++ (decimal tenants
     ++ codes " times that is not from 0 to 1024\n")))
-complaint_line (NoAddress word) =
-    codes "wfmc: --admin " ++ (word.now ++ (codes ": " ++ (part_text Address ++ codes "\n")))
+complaint_line (NoAddress option word) =
+    codes "wfmc: " ++ (address_text option ++ (codes " " ++ (word.now ++ (codes ": "
+    ++ (part_text Address ++ codes "\n")))))
 complaint_line (WrongPart word part) =
     codes "wfmc: " ++ (word.now ++ (codes ": " ++ (part_text part ++ codes "\n")))
 complaint_line (NameTaken name) =

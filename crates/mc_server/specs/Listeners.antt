@@ -1,5 +1,5 @@
--- The listeners of wfmc's tenants and administrators, and what is printed for them; this project's
--- profile.
+-- The listeners of wfmc's tenants and administrators and for metrics, and what is printed for them;
+-- this project's profile.
 use Rattle.std.specs.List.{AllZip}
 use Rattle.std.specs.Prelude.{◌≡◌, ◌+◌, ℕ, List, [], ◌∷◌, ◌++◌, Option, Some, None, map, Contains}
 use Rattle.std.specs.declared.net.socket_addr.SocketAddrV4.{SocketAddrV4}
@@ -8,7 +8,7 @@ use Rattle.mc_conn.specs.declared.conn.Role.{Role}
 use Rattle.mc_conn.specs.declared.conn.Role.TheVariants.{Admin, Tenant}
 use Rattle.mc_model.specs.declared.fault.Fault.TheVariants.{Memory}
 use Rattle.mc_server.specs.NetworkTexts.{told_address}
-use Rattle.mc_server.specs.NetworkWords.{NetworkAsked, admin_name}
+use Rattle.mc_server.specs.NetworkWords.{NetworkAsked, admin_name, metrics_name}
 use Rattle.mc_server.specs.TenantWord.{TenantAsked}
 use Rattle.mc_server.specs.declared.listeners.Listeners.{Listeners}
 use Rattle.mc_server.specs.declared.listeners.Stop.{Stop}
@@ -29,15 +29,19 @@ pub record ListenerAsked : Type 0 where
 abbrev pub listener_of : TenantAsked → ListenerAsked
 listener_of tenant = record { name = tenant.name; address = tenant.address }
 
--- the administrators' listener, if there is to be one
-abbrev pub admin_listener : Option SocketAddrV4 → List ListenerAsked
-admin_listener None = []
-admin_listener (Some address) = record { name = admin_name; address = address } ∷ []
+-- the listener with this name, if there is to be one
+abbrev pub listener_if : Text → Option SocketAddrV4 → List ListenerAsked
+listener_if name None = []
+listener_if name (Some address) = record { name = name; address = address } ∷ []
 
--- the listeners that are asked for: the tenants', in the tenants' order, and then the
+-- the listeners of clients that are asked for: the tenants', in the tenants' order, and then the
 -- administrators'
+abbrev pub clients_asked : NetworkAsked → List ListenerAsked
+clients_asked asked = map listener_of asked.tenants ++ listener_if admin_name asked.admin
+
+-- the listeners that are asked for: these, and then the one for metrics
 abbrev pub listeners_asked : NetworkAsked → List ListenerAsked
-listeners_asked asked = map listener_of asked.tenants ++ admin_listener asked.admin
+listeners_asked asked = clients_asked asked ++ listener_if metrics_name asked.metrics
 
 -- the roles of tenants whose numbers go up by one, from this one on
 abbrev pub roles_from : ℕ → List TenantAsked → List Role
@@ -49,7 +53,7 @@ abbrev pub admin_role : Option SocketAddrV4 → List Text → List Role
 admin_role None names = []
 admin_role (Some address) names = Admin names ∷ []
 
--- the roles of the listeners that are asked for, in their order
+-- the roles of clients at the listeners that are asked for, in their order
 abbrev pub roles_asked : NetworkAsked → List Role
 roles_asked asked =
     roles_from 0 asked.tenants ++ admin_role asked.admin (map (λ tenant. tenant.name) asked.tenants)
@@ -63,9 +67,9 @@ pub record AreOfTenants (tenants : List TenantAsked) (wanted : List Wanted) : Ty
   pub listeners_of : map asked_at wanted ≡ map listener_of tenants
   pub roles_of : map (λ one. one.role) wanted ≡ roles_from 0 tenants
 
--- These are the listeners that are asked for, each with its role.
+-- These are the listeners of clients that are asked for, each with its role.
 pub record AreAsked (asked : NetworkAsked) (wanted : List Wanted) : Type 0 where
-  pub listeners : map asked_at wanted ≡ listeners_asked asked
+  pub listeners : map asked_at wanted ≡ clients_asked asked
   pub roles : map (λ one. one.role) wanted ≡ roles_asked asked
 
 -- what is printed for a listener: its name and its address, with the port that it was given if the
@@ -81,7 +85,8 @@ pub record AreBound (asked : List ListenerAsked) (roles : List Role)
   pub roles_are : map (λ listener. listener.0) bound.listeners.items ≡ roles
   pub told : AllZip IsListeningFor asked bound.told.items
 
--- There is a listener for each tenant, and one for administrators if it is asked for.
+-- There is a listener for each tenant, and one for administrators and one for metrics if these are
+-- asked for.
 abbrev pub AreListenersOf : NetworkAsked → Listeners → Type 0
 AreListenersOf asked bound = AreBound (listeners_asked asked) (roles_asked asked) bound
 

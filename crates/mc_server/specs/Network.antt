@@ -72,8 +72,8 @@ pub record FailsToServe (asked : NetworkAsked)
   pub stops : StopsRun asked before after stop
   pub told : PushesOrFails (stop_line stop) errors_before errors
 
--- Each tenant had a listener, and administrators one if it was asked for, all connections were
--- served, and the listeners' lines and how many places were used were printed.
+-- Each tenant had a listener, and administrators and metrics one if it was asked for, all connections
+-- were served, and the listeners' lines and how many places were used were printed.
 pub record ServesTenants (asked : NetworkAsked) (before after : Outflow) : Type 0 where
   pub listening : List Listening
   pub is_told : AllZip IsListeningFor (listeners_asked asked) listening

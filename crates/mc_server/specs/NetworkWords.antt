@@ -34,6 +34,11 @@ abbrev pub admin_rule : Rule
 admin_rule =
     record (new_rule (codes "admin")) { long = Some (codes "admin"); value_names = 1 }
 
+-- the option `--metrics ADDR`, the address at which metrics are scraped
+abbrev pub metrics_rule : Rule
+metrics_rule =
+    record (new_rule (codes "metrics")) { long = Some (codes "metrics"); value_names = 1 }
+
 -- the options that say how many workers, places and logs there are: `--workers`, `--places` and
 -- `--generations`
 abbrev pub logs_app : App
@@ -51,9 +56,11 @@ numbers_app =
     (number_rule (codes "reserve")))
     (number_rule (codes "connections"))
 
--- the options: these, `--check` and `--admin`
+-- the options: these, `--check`, `--admin` and `--metrics`
 abbrev pub options_app : App
-options_app = with_rule (with_rule numbers_app (flag_rule (codes "check"))) admin_rule
+options_app =
+    with_rule (with_rule (with_rule numbers_app (flag_rule (codes "check"))) admin_rule)
+    metrics_rule
 
 -- the command: the options and the tenants' words
 abbrev pub network_app : App
@@ -63,14 +70,13 @@ network_app = with_rule options_app tenants_rule
 abbrev pub tenant_words : List Text → List Text
 tenant_words words = unwrap_or (all_of (codes "tenants") (matches_of network_app words)) []
 
--- what is written for the administrators' address, if anything is
-abbrev pub admin_word : List Text → Option Text
-admin_word words =
-    option_and_then (λ texts. slice_get texts 0)
-    (all_of (codes "admin") (matches_of network_app words))
+-- what is written for the address of an option, if anything is
+abbrev pub address_word : Text → List Text → Option Text
+address_word option words =
+    option_and_then (λ texts. slice_get texts 0) (all_of option (matches_of network_app words))
 
--- what the words give: numbers, or their defaults, what is written for the administrators' address,
--- and the tenants' words
+-- what the words give: numbers, or their defaults, what is written for the administrators' address
+-- and for that of metrics, and the tenants' words
 pub record NetworkGiven : Type 0 where
   pub workers : ℕ
   pub places : ℕ
@@ -79,6 +85,7 @@ pub record NetworkGiven : Type 0 where
   pub reserve : ℕ
   pub connections : ℕ
   pub admin : Option Text
+  pub metrics : Option Text
   pub tenants : List Text
 
 abbrev pub given_by_words : List Text → NetworkGiven
@@ -89,7 +96,8 @@ given_by_words words = record {
   log_bytes = number_asked network_app (codes "log-bytes") 1073741824 words;
   reserve = number_asked network_app (codes "reserve") 0 words;
   connections = number_asked network_app (codes "connections") 0 words;
-  admin = admin_word words;
+  admin = address_word (codes "admin") words;
+  metrics = address_word (codes "metrics") words;
   tenants = tenant_words words;
 }
 
@@ -102,8 +110,8 @@ workers_for given =
 -- what is to be served: how many workers there are, how many places a log has, how many logs there
 -- are at most, one after another (0: no end), how many bytes the commands of a log may keep where
 -- another may follow, how many places for connections each worker keeps for each tenant, after how
--- many connections of tenants it ends (0: never), at which address administrators connect, if at any,
--- and the tenants by their numbers
+-- many connections of tenants it ends (0: never), at which address administrators connect and at which
+-- one metrics are scraped, if at any, and the tenants by their numbers
 pub record NetworkAsked : Type 0 where
   pub workers : ℕ
   pub places : ℕ
@@ -112,6 +120,7 @@ pub record NetworkAsked : Type 0 where
   pub reserve : ℕ
   pub connections : ℕ
   pub admin : Option SocketAddrV4
+  pub metrics : Option SocketAddrV4
   pub tenants : List TenantAsked
 
 -- what is written spells this address, as std's `SocketAddrV4` is written; or nothing is, and there
@@ -130,7 +139,7 @@ abbrev pub IsNoAddress : Option Text → Type 0
 IsNoAddress text = (address : Option SocketAddrV4) → ¬ (SpellsAddress text address)
 
 -- What is given asks for this; no more workers are given than there may be, each tenant's word is of
--- the form, and the administrators' address is one.
+-- the form, and the addresses of administrators and of metrics are such.
 pub record Asks (given : NetworkGiven) (asked : NetworkAsked) : Type 0 where
   pub few : given.workers ≤ WORKERS
   pub workers : asked.workers ≡ workers_for given
@@ -140,6 +149,7 @@ pub record Asks (given : NetworkGiven) (asked : NetworkAsked) : Type 0 where
   pub reserve : asked.reserve ≡ given.reserve
   pub connections : asked.connections ≡ given.connections
   pub admin : SpellsAddress given.admin asked.admin
+  pub metrics : SpellsAddress given.metrics asked.metrics
   pub tenants : AllZip Says given.tenants asked.tenants
 
 -- the settings that are asked for: each tenant's quotas, by the tenants' numbers
@@ -150,13 +160,21 @@ settings_asked asked = record {
   tenants = map (λ tenant. tenant.limits) asked.tenants;
 }
 
--- the name of the administrators' listener, which no tenant has then
+-- the names of the listeners for administrators and for metrics, which no tenant has then
 abbrev pub admin_name : Text
 admin_name = codes "admin"
 
-abbrev pub reserved_names : Option SocketAddrV4 → List Text
-reserved_names None = []
-reserved_names (Some address) = admin_name ∷ []
+abbrev pub metrics_name : Text
+metrics_name = codes "metrics"
+
+-- the name, if there is what it names
+abbrev pub name_if : {A : Type 0} → Text → Option A → List Text
+name_if name None = []
+name_if name (Some x) = name ∷ []
+
+-- the names that no tenant has: those of these listeners, if they are asked for
+abbrev pub reserved_names : {A : Type 0} → Option A → Option A → List Text
+reserved_names admin metrics = name_if admin_name admin ++ name_if metrics_name metrics
 
 -- a worker has places enough to keep this many for each of these tenants
 abbrev pub AreReservesWithin : ℕ → ℕ → Type 0
@@ -169,7 +187,7 @@ pub record IsServable (asked : NetworkAsked) : Type 0 where
   pub log_bytes : IsBetween 1 MAX_LOG_BYTES asked.log_bytes
   pub reserve : AreReservesWithin asked.reserve (length asked.tenants)
   pub names : IsDistinct bytes_eq
-      (reserved_names asked.admin ++ map (λ tenant. tenant.name) asked.tenants)
+      (reserved_names asked.admin asked.metrics ++ map (λ tenant. tenant.name) asked.tenants)
 
 -- what is given asks for nothing that can be served: a tenant's word or an address is of another
 -- form, a number is out of its bounds, or a name is used twice
@@ -206,6 +224,7 @@ given_in words = record {
   reserve = words.reserve;
   connections = words.connections;
   admin = option_map (λ word. word.now) words.admin;
+  metrics = option_map (λ word. word.now) words.metrics;
   tenants = map (λ word. word.now) words.tenants.items;
 }
 
@@ -218,6 +237,7 @@ served_by service = record {
   reserve = service.reserve;
   connections = service.connections;
   admin = service.admin;
+  metrics = service.metrics;
   tenants = map asked_of service.tenants.items;
 }
 

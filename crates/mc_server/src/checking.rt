@@ -1,10 +1,10 @@
 //! Whether the words of wfmc's command line can be served, without listening anywhere.
 ghost use Rattle.std.specs.Prelude.{◌≡◌, IfOk, string_bytes};
-ghost use Rattle.mc_server.specs.Complaints.{complaint_line, counted_text, part_text};
+ghost use Rattle.mc_server.specs.Complaints.{address_text, complaint_line, counted_text, part_text};
 ghost use Rattle.mc_server.specs.Checking.{ChecksWords};
 ghost use Rattle.mc_server.specs.NetworkWords.{given_in};
 
-use crate::complaint::{Complaint, Counted, Part, check};
+use crate::complaint::{AddressOption, Complaint, Counted, Part, check};
 use crate::network_words::NetworkWords;
 use mc_model::Fault;
 use mc_programs::{fail, push_all};
@@ -23,6 +23,18 @@ impl Counted {
             Counted::Generations => "--generations",
             Counted::LogBytes => "--log-bytes",
             Counted::Tenants => "tenants",
+        }
+    }
+}
+
+impl AddressOption {
+    /// Returns how an address is named on the command line.
+    fn text(self) -> &'static str
+        ensures { result.now ≡ address_text self }
+    {
+        match self {
+            AddressOption::Admin => "--admin",
+            AddressOption::Metrics => "--metrics",
         }
     }
 }
@@ -60,9 +72,10 @@ fn complaint_line(alloc: Global, complaint: Complaint<'_>) -> Result<String, All
                 "wfmc: --reserve {reserve}: {tenants} times that is not from 0 to 1024\n"
             )
         }
-        Complaint::NoAddress(word) => {
+        Complaint::NoAddress(option, word) => {
+            let name = option.text();
             let text = Part::Address.text();
-            format!(in alloc; "wfmc: --admin {word}: {text}\n")
+            format!(in alloc; "wfmc: {name} {word}: {text}\n")
         }
         Complaint::WrongPart(word, part) => {
             let text = part.text();

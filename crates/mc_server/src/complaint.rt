@@ -5,10 +5,10 @@ ghost use Rattle.std.specs.Prelude.{◌≡◌, ◌↔◌, All, IsTrue, MatchResu
 ghost use Rattle.std.specs.Str.{bytes_eq};
 ghost use Rattle.std.specs.declared.net.socket_addr.SocketAddrV4.{SocketAddrV4};
 ghost use Rattle.mc_model.specs.Settings.{IsBetween};
-ghost use Rattle.mc_server.specs.Complaints.{CanBeServed, FitsAlone, IsWrong, IsWrongPart, SpellsQuota, StandsTwice, given_number, least, most, name_part, names_given};
-ghost use Rattle.mc_server.specs.NetworkWords.{AreReservesWithin, NetworkGiven, SpellsAddress, admin_name, given_in};
+ghost use Rattle.mc_server.specs.Complaints.{CanBeServed, FitsAlone, IsWrong, IsWrongPart, SpellsQuota, StandsTwice, given_address, given_number, least, most, name_part, names_given};
+ghost use Rattle.mc_server.specs.NetworkWords.{AreReservesWithin, NetworkGiven, SpellsAddress, given_in};
 
-use crate::network_texts::ADMIN;
+use crate::network_texts::{ADMIN, METRICS};
 use crate::network_words::{MAX_GENERATIONS, MAX_LOG_BYTES, NetworkWords, are_reserves_within};
 use crate::tenant_word::{cut, read_number};
 use mc_model::Name;
@@ -24,6 +24,13 @@ pub(crate) enum Counted {
     Generations,
     LogBytes,
     Tenants,
+}
+
+/// An option of the command line that takes an address.
+#[derive(Clone, Copy, Debug)]
+pub(crate) enum AddressOption {
+    Admin,
+    Metrics,
 }
 
 /// A part of a tenant's word, or its form as a whole.
@@ -44,11 +51,11 @@ pub(crate) enum Complaint<'a> {
     OutOfBounds(Counted, u64),
     /// This many places for each of this many tenants are more than a worker has.
     LargeReserve(u64, u64),
-    /// This is written for the administrators' address, and isn't an IPv4 address with a port.
-    NoAddress(&'a str),
+    /// This is written for an address, and isn't an IPv4 address with a port.
+    NoAddress(AddressOption, &'a str),
     /// This part of a tenant's word is of another form, or a number out of its bounds.
     WrongPart(&'a str, Part),
-    /// Two tenants have this name, or administrators and a tenant.
+    /// Two tenants have this name, or a tenant and the listener of administrators or of metrics.
     NameTaken(&'a str),
 }
 
@@ -165,28 +172,29 @@ fn check_names<'a>(words: &[&'a str]) -> Result<(), &'a str>
     }
 }
 
-/// Returns whether administrators are served, and one of the tenants is `admin`.
-fn is_admin_taken(words: &NetworkWords) -> bool
-    ensures taken { IsTrue result → StandsTwice (names_given (given_in words.now)) admin_name }
-    ensures free { (result ≡ false) →
-        IsDistinct bytes_eq (map name_part (given_in words.now).tenants) →
-        IsDistinct bytes_eq (names_given (given_in words.now)) }
+/// Returns whether a listener is asked for whose name one of the tenants' words has.
+fn is_name_taken(address: Option<&str>, words: &[&str], name: &str) -> bool
+    ensures { MatchOption address.entry (result ≡ false) (λ _.
+        result ≡ list_any (λ word. bytes_eq name.now (name_part word.now)) words.now) }
 {
-    match words.admin {
-        Some(_) => is_taken(&words.tenants, ADMIN),
+    match address {
+        Some(_) => is_taken(words, name),
         None => false,
     }
 }
 
 /// Returns the complaint about a name that is used twice, if one is: with administrators none of
-/// the tenants is `admin`.
+/// the tenants is `admin`, and with metrics none is `metrics`.
 fn check_all_names<'a>(words: &NetworkWords<'a>) -> Result<(), Complaint<'a>>
     ensures { MatchResult result
         (λ _. IsDistinct bytes_eq (names_given (given_in words.now)))
         (IsWrong (given_in words.now)) }
 {
-    if is_admin_taken(words) {
+    if is_name_taken(words.admin, &words.tenants, ADMIN) {
         return Err(Complaint::NameTaken(ADMIN));
+    }
+    if is_name_taken(words.metrics, &words.tenants, METRICS) {
+        return Err(Complaint::NameTaken(METRICS));
     }
     match check_names(&words.tenants) {
         Ok(()) => Ok(()),
@@ -207,18 +215,19 @@ fn check_reserve(reserve: u64, tenants: usize) -> Result<(), Complaint<'static>>
     }
 }
 
-/// Returns the complaint about the administrators' address, if what is written for it isn't one.
-fn check_admin<'a>(admin: Option<&'a str>) -> Result<(), Complaint<'a>>
-    ensures { let text = option_map (λ word. word.now) admin.entry in
-        MatchResult result (λ _. (address : Option SocketAddrV4) × SpellsAddress text address)
-        (λ complaint. (given : NetworkGiven) → given.admin ≡ text → IsWrong given complaint) }
+/// Returns the complaint about the address of an option, if what is written for it isn't one.
+fn check_address<'a>(option: AddressOption, text: Option<&'a str>) -> Result<(), Complaint<'a>>
+    ensures { let written = option_map (λ word. word.now) text.entry in
+        MatchResult result (λ _. (address : Option SocketAddrV4) × SpellsAddress written address)
+        (λ complaint. (given : NetworkGiven) → given_address given option ≡ written →
+        IsWrong given complaint) }
 {
-    let Some(word) = admin else {
+    let Some(word) = text else {
         return Ok(());
     };
     match word.parse::<SocketAddrV4>() {
         Ok(_) => Ok(()),
-        Err(_) => Err(Complaint::NoAddress(word)),
+        Err(_) => Err(Complaint::NoAddress(option, word)),
     }
 }
 
@@ -232,7 +241,8 @@ pub(crate) fn check<'a>(words: &NetworkWords<'a>) -> Result<(), Complaint<'a>>
     Counted::Places.check(words.places)?;
     Counted::Generations.check(words.generations)?;
     Counted::LogBytes.check(words.log_bytes)?;
-    check_admin(words.admin)?;
+    check_address(AddressOption::Admin, words.admin)?;
+    check_address(AddressOption::Metrics, words.metrics)?;
     Counted::Tenants.check(words.tenants.len() as u64)?;
     check_reserve(words.reserve, words.tenants.len())?;
     check_alone(&words.tenants)?;

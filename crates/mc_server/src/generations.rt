@@ -13,11 +13,13 @@ ghost use Rattle.uc_log.specs.Passes.{IsNew, IsUnusedPass};
 ghost use Rattle.uc_worker.specs.Going.{Continues, FillsUp};
 
 use crate::crew::{meet_all, open_workers};
+use crate::scraping::LogWatch;
 use mc_model::Fault;
 use mc_net::{Begin, Ended, Front};
 use std::alloc::Global;
 use std::sync::Wait;
 use std::thread::Threads;
+use std::time::Clock;
 use uc_log::{Log, Pass};
 use uc_worker::{Base, Hashing, Next, Open, Worker, fill_all, turn_over};
 
@@ -117,13 +119,14 @@ fn serve_part<'a, R: Threads + Wait + Sync, B: Begin<S>, S>(
 }
 
 /// Serves a log with these workers until every connection has ended, or until it is closed and the
-/// next one is opened. Where none can follow, its workers go on to the end:
+/// next one is opened, of which the watch is notified. Where none can follow, its workers go on to the end:
 /// commands after its last place are answered `SERVER_ERROR log full`.
 ///
 /// Returns the errors of `serve_part`.
-fn serve_log<'a, R: Threads + Wait + Sync, B: Begin<S>, S>(
+fn serve_log<'a, R: Threads + Wait + Clock + Sync, B: Begin<S>, S>(
     rt: &R,
     alloc: Global,
+    watch: &mut LogWatch,
     front: &mut Front,
     log: &'a Log,
     workers: Vec<Worker<'a>>,
@@ -146,7 +149,7 @@ fn serve_log<'a, R: Threads + Wait + Sync, B: Begin<S>, S>(
     let (workers, ended) = serve_part(rt, alloc, front, log, workers, is_last, begin, state)?;
     match ended {
         Ended::Done => return Ok(Served::Done(meet_all(alloc, workers)?)),
-        Ended::Full => {}
+        Ended::Full => watch.note_close(rt),
     }
     let mut workers = workers;
     if let Some(next) = next_log(alloc, log, &mut workers) {
@@ -170,10 +173,11 @@ fn serve_log<'a, R: Threads + Wait + Sync, B: Begin<S>, S>(
 /// `serve_log` does. Returns also what is left of it.
 ///
 /// Returns the errors of `serve_log`, and `Memory` if memory runs out.
-fn serve_opened<R: Threads + Wait + Sync, B: Begin<S>, S>(
+fn serve_opened<R: Threads + Wait + Clock + Sync, B: Begin<S>, S>(
     rt: &R,
     alloc: Global,
     hashing: Hashing,
+    watch: &mut LogWatch,
     front: &mut Front,
     log: Log,
     passes: Vec<Pass>,
@@ -198,7 +202,10 @@ fn serve_opened<R: Threads + Wait + Sync, B: Begin<S>, S>(
         (HaltsServing (B.done begin.now) (B.stopped begin.now) state.old state.new) }
 {
     let workers = open_workers(rt, alloc, hashing, &log, passes, &base)?;
-    let served = serve_log(rt, alloc, front, &log, workers, is_last, begin, state)?;
+    watch.note_begin(rt);
+    let served = serve_log(
+        rt, alloc, watch, front, &log, workers, is_last, begin, state,
+    )?;
     Ok((served, Closed { log, base }))
 }
 
@@ -207,10 +214,11 @@ fn serve_opened<R: Threads + Wait + Sync, B: Begin<S>, S>(
 ///
 /// Returns `Memory` if memory runs out or a worker's loop doesn't begin, and `Input` if waiting for
 /// connections fails.
-fn serve_next<R: Threads + Wait + Sync>(
+fn serve_next<R: Threads + Wait + Clock + Sync>(
     rt: &R,
     alloc: Global,
     hashing: Hashing,
+    watch: &mut LogWatch,
     front: &mut Front,
     next: Next,
     is_last: bool,
@@ -231,6 +239,7 @@ fn serve_next<R: Threads + Wait + Sync>(
         rt,
         alloc,
         hashing,
+        watch,
         front,
         log,
         passes,
@@ -257,13 +266,15 @@ fn is_last_log(most: u64, number: u64, total: u64) -> bool
 }
 
 /// Serves logs one after another at a front at which nobody has been served yet, `most` at most (0:
-/// without an end), the first of which is this one. Returns how many places were used in total.
+/// without an end), the first of which is this one. The watch is notified of the beginning and the end of
+/// each. Returns how many places were used in total.
 ///
 /// Returns the errors of `serve_log`.
-pub(crate) fn serve_logs<R: Threads + Wait + Sync, B: Begin<S>, S>(
+pub(crate) fn serve_logs<R: Threads + Wait + Clock + Sync, B: Begin<S>, S>(
     rt: &R,
     alloc: Global,
     hashing: Hashing,
+    watch: &mut LogWatch,
     front: &mut Front,
     log: Log,
     passes: Vec<Pass>,
@@ -292,7 +303,7 @@ pub(crate) fn serve_logs<R: Threads + Wait + Sync, B: Begin<S>, S>(
     let mut total = 0;
     let mut is_last = is_last_log(most, number, total);
     let (first, left) = serve_opened(
-        rt, alloc, hashing, front, log, passes, None, is_last, begin, state,
+        rt, alloc, hashing, watch, front, log, passes, None, is_last, begin, state,
     )?;
     let mut served = first;
     let mut closed = Some(left);
@@ -304,7 +315,7 @@ pub(crate) fn serve_logs<R: Threads + Wait + Sync, B: Begin<S>, S>(
         number = number.saturating_add(1);
         total += places;
         is_last = is_last_log(most, number, total);
-        served = serve_next(rt, alloc, hashing, front, next, is_last, &mut closed)?;
+        served = serve_next(rt, alloc, hashing, watch, front, next, is_last, &mut closed)?;
     }
     unreachable!()
 }

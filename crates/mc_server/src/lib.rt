@@ -18,5 +18,6 @@ mod listeners;
 mod network;
 mod network_texts;
 mod network_words;
+mod scraping;
 mod tenant_word;
 mod wanted;

@@ -1,17 +1,19 @@
-//! The listeners of wfmc's tenants and administrators.
-ghost use Rattle.std.specs.Prelude.{◌≡◌, IfOk, MatchResult, map};
+//! The listeners of wfmc's tenants and administrators, and for metrics.
+ghost use Rattle.std.specs.List.{AllZip};
+ghost use Rattle.std.specs.Prelude.{◌≡◌, ◌++◌, IfOk, List, MatchResult, map};
 ghost use Rattle.mc_model.specs.declared.fault.Fault.TheVariants.{Memory};
-ghost use Rattle.mc_server.specs.Listeners.{AreBound, IsListeningFor, StopsListening, asked_at};
+ghost use Rattle.mc_server.specs.Listeners.{AreBound, IsListeningFor, ListenerAsked, StopsListening, asked_at, listener_if};
+ghost use Rattle.mc_server.specs.NetworkWords.{metrics_name, name_if};
 ghost use Rattle.mc_server.specs.declared.listeners.Stop.TheVariants.{Failed};
 
-use crate::network_texts::{Listening, told_address};
+use crate::network_texts::{Listening, METRICS, told_address};
 use crate::wanted::Wanted;
 use mc_conn::Role;
 use mc_model::Fault;
 use mio::net::TcpListener;
 use std::alloc::{AllocFailed, Global};
 use std::io;
-use std::net::{Net, SocketAddr};
+use std::net::{Net, SocketAddr, SocketAddrV4};
 
 /// Listeners with the roles of those who connect there, and what is printed for each.
 #[derive(Drop)]
@@ -44,17 +46,22 @@ impl<T: Drop> From<AllocFailed<T>> for Stop<'_> {
     }
 }
 
-/// Binds a listener. Returns it, and what is printed for it.
+/// Binds the listener with this name. Returns it, and what is printed for it.
 ///
 /// Returns the system's error if it can't be bound or its port can't be found out.
-fn bind<'a, R: Net>(rt: &R, wanted: &Wanted<'a>) -> io::Result<(TcpListener, Listening<'a>)>
-    ensures { IfOk result (λ bound. IsListeningFor (asked_at wanted.now) bound.1) }
+fn bind<'a, R: Net>(
+    rt: &R,
+    name: &'a str,
+    address: SocketAddrV4,
+) -> io::Result<(TcpListener, Listening<'a>)>
+    ensures { IfOk result
+        (λ bound. IsListeningFor (record { name = name.now; address = address }) bound.1) }
 {
-    let listener = TcpListener::bind(rt, SocketAddr::V4(wanted.address))?;
+    let listener = TcpListener::bind(rt, SocketAddr::V4(address))?;
     let given = listener.local_addr()?.port();
     let told = Listening {
-        name: wanted.name,
-        address: told_address(wanted.address, given),
+        name,
+        address: told_address(address, given),
     };
     Ok((listener, told))
 }
@@ -75,11 +82,34 @@ pub(crate) fn bind_all<'a, R: Net>(
     let mut listeners = Vec::new(alloc);
     let mut told = Vec::new(alloc);
     for one in wanted {
-        let Ok((listener, listening)) = bind(rt, one) else {
+        let Ok((listener, listening)) = bind(rt, one.name, one.address) else {
             return Err(Stop::CannotListen(one.name));
         };
         listeners.push((one.role.share()?, listener))?;
         told.push(listening)?;
     }
     Ok(Listeners { listeners, told })
+}
+
+/// Binds the listener for metrics, if there is to be one, and appends what is printed for it.
+///
+/// Returns `CannotListen` if it can't be bound, and `Failed(Memory)` if memory runs out.
+pub(crate) fn bind_metrics<'a, R: Net>(
+    rt: &R,
+    address: Option<SocketAddrV4>,
+    told: &mut Vec<Listening<'a>>,
+) -> Result<Option<TcpListener>, Stop<'a>>
+    ensures outcome { MatchResult result (λ _. (asked : List ListenerAsked) →
+        AllZip IsListeningFor asked told.old.items →
+        AllZip IsListeningFor (asked ++ listener_if metrics_name address) told.new.items)
+        (StopsListening (name_if metrics_name address)) }
+{
+    let Some(address) = address else {
+        return Ok(None);
+    };
+    let Ok((listener, line)) = bind(rt, METRICS, address) else {
+        return Err(Stop::CannotListen(METRICS));
+    };
+    told.push(line)?;
+    Ok(Some(listener))
 }

@@ -15,7 +15,10 @@ use std::sync::Wait;
 /// The name of the administrators' listener.
 pub(crate) const ADMIN: &str = "admin";
 
-/// The name of a listener, its tenant's or the administrators', and the address on which it listens.
+/// The name of the listener for metrics.
+pub(crate) const METRICS: &str = "metrics";
+
+/// The name of a listener, of a tenant, administrators or metrics, and the address on which it listens.
 #[derive(Clone, Copy, Debug)]
 pub(crate) struct Listening<'a> {
     pub name: &'a str,

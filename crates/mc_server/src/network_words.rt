@@ -1,15 +1,15 @@
 //! The options and tenants of wfmc's command line.
 ghost use Rattle.std.specs.List.{AllZip, IsDistinct, list_any};
-ghost use Rattle.std.specs.Prelude.{◌≡◌, ◌≤◌, ◌++◌, ◌↔◌, ◌⊎◌, List, IfOk, IsTrue, MatchResult, false, map, string_bytes, vec_len};
-ghost use Rattle.std.specs.Option.{option_map};
+ghost use Rattle.std.specs.Prelude.{◌≡◌, ◌≤◌, ◌++◌, ◌↔◌, ◌⊎◌, List, IfOk, IsTrue, MatchResult, false, map, not, string_bytes, true, vec_len};
+ghost use Rattle.std.specs.Option.{MatchOption, option_map};
 ghost use Rattle.std.specs.Str.{bytes_eq};
 ghost use Rattle.clap.specs.Words.{HasKind, app_of, fault_of, rule_of};
 ghost use Rattle.mc_model.specs.Settings.{IsBetween};
 ghost use Rattle.mc_model.specs.declared.fault.Fault.TheVariants as faults;
-ghost use Rattle.mc_server.specs.NetworkWords.{AreReservesWithin, Asks, WordsGive, AsksInVain, IsChecked, IsNoAddress, IsOnlyAddress, admin_rule, given_in, logs_app, network_app, numbers_app, options_app, reserved_names, served_by, tenants_rule, workers_for};
+ghost use Rattle.mc_server.specs.NetworkWords.{AreReservesWithin, Asks, WordsGive, AsksInVain, IsChecked, IsNoAddress, IsOnlyAddress, admin_rule, given_in, logs_app, metrics_rule, network_app, numbers_app, options_app, reserved_names, served_by, tenants_rule, workers_for};
 ghost use Rattle.mc_server.specs.TenantWord.{IsOnly, Says, TenantAsked, asked_of};
 
-use crate::network_texts::ADMIN;
+use crate::network_texts::{ADMIN, METRICS};
 use crate::tenant_word::{Tenant, read_tenant};
 use clap::{Arg, Command, Error};
 use mc_connections::MOST_CONNECTIONS;
@@ -47,7 +47,8 @@ const DEFAULT_CONNECTIONS: u64 = 0;
 /// The form of a tenant's word, as help shows it.
 const FORM: &str = "\
 Each TENANT is NAME=ADDR,ITEMS,BYTES:
-  NAME   1 to 32 of a to z, 0 to 9, - and _; no name twice, and with --admin none is admin
+  NAME   1 to 32 of a to z, 0 to 9, - and _; no name twice, with --admin none is admin, and
+         with --metrics none is metrics
   ADDR   an IPv4 address and a port, as numbers, at which the tenant's clients connect;
          the port from 0 to 65535, where 0 takes a free one
   ITEMS  how many items the tenant may hold, from 1 to 1048576
@@ -56,12 +57,13 @@ Where a word is of another form, a number out of its range, or a name used twice
 With --check wfmc says which word that is, and serves nothing.
 
 With --admin, whoever connects at ADDR may set a tenant's quotas: limit NAME ITEMS BYTES.
+With --metrics, whoever connects at ADDR may read numbers of all tenants: GET /metrics, by HTTP.
 
 Example, two tenants apart from each other on two ports:
   wfmc shop=127.0.0.1:11211,1000,1048576 blog=127.0.0.1:11212,1000,1048576";
 
 /// What the words of wfmc give: numbers, or their defaults, what is written for the administrators'
-/// address, and the tenants' words in their order.
+/// address and for that of metrics, and the tenants' words in their order.
 #[derive(Debug, Drop)]
 pub(crate) struct NetworkWords<'a> {
     pub workers: u64,
@@ -71,6 +73,7 @@ pub(crate) struct NetworkWords<'a> {
     pub reserve: u64,
     pub connections: u64,
     pub admin: Option<&'a str>,
+    pub metrics: Option<&'a str>,
     /// They are only to be checked.
     pub check: bool,
     pub tenants: Vec<&'a str>,
@@ -78,7 +81,8 @@ pub(crate) struct NetworkWords<'a> {
 
 /// What wfmc is to serve: settings, how many logs there are, how many bytes a log keeps, how many
 /// places each worker keeps for each tenant, after how many connections of tenants it ends (0: never),
-/// at which address administrators connect, if at any, and the tenants by their numbers.
+/// at which address administrators connect and at which one metrics are scraped, if at any, and the
+/// tenants by their numbers.
 #[derive(Debug, Drop)]
 pub(crate) struct Service<'a> {
     pub settings: Settings,
@@ -90,6 +94,7 @@ pub(crate) struct Service<'a> {
     pub reserve: usize,
     pub connections: u64,
     pub admin: Option<SocketAddrV4>,
+    pub metrics: Option<SocketAddrV4>,
     pub tenants: Vec<Tenant<'a>>,
 }
 
@@ -114,6 +119,17 @@ fn admin_option<'a>(alloc: Global) -> Arg<'a>
         .long("admin")
         .value_name("ADDR")
         .help("At which IPv4 address and port administrators connect; without it there are none")
+}
+
+/// Returns the option for the address of metrics.
+fn metrics_option<'a>(alloc: Global) -> Arg<'a>
+    ensures rule { rule_of result ≡ metrics_rule }
+    ensures local { result.global ≡ false }
+{
+    Arg::new(alloc, "metrics")
+        .long("metrics")
+        .value_name("ADDR")
+        .help("At which IPv4 address and port metrics are scraped by HTTP; without it they aren't")
 }
 
 /// Returns wfmc's command line with the options only that say how many workers, places and logs
@@ -164,7 +180,8 @@ fn options_command<'a>(alloc: Global) -> Result<Command<'a>, AllocError>
         "Checks whether the words can be served, reports the first that can't, and serves nothing";
     numbers_command(alloc)?
         .arg(flag_option(alloc, "check", check))?
-        .arg(admin_option(alloc))
+        .arg(admin_option(alloc))?
+        .arg(metrics_option(alloc))
 }
 
 /// Returns the command line that wfmc takes.
@@ -194,6 +211,7 @@ pub(crate) fn read_words(alloc: Global, words: &[String]) -> Result<NetworkWords
         reserve: number(&matches, "reserve").unwrap_or(DEFAULT_RESERVE),
         connections: number(&matches, "connections").unwrap_or(DEFAULT_CONNECTIONS),
         admin: matches.get_str("admin"),
+        metrics: matches.get_str("metrics"),
         check: flag(&matches, "check"),
         tenants,
     })
@@ -219,10 +237,10 @@ fn read_tenants<'a>(alloc: Global, words: &[&'a str]) -> Result<Vec<Tenant<'a>>,
     Ok(tenants)
 }
 
-/// Returns the address that is written for the administrators' listener, or `None` if nothing is.
+/// Returns the address that is written for a listener, or `None` if nothing is.
 ///
 /// Returns `BadSettings` if it isn't an IPv4 address with a port.
-fn read_admin(word: Option<&str>) -> Result<Option<SocketAddrV4>, Fault>
+fn read_address(word: Option<&str>) -> Result<Option<SocketAddrV4>, Fault>
     ensures { let text = option_map (λ word. word.now) word.entry in
         MatchResult result (IsOnlyAddress text)
         (λ fault. (fault ≡ faults.BadSettings) × IsNoAddress text) }
@@ -253,15 +271,31 @@ fn have_own_names(tenants: &[Tenant]) -> bool
     }
 }
 
-/// Returns whether no name is used twice: with administrators none of the tenants is `admin`.
-fn are_names_free(admin: Option<SocketAddrV4>, tenants: &[Tenant]) -> bool
-    ensures { IsTrue result ↔ IsDistinct bytes_eq
-        (reserved_names admin ++ map (λ tenant. tenant.name.now) tenants.now) }
+/// Returns whether no tenant has the name of a listener, if there is to be that one.
+fn is_name_free(address: Option<SocketAddrV4>, tenants: &[Tenant], name: &str) -> bool
+    ensures { MatchOption address (result ≡ true)
+        (λ _. result ≡ not (list_any (λ tenant. bytes_eq name.now tenant.name.now) tenants.now)) }
 {
-    match admin {
-        Some(_) => !has_name(tenants, ADMIN) && have_own_names(tenants),
-        None => have_own_names(tenants),
+    match address {
+        Some(_) => !has_name(tenants, name),
+        None => true,
     }
+}
+
+/// Returns whether no name is used twice: with administrators none of the tenants is `admin`, and with
+/// metrics none is `metrics`.
+fn are_names_free(
+    admin: Option<SocketAddrV4>,
+    metrics: Option<SocketAddrV4>,
+    tenants: &[Tenant],
+) -> bool
+    ensures { IsTrue result ↔ IsDistinct bytes_eq
+        (reserved_names admin metrics ++ map (λ tenant. tenant.name.now) tenants.now) }
+{
+    let is_free = is_name_free(admin, tenants, ADMIN);
+    let are_free = is_name_free(metrics, tenants, METRICS);
+    let are_own = have_own_names(tenants);
+    is_free && are_free && are_own
 }
 
 /// Returns the tenants' quotas, in the tenants' order.
@@ -318,14 +352,15 @@ pub(crate) fn service_of<'a>(alloc: Global, words: &NetworkWords<'a>) -> Result<
         ⊎ (fault ≡ faults.BadSettings) × AsksInVain (given_in words.now)) }
 {
     let tenants = read_tenants(alloc, &words.tenants)?;
-    let admin = read_admin(words.admin)?;
+    let admin = read_address(words.admin)?;
+    let metrics = read_address(words.metrics)?;
     if !are_in_bounds(words) {
         return Err(Fault::BadSettings);
     }
     let quotas = quotas_of(alloc, &tenants)?;
     let settings = Settings::check(workers_for(words), words.places, quotas)?;
     // `Settings::check` has bounded the number of names that are compared here.
-    if !are_names_free(admin, &tenants) {
+    if !are_names_free(admin, metrics, &tenants) {
         return Err(Fault::BadSettings);
     }
     Ok(Service {
@@ -335,6 +370,7 @@ pub(crate) fn service_of<'a>(alloc: Global, words: &NetworkWords<'a>) -> Result<
         reserve: words.reserve as usize,
         connections: words.connections,
         admin,
+        metrics,
         tenants,
     })
 }

@@ -27,9 +27,10 @@ pub(crate) struct Wanted<'a> {
 /// Returns the tenants' names, in the tenants' order.
 ///
 /// Returns `Memory` if memory runs out.
-fn names_of(alloc: Global, tenants: &[Tenant]) -> Result<Names, Fault>
+pub(crate) fn names_of(alloc: Global, tenants: &[Tenant]) -> Result<Vec<Name>, Fault>
     requires { All (λ tenant. IsTrue (is_lawful_name tenant.name.now)) tenants.now }
-    ensures { MatchResult result (λ names. names ≡ map (λ tenant. tenant.name.now) tenants.now)
+    ensures { MatchResult result
+        (λ names. names.items ≡ map (λ tenant. tenant.name.now) tenants.now)
         (λ fault. fault ≡ faults.Memory) }
 {
     let mut names = Vec::new(alloc);
@@ -39,7 +40,7 @@ fn names_of(alloc: Global, tenants: &[Tenant]) -> Result<Names, Fault>
         };
         names.push(name)?;
     }
-    Names::new(names)
+    Ok(names)
 }
 
 /// Returns the tenants' listeners, in the tenants' order.
@@ -64,8 +65,8 @@ fn of_tenants<'a>(alloc: Global, tenants: &[Tenant<'a>]) -> Result<Vec<Wanted<'a
     Ok(wanted)
 }
 
-/// Returns the listeners of what is to be served: the tenants', in their order, and then the
-/// administrators', if there is to be one.
+/// Returns the listeners of clients of what is to be served: the tenants', in their order, and then
+/// the administrators', if there is to be one.
 ///
 /// Returns `Memory` if memory runs out.
 pub(crate) fn wanted_by<'a>(alloc: Global, service: &Service<'a>) -> Result<Vec<Wanted<'a>>, Fault>
@@ -77,7 +78,8 @@ pub(crate) fn wanted_by<'a>(alloc: Global, service: &Service<'a>) -> Result<Vec<
     let Some(address) = service.admin else {
         return Ok(wanted);
     };
-    let role = Role::Admin(names_of(alloc, &service.tenants)?);
+    let names = Names::new(names_of(alloc, &service.tenants)?)?;
+    let role = Role::Admin(names);
     wanted.push(Wanted {
         name: ADMIN,
         address,

@@ -18,9 +18,13 @@ returns-in-OutOfBounds c =
     let line = (λ i. bounds_line (c.text-name.ensures i) c.in-OutOfBounds.number (c.least-least.ensures i) (c.most-most.ensures i)) ∙ ap complaint_line (sym c.in-OutOfBounds.is) in
     is_line string_bytes c.format.result _ _ line c.format.ensures.ok
 
+address_line : List ℕ → List ℕ → List ℕ → List ℕ
+address_line name word text = codes "wfmc: " ++ (name ++ (codes " " ++ (word ++ (codes ": " ++ (text ++ codes "\n")))))
+
 pub returns-in-NoAddress : goal.returns-in-NoAddress
+unfolding address_line
 returns-in-NoAddress c =
-    let line = ap (λ (text : List ℕ). codes "wfmc: --admin " ++ (c.in-NoAddress.word.now ++ (codes ": " ++ (text ++ codes "\n")))) c.text-text.ensures ∙ ap complaint_line (sym c.in-NoAddress.is) in
+    let line = (λ i. address_line (c.text-name-in-NoAddress.ensures i) c.in-NoAddress.word.now (c.text-text.ensures i)) ∙ ap complaint_line (sym c.in-NoAddress.is) in
     is_line string_bytes c.format-in-NoAddress.result _ _ line c.format-in-NoAddress.ensures.ok
 
 pub returns-in-WrongPart : goal.returns-in-WrongPart

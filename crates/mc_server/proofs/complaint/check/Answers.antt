@@ -33,10 +33,15 @@ returns-in_err-check-4 c =
     let left = err_from_is_err_and c.from_residual-in_err-check-4.result c.from_residual-in_err-check-4.ensures.1 in
     rw (left.1, left.2) (c.in_err-check-4.ensures (given_in c.args.words.now) refl)
 
-pub returns-in_err-check_admin : goal.returns-in_err-check_admin
-returns-in_err-check_admin c =
-    let left = err_from_is_err_and c.from_residual-in_err-check_admin.result c.from_residual-in_err-check_admin.ensures.1 in
-    rw (left.1, left.2) (c.in_err-check_admin.ensures (given_in c.args.words.now) refl)
+pub returns-in_err-check_address : goal.returns-in_err-check_address
+returns-in_err-check_address c =
+    let left = err_from_is_err_and c.from_residual-in_err-check_address.result c.from_residual-in_err-check_address.ensures.1 in
+    rw (left.1, left.2) (c.in_err-check_address.ensures (given_in c.args.words.now) refl)
+
+pub returns-in_err-check_address-2 : goal.returns-in_err-check_address-2
+returns-in_err-check_address-2 c =
+    let left = err_from_is_err_and c.from_residual-in_err-check_address-2.result c.from_residual-in_err-check_address-2.ensures.1 in
+    rw (left.1, left.2) (c.in_err-check_address-2.ensures (given_in c.args.words.now) refl)
 
 pub returns-in_err-check-5 : goal.returns-in_err-check-5
 returns-in_err-check-5 c =
@@ -60,5 +65,5 @@ returns c =
     let reserves = subst (AreReservesWithin c.args.words.now.reserve) (sym (count c.args.words.now ∙ sym c.len-2.ensures)) c.in_ok-check_reserve.ensures in
     let fit = subst (λ texts. All FitsAlone texts) (ap (map (λ word. word.now)) c.deref.ensures.value) c.in_ok-check_alone.ensures in
     ends given c.check_all_names.result
-    (can_be_served given c.in_ok-check_admin.ensures.0 c.in_ok-check.ensures c.in_ok-check-2.ensures c.in_ok-check-3.ensures c.in_ok-check-4.ensures many reserves c.in_ok-check_admin.ensures.1 fit)
+    (can_be_served given c.in_ok-check_address.ensures.0 c.in_ok-check_address-2.ensures.0 c.in_ok-check.ensures c.in_ok-check-2.ensures c.in_ok-check-3.ensures c.in_ok-check-4.ensures many reserves c.in_ok-check_address.ensures.1 c.in_ok-check_address-2.ensures.1 fit)
     c.check_all_names.ensures

@@ -1,4 +1,4 @@
-use Rattle.std.proofs.Common.{◌≡◌, ◌∙◌, ◌++◌, ◌∷◌, [], All, IsOkUnless, List, Ok, map, ap, sym, subst, append_assoc}
+use Rattle.std.proofs.Common.{◌∙◌, ◌++◌, ◌∷◌, [], All, IsOkUnless, List, Ok, map, ap, sym, subst, append_assoc}
 use Rattle.std.proofs.lemmas.List.{map-append}
 use Rattle.std.proofs.lemmas.List.Elements.{All-rest}
 use Rattle.mc_model.specs.declared.fault.Fault.TheVariants as faults

@@ -1,17 +1,19 @@
-use Rattle.std.proofs.Common.{IsTrue, Option, map, not, subst, sym, ◌↔◌, ◌++◌}
-use Rattle.std.specs.List.{IsDistinct}
-use Rattle.std.specs.Str.{bytes_eq}
-use Rattle.std.specs.declared.net.socket_addr.SocketAddrV4.{SocketAddrV4}
-use Rattle.mc_server.specs.NetworkWords.{admin_name, reserved_names}
-use Rattle.mc_server.proofs.TenantNames.{reserved_is_free, reserved_is_used}
+use Rattle.std.proofs.Common.{◌≡◌, ◌∙◌, ⊎_elim, false, inl, inr}
+use Rattle.mc_server.proofs.TenantNames.{one_is_used, own_are_free}
+use Rattle.mc_server.proofs.network_words.are_names_free.Goals.{else-is_free, then-is_free}
 use Rattle.mc_server.proofs.network_words.are_names_free.Goals as goal
 
-pub returns-then-not-has_name : goal.returns-then-not-has_name
-returns-then-not-has_name c =
-    let Free : Option SocketAddrV4 → Type 0 = λ admin. IsTrue c.have_own_names.result ↔ IsDistinct bytes_eq (reserved_names admin ++ map (λ tenant. tenant.name.now) c.args.tenants.now) in
-    subst Free (sym c.in-Some.is) (reserved_is_free admin_name c.args.tenants.now c.has_name.result c.have_own_names.result c.has_name.ensures c.if-not-has_name.true c.have_own_names.ensures)
+pub returns-then-are_free : goal.returns-then-are_free
+returns-then-are_free c =
+    own_are_free c.args.admin c.args.metrics c.args.tenants.now _ _ _ c.is_name_free-is_free.ensures c.is_name_free-are_free.ensures c.if-are_free.true.0 c.if-are_free.true.1 c.have_own_names-are_own.ensures
 
-pub returns-else-not-has_name : goal.returns-else-not-has_name
-returns-else-not-has_name c =
-    let Free : Option SocketAddrV4 → Type 0 = λ admin. IsTrue (not c.has_name.result) ↔ IsDistinct bytes_eq (reserved_names admin ++ map (λ tenant. tenant.name.now) c.args.tenants.now) in
-    subst Free (sym c.in-Some.is) (reserved_is_used admin_name c.args.tenants.now c.has_name.result c.has_name.ensures c.if-not-has_name.false)
+pub returns-else-are_free : goal.returns-else-are_free
+returns-else-are_free c =
+    let used = one_is_used c.args.admin c.args.metrics c.args.tenants.now _ _ c.is_name_free-is_free.ensures c.is_name_free-are_free.ensures in
+    elim c.if-is_free.branch [
+      | then-is_free w ↦
+          let scraped : c.is_name_free-are_free.result ≡ false =
+          ⊎_elim (λ one. one.1) (λ (other : c.is_name_free-is_free.result ≡ false). let is = w.if-is_free.true in absurd cc) c.if-are_free.either in
+          used _ (w.t-14-is ∙ scraped) (inr scraped)
+      | else-is_free w ↦ used _ (w.t-14-is ∙ w.if-is_free.false) (inl w.if-is_free.false)
+    ]

@@ -59,7 +59,8 @@ returns c =
     let connections = c.unwrap_or-6.ensures ∙ ap (λ o. unwrap_or o 0) (c.number-6.ensures ∙ number_of (codes "connections")) in
     let first = λ (name : Text). first_of (matched_of (found_of c.in_ok-matches.matches) name) ∙ ap (option_and_then (λ texts. slice_get texts 0)) (raw_values-rows (found_of c.in_ok-matches.matches) name ∙ ap (all_of name) rows) in
     let admin = c.get_str.ensures ∙ first (codes "admin") in
+    let metrics = c.get_str-2.ensures ∙ first (codes "metrics") in
     let check = c.flag.ensures ∙ ap says_given (one_text-rows (found_of c.in_ok-matches.matches) (codes "check") ∙ ap (one_of (codes "check")) rows) in
     let raw = c.get_raw.ensures ∙ raw_values-rows (found_of c.in_ok-matches.matches) (codes "tenants") ∙ ap (all_of (codes "tenants")) rows in
     let tenants = ap (map (λ word. word.now)) (c.in_ok-tenants.ensures.items ∙ ap (λ lent. lent.now) c.unwrap_or-tenants.ensures) ∙ lent_words c.get_raw.result _ refl ∙ ap (λ o. unwrap_or o []) raw in
-    record { outcome = record { taken = taken; check = check; given = λ i. record { workers = workers i; places = places i; generations = generations i; log_bytes = log_bytes i; reserve = reserve i; connections = connections i; admin = admin i; tenants = tenants i } } }
+    record { outcome = record { taken = taken; check = check; given = λ i. record { workers = workers i; places = places i; generations = generations i; log_bytes = log_bytes i; reserve = reserve i; connections = connections i; admin = admin i; metrics = metrics i; tenants = tenants i } } }

@@ -61,6 +61,13 @@ returns-in_err-admin c =
     let left = err_from_is_err_and c.from_residual-in_err-admin.result c.from_residual-in_err-admin.ensures.1 in
     record { outcome = rw (left.1, left.2) (inr (c.in_err-admin.ensures.0, vain)) }
 
+-- the address of metrics isn't one
+pub returns-in_err-metrics : goal.returns-in_err-metrics
+returns-in_err-metrics c =
+    let vain : AsksInVain (given_in c.args.words.now) = λ asked asks servable. c.in_err-metrics.ensures.1 asked.metrics asks.metrics in
+    let left = err_from_is_err_and c.from_residual-in_err-metrics.result c.from_residual-in_err-metrics.ensures.1 in
+    record { outcome = rw (left.1, left.2) (inr (c.in_err-metrics.ensures.0, vain)) }
+
 -- more workers, logs, bytes of a log or places are asked for than there may be
 pub returns-then-not-are_in_bounds : goal.returns-then-not-are_in_bounds
 returns-then-not-are_in_bounds c =
@@ -80,7 +87,8 @@ returns-then-not-are_names_free c =
     let tenants = read_are_asked c.args.words.now _ c.in_ok-tenants.tenants.items asked c.in_ok-tenants.ensures.outcome c.deref.ensures.value asks in
     let names = names_are asked c.in_ok-tenants.tenants.items tenants ∙ ap (map (λ tenant. tenant.name.now)) (sym c.deref-3.ensures.value) in
     let admin = c.in_ok-admin.ensures.only asked.admin asks.admin in
-    apart _ (c.are_names_free.ensures.1 (subst (IsDistinct bytes_eq) (λ i. reserved_names (admin i) ++ names i) servable.names)) c.if-not-are_names_free.true
+    let metrics = c.in_ok-metrics.ensures.only asked.metrics asks.metrics in
+    apart _ (c.are_names_free.ensures.1 (subst (IsDistinct bytes_eq) (λ i. reserved_names (admin i) (metrics i) ++ names i) servable.names)) c.if-not-are_names_free.true
     in
     record { outcome = inr (refl, vain) }
 
@@ -107,6 +115,7 @@ returns c =
       reserve = c.args.words.now.reserve;
       connections = c.args.words.now.connections;
       admin = c.in_ok-admin.admin;
+      metrics = c.in_ok-metrics.metrics;
       tenants = map asked_of tenants;
     } in
     let bounds = c.are_in_bounds.ensures.0 c.if-not-are_in_bounds.false in
@@ -121,6 +130,7 @@ returns c =
       reserve = refl;
       connections = refl;
       admin = c.in_ok-admin.ensures.spells;
+      metrics = c.in_ok-metrics.ensures.spells;
       tenants = subst P c.deref.ensures.value (all_say _ _ c.in_ok-tenants.ensures.outcome);
     } in
     let servable : IsServable asked = record {
@@ -128,7 +138,7 @@ returns c =
       generations = bounds.1;
       log_bytes = bounds.2;
       reserve = subst (AreReservesWithin c.args.words.now.reserve) (sym (many_asked c.args.words.now asked asks)) bounds.3;
-      names = subst (IsDistinct bytes_eq) (ap (λ names. reserved_names c.in_ok-admin.admin ++ names) lent) (c.are_names_free.ensures.0 c.if-not-are_names_free.false);
+      names = subst (IsDistinct bytes_eq) (ap (λ names. reserved_names c.in_ok-admin.admin c.in_ok-metrics.metrics ++ names) lent) (c.are_names_free.ensures.0 c.if-not-are_names_free.false);
     } in
     let each : c.args.words.now.generations ≢ 1 → c.in_ok-settings.settings.workers ≤ c.in_ok-settings.settings.places = λ many. omega (arith, each_has_a_place (given_in c.args.words.now) many, serve, places) in
     record { outcome = (asks, record { settings = settings; servable = servable; each = each; names = names_lawful _ tenants c.in_ok-tenants.ensures.outcome }) }

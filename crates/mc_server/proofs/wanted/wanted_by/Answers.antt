@@ -16,5 +16,5 @@ returns-in_default c =
 pub returns : goal.returns
 returns c =
     let are = subst (λ (tenants : List Tenant). AreOfTenants (map asked_of tenants) c.in_ok-wanted.wanted.items) c.deref.ensures.value c.in_ok-wanted.ensures in
-    let names = ap Chief (c.in_ok-names_of.ensures ∙ ap (map (λ (tenant : Tenant). tenant.name.now)) c.deref-2.ensures.value ∙ sym (names_are_read c.args.service.now.tenants.items)) in
+    let names = ap Chief (c.in_ok-names.ensures.names ∙ c.in_ok-names_of.ensures ∙ ap (map (λ (tenant : Tenant). tenant.name.now)) c.deref-2.ensures.value ∙ sym (names_are_read c.args.service.now.tenants.items)) in
     admin_wanted (served_by c.args.service.now) c.in_ok-wanted.wanted.items _ _ c.in-Some.address are c.in-Some.is refl names c.in_ok-push.ensures.items

@@ -5,6 +5,9 @@ use Rattle.mc_net.proofs.event_loop.EventLoop.run.Goals as goal
 pub loop-init : goal.loop-init
 loop-init g c = c.work_adds_up.ensures.none c.args.until_done _
 
+pub publish-requires : goal.publish-requires
+publish-requires g c = c.work_adds_up.ensures.known _ _ _ c.loop.invariant c.requires
+
 pub returns-then-eq-clause-tenants : goal.returns-then-eq-clause-tenants
 returns-then-eq-clause-tenants g c = c.clear.ensures.tenants ∙ c.work_adds_up.ensures.known _ _ _ c.loop.invariant c.requires
 

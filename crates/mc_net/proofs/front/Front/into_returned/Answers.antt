@@ -16,7 +16,7 @@ loop-worker-preserved c =
       back =
           ap (λ list. list ++ more) c.in_ok-push.ensures.items
           ∙ append_one back _ more
-          ∙ ap (λ (ended : PastConnections). back ++ record { worker = c.in-Some.worker; ended = ended } ∷ more) c.again-ended.ensures
+          ∙ ap (λ (ended : PastConnections). back ++ record { worker = c.in-Some.worker; ended = ended } ∷ more) c.into_ended-ended.ensures
           ∙ subst (λ (rest : List Worker). back ++ returned_of rest (c.in-Some-next.event_loop ∷ c.next-in-loop-worker.new.self.rest.items) ≡ returned_of c.args.workers.items c.args.self.event_loops.items) workers
           (subst (λ (rest : List EventLoop). back ++ returned_of c.loop-worker.worker-iterator.rest.items rest ≡ returned_of c.args.workers.items c.args.self.event_loops.items) loops
           c.loop-worker.invariant.back);

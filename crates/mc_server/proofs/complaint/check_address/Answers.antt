@@ -1,9 +1,9 @@
-use Rattle.std.proofs.Common.{◌≡◌, ◌∙◌, ℕ, List, Option, Some, Bor, ap, subst, sym}
+use Rattle.std.proofs.Common.{◌∙◌, ℕ, List, Option, Some, Bor, ap, subst, sym}
 use Rattle.std.specs.Option.{option_map}
 use Rattle.std.specs.declared.net.socket_addr.SocketAddrV4.{SocketAddrV4}
 use Rattle.mc_server.specs.NetworkWords.{IsNoAddress, SpellsAddress}
 use Rattle.mc_server.proofs.TenantForms.{no_address}
-use Rattle.mc_server.proofs.complaint.check_admin.Goals as goal
+use Rattle.mc_server.proofs.complaint.check_address.Goals as goal
 
 pub returns-in-Ok : goal.returns-in-Ok
 returns-in-Ok c =

@@ -2,7 +2,7 @@ use Rattle.std.proofs.Common.{Bor, List, ℕ, Option, Some, refl, subst, sym}
 use Rattle.std.specs.Option.{option_map}
 use Rattle.mc_server.specs.NetworkWords.{IsNoAddress, IsOnlyAddress}
 use Rattle.mc_server.proofs.TenantForms.{no_address, only_address}
-use Rattle.mc_server.proofs.network_words.read_admin.Goals as goal
+use Rattle.mc_server.proofs.network_words.read_address.Goals as goal
 
 pub returns-in-Ok : goal.returns-in-Ok
 returns-in-Ok c =

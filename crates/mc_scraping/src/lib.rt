@@ -1,0 +1,13 @@
+//! A listener for scrapes with a poll of its own: `Scraper` answers HTTP by what the workers of a
+//! server show. It is lent no worker, table or mailbox, so a request over HTTP has nothing by which
+//! it could change an answer to a client. What it holds of each connection is bounded: a request's
+//! head, one answer, and a time after which it is closed.
+#![tactic(auto)]
+
+pub use boards::Boards;
+pub use scraper::{Scraper, Stop, new_scraper};
+
+pub mod boards;
+mod memory;
+pub mod scraper;
+mod visit;

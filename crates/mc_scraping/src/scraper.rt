@@ -1,0 +1,226 @@
+//! The loop of the listener for scrapes.
+ghost use Rattle.std.specs.Prelude.{◌≡◌, ◌⊎◌, IfErr};
+
+use crate::boards::Boards;
+use crate::visit::Visit;
+use mc_metrics::Scrape;
+use mc_model::Fault;
+use mio::net::TcpListener;
+use mio::{Events, Interest, Poll, Token, Waker};
+use std::alloc::Global;
+use std::fs::Files;
+use std::hash::RandomState;
+use std::net::Net;
+use std::sync::Wait;
+use std::sync::atomic::{AtomicBool, Ordering};
+use std::time::{Clock, Duration, Instant};
+
+/// How many connections there are at most. Others wait at the listener.
+const MOST_VISITS: usize = 16;
+
+/// After how many seconds a connection is closed, whatever it does.
+const MOST_SECONDS: u64 = 10;
+
+/// How many events a poll reports at most.
+const EVENTS: usize = 64;
+
+/// How long a poll waits at most while there are connections, in milliseconds, so that they are closed
+/// in time.
+const TICK_MILLIS: u64 = 1_000;
+
+/// The token of the listener, after those of the connections.
+const LISTENER: Token = Token(MOST_VISITS);
+
+/// The token of the waker.
+const WAKER: Token = Token(MOST_VISITS + 1);
+
+/// Stops the loop of a listener for scrapes.
+#[derive(Drop)]
+pub struct Stop {
+    is_stopped: AtomicBool,
+    waker: Waker,
+}
+
+impl Stop {
+    /// Stops the loop. If it can't be woken it stops after its next event.
+    pub fn stop(&self) {
+        self.is_stopped.store(true, Ordering::SeqCst);
+        let _ = self.waker.wake();
+    }
+}
+
+/// The listener for scrapes, with its connections.
+#[derive(Drop)]
+pub struct Scraper {
+    listener: TcpListener,
+    boards: Boards,
+    poll: Poll,
+    events: Events,
+    visits: Vec<Option<Visit>>,
+    // By these the fields of requests are hashed, whose names clients choose.
+    keys: RandomState,
+    alloc: Global,
+}
+
+/// Returns the loop of a listener without connections, which answers by these boards, and what stops
+/// it.
+///
+/// Returns `Memory` if memory runs out, and `Input` if the poll can't be made or the listener can't be
+/// registered.
+pub fn new_scraper<R: Net>(
+    rt: &R,
+    alloc: Global,
+    keys: RandomState,
+    listener: TcpListener,
+    boards: Boards,
+) -> Result<(Scraper, Stop), Fault>
+    ensures { IfErr result (λ fault. (fault ≡ Fault.Memory) ⊎ (fault ≡ Fault.Input)) }
+{
+    let mut listener = listener;
+    let Ok(poll) = Poll::new(rt) else {
+        return Err(Fault::Input);
+    };
+    let registered = poll
+        .registry()
+        .register(&mut listener, LISTENER, Interest::READABLE);
+    let (Ok(()), Ok(waker)) = (registered, Waker::new(poll.registry(), WAKER)) else {
+        return Err(Fault::Input);
+    };
+    let mut visits = Vec::with_capacity(alloc, MOST_VISITS)?;
+    for _ in 0..MOST_VISITS {
+        visits.push(None)?;
+    }
+    let scraper = Scraper {
+        listener,
+        boards,
+        poll,
+        events: Events::with_capacity(alloc, EVENTS)?,
+        visits,
+        keys,
+        alloc,
+    };
+    let stop = Stop {
+        is_stopped: AtomicBool::new(false),
+        waker,
+    };
+    Ok((scraper, stop))
+}
+
+/// Returns whether there is a connection at this place that is to be served: there is an event for it, or
+/// it has more to do.
+fn is_ready(events: &Events, place: usize, visit: &Option<Visit>) -> bool {
+    match visit {
+        Some(visit) => {
+            visit.has_more || events.iter().any(|event| event.token() == Token(place))
+        }
+        None => false,
+    }
+}
+
+impl Scraper {
+    /// Accepts the streams that wait, as far as there are places for them. A stream that can't be
+    /// registered is closed.
+    fn accept_waiting(&mut self, now: Instant) {
+        for (place, visit) in self.visits.iter_mut().enumerate() {
+            if visit.is_some() {
+                continue;
+            }
+            let Ok((mut stream, _)) = self.listener.accept() else {
+                return;
+            };
+            let both = Interest::READABLE | Interest::WRITABLE;
+            let registry = self.poll.registry();
+            if registry.register(&mut stream, Token(place), both).is_ok() {
+                *visit = Some(Visit::new(self.alloc, self.keys, stream, now));
+            }
+        }
+    }
+
+    /// Closes the connections that have had their time.
+    fn close_late(&mut self, now: Instant) {
+        let most = Duration::from_secs(MOST_SECONDS);
+        for place in self.visits.iter_mut() {
+            let is_late = match place {
+                Some(visit) => now.duration_since(visit.begun) >= most,
+                None => false,
+            };
+            if is_late {
+                *place = None;
+            }
+        }
+    }
+
+    /// Serves the connections that are ready, all by the numbers that are shown now.
+    ///
+    /// If memory runs out they are closed.
+    fn serve_ready<R: Files>(&mut self, rt: &R) {
+        let events = &self.events;
+        if !self
+            .visits
+            .iter()
+            .enumerate()
+            .any(|(place, visit)| is_ready(events, place, visit))
+        {
+            return;
+        }
+        let mut scrape = match self.boards.snapshot(rt, self.alloc) {
+            Ok(snapshot) => Some(Scrape {
+                alloc: self.alloc,
+                snapshot,
+            }),
+            Err(_) => None,
+        };
+        for (number, place) in self.visits.iter_mut().enumerate() {
+            if !is_ready(events, number, place) {
+                continue;
+            }
+            let stays = match (place.as_mut(), &mut scrape) {
+                (Some(visit), Some(scrape)) => visit.serve(scrape),
+                (_, _) => false,
+            };
+            if !stays {
+                *place = None;
+            }
+        }
+    }
+
+    /// Returns how long a poll may wait: not at all if a connection is to be served without an event, a
+    /// second if there are connections, so that they are closed in time, and otherwise until an event
+    /// comes.
+    fn timeout(&self) -> Option<Duration> {
+        let mut visits = self.visits.iter().flatten();
+        if visits.any(|visit| visit.has_more) {
+            return Some(Duration::ZERO);
+        }
+        let is_idle = self.visits.iter().all(|visit| visit.is_none());
+        (!is_idle).then_some(Duration::from_millis(TICK_MILLIS))
+    }
+
+    /// Polls once, serves the connections that are ready, closes those that have had
+    /// their time, and accepts others.
+    ///
+    /// Returns `Input` if the poll or the clock fails.
+    fn make_round<R: Clock + Files>(&mut self, rt: &R) -> Result<(), Fault> {
+        let timeout = self.timeout();
+        if self.poll.poll(&mut self.events, timeout).is_err() {
+            return Err(Fault::Input);
+        }
+        let Ok(now) = Instant::now(rt) else {
+            return Err(Fault::Input);
+        };
+        self.serve_ready(rt);
+        self.close_late(now);
+        self.accept_waiting(now);
+        Ok(())
+    }
+
+    /// Answers scrapes until the loop is stopped, or its poll or the clock fails: then nobody is
+    /// answered any more, and all else goes on.
+    pub fn run<R: Wait + Clock + Files>(&mut self, rt: &R, stop: &Stop) {
+        for _ in rt.forever() {
+            if stop.is_stopped.load(Ordering::SeqCst) || self.make_round(rt).is_err() {
+                return;
+            }
+        }
+    }
+}

@@ -1,1 +1,0 @@
-use Rattle.mc_server.proofs.generations.serve_opened.Goals as goal

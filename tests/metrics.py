@@ -1,0 +1,278 @@
+#!/usr/bin/env python3
+"""Tests the metrics of wfmc, as built, over sockets on loopback: metrics.py [BINARY].
+
+What a scrape shows is held against what the clients know: items, bytes, quotas and connections of each tenant, and which log is served. Then
+scrapes as fast as they come while clients are answered as ever, more connections than there are places for, requests that are slow, huge or
+none, and one that does nothing, which is closed after ten seconds. And the words: an address that is taken, a tenant named metrics.
+Prints a line for each failure; the last line is 'N passed, M failed'.
+"""
+
+import re
+import socket
+import subprocess
+import sys
+import threading
+import time
+
+from harness import repository
+from harness.client import connect
+from harness.results import Results
+from harness.servers import ADMIN, LARGE, Server
+
+PROGRAM = sys.argv[1] if len(sys.argv) > 1 else repository.program("wfmc")
+METRICS = ("--metrics", "127.0.0.1:0")
+PATIENCE = 5
+PLACES = 500
+MOST = 16
+SAMPLE = re.compile(r'([a-z_]+)(?:\{([a-z_]+="[^"]*"(?:,[a-z_]+="[^"]*")*)\})? ([0-9.]+)')
+results = Results()
+check = results.check
+
+
+class Scraper:
+    """A connection to the listener for metrics."""
+
+    def __init__(self, server, seconds=20):
+        self.socket = connect(server.ports["metrics"], seconds)
+        self.held = b""
+
+    def send(self, sent):
+        self.socket.sendall(sent)
+
+    def reply(self):
+        """The status, the fields and the body of the next reply; an empty status where the connection ends first."""
+        while b"\r\n\r\n" not in self.held:
+            try:
+                piece = self.socket.recv(65536)
+            except ConnectionResetError:
+                piece = b""
+            if not piece:
+                return "", {}, ""
+            self.held += piece
+        head, _, self.held = self.held.partition(b"\r\n\r\n")
+        status, *lines = head.decode().split("\r\n")
+        fields = dict(line.split(": ", 1) for line in lines)
+        while len(self.held) < int(fields["content-length"]):
+            self.held += self.socket.recv(65536)
+        length = int(fields["content-length"])
+        body, self.held = self.held[:length].decode(), self.held[length:]
+        return status, fields, body
+
+    def get(self, path="/metrics"):
+        self.send(f"GET {path} HTTP/1.1\r\nHost: wfmc\r\n\r\n".encode())
+        return self.reply()
+
+    def ends(self):
+        """Whether the connection ends, without a byte more."""
+        try:
+            return self.socket.recv(1) == b""
+        except ConnectionResetError:
+            return True
+
+    def close(self):
+        self.socket.close()
+
+
+def samples(text):
+    """The value of each sample of a text, by its name and labels."""
+    read = {}
+    for line in text.splitlines():
+        if not line.startswith("#"):
+            sample = SAMPLE.fullmatch(line)
+            check("a sample", sample, line)
+            read[sample[1] if sample[2] is None else f"{sample[1]}{{{sample[2]}}}"] = float(sample[3])
+    return read
+
+
+def scrape(server):
+    scraper = Scraper(server)
+    status, _, body = scraper.get()
+    check("a scrape", status == "HTTP/1.1 200 OK", status)
+    scraper.close()
+    return samples(body)
+
+
+def awaits(server, what, wanted):
+    """Scrapes until these samples have these values: what a worker shows follows its replies by a moment."""
+    until = time.monotonic() + PATIENCE
+    while True:
+        shown = scrape(server)
+        wrong = {name: (shown.get(name), value) for name, value in wanted.items() if shown.get(name) != value}
+        if not wrong or time.monotonic() > until:
+            check(what, not wrong, str(wrong))
+            return shown
+        time.sleep(0.02)
+
+
+def of(name, tenant):
+    return f'wfmc_tenant_{name}{{tenant="{tenant}"}}'
+
+
+def tables(tenant, items, size, quotas, connections):
+    numbers = {"items": items, "bytes": size, "quota_items": quotas[0], "quota_bytes": quotas[1], "connections": connections}
+    return {of(name, tenant): value for name, value in numbers.items()}
+
+
+def check_numbers():
+    tenants = {"shop": (100, 10_000), "b-2_x": (20, 5_000)}
+    with Server(PROGRAM, ("--workers", "3", "--places", "1000", *ADMIN, *METRICS), tenants) as server:
+        check("the listeners in their order", list(server.ports) == ["shop", "b-2_x", "admin", "metrics"] and server.is_ready)
+        awaits(server, "nothing yet", {**tables("shop", 0, 0, (100, 10_000), 0), **tables("b-2_x", 0, 0, (20, 5_000), 0), "wfmc_log_used_places": 0})
+        shops = [server.client("shop") for _ in range(5)]
+        other = server.client("b-2_x")
+        for number, client in enumerate(shops * 4):
+            check("a set", client.line(f"set key{number:02} 0 0 7\r\n1234567\r\n".encode()) == "STORED")
+        check("another's set", other.line(b"set k 0 0 3\r\nabc\r\n") == "STORED")
+        wanted = {**tables("shop", 20, 20 * 12, (100, 10_000), 5), **tables("b-2_x", 1, 4, (20, 5_000), 1)}
+        shown = awaits(server, "what the clients know", {**wanted, "wfmc_log_used_places": 21, "wfmc_log_places": 1000, "wfmc_log_generation": 1})
+        lags = [shown[f'wfmc_worker_lag_places{{worker="{worker}"}}'] for worker in range(3)]
+        check("the lags", min(lags) == 0 and max(lags) <= 21, str(lags))
+        check("the workers' connections", sum(shown[f'wfmc_worker_connections{{worker="{worker}"}}'] for worker in range(3)) == 6, str(shown))
+        check("the resident memory", 1 << 20 < shown["process_resident_memory_bytes"] < 1 << 32)
+        with server.client("admin") as chief:
+            check("an administrator", chief.line(b"limit b-2_x 7 99\r\n") == "OK")
+            check("a delete", shops[0].line(b"delete key00\r\n") == "DELETED")
+            awaits(server, "other quotas", {**tables("shop", 19, 19 * 12, (100, 10_000), 5), **tables("b-2_x", 1, 4, (7, 99), 1)})
+        for client in shops:
+            client.close()
+        awaits(server, "the connections that are left", {of("connections", "shop"): 0, of("connections", "b-2_x"): 1})
+        scraper = Scraper(server)
+        status, fields, body = scraper.get("/")
+        check("the page", status.endswith("200 OK") and fields["content-type"].startswith("text/html") and "<th>shop<td>19<td>100<td>228" in body, body)
+        check("another path", scraper.get("/favicon.ico")[0] == "HTTP/1.1 404 Not Found")
+        scraper.send(b"POST /metrics HTTP/1.1\r\nHost: wfmc\r\nContent-Length: 0\r\n\r\n")
+        check("another method", scraper.reply()[0] == "HTTP/1.1 405 Method Not Allowed")
+        check("nothing that nobody counts", "_total" not in scraper.get()[2])
+
+
+def works(server, tenant, stop, wrong):
+    """A client that checks each reply."""
+    with server.client(tenant) as client:
+        number = 0
+        while not stop.is_set():
+            number += 1
+            if client.line(f"set k{number % 7} 0 0 6\r\n{number:06}\r\n".encode()) != "STORED":
+                wrong.append(f"set {number}")
+            wanted = f"VALUE k{number % 7} 0 6\r\n{number:06}\r\nEND\r\n".encode()
+            if client.ask(f"get k{number % 7}\r\n".encode(), b"END\r\n") != wanted:
+                wrong.append(f"get {number}")
+    wrong.append(number)
+
+
+def check_full_speed():
+    """Scrapes as fast as they come, over logs that follow one another, while clients of two tenants are answered as ever."""
+    tenants = {"a": LARGE, "b": LARGE}
+    with Server(PROGRAM, ("--workers", "2", "--places", str(PLACES), "--generations", "0", *METRICS), tenants) as server:
+        stop, wrong, counts = threading.Event(), [], []
+
+        def scrapes():
+            scraper, count = Scraper(server), 0
+            while not stop.is_set():
+                status, _, body = scraper.get()
+                count += 1
+                used = re.search(r"^wfmc_log_used_places ([0-9]+)$", body, re.M)
+                if not status.endswith("200 OK") or not used or int(used[1]) > PLACES:
+                    wrong.append(f"scrape {count}: {status} {used}")
+            counts.append(count)
+
+        # Each client has a tenant of its own, and so knows what it is to be answered.
+        threads = [threading.Thread(target=works, args=(server, tenant, stop, wrong)) for tenant in tenants]
+        threads += [threading.Thread(target=scrapes) for _ in range(3)]
+        for thread in threads:
+            thread.start()
+        time.sleep(3)
+        stop.set()
+        for thread in threads:
+            thread.join()
+        served = sum(entry for entry in wrong if isinstance(entry, int))
+        wrong = [entry for entry in wrong if not isinstance(entry, int)]
+        check("replies and scrapes at full speed", not wrong, str(wrong[:5]))
+        check("many of both", served > 200 and len(counts) == 3 and min(counts) > 20, f"{served} {counts}")
+        shown = awaits(server, "what two clients leave", {of("items", "a"): 7, of("items", "b"): 7, of("connections", "a"): 0})
+        logs = 4 * served // PLACES
+        check("logs that followed", logs // 2 <= shown["wfmc_log_generation"] <= logs + 2, f"{shown['wfmc_log_generation']} {logs}")
+        check("turn overs", shown["wfmc_turn_over_seconds_count"] == shown["wfmc_log_generation"] - 1 and shown["wfmc_turn_over_seconds_sum"] > 0)
+
+
+def check_strangers():
+    """Requests that are slow, huge or none, and more connections than there are places for."""
+    with Server(PROGRAM, METRICS, {"a": LARGE}) as server:
+        idle, begun = Scraper(server), time.monotonic()
+        slow = Scraper(server)
+        for byte in b"GET /metrics HTTP/1.1\r\nHost: wfmc\r\n\r\n":
+            slow.send(bytes([byte]))
+            time.sleep(0.01)
+        check("a slow request", slow.reply()[0] == "HTTP/1.1 200 OK")
+        for what, sent in (("a huge head", b"GET / HTTP/1.1\r\nX: " + b"x" * 100_000 + b"\r\n\r\n"), ("a huge line", b"GET /" + b"x" * 100_000)):
+            huge = Scraper(server)
+            try:
+                huge.send(sent)
+                status = huge.reply()[0]
+            except (ConnectionResetError, BrokenPipeError):
+                status = ""
+            check(what, status == "" or status.split()[1] in ("400", "414", "431"), status)
+        for what, sent in (("no request", b"\0\1\2\r\n\r\n"), ("memcached's words", b"get a\r\n\r\n"), ("a body", b"GET / HTTP/1.1\r\nHost: w\r\nContent-Length: 9\r\n\r\n123456789")):
+            wrong = Scraper(server)
+            wrong.send(sent)
+            status = wrong.reply()[0]
+            check(what, status.split()[1] in ("400", "413") and wrong.ends(), status)
+        half = Scraper(server)
+        half.send(b"GET /met")
+        half.socket.shutdown(socket.SHUT_WR)
+        half.close()
+        with server.client("a") as client:
+            check("a tenant's client beside them", client.line(b"set k 0 0 1\r\nx\r\n") == "STORED")
+        awaits(server, "a scrape beside them", {of("items", "a"): 1})
+        idle.socket.settimeout(20)
+        check("one that does nothing is closed", idle.ends() and 8 < time.monotonic() - begun < 14, str(time.monotonic() - begun))
+        crowd = [Scraper(server) for _ in range(MOST)]
+        for scraper in crowd:
+            check("one of sixteen", scraper.get()[0] == "HTTP/1.1 200 OK")
+        late = Scraper(server, seconds=0.5)
+        late.send(b"GET /metrics HTTP/1.1\r\nHost: wfmc\r\n\r\n")
+        try:
+            answered = late.reply()[0]
+        except TimeoutError:
+            answered = "waits"
+        check("the seventeenth waits", answered == "waits", answered)
+        crowd[3].close()
+        late.socket.settimeout(5)
+        check("and has its turn", late.reply()[0] == "HTTP/1.1 200 OK")
+        with server.client("a") as client:
+            check("a tenant's client beside a crowd", client.ask(b"get k\r\n", b"END\r\n") == b"VALUE k 0 1\r\nx\r\nEND\r\n")
+
+
+def ending_of(*words):
+    """How a run ends that doesn't serve."""
+    ended = subprocess.run([PROGRAM, *words], capture_output=True, timeout=20)
+    return ended.returncode, ended.stdout, ended.stderr
+
+
+def check_words():
+    with socket.create_server(("127.0.0.1", 0)) as other:
+        taken = "127.0.0.1:%d" % other.getsockname()[1]
+        check("a port in use", ending_of("--metrics", taken, "a=127.0.0.1:0,1,1") == (1, b"", b"wfmc: cannot listen metrics\n"))
+        check("an administrators' is tried first", ending_of("--metrics", taken, "--admin", taken, "a=127.0.0.1:0,1,1") == (1, b"", b"wfmc: cannot listen admin\n"))
+    refused = 2, b"", b"wfmc: bad settings\n"
+    check("a tenant named metrics", ending_of(*METRICS, "metrics=127.0.0.1:0,1,1") == refused)
+    for address in ("127.0.0.1", "localhost:1", "127.0.0.1:65536"):
+        check(f"no address: {address}", ending_of(f"--metrics={address}", "a=127.0.0.1:0,1,1") == refused)
+    told = 2, b"", b"wfmc: --metrics :1: ADDR is not an IPv4 address and a port\n"
+    check("what is wrong with it", ending_of("--check", "--metrics", ":1", "a=127.0.0.1:0,1,1") == told)
+    told = 2, b"", b"wfmc: two listeners are named metrics\n"
+    check("two of that name", ending_of("--check", *METRICS, *ADMIN, "a=127.0.0.1:0,1,1", "metrics=127.0.0.1:0,1,1") == told)
+    with Server(PROGRAM, (), {"metrics": LARGE}) as server:
+        check("a tenant of that name, where none are scraped", list(server.ports) == ["metrics"])
+    with Server(PROGRAM, ("--connections", "1", *METRICS), {"a": LARGE}) as server:
+        scraper = Scraper(server)
+        check("a scrape before the end", scraper.get()[0] == "HTTP/1.1 200 OK")
+        with server.client("a") as client:
+            client.line(b"set k 0 0 1\r\nx\r\n")
+        check("the end, at once", server.wait() == (0, b"done 1\n", b"") and scraper.ends())
+
+
+check_words()
+check_numbers()
+check_full_speed()
+check_strangers()
+results.finish()
