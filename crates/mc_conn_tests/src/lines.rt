@@ -123,12 +123,6 @@ impl<'a> Line<'a> {
         Line { log, worker, wire }
     }
 
-    /// Returns the wire alone.
-    fn into_wire(self) -> Wire {
-        let Self { wire, .. } = self;
-        wire
-    }
-
     /// Makes a turn, if the line's role fits the log.
     pub(crate) fn turn(&mut self, buffer: &mut [u8; PULL_BYTES]) -> Result<State, Fault> {
         if !is_among(self.wire.conn.role(), self.log.settings().tenants().len()) {
@@ -235,29 +229,26 @@ fn one_worker<'a>(alloc: Global, log: &'a Log, passes: Vec<Pass>) -> Result<Work
     }
 }
 
-/// Returns the wire, if its line with worker 0 does these acts.
-fn played_on(
+/// Returns whether the line of this wire and worker 0 does these acts.
+fn play_on(
     alloc: Global,
     log: &Log,
     passes: Vec<Pass>,
     wire: Wire,
     acts: &[Act],
-) -> Result<Option<Wire>, Fault>
+) -> Result<bool, Fault>
     requires { (number : ℕ) (pass : _) → slice_get passes.items number ≡ Some pass →
         IsUnusedPass log.now pass }
 {
     let worker = one_worker(alloc, log, passes)?;
     let mut line = Line::of(log, worker, wire);
-    if !line.play(acts)? {
-        return Ok(None);
-    }
-    Ok(Some(line.into_wire()))
+    line.play(acts)
 }
 
-/// Returns the wire, if it does these acts with a new log of this many places, which is gone then.
-fn played(alloc: Global, places: u64, wire: Wire, acts: &[Act]) -> Result<Option<Wire>, Fault> {
+/// Returns whether the wire does these acts, with a new log of this many places.
+fn play_over(alloc: Global, places: u64, wire: Wire, acts: &[Act]) -> Result<bool, Fault> {
     let (log, passes) = opened(alloc, places, &[QUOTAS])?;
-    played_on(alloc, &log, passes, wire, acts)
+    play_on(alloc, &log, passes, wire, acts)
 }
 
 /// Returns whether the connection of this client, of the first tenant, does these acts, with a new
@@ -269,23 +260,7 @@ pub(crate) fn play(
     acts: &[Act],
 ) -> Result<bool, Fault> {
     let wire = Wire::of_tenant(alloc, 0, client)?;
-    Ok(played(alloc, places, wire, acts)?.is_some())
-}
-
-/// Returns whether the connection of this client, of the first tenant, does the first acts with a
-/// new log of this many places, and the second with another, once the first log is gone.
-pub(crate) fn play_on_two(
-    alloc: Global,
-    places: u64,
-    client: Client,
-    first: &[Act],
-    second: &[Act],
-) -> Result<bool, Fault> {
-    let wire = Wire::of_tenant(alloc, 0, client)?;
-    match played(alloc, places, wire, first)? {
-        Some(wire) => Ok(played(alloc, places, wire, second)?.is_some()),
-        None => Ok(false),
-    }
+    play_over(alloc, places, wire, acts)
 }
 
 /// Returns whether this client of the first tenant reads this, with a new log of this many places.

@@ -1,7 +1,7 @@
-//! Long blocks in a reply, which the queue doesn't copy: however the output takes them, when memory
-//! runs out while they are queued, and once their log is gone.
+//! Long blocks in a reply, which the queue doesn't copy: however the output takes them, and when
+//! memory runs out while they are queued.
 use crate::acts::Act;
-use crate::lines::{Client, play, play_on_two, reads};
+use crate::lines::{Client, play, reads};
 use crate::queueing::filled;
 use mc_conn::State;
 use mc_model::Fault;
@@ -123,35 +123,6 @@ fn memory_runs_out_behind_a_long_block(rt: HostRuntime) -> Result<(), Fault> {
     for (row, taken) in TAKEN.iter().enumerate() {
         assert!(rt; is_starved(rt.alloc(), *taken)?, "{row}");
     }
-    Ok(())
-}
-
-/// What is owed for the long block's set and a get of it.
-const QUEUED: &str = "STORED\r\nVALUE b 1 40000\r\n@\r\nEND\r\n";
-
-/// Returns whether a client reads the long block that was queued for it, once the log that it stood
-/// in is gone.
-fn outlives_its_log(alloc: Global) -> Result<bool, Fault> {
-    let sent = filled(alloc, "set b 1 0 40000\r\n@\r\nget b\r\n", WORD, TIMES)?;
-    let want = filled(alloc, QUEUED, WORD, TIMES)?;
-    let client = Client {
-        sent: &sent,
-        pulls: &[],
-        pushes: &[OutputStep::Full],
-    };
-    let first = [
-        Act::Turns(State::Busy),
-        Act::Turns(State::Busy),
-        Act::Turns(State::Busy),
-        Act::PushedBytes(0),
-    ];
-    let second = [Act::Turns(State::Closed), Act::Pushed(&want)];
-    play_on_two(alloc, 64, client, &first, &second)
-}
-
-#[test]
-fn a_long_block_outlives_its_log(rt: HostRuntime) -> Result<(), Fault> {
-    assert!(rt; outlives_its_log(rt.alloc())?);
     Ok(())
 }
 
