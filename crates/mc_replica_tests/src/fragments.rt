@@ -1,8 +1,7 @@
-//! Data in fragments, with ample memory: joined, compared, given, shared and kept.
+//! Data in fragments, with ample memory: joined, given and kept.
 ghost use Rattle.std.specs.Io.{StartsWith};
 ghost use Rattle.std.specs.Prelude.{◌≡◌, ◌++◌, OnOk};
 
-use mc_model::item::SHARED_BYTES;
 use mc_model::{Data, Fault, Fragments, Key, Reply, Sink, Value, ValueList};
 use std::alloc::{AllocError, Global};
 use std::test::Fail;
@@ -65,27 +64,6 @@ fn joins_with_ample_memory(rt: HostRuntime) -> Result<(), Fail> {
 }
 
 #[test]
-fn compares_data_however_they_are_cut(rt: HostRuntime) -> Result<(), Fail> {
-    let ab = block_of(rt.alloc(), "ab")?;
-    let cd = block_of(rt.alloc(), "cd")?;
-    let abc = block_of(rt.alloc(), "abc")?;
-    let d = block_of(rt.alloc(), "d")?;
-    let abcd = block_of(rt.alloc(), "abcd")?;
-    let none = block_of(rt.alloc(), "")?;
-    let early = two(rt.alloc(), &ab, &cd)?;
-    let late = two(rt.alloc(), &abc, &d)?;
-    let whole = Fragments::new(&abcd);
-    let with_none = two(rt.alloc(), &none, &abcd)?;
-    let other = two(rt.alloc(), &cd, &ab)?;
-    assert!(rt; early == late && late == early);
-    assert!(rt; early == whole && whole == late);
-    assert!(rt; with_none == early && early == with_none);
-    assert!(rt; other != early && early != other && whole != other && other != whole);
-    assert!(rt; Fragments::new(&abc) != early);
-    Ok(())
-}
-
-#[test]
 fn gives_each_block_whole(rt: HostRuntime) -> Result<(), Fail> {
     let ab = block_of(rt.alloc(), "ab")?;
     let cde = block_of(rt.alloc(), "cde")?;
@@ -123,19 +101,5 @@ fn keeps_a_reply_past_what_it_borrows(rt: HostRuntime) -> Result<(), Fail> {
         return Err(Fault::BadEvent.into());
     };
     assert!(rt; value.block.to_data(rt.alloc())?.as_bytes() == b"data".as_slice());
-    Ok(())
-}
-
-#[test]
-fn copies_share_a_long_block(rt: HostRuntime) -> Result<(), Fail> {
-    for len in [SHARED_BYTES - 1, SHARED_BYTES] {
-        let bytes = vec![in rt.alloc(); 7; len]?;
-        let Some(block) = Data::shareable(bytes)? else {
-            return Err(Fault::BadEvent.into());
-        };
-        let copy = block.try_clone()?;
-        let is_shared = block.as_bytes().as_ptr() == copy.as_bytes().as_ptr();
-        assert!(rt; is_shared == (len == SHARED_BYTES));
-    }
     Ok(())
 }
