@@ -8,6 +8,7 @@ use crate::texts::command_of;
 use mc_items::tables::owned_tables;
 use mc_items::{CellItems, Hashing, Item, Items, Table, View};
 use mc_model::{Command, Entry, Fault, Key, Limits, Reply, TenantId, Ticket};
+use mc_write::write_reply;
 use std::alloc::Global;
 use uc_cells::Seen;
 
@@ -26,6 +27,15 @@ fn reply_to<'a>(tables: &mut [Items], entry: &'a Entry) -> Result<Reply<'a>, Fau
     }
 }
 
+/// Returns whether a client reads the same of both replies, which may borrow from different logs.
+fn reads_alike(alloc: Global, one: &Reply<'_>, other: &Reply<'_>) -> Result<bool, Fault> {
+    let mut first = Vec::new(alloc);
+    let mut second = Vec::new(alloc);
+    write_reply(one, &mut first)?;
+    write_reply(other, &mut second)?;
+    Ok(first.as_slice() == second.as_slice())
+}
+
 /// Returns whether the entry is what was asked for, and this is the answer to it.
 fn is_answer_to(
     alloc: Global,
@@ -37,11 +47,12 @@ fn is_answer_to(
     let command = command_of(alloc, asked.text.as_str())?;
     let is_command = entry.command == command;
     drop(command);
+    let is_reply = reads_alike(alloc, &asked.answer.reply, reply)?;
     Ok(
         is_command
             && entry.tenant.number() == asked.tenant
             && asked.answer.place == place
-            && asked.answer.reply == *reply,
+            && is_reply,
     )
 }
 
