@@ -64,6 +64,11 @@ impl Wire {
             None => Err(Fault::BadEvent),
         }
     }
+
+    /// Closes the connection as after this fault.
+    fn close(&mut self, fault: Fault) {
+        self.conn.close(fault, &mut self.output);
+    }
 }
 
 /// A wire, its worker and the log on which both work.
@@ -87,33 +92,29 @@ fn is_among(role: &Role, tenants: usize) -> bool
 
 /// Makes a turn, and promises only that the role and the worker's log stay the same.
 fn turn(
-    conn: &mut Conn,
+    wire: &mut Wire,
     worker: &mut Worker<'_>,
-    input: &mut MemoryInput,
-    output: &mut MemoryOutput,
     buffer: &mut [u8; PULL_BYTES],
 ) -> Result<State, Fault>
-    requires { FitsLog conn.old.role worker.old }
-    ensures role { conn.new.role ≡ conn.old.role }
+    requires { FitsLog wire.old.conn.role worker.old }
+    ensures role { wire.new.conn.role ≡ wire.old.conn.role }
     ensures log { worker.new.log ≡ worker.old.log }
 {
-    conn.turn(worker, input, output, &mut Open, buffer)
+    wire.conn.turn(worker, &mut wire.input, &mut wire.output, &mut Open, buffer)
 }
 
 /// Makes a turn that leaves commands to the next log, and promises only that the role and the
 /// worker's log stay the same.
 fn turn_until(
-    conn: &mut Conn,
+    wire: &mut Wire,
     worker: &mut Worker<'_>,
-    input: &mut MemoryInput,
-    output: &mut MemoryOutput,
     buffer: &mut [u8; PULL_BYTES],
 ) -> Result<State, Fault>
-    requires { FitsLog conn.old.role worker.old }
-    ensures role { conn.new.role ≡ conn.old.role }
+    requires { FitsLog wire.old.conn.role worker.old }
+    ensures role { wire.new.conn.role ≡ wire.old.conn.role }
     ensures log { worker.new.log ≡ worker.old.log }
 {
-    conn.turn_until(worker, input, output, &mut Open, buffer)
+    wire.conn.turn_until(worker, &mut wire.input, &mut wire.output, &mut Open, buffer)
 }
 
 impl<'a> Line<'a> {
@@ -128,13 +129,7 @@ impl<'a> Line<'a> {
         if !is_among(self.wire.conn.role(), self.log.settings().tenants().len()) {
             return Err(Fault::BadEvent);
         }
-        turn(
-            &mut self.wire.conn,
-            &mut self.worker,
-            &mut self.wire.input,
-            &mut self.wire.output,
-            buffer,
-        )
+        turn(&mut self.wire, &mut self.worker, buffer)
     }
 
     /// Makes a turn that leaves commands to the next log, if the line's role fits the log.
@@ -142,18 +137,12 @@ impl<'a> Line<'a> {
         if !is_among(self.wire.conn.role(), self.log.settings().tenants().len()) {
             return Err(Fault::BadEvent);
         }
-        turn_until(
-            &mut self.wire.conn,
-            &mut self.worker,
-            &mut self.wire.input,
-            &mut self.wire.output,
-            buffer,
-        )
+        turn_until(&mut self.wire, &mut self.worker, buffer)
     }
 
     /// Closes the connection as after this fault.
     pub(crate) fn close(&mut self, fault: Fault) {
-        self.wire.conn.close(fault, &mut self.wire.output);
+        self.wire.close(fault);
     }
 
     /// Returns what was pushed.
