@@ -296,7 +296,8 @@ fn take_single<'a>(pieces: &mut Pieces<'a>) -> Fragment<'a>
 
 /// Appends a fragment.
 fn push_back<'a>(alloc: Global, pieces: &mut Pieces<'a>, block: &'a Data) -> Result<(), Fault>
-    ensures joined { OnOk result (joined_pieces pieces.new ≡ joined_pieces pieces.old ++ block.now) }
+    ensures joined { OnOk result
+        (joined_pieces pieces.new ≡ joined_pieces pieces.old ++ block.now) }
     ensures memory { IsOkUnless result Fault.Memory }
     ensures unchanged { OnErr result (joined_pieces pieces.new ≡ joined_pieces pieces.old) }
 {
@@ -314,7 +315,8 @@ fn push_back<'a>(alloc: Global, pieces: &mut Pieces<'a>, block: &'a Data) -> Res
 
 /// Prepends a fragment.
 fn push_front<'a>(alloc: Global, pieces: &mut Pieces<'a>, block: &'a Data) -> Result<(), Fault>
-    ensures joined { OnOk result (joined_pieces pieces.new ≡ block.now ++ joined_pieces pieces.old) }
+    ensures joined { OnOk result
+        (joined_pieces pieces.new ≡ block.now ++ joined_pieces pieces.old) }
     ensures memory { IsOkUnless result Fault.Memory }
     ensures unchanged { OnErr result (joined_pieces pieces.new ≡ joined_pieces pieces.old) }
 {
@@ -383,7 +385,8 @@ fn write_pieces(pieces: &Pieces<'_>, out: &mut Vec<u8>) -> Result<(), AllocError
 
 /// Gives the fragments to a sink, one after the other.
 fn give_pieces<S: Sink>(pieces: &Pieces<'_>, sink: &mut S) -> Result<(), AllocError>
-    ensures joined { OnOk result (S.taken sink.new ≡ S.taken sink.old ++ joined_pieces pieces.now) }
+    ensures joined { OnOk result
+        (S.taken sink.new ≡ S.taken sink.old ++ joined_pieces pieces.now) }
     ensures begun { StartsWith (S.taken sink.new) (S.taken sink.old) }
 {
     match pieces {

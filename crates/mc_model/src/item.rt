@@ -66,7 +66,8 @@ impl Data {
     /// block of at least `SHARED_BYTES` share its bytes, which takes an allocation. Returns `Memory`
     /// if that fails.
     pub fn shareable(bytes: Vec<u8>) -> Result<Option<Data>, Fault>
-        ensures block { IfOk result (λ block. SomeIff block (vec_len bytes ≤ DATA_BYTES) bytes.items) }
+        ensures block { IfOk result
+            (λ block. SomeIff block (vec_len bytes ≤ DATA_BYTES) bytes.items) }
         ensures memory { IsOkUnless result Fault.Memory }
     {
         if bytes.len() < SHARED_BYTES {

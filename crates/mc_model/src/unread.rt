@@ -40,7 +40,8 @@ impl<'f, 'a> Unread<'f, 'a> {
     /// Reads these bytes, and returns whether they come next. If they don't, it is left in part.
     pub(crate) fn reads(&mut self, bytes: &[u8]) -> bool
         ensures read { IsTrue result → unread_bytes self.old ≡ bytes.now ++ unread_bytes self.new }
-        ensures others { IsFalse result → take (length bytes.now) (unread_bytes self.old) ≢ bytes.now }
+        ensures others { IsFalse result →
+            take (length bytes.now) (unread_bytes self.old) ≢ bytes.now }
     {
         let Some(list) = self.list else {
             return self.reads_here(bytes);
@@ -74,7 +75,8 @@ impl<'f, 'a> Unread<'f, 'a> {
         requires { (length bytes.now ≤ length self.old.rest.now)
             ⊎ (fragments_left self.old ≡ []) }
         ensures read { IsTrue result → unread_bytes self.old ≡ bytes.now ++ unread_bytes self.new }
-        ensures others { IsFalse result → take (length bytes.now) (unread_bytes self.old) ≢ bytes.now }
+        ensures others { IsFalse result →
+            take (length bytes.now) (unread_bytes self.old) ≢ bytes.now }
     {
         if self.rest.len() < bytes.len() {
             return false;

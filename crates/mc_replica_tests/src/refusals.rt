@@ -116,7 +116,7 @@ const ROWS: [Row; 11] = [
         "announce 255 0 get a\r\n/read 255/look 255/propose 255/replay 255/stop 255",
         Fault::BadEvent,
     ),
-    // A full log is told, isn't read, and knows no other tenant.
+    // A full log refuses, isn't read, and knows no other tenant.
     (1, FULL, "announce 0 0 get a\r\n/look 1", Fault::LogFull),
     (
         1,

@@ -370,7 +370,8 @@ fn show_kept<'a>(
     kept: &mut CellItem<'a>,
     uniques: bool,
 ) -> Result<Value<'a>, Fault>
-    ensures shown { IfOk result (λ shown. shown ≡ shown_item uniques key.now (item_of_cell kept.old)) }
+    ensures shown { IfOk result
+        (λ shown. shown ≡ shown_item uniques key.now (item_of_cell kept.old)) }
     ensures memory { IsOkUnless result Fault.Memory }
     ensures unchanged { kept.new ≡ kept.old }
 {

@@ -60,7 +60,8 @@ pub trait StorageFor<'a>: Storage {
     /// several fragments are joined where they are kept: later calls copy none of them. Returns
     /// `Memory` if an allocation fails. The table stays the same either way.
     fn show(&mut self, key: &Key, uniques: bool) -> Result<Option<Value<'a>>, Fault>
-        ensures shown { IfOk result (λ shown. shown ≡ shown_at (Self.table self.old) uniques key.now) }
+        ensures shown { IfOk result
+            (λ shown. shown ≡ shown_at (Self.table self.old) uniques key.now) }
         ensures memory { IsOkUnless result Fault.Memory }
         ensures unchanged { Self.table self.new ≡ Self.table self.old };
 

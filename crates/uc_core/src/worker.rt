@@ -231,7 +231,8 @@ impl Worker {
 /// the items of a retrieval need: so no table has changed then.
 fn owned(alloc: Global, reply: Option<Reply<'_>>) -> Result<Option<Reply<'static>>, Fault>
     ensures same { IfOk result (λ owned. owned ≡ reply.entry) }
-    ensures items { IfErr result (λ fault. (values : List Value) × (reply.entry ≡ Some (Values values))) }
+    ensures items { IfErr result
+        (λ fault. (values : List Value) × (reply.entry ≡ Some (Values values))) }
     ensures memory { IsOkUnless result Fault.Memory }
 {
     match reply {
