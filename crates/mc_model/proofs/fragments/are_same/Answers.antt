@@ -1,4 +1,4 @@
-use Rattle.std.proofs.Common.{◌≡◌, ◌+◌, ◌<◌, ◌≤◌, ◌++◌, ◌∙◌, List, ℕ, drop, flat_map, get_or, length, sym, take, ap, rules}
+use Rattle.std.proofs.Common.{◌≡◌, ◌+◌, ◌<◌, ◌≤◌, ◌++◌, ◌∙◌, List, ℕ, drop, flat_map, get_or, length, take, ap, rules}
 use Rattle.std.proofs.lemmas.List.{take_all}
 use Rattle.mc_model.specs.Joined.{fragment_bytes, joined_pieces, unread_bytes}
 use Rattle.mc_model.proofs.Pieces.{flat_map-at, part_differs, seen_other, seen_same}

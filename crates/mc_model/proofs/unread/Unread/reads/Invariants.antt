@@ -1,5 +1,5 @@
-use Rattle.std.proofs.Common.{◌≡◌, ◌++◌, List, ℕ, drop}
-use Rattle.mc_model.specs.Joined.{fragments_left, unread_bytes}
+use Rattle.std.proofs.Common.{◌≡◌}
+use Rattle.mc_model.specs.Joined.{unread_bytes}
 use Rattle.mc_model.proofs.Pieces.{Halfway}
 use Rattle.mc_model.proofs.unread.Unread.reads.Given as goal
 
