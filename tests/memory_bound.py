@@ -142,17 +142,19 @@ def check_large_replies():
 
 
 def check_own_allocation():
-    """With room for some of these blocks those that are refused are told so and closed, and nobody else is."""
+    """With room for some of these blocks those that are refused are told so and closed, and nobody else is. All blocks together have more bytes
+    than the process may have addresses: the C library reserves 64 MiB for each thread, which count as addresses at the start and hold blocks."""
     with contextlib.ExitStack() as open_ones:
         at_start = open_ones.enter_context(Server(PROGRAM, options(), {"a": QUOTA, "b": QUOTA}))
         at_start.await_workers()
         least = at_start.address_space()
-    with limited(least + 24 * MEBIBYTE) as server:
+    most = least + 24 * MEBIBYTE
+    with limited(most) as server:
         others = [server.connect(name) for name in "abab"]
         for other in others:
             send_all(other, b"set small 0 0 1\r\nx\r\n")
         check("small commands before", all(line_of(other) == b"STORED\r\n" for other in others))
-        holding = hold_blocks(server, 2 * CONNECTIONS)
+        holding = hold_blocks(server, most // BLOCK + CONNECTIONS)
         for client in holding:
             send_all(client, b"\r\n")
         ends = [line_of(client) for client in holding]
