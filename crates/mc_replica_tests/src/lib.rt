@@ -21,6 +21,8 @@ mod hashing;
 #[cfg(test)]
 mod items;
 #[cfg(test)]
+mod layers;
+#[cfg(test)]
 mod lines;
 #[cfg(test)]
 mod model;

@@ -1,5 +1,5 @@
 -- Entries that are copied one by one.
-use Rattle.std.proofs.Common.{◌≡◌, ℕ, ◌+◌, ◌<◌, ◌||◌, Bool, true, false, cond, not, List, [], ◌∷◌, drop, get_or, length, slice_get, Bor, Option, Some, None, refl, sym, ap, ◌∙◌, add-one, arith}
+use Rattle.std.proofs.Common.{◌≡◌, ℕ, ◌+◌, ◌<◌, ◌≤◌, Bool, true, false, cond, not, List, [], ◌∷◌, drop, get_or, length, slice_get, Option, Some, None, refl, sym, ap, ◌∙◌, add-one, arith}
 use Rattle.std.proofs.Math.Seq.{drop-cons}
 use Rattle.std.proofs.lemmas.Bool.Decides.{nat_tests}
 use Rattle.std.proofs.lemmas.List.Sums.{position_or_len_is}
@@ -8,19 +8,17 @@ use Rattle.std.proofs.lemmas.Option.{get_or_from_slice_get, slice_get-map, slice
 use Rattle.std.specs.Cmp.{IsEquivalence}
 use Rattle.std.specs.Cmp.Lexicographic.{nat_list_eq_equiv, texts_ties}
 use Rattle.std.specs.FinMap as map
-use Rattle.std.specs.FinMap.{get-empty, get-insert, get-retain_keys, same_map}
-use Rattle.std.specs.HashMap.{HashMap}
+use Rattle.std.specs.FinMap.{get-empty, get-insert, get-remove, same_map}
 use Rattle.std.specs.List.{IsDistinct, position_or_len}
 use Rattle.std.specs.Map.{keys_of}
-use Rattle.std.specs.Option.{is_some, option_map}
-use Rattle.std.specs.Prelude.{nat_lt, suc, Vec}
+use Rattle.std.specs.Option.{option_map}
+use Rattle.std.specs.Prelude.{nat_eq, nat_lt, suc, Vec}
 use Rattle.mc_model.specs.declared.item.Item.{Item}
 use Rattle.mc_model.specs.declared.key.Key.{Key}
 use Rattle.mc_model.specs.Table.{Table, is_tied, key_cmp, key_cmp_exact, key_cmp_total, tied_keys}
-use Rattle.mc_tables.specs.declared.cell_item.CellItem.{CellItem}
-use Rattle.mc_tables.specs.Copies.{is_hidden, unhidden}
-use Rattle.mc_tables.specs.Entries.{is_marked, item_of_cell, laid_over, owned_entries, text_of_slice, text_of_vec, unmarked}
-use Rattle.mc_tables.proofs.Layering.{entry_at, get-laid_over, get-owned, get-unmarked, held_under, nothing, or_else, place_is, place_of, same, same_itself, same_texts, same_turned, turned}
+use Rattle.mc_tables.specs.Entries.{is_marked, laid_over, text_of_vec, unmarked, without}
+use Rattle.mc_tables.proofs.Places.{place_within}
+use Rattle.mc_tables.proofs.Layering.{apart_places, entry_at, get-unmarked, get-without, held_under, or_else, place_is, place_of, same, same_itself, same_texts, same_turned}
 
 -- a look-up in the entries from a place on, where that place is the first
 pub entry_at-from : {Z : Type 0} (held : List (Vec ℕ Z × Item)) (place : ℕ) (entry : Vec ℕ Z × Item) → slice_get held place ≡ Some entry → (q : Key) →
@@ -31,35 +29,6 @@ entry_at-from held place entry is q =
     ap (λ es. entry_at text_of_vec es q) (drop-cons held place entry inside)
     ∙ ap (λ (e : _). cond (same q (text_of_vec e.0)) (Some e.1) (entry_at text_of_vec (drop (suc place) held) q)) at
     ∙ ap (λ n. cond (same q (text_of_vec entry.0)) (Some entry.1) (entry_at text_of_vec (drop n held) q)) (sym (add-one place))
-
--- what was copied so far, before what is left, is all
-abbrev pub IsCopying : {Z : Type 0} → Table → List (Vec ℕ Z × Item) → List (Vec ℕ Z × Item) → Type 0
-IsCopying copy left held = (q : Key) → or_else (map.get copy q) (entry_at text_of_vec left q) ≡ entry_at text_of_vec held q
-
-pub nothing_copied : {Z : Type 0} (copy : Table) (held : List (Vec ℕ Z × Item)) → copy ≡ map.empty → IsCopying copy held held
-nothing_copied copy held is = λ q. ap (λ (o : Option Item). or_else o (entry_at text_of_vec held q)) (ap (λ (t : Table). map.get t q) is ∙ get-empty key_cmp q)
-
-pub one_copied : {Z : Type 0} (copy new : Table) (left next held : List (Vec ℕ Z × Item)) (text : Key) (item : Item) → IsCopying copy left held →
-    ((q : Key) → entry_at text_of_vec left q ≡ cond (same q text) (Some item) (entry_at text_of_vec next q)) →
-    entry_at text_of_vec held text ≡ Some item → new ≡ map.insert copy text item → IsCopying new next held
-one_copied copy new left next held text item so_far first there put_in = λ q.
-    ap (λ (t : Table). or_else (map.get t q) (entry_at text_of_vec next q)) put_in
-    ∙ ap (λ (o : Option Item). or_else o (entry_at text_of_vec next q)) (get-insert key_cmp_total copy text item q)
-    ∙ by q (is_tied q text) refl
-  where
-    by : (q : Key) (tied : Bool) → is_tied q text ≡ tied → or_else (cond tied (Some item) (map.get copy q)) (entry_at text_of_vec next q) ≡ entry_at text_of_vec held q
-    by q true is = sym there ∙ ap (entry_at text_of_vec held) (sym (tied_keys q text is))
-    by q false is =
-        ap (or_else (map.get copy q)) (sym (first q ∙ ap (λ b. cond b (Some item) (entry_at text_of_vec next q)) (texts_ties q text ∙ is)))
-        ∙ so_far q
-
-pub all_copied : {Z : Type 0} (copy : Table) (left held : List (Vec ℕ Z × Item)) → left ≡ [] → IsCopying copy left held → copy ≡ owned_entries held
-all_copied copy left held none so_far = same_map key_cmp_total key_cmp_exact _ _ (λ q.
-    no_more (map.get copy q) ∙ ap (λ es. or_else (map.get copy q) (entry_at text_of_vec es q)) (sym none) ∙ so_far q ∙ sym (get-owned held q))
-  where
-    no_more : (o : Option Item) → o ≡ or_else o None
-    no_more None = refl
-    no_more (Some item) = refl
 
 -- the place of an entry's own key
 pub own_place : {Z : Type 0} (held : List (Vec ℕ Z × Item)) (place : ℕ) (entry : Vec ℕ Z × Item) → IsDistinct (same_texts text_of_vec) (keys_of held) →
@@ -117,78 +86,43 @@ module _ {Z : Type 0} (gone : Key → Bool) (copy : Table) (left next held : Lis
           sym (ap (λ b. cond b None (entry_at text_of_vec held q)) no ∙ ap (entry_at text_of_vec held) (tied_keys q text is) ∙ there)
       by q false is = ap (or_else (map.get copy q)) (sym (other q is)) ∙ so_far q
 
--- what is below entries, without the keys that they hide
-pub get-unhidden : {S : Type 0} (over : HashMap (Bor (List ℕ)) CellItem S) (table : Table) (q : Key) →
-    map.get (unhidden over table) q ≡ cond (is_hidden over q) None (map.get table q)
-get-unhidden over table q =
-    get-retain_keys table (λ key. not (is_hidden over key)) q (λ x tied. ap (λ key. not (is_hidden over key)) (sym (key_cmp_exact q x tied)))
-    ∙ turned (is_hidden over q) _ _
-
-either : (marked hidden : Bool) (there : Option Item) → cond (marked || hidden) None there ≡ cond hidden None (cond marked None there)
-either true true there = refl
-either true false there = refl
-either false true there = refl
-either false false there = refl
-
 no_more_left : (gone : Bool) (o : Option Item) → o ≡ or_else o (cond gone None None)
 no_more_left true None = refl
 no_more_left true (Some item) = refl
 no_more_left false None = refl
 no_more_left false (Some item) = refl
 
--- whether a key's place is marked, or it is hidden
-abbrev pub is_gone_from : {Z S : Type 0} → List (Vec ℕ Z × Item) → List Bool → HashMap (Bor (List ℕ)) CellItem S → Key → Bool
-is_gone_from held marks over q = is_marked marks (place_of held q) || is_hidden over q
+-- whether a key's place is marked
+abbrev pub is_gone_from : {Z : Type 0} → List (Vec ℕ Z × Item) → List Bool → Key → Bool
+is_gone_from held marks q = is_marked marks (place_of held q)
 
-pub all_copied_left : {Z S : Type 0} (marks : List Bool) (over : HashMap (Bor (List ℕ)) CellItem S) (copy : Table) (left held : List (Vec ℕ Z × Item)) → left ≡ [] →
-    IsCopyingLeft (is_gone_from held marks over) copy left held → copy ≡ unhidden over (unmarked held marks)
-all_copied_left marks over copy left held none so_far = same_map key_cmp_total key_cmp_exact _ _ (λ q.
-    no_more_left (is_gone_from held marks over q) (map.get copy q)
-    ∙ ap (λ es. or_else (map.get copy q) (left_at (is_gone_from held marks over) es q)) (sym none) ∙ so_far q
-    ∙ either (is_marked marks (place_of held q)) (is_hidden over q) (entry_at text_of_vec held q)
-    ∙ sym (get-unhidden over (unmarked held marks) q ∙ ap (cond (is_hidden over q) None) (get-unmarked held marks q)))
+pub all_copied_left : {Z : Type 0} (marks : List Bool) (copy : Table) (left held : List (Vec ℕ Z × Item)) → left ≡ [] →
+    IsCopyingLeft (is_gone_from held marks) copy left held → copy ≡ unmarked held marks
+all_copied_left marks copy left held none so_far = same_map key_cmp_total key_cmp_exact _ _ (λ q.
+    no_more_left (is_gone_from held marks q) (map.get copy q)
+    ∙ ap (λ es. or_else (map.get copy q) (left_at (is_gone_from held marks) es q)) (sym none) ∙ so_far q
+    ∙ sym (get-unmarked held marks q))
 
 -- ENTRIES ARE LAID OVER A COPY
-abbrev pub at_slice : List (Bor (List ℕ) × CellItem) → Key → Option CellItem
-at_slice entries q = entry_at text_of_slice entries q
-
 -- but for the keys of the entries that are left, the copy has what it is to have
-abbrev pub IsLaying : Table → Table → List (Bor (List ℕ) × CellItem) → Type 0
-IsLaying whole copy left = (q : Key) → at_slice left q ≡ None → map.get copy q ≡ map.get whole q
+abbrev pub IsLaying : {K V : Type 0} → (K → Key) → Table → Table → List (K × V) → Type 0
+IsLaying text whole copy left = (q : Key) → entry_at text left q ≡ None → map.get copy q ≡ map.get whole q
 
-pub none_laid : (table : Table) (entries : List (Bor (List ℕ) × CellItem)) → IsLaying (laid_over text_of_slice item_of_cell table entries) table entries
-none_laid table entries = λ q none. sym (held_under text_of_slice item_of_cell table entries q none)
+pub none_laid : {K V : Type 0} (text : K → Key) (item : V → Item) (table : Table) (entries : List (K × V)) → IsLaying text (laid_over text item table entries) table entries
+none_laid text item table entries = λ q none. sym (held_under text item table entries q none)
 
-pub one_laid : (whole copy new : Table) (left next : List (Bor (List ℕ) × CellItem)) (key : Bor (List ℕ)) (kept : CellItem) → IsLaying whole copy left → left ≡ (key, kept) ∷ next →
-    map.get whole key.now ≡ Some (item_of_cell kept) → new ≡ map.insert copy key.now (item_of_cell kept) → IsLaying whole new next
-one_laid whole copy new left next key kept so_far left_is there put_in = λ q none.
-    ap (λ (t : Table). map.get t q) put_in ∙ get-insert key_cmp_total copy key.now (item_of_cell kept) q ∙ by q none (is_tied q key.now) refl
+pub one_laid : {K V : Type 0} (text : K → Key) (whole copy new : Table) (left next : List (K × V)) (key : Key) (held : V) (item : Item) → IsLaying text whole copy left →
+    ((q : Key) → entry_at text left q ≡ cond (same q key) (Some held) (entry_at text next q)) →
+    map.get whole key ≡ Some item → new ≡ map.insert copy key item → IsLaying text whole new next
+one_laid text whole copy new left next key held item so_far first there put_in = λ q none.
+    ap (λ (t : Table). map.get t q) put_in ∙ get-insert key_cmp_total copy key item q ∙ by q none (is_tied q key) refl
   where
-    by : (q : Key) → at_slice next q ≡ None → (tied : Bool) → is_tied q key.now ≡ tied → cond tied (Some (item_of_cell kept)) (map.get copy q) ≡ map.get whole q
-    by q none true is = sym (ap (map.get whole) (tied_keys q key.now is) ∙ there)
-    by q none false is = so_far q (ap (λ es. at_slice es q) left_is ∙ ap (λ b. cond b (Some kept) (at_slice next q)) (texts_ties q key.now ∙ is) ∙ none)
+    by : (q : Key) → entry_at text next q ≡ None → (tied : Bool) → is_tied q key ≡ tied → cond tied (Some item) (map.get copy q) ≡ map.get whole q
+    by q none true is = sym (ap (map.get whole) (tied_keys q key is) ∙ there)
+    by q none false is = so_far q (first q ∙ ap (λ b. cond b (Some held) (entry_at text next q)) (texts_ties q key ∙ is) ∙ none)
 
-pub all_laid : (whole copy : Table) (left : List (Bor (List ℕ) × CellItem)) → left ≡ [] → IsLaying whole copy left → copy ≡ whole
-all_laid whole copy left none so_far = same_map key_cmp_total key_cmp_exact _ _ (λ q. so_far q (ap (λ es. at_slice es q) none))
-
--- entries hide what was left out below them
-pub laid_unhidden : {S : Type 0} (table : Table) (over : HashMap (Bor (List ℕ)) CellItem S) →
-    laid_over text_of_slice item_of_cell (unhidden over table) over.entries ≡ laid_over text_of_slice item_of_cell table over.entries
-laid_unhidden table over = same_map key_cmp_total key_cmp_exact _ _ (λ q.
-    get-laid_over text_of_slice item_of_cell (unhidden over table) over.entries q ∙ by q (at_slice over.entries q) refl
-    ∙ sym (get-laid_over text_of_slice item_of_cell table over.entries q))
-  where
-    by : (q : Key) (o : Option CellItem) → at_slice over.entries q ≡ o →
-        or_else (option_map item_of_cell (at_slice over.entries q)) (map.get (unhidden over table) q) ≡ or_else (option_map item_of_cell (at_slice over.entries q)) (map.get table q)
-    by q None is = ap (or_else (option_map item_of_cell (at_slice over.entries q))) (get-unhidden over table q ∙ ap (λ (o : Option CellItem). cond (is_some o) None (map.get table q)) is)
-    by q (Some kept) is =
-        ap (λ (o : Option CellItem). or_else (option_map item_of_cell o) (map.get (unhidden over table) q)) is
-        ∙ sym (ap (λ (o : Option CellItem). or_else (option_map item_of_cell o) (map.get table q)) is)
-
-pub nothing_unhidden : {S : Type 0} (over : HashMap (Bor (List ℕ)) CellItem S) (copy table : Table) → copy ≡ map.empty → table ≡ map.empty → copy ≡ unhidden over table
-nothing_unhidden over copy table none below = same_map key_cmp_total key_cmp_exact _ _ (λ q.
-    let empty : map.get table q ≡ None = ap (λ (t : Table). map.get t q) below ∙ get-empty key_cmp q in
-    ap (λ (t : Table). map.get t q) none ∙ get-empty key_cmp q ∙ sym (get-unhidden over table q ∙ nothing (is_hidden over q) (map.get table q) empty))
+pub all_laid : {K V : Type 0} (text : K → Key) (whole copy : Table) (left : List (K × V)) → left ≡ [] → IsLaying text whole copy left → copy ≡ whole
+all_laid text whole copy left none so_far = same_map key_cmp_total key_cmp_exact _ _ (λ q. so_far q (ap (λ es. entry_at text es q) none))
 
 -- whether keys are equal by their bytes is an equivalence
 pub same_texts_equiv : {K : Type 0} (text : K → Key) → IsEquivalence (same_texts text)
@@ -197,3 +131,70 @@ same_texts_equiv text = record {
   symm = λ x y. nat_list_eq_equiv.symm (text x) (text y);
   congr = λ x y z. nat_list_eq_equiv.congr (text x) (text y) (text z);
 }
+
+-- MARKED KEYS ARE REMOVED ONE BY ONE
+-- whether a place is marked, of those before an end
+abbrev pub is_marked_before : List Bool → ℕ → Option ℕ → Bool
+is_marked_before marks end None = false
+is_marked_before marks end (Some place) = cond (nat_lt place end) (get_or marks place false) false
+
+-- the copy lacks the keys whose places are marked, of those before an end
+abbrev pub IsRemoving : {Z : Type 0} → Table → List (Vec ℕ Z × Item) → List Bool → ℕ → Table → Type 0
+IsRemoving table held marks end copy = (q : Key) → map.get copy q ≡ cond (is_marked_before marks end (place_of held q)) None (map.get table q)
+
+none_before : (marks : List Bool) (there : Option ℕ) → is_marked_before marks 0 there ≡ false
+none_before marks None = refl
+none_before marks (Some place) =
+    let past : nat_lt place 0 ≡ false = grind (arith, nat_tests) in
+    ap (λ b. cond b (get_or marks place false) false) past
+
+pub none_removed : {Z : Type 0} (table copy : Table) (held : List (Vec ℕ Z × Item)) (marks : List Bool) → copy ≡ table → IsRemoving table held marks 0 copy
+none_removed table copy held marks is = λ q.
+    ap (λ (t : Table). map.get t q) is ∙ sym (ap (λ b. cond b None (map.get table q)) (none_before marks (place_of held q)))
+
+-- one more place changes nothing elsewhere, or if it isn't marked
+elsewhere : (marks : List Bool) (end : ℕ) (there : Option ℕ) → (there ≡ Some end → get_or marks end false ≡ false) → is_marked_before marks (end + 1) there ≡ is_marked_before marks end there
+elsewhere marks end None apart = refl
+elsewhere marks end (Some place) apart = by (nat_eq place end) refl
+  where
+    by : (b : Bool) → nat_eq place end ≡ b → cond (nat_lt place (end + 1)) (get_or marks place false) false ≡ cond (nat_lt place end) (get_or marks place false) false
+    by true is =
+        let here : place ≡ end = grind (arith, nat_tests) in
+        let within : nat_lt place (end + 1) ≡ true = grind (arith, nat_tests) in
+        let past : nat_lt place end ≡ false = grind (arith, nat_tests) in
+        ap (λ b. cond b (get_or marks place false) false) within ∙ ap (λ n. get_or marks n false) here ∙ apart (ap Some here)
+        ∙ sym (ap (λ b. cond b (get_or marks place false) false) past)
+    by false is =
+        let alike : nat_lt place (end + 1) ≡ nat_lt place end = grind (arith, nat_tests) in
+        ap (λ b. cond b (get_or marks place false) false) alike
+
+pub one_stays : {Z : Type 0} (table copy : Table) (held : List (Vec ℕ Z × Item)) (marks : List Bool) (end : ℕ) → IsRemoving table held marks end copy →
+    ((q : Key) → place_of held q ≡ Some end → get_or marks end false ≡ false) → IsRemoving table held marks (end + 1) copy
+one_stays table copy held marks end so_far apart = λ q.
+    so_far q ∙ ap (λ b. cond b None (map.get table q)) (sym (elsewhere marks end (place_of held q) (apart q)))
+
+pub one_removed : {Z : Type 0} (table copy new : Table) (held : List (Vec ℕ Z × Item)) (marks : List Bool) (end : ℕ) (text : Key) → IsRemoving table held marks end copy →
+    place_of held text ≡ Some end → get_or marks end false ≡ true → new ≡ map.remove copy text → IsRemoving table held marks (end + 1) new
+one_removed table copy new held marks end text so_far at mark gone = λ q.
+    ap (λ (t : Table). map.get t q) gone ∙ get-remove key_cmp_total copy text q ∙ by q (is_tied q text) refl
+  where
+    by : (q : Key) (tied : Bool) → is_tied q text ≡ tied → cond tied None (map.get copy q) ≡ cond (is_marked_before marks (end + 1) (place_of held q)) None (map.get table q)
+    by q true is =
+        let here : place_of held q ≡ Some end = ap (place_of held) (tied_keys q text is) ∙ at in
+        let within : nat_lt end (end + 1) ≡ true = grind (arith, nat_tests) in
+        sym (ap (λ (o : Option ℕ). cond (is_marked_before marks (end + 1) o) None (map.get table q)) here
+        ∙ ap (λ b. cond (cond b (get_or marks end false) false) None (map.get table q)) within ∙ ap (λ b. cond b None (map.get table q)) mark)
+    by q false is =
+        so_far q ∙ ap (λ b. cond b None (map.get table q)) (sym (elsewhere marks end (place_of held q) (λ there. absurd (apart_places held text q end end is at there refl))))
+
+pub all_removed : {Z : Type 0} (table copy : Table) (held : List (Vec ℕ Z × Item)) (marks : List Bool) (end : ℕ) → length held ≤ end → IsRemoving table held marks end copy →
+    copy ≡ without table held marks
+all_removed table copy held marks end past so_far = same_map key_cmp_total key_cmp_exact _ _ (λ q.
+    so_far q ∙ ap (λ b. cond b None (map.get table q)) (by (place_of held q) (λ i at. place_within held q i at)) ∙ sym (get-without table held marks q))
+  where
+    by : (there : Option ℕ) → ((i : ℕ) → there ≡ Some i → i < length held) → is_marked_before marks end there ≡ is_marked marks there
+    by None inside = refl
+    by (Some place) inside =
+        let before : place < length held = inside place refl in
+        let within : nat_lt place end ≡ true = grind (arith, nat_tests) in
+        ap (λ b. cond b (get_or marks place false) false) within

@@ -18,7 +18,7 @@ use Rattle.std.specs.Option.{is_some, option_map}
 use Rattle.mc_model.specs.declared.item.Item.{Item}
 use Rattle.mc_model.specs.declared.key.Key.{Key}
 use Rattle.mc_model.specs.Table.{Table, is_tied, key_cmp, key_cmp_exact, key_cmp_total, tied_itself, tied_keys}
-use Rattle.mc_tables.specs.Entries.{is_marked, laid_over, owned_entries, same_item, text_of_vec, texts_of, unmarked}
+use Rattle.mc_tables.specs.Entries.{is_marked, laid_over, owned_entries, same_item, text_of_vec, texts_of, unmarked, without}
 
 -- the two tests of keys
 abbrev pub same : Key → Key → Bool
@@ -27,7 +27,7 @@ same = pointwise nat_eq
 same_tied : (q k : Key) → is_tied q k ≡ same q k
 same_tied q k = sym (texts_ties q k)
 
-is_same : (q k : Key) → same q k ≡ true → q ≡ k
+pub is_same : (q k : Key) → same q k ≡ true → q ≡ k
 is_same q k is = tied_keys q k (same_tied q k ∙ is)
 
 same_symm : (q k : Key) → same q k ≡ is_tied k q
@@ -131,11 +131,15 @@ pub turned : {A : Type 0} (b : Bool) (x y : A) → cond (not b) x y ≡ cond b y
 turned true x y = refl
 turned false x y = refl
 
+pub get-without : {Z : Type 0} (table : Table) (held : List (Vec ℕ Z × Item)) (marks : List Bool) (q : Key) →
+    map.get (without table held marks) q ≡ cond (is_marked marks (place_of held q)) None (map.get table q)
+get-without table held marks q =
+    get-retain_keys table (λ key. not (is_marked marks (place_of held key))) q (λ x tied. ap (λ key. not (is_marked marks (place_of held key))) (sym (key_cmp_exact q x tied)))
+    ∙ turned (is_marked marks (place_of held q)) _ _
+
 pub get-unmarked : {Z : Type 0} (held : List (Vec ℕ Z × Item)) (marks : List Bool) (q : Key) →
     map.get (unmarked held marks) q ≡ cond (is_marked marks (place_of held q)) None (entry_at text_of_vec held q)
-get-unmarked held marks q =
-    get-retain_keys (owned_entries held) (λ key. not (is_marked marks (place_of held key))) q (λ x tied. ap (λ key. not (is_marked marks (place_of held key))) (sym (key_cmp_exact q x tied)))
-    ∙ turned (is_marked marks (place_of held q)) _ _ ∙ ap (cond (is_marked marks (place_of held q)) None) (get-owned held q)
+get-unmarked held marks q = get-without (owned_entries held) held marks q ∙ ap (cond (is_marked marks (place_of held q)) None) (get-owned held q)
 
 -- the place of a key by its bytes is that by its entry
 before_it : {Z : Type 0} (held : List (Vec ℕ Z × Item)) (q : Key) → position_or_len (λ k. same q (text_of_vec k)) (keys_of held) ≡ position_or_len (same q) (texts_of held)
@@ -149,22 +153,12 @@ as_many (entry ∷ held) = ap suc (as_many held)
 pub place_is : {Z : Type 0} (held : List (Vec ℕ Z × Item)) (q : Key) → position (λ k. same q (text_of_vec k)) (keys_of held) ≡ place_of held q
 place_is held q = λ i. cond (nat_lt (before_it held q i) (as_many held i)) (Some (before_it held q i)) None
 
-some_place : {Z : Type 0} (held : List (Vec ℕ Z × Item)) (q : Key) → is_some (place_of held q) ≡ is_some (entry_at text_of_vec held q)
-some_place held q = ap (λ (o : Option ℕ). is_some o) (sym (place_is held q)) ∙ some_index (λ k. same q (text_of_vec k)) held
-
-not_found : {Z : Type 0} (held : List (Vec ℕ Z × Item)) (q : Key) → place_of held q ≡ None → entry_at text_of_vec held q ≡ None
-not_found held q none = by (entry_at text_of_vec held q) refl
-  where
-    by : (there : Option Item) → entry_at text_of_vec held q ≡ there → there ≡ None
-    by None is = refl
-    by (Some item) is = absurd (true≢false (sym (ap (λ (o : Option Item). is_some o) is) ∙ sym (some_place held q) ∙ ap (λ (o : Option ℕ). is_some o) none))
-
 marked_other : (marks : List Bool) (i : ℕ) (there : Option ℕ) → ((j : ℕ) → there ≡ Some j → j ≢ i) → is_marked (set marks i true) there ≡ is_marked marks there
 marked_other marks i None apart = refl
 marked_other marks i (Some j) apart = get_or-set_other marks i j true false (apart j refl)
 
 -- places of two keys that are apart
-apart_places : {Z : Type 0} (held : List (Vec ℕ Z × Item)) (key q : Key) (i j : ℕ) → is_tied q key ≡ false → place_of held key ≡ Some i → place_of held q ≡ Some j → j ≢ i
+pub apart_places : {Z : Type 0} (held : List (Vec ℕ Z × Item)) (key q : Key) (i j : ℕ) → is_tied q key ≡ false → place_of held key ≡ Some i → place_of held q ≡ Some j → j ≢ i
 apart_places held key q i j apart at there is =
     let one = (position-Some (same key) (texts_of held) i key at).1 in
     let other = (position-Some (same q) (texts_of held) j key there).1 in
@@ -173,19 +167,19 @@ apart_places held key q i j apart at there is =
     let both : q ≡ key = q_is ∙ ap (λ n. get_or (texts_of held) n key) is ∙ sym key_is in
     true≢false (sym (tied_itself key) ∙ ap (λ k. is_tied k key) (sym both) ∙ apart)
 
-pub marked : {Z : Type 0} (held : List (Vec ℕ Z × Item)) (marks : List Bool) (key : Key) (i : ℕ) → place_of held key ≡ Some i → i < length marks →
-    unmarked held (set marks i true) ≡ map.remove (unmarked held marks) key
-marked held marks key i at inside = same_map key_cmp_total key_cmp_exact _ _ (λ q.
-    get-unmarked held (set marks i true) q ∙ by q (is_tied q key) refl
-    ∙ sym (get-remove key_cmp_total (unmarked held marks) key q ∙ ap (cond (is_tied q key) None) (get-unmarked held marks q)))
+pub marked : {Z : Type 0} (table : Table) (held : List (Vec ℕ Z × Item)) (marks : List Bool) (key : Key) (i : ℕ) → place_of held key ≡ Some i → i < length marks →
+    without table held (set marks i true) ≡ map.remove (without table held marks) key
+marked table held marks key i at inside = same_map key_cmp_total key_cmp_exact _ _ (λ q.
+    get-without table held (set marks i true) q ∙ by q (is_tied q key) refl
+    ∙ sym (get-remove key_cmp_total (without table held marks) key q ∙ ap (cond (is_tied q key) None) (get-without table held marks q)))
   where
-    by : (q : Key) (tied : Bool) → is_tied q key ≡ tied → cond (is_marked (set marks i true) (place_of held q)) None (entry_at text_of_vec held q)
-        ≡ cond tied None (cond (is_marked marks (place_of held q)) None (entry_at text_of_vec held q))
+    by : (q : Key) (tied : Bool) → is_tied q key ≡ tied → cond (is_marked (set marks i true) (place_of held q)) None (map.get table q)
+        ≡ cond tied None (cond (is_marked marks (place_of held q)) None (map.get table q))
     by q true is =
         let here : place_of held q ≡ Some i = ap (place_of held) (tied_keys q key is) ∙ at in
-        ap (λ (o : Option ℕ). cond (is_marked (set marks i true) o) None (entry_at text_of_vec held q)) here
-        ∙ ap (λ b. cond b None (entry_at text_of_vec held q)) (get_or-set_same marks i true false inside)
-    by q false is = ap (λ b. cond b None (entry_at text_of_vec held q)) (marked_other marks i (place_of held q) (λ j there. apart_places held key q i j is at there))
+        ap (λ (o : Option ℕ). cond (is_marked (set marks i true) o) None (map.get table q)) here
+        ∙ ap (λ b. cond b None (map.get table q)) (get_or-set_same marks i true false inside)
+    by q false is = ap (λ b. cond b None (map.get table q)) (marked_other marks i (place_of held q) (λ j there. apart_places held key q i j is at there))
 
 -- removing a key that isn't there changes nothing
 pub nothing_there : (table : Table) (key : Key) → map.get table key ≡ None → table ≡ map.remove table key
@@ -200,29 +194,90 @@ nothing true there is = refl
 nothing false there is = is
 
 -- a key that isn't there needs no mark
-pub needs_no_mark : {Z : Type 0} (held : List (Vec ℕ Z × Item)) (marks : List Bool) (key : Key) → place_of held key ≡ None → unmarked held marks ≡ map.remove (unmarked held marks) key
-needs_no_mark held marks key none =
-    nothing_there (unmarked held marks) key (get-unmarked held marks key ∙ nothing (is_marked marks (place_of held key)) _ (not_found held key none))
+pub needs_no_mark : {Z : Type 0} (table : Table) (held : List (Vec ℕ Z × Item)) (marks : List Bool) (key : Key) → map.get table key ≡ None →
+    without table held marks ≡ map.remove (without table held marks) key
+needs_no_mark table held marks key none =
+    nothing_there (without table held marks) key (get-without table held marks key ∙ nothing (is_marked marks (place_of held key)) _ none)
 
 -- no mark is set
 unset : (n i : ℕ) → get_or (replicate n false) i false ≡ false
 unset n i = grind (arith, common_steps, get_or-replicate)
 
-pub no_marks : {Z : Type 0} (held : List (Vec ℕ Z × Item)) (n : ℕ) → unmarked held (replicate n false) ≡ owned_entries held
-no_marks held n = same_map key_cmp_total key_cmp_exact _ _ (λ q.
-    get-unmarked held (replicate n false) q ∙ ap (λ b. cond b None (entry_at text_of_vec held q)) (none (place_of held q)) ∙ sym (get-owned held q))
+pub no_marks : {Z : Type 0} (table : Table) (held : List (Vec ℕ Z × Item)) (n : ℕ) → without table held (replicate n false) ≡ table
+no_marks table held n = same_map key_cmp_total key_cmp_exact _ _ (λ q.
+    get-without table held (replicate n false) q ∙ ap (λ b. cond b None (map.get table q)) (none (place_of held q)))
   where
     none : (there : Option ℕ) → is_marked (replicate n false) there ≡ false
     none None = refl
     none (Some i) = unset n i
 
--- what was found in a base, by its place
-pub under_at : {Z : Type 0} (held : List (Vec ℕ Z × Item)) (marks : List Bool) (q : Key) (found : Option (ℕ × Bor Item)) →
-    option_map (λ (p : ℕ × Bor Item). p.0) found ≡ place_of held q → option_map (λ (p : ℕ × Bor Item). p.1.now) found ≡ entry_at text_of_vec held q →
-    map.get (unmarked held marks) q ≡ cond (is_marked marks (option_map (λ (p : ℕ × Bor Item). p.0) found)) None (option_map (λ (p : ℕ × Bor Item). p.1.now) found)
-under_at held marks q found place item =
-    get-unmarked held marks q ∙ ap (λ (o : Option ℕ). cond (is_marked marks o) None (entry_at text_of_vec held q)) (sym place)
-    ∙ ap (cond (is_marked marks (option_map (λ (p : ℕ × Bor Item). p.0) found)) None) (sym item)
+-- what is found by its place, and what isn't found
+pub under_some : {Z : Type 0} (table : Table) (held : List (Vec ℕ Z × Item)) (marks : List Bool) (q : Key) (i : ℕ) (item : Item) (b : Bool) →
+    map.get table q ≡ Some item → place_of held q ≡ Some i → get_or marks i false ≡ b → map.get (without table held marks) q ≡ cond b None (Some item)
+under_some table held marks q i item b there at mark =
+    get-without table held marks q ∙ ap (λ (o : Option ℕ). cond (is_marked marks o) None (map.get table q)) at
+    ∙ ap (λ m. cond m None (map.get table q)) mark ∙ ap (cond b None) there
+
+pub under_none : {Z : Type 0} (table : Table) (held : List (Vec ℕ Z × Item)) (marks : List Bool) (q : Key) →
+    map.get table q ≡ None → map.get (without table held marks) q ≡ None
+under_none table held marks q none = get-without table held marks q ∙ nothing (is_marked marks (place_of held q)) _ none
+
+-- ITEMS OVER A TABLE
+mapped : (there : Option Item) → option_map same_item there ≡ there
+mapped None = refl
+mapped (Some item) = refl
+
+abbrev pub items_over : {Z : Type 0} → Table → List (Vec ℕ Z × Item) → Table
+items_over table entries = laid_over text_of_vec same_item table entries
+
+pub get-items_over : {Z : Type 0} (table : Table) (entries : List (Vec ℕ Z × Item)) (q : Key) →
+    map.get (items_over table entries) q ≡ or_else (map.get (owned_entries entries) q) (map.get table q)
+get-items_over table entries q =
+    get-laid_over text_of_vec same_item table entries q
+    ∙ ap (λ (o : Option Item). or_else o (map.get table q)) (mapped (entry_at text_of_vec entries q) ∙ sym (get-owned entries q))
+
+pub item_over : {Z : Type 0} (table : Table) (entries : List (Vec ℕ Z × Item)) (q : Key) (item : Item) →
+    map.get (owned_entries entries) q ≡ Some item → map.get (items_over table entries) q ≡ Some item
+item_over table entries q item is = get-items_over table entries q ∙ ap (λ (o : Option Item). or_else o (map.get table q)) is
+
+pub item_under : {Z : Type 0} (table : Table) (entries : List (Vec ℕ Z × Item)) (q : Key) →
+    map.get (owned_entries entries) q ≡ None → map.get (items_over table entries) q ≡ map.get table q
+item_under table entries q is = get-items_over table entries q ∙ ap (λ (o : Option Item). or_else o (map.get table q)) is
+
+pub items_over-same : {Y Z : Type 0} (table less : Table) (old : List (Vec ℕ Y × Item)) (new : List (Vec ℕ Z × Item)) →
+    less ≡ table → owned_entries new ≡ owned_entries old → items_over less new ≡ items_over table old
+items_over-same table less old new below is = same_map key_cmp_total key_cmp_exact _ _ (λ q.
+    get-items_over less new q ∙ ap (λ (t : Table). or_else (map.get t q) (map.get less q)) is
+    ∙ ap (λ (t : Table). or_else (map.get (owned_entries old) q) (map.get t q)) below ∙ sym (get-items_over table old q))
+
+pub items_over-none : {Z : Type 0} (table : Table) (entries : List (Vec ℕ Z × Item)) → owned_entries entries ≡ map.empty → items_over table entries ≡ table
+items_over-none table entries is = same_map key_cmp_total key_cmp_exact _ _ (λ q.
+    get-items_over table entries q ∙ ap (λ (o : Option Item). or_else o (map.get table q)) (ap (λ (t : Table). map.get t q) is ∙ get-empty key_cmp q))
+
+put_over : (b : Bool) (item : Item) (over below : Option Item) → or_else (cond b (Some item) over) below ≡ cond b (Some item) (or_else over below)
+put_over true item over below = refl
+put_over false item over below = refl
+
+pub items_over-put : {Z : Type 0} (table : Table) (old new : List (Vec ℕ Z × Item)) (key : Key) (item : Item) →
+    owned_entries new ≡ map.insert (owned_entries old) key item → items_over table new ≡ map.insert (items_over table old) key item
+items_over-put table old new key item is = same_map key_cmp_total key_cmp_exact _ _ (λ q.
+    get-items_over table new q ∙ ap (λ (t : Table). or_else (map.get t q) (map.get table q)) is
+    ∙ ap (λ (o : Option Item). or_else o (map.get table q)) (get-insert key_cmp_total (owned_entries old) key item q)
+    ∙ put_over (is_tied q key) item (map.get (owned_entries old) q) (map.get table q)
+    ∙ sym (get-insert key_cmp_total (items_over table old) key item q ∙ ap (cond (is_tied q key) (Some item)) (get-items_over table old q)))
+
+gone_over : (b : Bool) (over below : Option Item) → or_else (cond b None over) (cond b None below) ≡ cond b None (or_else over below)
+gone_over true over below = refl
+gone_over false over below = refl
+
+pub items_over-removed : {Z : Type 0} (table less : Table) (old new : List (Vec ℕ Z × Item)) (key : Key) →
+    owned_entries new ≡ map.remove (owned_entries old) key → less ≡ map.remove table key → items_over less new ≡ map.remove (items_over table old) key
+items_over-removed table less old new key is below = same_map key_cmp_total key_cmp_exact _ _ (λ q.
+    get-items_over less new q ∙ ap (λ (t : Table). or_else (map.get t q) (map.get less q)) is
+    ∙ ap (λ (o : Option Item). or_else o (map.get less q)) (get-remove key_cmp_total (owned_entries old) key q)
+    ∙ ap (or_else (cond (is_tied q key) None (map.get (owned_entries old) q))) (ap (λ (t : Table). map.get t q) below ∙ get-remove key_cmp_total table key q)
+    ∙ gone_over (is_tied q key) (map.get (owned_entries old) q) (map.get table q)
+    ∙ sym (get-remove key_cmp_total (items_over table old) key q ∙ ap (cond (is_tied q key) None) (get-items_over table old q)))
 
 -- nothing changes if what is kept is put again
 put_again : (tied : Bool) (there here : Option Item) → (tied ≡ true → there ≡ here) → cond tied here there ≡ there

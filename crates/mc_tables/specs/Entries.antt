@@ -42,8 +42,11 @@ abbrev pub is_marked : List Bool → Option ℕ → Bool
 is_marked marks None = false
 is_marked marks (Some place) = get_or marks place false
 
+-- a table without the keys whose places among the entries are marked
+abbrev pub without : {Z : Type 0} → Table → List (Vec ℕ Z × Item) → List Bool → Table
+without table entries marks =
+    map.retain_keys table (λ key. not (is_marked marks (position (pointwise nat_eq key) (texts_of entries))))
+
 -- the entries whose places aren't marked
 abbrev pub unmarked : {Z : Type 0} → List (Vec ℕ Z × Item) → List Bool → Table
-unmarked entries marks =
-    map.retain_keys (owned_entries entries)
-    (λ key. not (is_marked marks (position (pointwise nat_eq key) (texts_of entries))))
+unmarked entries marks = without (owned_entries entries) entries marks

@@ -1,7 +1,7 @@
 pub mod Changes
-pub mod Copies
 pub mod Entries
 pub mod Found
 pub mod Hashing
 pub mod Layers
+pub mod Maps
 pub mod Views

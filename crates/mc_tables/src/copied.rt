@@ -1,81 +1,68 @@
-//! Copies of a table that borrows, in memory of their own.
+//! Copies of tables, in memory of their own, of which much is shared.
 ghost use Rattle.std.specs.FinMap as map;
-ghost use Rattle.std.specs.Prelude.{◌≡◌, ◌<◌, ◌≤◌, ◌||◌, false, get_or, length, nat_eq, position, IfOk, OnOk, IsOkUnless, Some};
-ghost use Rattle.std.specs.Cmp.Lexicographic.{pointwise};
-ghost use Rattle.mc_tables.specs.Copies.{is_hidden, unhidden};
-ghost use Rattle.mc_tables.specs.Entries.{item_of_cell, laid_over, text_of_slice, texts_of, unmarked};
-ghost use Rattle.mc_tables.specs.Layers.{below, layers, owned_table};
+ghost use Rattle.std.specs.Prelude.{◌≡◌, ◌≤◌, length, IfOk, OnOk, IsOkUnless};
+ghost use Rattle.mc_tables.specs.Entries.{item_of_cell, laid_over, text_of_slice, without};
+ghost use Rattle.mc_tables.specs.Layers.{below, layers, left, owned_table, placed};
+ghost use Rattle.mc_tables.specs.Maps.{map_table};
 
+use crate::base::Base;
 use crate::cell_item::CellItem;
 use crate::hashing::Hashing;
+use crate::item_map::ItemMap;
 use crate::layered::Layered;
 use crate::owned::Owned;
 use mc_model::{Fault, Item};
 use std::alloc::Global;
 use std::collections::HashMap;
 
+/// A base is shared until one in this many of its items was changed: then it is merged with them.
+const SHARED_PARTS: usize = 8;
+
 impl<'a> Layered<'a> {
-    /// Returns copies of the items, with room for so many. Returns `Memory` if an allocation fails.
+    /// Returns copies of the items, of which there are this many. They share the base of the table
+    /// below, unless too much was changed. Returns `Memory` if an allocation fails.
     pub(crate) fn copied(&self, count: usize) -> Result<Owned, Fault>
         ensures same { IfOk result (λ copy.
             owned_table copy ≡ layers self.now.base self.now.marks.items self.now.over) }
         ensures memory { IsOkUnless result Fault.Memory }
     {
-        let mut copy = Owned::with_capacity(self.alloc, count, self.hashing)?;
-        self.copy_base(&mut copy)?;
+        let mut copy = self.copy_below()?;
         copy_over(self.alloc, &self.over, &mut copy)?;
-        Ok(copy)
+        copy.settled(count)
     }
 
-    /// Puts copies of what is left of the base into a copy that holds nothing yet. What lies over the
-    /// base is left out. Returns `Memory` if an allocation fails.
-    fn copy_base(&self, copy: &mut Owned) -> Result<(), Fault>
-        requires { owned_table copy.old ≡ map.empty }
-        ensures left { OnOk result (owned_table copy.new
-            ≡ unhidden self.now.over (below self.now.base self.now.marks.items)) }
+    /// Returns a copy of what is left of the table below, with room for what lies over it. Returns
+    /// `Memory` if an allocation fails.
+    fn copy_below(&self) -> Result<Owned, Fault>
+        ensures left { IfOk result (λ copy.
+            owned_table copy ≡ below self.now.base self.now.marks.items) }
         ensures memory { IsOkUnless result Fault.Memory }
     {
+        let more = self.over.len();
         match self.base {
-            None => Ok(()),
-            Some(base) => copy_left(base, &self.marks, &self.over, copy),
+            None => Owned::with_capacity(self.alloc, more, self.hashing),
+            Some(base) => copy_unmarked(base, &self.marks, more),
         }
     }
 }
 
-/// Puts copies of what is left of a base into a copy that holds nothing yet. What lies over the base
-/// is left out. Returns `Memory` if an allocation fails.
-fn copy_left<'a>(
-    base: &Owned,
-    marks: &[bool],
-    over: &HashMap<&'a [u8], CellItem<'a>, Hashing>,
-    copy: &mut Owned,
-) -> Result<(), Fault>
-    requires marks { length base.now.held.entries ≤ length marks.now }
-    requires none { owned_table copy.old ≡ map.empty }
-    ensures left { OnOk result (owned_table copy.new
-        ≡ unhidden over.now (unmarked base.now.held.entries marks.now)) }
+/// Returns a copy of a table without what is marked, with room for this many more changes. Returns
+/// `Memory` if an allocation fails.
+fn copy_unmarked(base: &Owned, marks: &[bool], more: usize) -> Result<Owned, Fault>
+    requires { length (placed base.now) ≤ length marks.now }
+    ensures left { IfOk result (λ copy.
+        owned_table copy ≡ without (owned_table base.now) (placed base.now) marks.now) }
     ensures memory { IsOkUnless result Fault.Memory }
 {
-    for place in 0..base.len() {
-        let (text, item) = base.entry(place);
-        if !is_gone(marks, over, place, text) {
-            copy.put_copy(text, item)?;
+    let mut copy = base.shared(more)?;
+    for place in 0..base.places() {
+        if marks[place] {
+            if let Some(text) = base.key_at(place) {
+                copy.take_out(text);
+            }
         }
     }
-    Ok(())
-}
-
-/// Returns whether a base's item at a place, under a key of these bytes, is marked or hidden.
-fn is_gone<'a>(
-    marks: &[bool],
-    over: &HashMap<&'a [u8], CellItem<'a>, Hashing>,
-    place: usize,
-    text: &[u8],
-) -> bool
-    requires { place < length marks.now }
-    ensures { result ≡ (get_or marks.now place false || is_hidden over.now text.now) }
-{
-    marks[place] || over.contains_key(text)
+    Ok(copy)
 }
 
 /// Puts copies of all entries into a copy. Returns `Memory` if an allocation fails.
@@ -104,4 +91,91 @@ fn item_of(alloc: Global, kept: &CellItem<'_>) -> Result<Item, Fault>
         block: kept.block.to_data(alloc)?,
         unique: kept.unique,
     })
+}
+
+impl Owned {
+    /// Returns no items, with room for this many. Returns `Memory` if an allocation fails.
+    fn with_capacity(alloc: Global, capacity: usize, hashing: Hashing) -> Result<Owned, Fault>
+        ensures none { IfOk result (λ copy. owned_table copy ≡ map.empty) }
+        ensures memory { IsOkUnless result Fault.Memory }
+    {
+        Ok(Owned {
+            alloc,
+            base: None,
+            changes: ItemMap::with_capacity(alloc, capacity, hashing)?,
+        })
+    }
+
+    /// Returns a copy of the items, with room for this many more changes, which shares the base.
+    /// Returns `Memory` if an allocation fails.
+    pub(crate) fn shared(&self, more: usize) -> Result<Owned, Fault>
+        ensures same { IfOk result (λ copy. owned_table copy ≡ owned_table self.now) }
+        ensures memory { IsOkUnless result Fault.Memory }
+    {
+        let room = self.changes.len().saturating_add(more);
+        let mut changes = ItemMap::with_capacity(self.alloc, room, self.hashing())?;
+        self.changes.copy_into(&mut changes)?;
+        let base = share(self.alloc, &self.base)?;
+        Ok(Owned {
+            alloc: self.alloc,
+            base,
+            changes,
+        })
+    }
+
+    /// Returns the same items, of which there are this many: all of them in a new base, if there is
+    /// none yet or too much of it was changed. Returns `Memory` if an allocation fails.
+    fn settled(self, count: usize) -> Result<Owned, Fault>
+        ensures same { IfOk result (λ settled. owned_table settled ≡ owned_table self) }
+        ensures memory { IsOkUnless result Fault.Memory }
+    {
+        let Owned {
+            alloc,
+            base,
+            changes,
+        } = self;
+        let Some(base) = base else {
+            return Owned::on(alloc, changes);
+        };
+        if !is_worn(&base, &changes) {
+            return Ok(Owned {
+                alloc,
+                base: Some(base),
+                changes,
+            });
+        }
+        let mut items = ItemMap::with_capacity(alloc, count, changes.hashing())?;
+        base.copy_into(&mut items)?;
+        changes.copy_into(&mut items)?;
+        Owned::on(alloc, items)
+    }
+
+    /// Returns these items as a base without changes. Returns `Memory` if an allocation fails.
+    fn on(alloc: Global, items: ItemMap) -> Result<Owned, Fault>
+        ensures same { IfOk result (λ settled. owned_table settled ≡ map_table items) }
+        ensures memory { IsOkUnless result Fault.Memory }
+    {
+        let hashing = items.hashing();
+        Ok(Owned {
+            alloc,
+            base: Some(Base::new(alloc, items)?),
+            changes: ItemMap::new(alloc, hashing),
+        })
+    }
+}
+
+/// Returns the same base, whose items are shared. Returns `Memory` if an allocation fails.
+fn share(alloc: Global, base: &Option<Base>) -> Result<Option<Base>, Fault>
+    ensures same { IfOk result (λ shared. left shared ≡ left base.now) }
+    ensures memory { IsOkUnless result Fault.Memory }
+{
+    match base {
+        None => Ok(None),
+        Some(base) => Ok(Some(base.shared(alloc)?)),
+    }
+}
+
+/// Returns whether so much of a base was removed, replaced or put over it that it isn't to be shared.
+fn is_worn(base: &Base, changes: &ItemMap) -> bool {
+    changes.len().saturating_add(base.removed()) > base.len() / SHARED_PARTS
 }

@@ -96,7 +96,7 @@ impl<'a> Layered<'a> {
             (λ items. layers items.base items.marks.items items.over ≡ owned_table base.now) }
         ensures memory { IsOkUnless result Fault.Memory }
     {
-        let marks = Vec::from_elem(alloc, false, base.len())?;
+        let marks = Vec::from_elem(alloc, false, base.places())?;
         let hashing = base.hashing();
         Ok(Layered {
             alloc,
@@ -127,7 +127,7 @@ impl<'a> Layered<'a> {
     {
         match self.base {
             None => None,
-            Some(base) => match base.place(key) {
+            Some(base) => match base.place(key.as_bytes()) {
                 None => None,
                 Some((place, item)) => { if self.marks[place] { None } else { Some(item) } }
             },
@@ -156,7 +156,7 @@ impl<'a> Layered<'a> {
             ≡ map.remove (below self.old.base self.old.marks.items) key.now }
     {
         if let Some(base) = self.base {
-            if let Some((place, _)) = base.place(key) {
+            if let Some((place, _)) = base.place(key.as_bytes()) {
                 self.marks[place] = true;
             }
         }

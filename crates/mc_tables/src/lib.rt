@@ -11,9 +11,11 @@ pub use storage::{Storage, StorageFor};
 pub use table::Table;
 pub use view::View;
 
+pub mod base;
 pub mod cell_item;
 mod copied;
 pub mod hashing;
+pub mod item_map;
 pub mod layered;
 pub mod metered;
 pub mod owned;

@@ -1,30 +1,32 @@
-//! Items in memory of their own.
+//! Items in memory of their own, in layers.
 ghost use Rattle.std.specs.Cmp.Lexicographic.{pointwise};
 ghost use Rattle.std.specs.FinMap as map;
 ghost use Rattle.std.specs.Option.{option_copied, option_map};
-ghost use Rattle.std.specs.Prelude.{◌≡◌, [], ◌+◌, ◌<◌, ◌≤◌, ◌++◌, cond, decimal, drop, length, nat_eq, position, IfOk, IfSome, OnOk, OnErr, IsOkUnless};
-ghost use Rattle.std.specs.Map.{lookup};
+ghost use Rattle.std.specs.Prelude.{◌≡◌, ◌≢◌, [], ◌+◌, ◌<◌, ◌≤◌, ◌++◌, decimal, length, nat_eq, position, IfNone, IfOk, IfSome, OnOk, OnErr, IsOkUnless};
 ghost use Rattle.mc_model.specs.declared.item.TheConstants.{DATA_BYTES};
 ghost use Rattle.mc_model.specs.declared.key.Key.{Key};
 ghost use Rattle.mc_model.specs.History.{StandsFor};
 ghost use Rattle.mc_model.specs.State.{empty_table};
 ghost use Rattle.mc_tables.specs.Changes.{block_under, flags_under};
-ghost use Rattle.mc_tables.specs.Entries.{text_of_vec, texts_of};
-ghost use Rattle.mc_tables.specs.Layers.{owned_table};
+ghost use Rattle.mc_tables.specs.Entries.{texts_of};
+ghost use Rattle.mc_tables.specs.Layers.{owned_table, placed};
 
+use crate::base::Base;
 use crate::hashing::Hashing;
+use crate::item_map::ItemMap;
 use crate::metered::Metered;
 use crate::storage::{Change, Found, Storage, StorageFor};
-use indexmap::IndexMap;
 use itoa::Buffer;
 use mc_model::{Data, Fault, Fragments, Item, Key, Limits, Value};
 use std::alloc::Global;
 
-/// Items in memory of their own, each with a place among them, in a hash map with a keyed hash.
+/// Items in memory of their own, in two layers: a base that several generations share, and over it
+/// the changes of this one. Each entry of either has a place, the changes' before the base's.
 #[derive(Debug, Drop)]
 pub struct Owned {
-    alloc: Global,
-    pub(crate) held: IndexMap<Vec<u8>, Item, Hashing>,
+    pub(crate) alloc: Global,
+    pub(crate) base: Option<Base>,
+    pub(crate) changes: ItemMap,
 }
 
 /// A tenant's table whose items are in memory of their own.
@@ -63,120 +65,97 @@ impl Owned {
     {
         Owned {
             alloc,
-            held: IndexMap::with_hasher(alloc, hashing),
+            base: None,
+            changes: ItemMap::new(alloc, hashing),
         }
     }
 
-    /// Returns no items, with room for so many. Returns `Memory` if an allocation fails.
-    pub(crate) fn with_capacity(
-        alloc: Global,
-        capacity: usize,
-        hashing: Hashing,
-    ) -> Result<Owned, Fault>
-        ensures none { IfOk result (λ items. owned_table items ≡ map.empty) }
+    /// Returns a copy of the items, which shares the base. Returns `Memory` if an allocation fails.
+    pub fn try_clone(&self) -> Result<Owned, Fault>
+        ensures same { IfOk result (λ copy. owned_table copy ≡ owned_table self.now) }
         ensures memory { IsOkUnless result Fault.Memory }
     {
-        let held = IndexMap::with_capacity_and_hasher(alloc, capacity, hashing)?;
-        Ok(Owned { alloc, held })
+        self.shared(0)
     }
 
     /// Returns how keys are hashed.
     pub(crate) fn hashing(&self) -> Hashing {
-        *self.held.hasher()
+        self.changes.hashing()
     }
 
-    /// Returns the item under the key, if it is held.
-    pub(crate) fn item(&self, key: &Key) -> Option<&Item>
-        ensures { option_copied result ≡ map.get (owned_table self.now) key.now }
+    /// Returns the number of places.
+    pub(crate) fn places(&self) -> usize
+        ensures { result ≡ length (placed self.now) }
     {
-        self.held.get(key.as_bytes())
+        match &self.base {
+            None => self.changes.len(),
+            Some(base) => self.changes.len() + base.len(),
+        }
     }
 
-    /// Returns the number of items.
-    pub(crate) fn len(&self) -> usize
-        ensures { result ≡ length self.now.held.entries }
-    {
-        self.held.len()
-    }
-
-    /// Returns the place of a key among the items, with its item.
-    pub(crate) fn place(&self, key: &Key) -> Option<(usize, &Item)>
-        ensures place { option_map (λ found. found.0) result
-            ≡ position (pointwise nat_eq key.now) (texts_of self.now.held.entries) }
+    /// Returns the place of a key of these bytes, with its item, if it is held.
+    pub(crate) fn place(&self, text: &[u8]) -> Option<(usize, &Item)>
         ensures item { option_map (λ found. found.1.now) result
-            ≡ lookup (λ held. pointwise nat_eq key.now (text_of_vec held)) self.now.held.entries }
-        ensures within { IfSome result (λ found. found.0 < length self.now.held.entries) }
+            ≡ map.get (owned_table self.now) text.now }
+        ensures place { IfSome result (λ found.
+            position (pointwise nat_eq text.now) (texts_of (placed self.now)) ≡ Some found.0) }
+        ensures within { IfSome result (λ found. found.0 < length (placed self.now)) }
     {
-        match self.held.get_full(key.as_bytes()) {
-            Some((place, _, item)) => Some((place, item)),
+        if let Some((place, item)) = self.changes.place(text) {
+            return Some((place, item));
+        }
+        let Some(base) = &self.base else {
+            return None;
+        };
+        match base.place(text) {
+            Some((place, item)) => Some((self.changes.len() + place, item)),
             None => None,
         }
     }
 
-    /// Puts an item under a key, over what it held. The key is copied unless it is held. Returns
-    /// `Memory` if an allocation fails; nothing changes then.
+    /// Returns the bytes of the key at a place, or `None` if that isn't the key's place, since it
+    /// was changed after the base.
+    pub(crate) fn key_at(&self, place: usize) -> Option<&[u8]>
+        requires { place < length (placed self.now) }
+        ensures own { IfSome result (λ text.
+            position (pointwise nat_eq text.now) (texts_of (placed self.now)) ≡ Some place) }
+        ensures none { IfNone result ((key : Key) →
+            position (pointwise nat_eq key) (texts_of (placed self.now)) ≢ Some place) }
+    {
+        let changed = self.changes.len();
+        if place < changed {
+            let (text, _) = self.changes.entry(place);
+            return Some(text);
+        }
+        let Some(base) = &self.base else {
+            unreachable!()
+        };
+        let text = base.text(place - changed);
+        match self.changes.place(text) {
+            Some(_) => None,
+            None => Some(text),
+        }
+    }
+
+    /// Returns the item under the key, if it is held.
+    fn item(&self, key: &Key) -> Option<&Item>
+        ensures { option_copied result ≡ map.get (owned_table self.now) key.now }
+    {
+        match self.place(key.as_bytes()) {
+            Some((_, item)) => Some(item),
+            None => None,
+        }
+    }
+
+    /// Puts an item under a key, over what it held. The key is copied unless it was changed before.
+    /// Returns `Memory` if an allocation fails; nothing changes then.
     fn put(&mut self, key: &Key, item: Item) -> Result<(), Fault>
         ensures table { OnOk result
             (owned_table self.new ≡ map.insert (owned_table self.old) key.now item) }
         ensures memory { IsOkUnless result Fault.Memory }
         ensures unchanged { OnErr result (owned_table self.new ≡ owned_table self.old) }
     {
-        if let Some(place) = self.held.get_mut(key.as_bytes()) {
-            *place = item;
-            return Ok(());
-        }
-        let text = Vec::from_slice(self.alloc, key.as_bytes())?;
-        self.held.insert(text, item)?;
-        Ok(())
-    }
-
-    /// Returns a copy of the items, in the same places. Returns `Memory` if an allocation fails.
-    pub fn try_clone(&self) -> Result<Owned, Fault>
-        ensures same { IfOk result (λ copy. owned_table copy ≡ owned_table self.now) }
-        ensures memory { IsOkUnless result Fault.Memory }
-    {
-        let mut copy = Owned::with_capacity(self.alloc, self.held.len(), self.hashing())?;
-        for place in 0..self.held.len() {
-            let (text, item) = self.entry(place);
-            copy.put_copy(text, item)?;
-        }
-        Ok(copy)
-    }
-
-    /// Returns the key and the item at a place.
-    pub(crate) fn entry(&self, place: usize) -> (&[u8], &Item)
-        requires { place < length self.now.held.entries }
-        ensures place { position (pointwise nat_eq result.0.now) (texts_of self.now.held.entries)
-            ≡ Some place }
-        ensures item { lookup (λ held. pointwise nat_eq result.0.now (text_of_vec held))
-            self.now.held.entries ≡ Some result.1.now }
-        ensures first { (key : Key) →
-            lookup (λ held. pointwise nat_eq key (text_of_vec held)) (drop place self.now.held.entries)
-            ≡ cond (pointwise nat_eq key result.0.now) (Some result.1.now)
-            (lookup (λ held. pointwise nat_eq key (text_of_vec held))
-            (drop (place + 1) self.now.held.entries)) }
-    {
-        // No two of the keys are equal.
-        let _ = self.held.len();
-        match self.held.get_index(place) {
-            Some((text, item)) => (text.as_slice(), item),
-            None => unreachable!(),
-        }
-    }
-
-    /// Puts a copy of an item under a key that is made of these bytes. Returns `Memory` if an
-    /// allocation fails.
-    pub(crate) fn put_copy(&mut self, text: &[u8], original: &Item) -> Result<(), Fault>
-        ensures table { OnOk result
-            (owned_table self.new ≡ map.insert (owned_table self.old) text.now original.now) }
-        ensures memory { IsOkUnless result Fault.Memory }
-    {
-        let item = Item {
-            flags: original.flags,
-            block: original.block.try_clone()?,
-            unique: original.unique,
-        };
-        self.put_new(text, item)
+        self.changes.put(key, item)
     }
 
     /// Puts an item under a key that is made of these bytes. Returns `Memory` if an allocation
@@ -186,9 +165,17 @@ impl Owned {
             (owned_table self.new ≡ map.insert (owned_table self.old) text.now item) }
         ensures memory { IsOkUnless result Fault.Memory }
     {
-        let text = Vec::from_slice(self.alloc, text)?;
-        self.held.insert(text, item)?;
-        Ok(())
+        self.changes.put_new(text, item)
+    }
+
+    /// Removes a key of these bytes, if it is held. Allocates nothing.
+    pub(crate) fn take_out(&mut self, text: &[u8])
+        ensures { owned_table self.new ≡ map.remove (owned_table self.old) text.now }
+    {
+        self.changes.remove(text);
+        if let Some(base) = &mut self.base {
+            base.remove(text);
+        }
     }
 
     /// Returns the flags under a key; 0 if it isn't held.
@@ -275,11 +262,12 @@ impl Storage for Owned {
     }
 
     fn remove(&mut self, key: &Key) {
-        self.held.swap_remove(key.as_bytes());
+        self.take_out(key.as_bytes());
     }
 
     fn clear(&mut self) {
-        self.held.clear();
+        self.changes.clear();
+        self.base = None;
     }
 }
 

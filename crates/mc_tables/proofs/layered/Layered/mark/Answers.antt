@@ -1,11 +1,11 @@
-use Rattle.std.proofs.Common.{◌≡◌, ℕ, ◌<◌, true, length, set, Option, Some, None, Bor, sym, ap, subst, ◌∙◌, rules}
+use Rattle.std.proofs.Common.{◌≡◌, ℕ, List, ◌<◌, true, length, set, Option, Some, None, Bor, sym, ap, subst, ◌∙◌, rules}
 use Rattle.std.specs.FinMap as map
 use Rattle.std.specs.FinMap.{get-empty}
 use Rattle.mc_model.specs.Table.{key_cmp}
 use Rattle.std.specs.Option.{option_map}
 use Rattle.mc_model.specs.declared.item.Item.{Item}
 use Rattle.mc_tables.specs.declared.owned.Owned.{Owned}
-use Rattle.mc_tables.specs.Layers.{below}
+use Rattle.mc_tables.specs.Layers.{below, owned_table, placed}
 use Rattle.mc_tables.proofs.Layering.{marked, needs_no_mark, nothing_there, place_of}
 use Rattle.mc_tables.proofs.layered.Layered.mark.Goals as goal
 
@@ -13,18 +13,20 @@ pub returns-in-Some-place-clause-marked : goal.returns-in-Some-place-clause-mark
 returns-in-Some-place-clause-marked c =
     let marks = c.args.self.now.marks.items in
     let key = c.args.key.now in
-    let held = c.in-Some.base.now.held.entries in
-    let at : place_of held key ≡ Some c.in-Some-place.place = sym c.place.ensures.place ∙ ap (option_map (λ (p : ℕ × Bor Item). p.0)) c.in-Some-place.is in
+    let base = c.in-Some.base.now in
+    let at : place_of (placed base) key ≡ Some c.in-Some-place.place = rw c.as_bytes.ensures.value at c.in-Some-place.ensures.place in
     let inside : c.in-Some-place.place < length marks = search rules in
-    subst (λ (b : Option (Bor Owned)). below b (set marks c.in-Some-place.place true) ≡ map.remove (below b marks) key) (sym c.in-Some.is) (marked held marks key c.in-Some-place.place at inside)
+    subst (λ (b : Option (Bor Owned)). below b (set marks c.in-Some-place.place true) ≡ map.remove (below b marks) key) (sym c.in-Some.is)
+    (marked (owned_table base) (placed base) marks key c.in-Some-place.place at inside)
 
 pub returns-in_default-place-clause-marked : goal.returns-in_default-place-clause-marked
 returns-in_default-place-clause-marked c =
     let marks = c.args.self.now.marks.items in
     let key = c.args.key.now in
-    let held = c.in-Some.base.now.held.entries in
-    let none : place_of held key ≡ None = sym c.place.ensures.place ∙ ap (option_map (λ (p : ℕ × Bor Item). p.0)) c.in_default-place.is in
-    subst (λ (b : Option (Bor Owned)). below b marks ≡ map.remove (below b marks) key) (sym c.in-Some.is) (needs_no_mark held marks key none)
+    let base = c.in-Some.base.now in
+    let none : map.get (owned_table base) key ≡ None =
+    ap (map.get (owned_table base)) (sym c.as_bytes.ensures.value) ∙ sym c.place.ensures.item ∙ ap (option_map (λ (p : ℕ × Bor Item). p.1.now)) c.in_default-place.is in
+    subst (λ (b : Option (Bor Owned)). below b marks ≡ map.remove (below b marks) key) (sym c.in-Some.is) (needs_no_mark (owned_table base) (placed base) marks key none)
 
 pub returns-in_default-clause-marked : goal.returns-in_default-clause-marked
 returns-in_default-clause-marked c =

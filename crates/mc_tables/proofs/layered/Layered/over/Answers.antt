@@ -1,11 +1,12 @@
 use Rattle.std.proofs.Common.{◌≡◌, false, replicate, ap, ◌∙◌, rules}
-use Rattle.mc_tables.specs.Entries.{item_of_cell, laid_over, text_of_slice, unmarked}
+use Rattle.mc_tables.specs.Entries.{item_of_cell, laid_over, text_of_slice, without}
+use Rattle.mc_tables.specs.Layers.{owned_table, placed}
 use Rattle.mc_tables.proofs.Layering.{no_marks}
 use Rattle.mc_tables.proofs.layered.Layered.over.Goals as goal
 
 pub returns-clause-same : goal.returns-clause-same
 returns-clause-same c =
-    let held = c.args.base.now.held.entries in
-    let none : c.in_ok-marks.marks.items ≡ replicate c.len.result false = search rules in
-    ap (laid_over text_of_slice item_of_cell (unmarked held c.in_ok-marks.marks.items)) c.with_hasher.ensures.empty
-    ∙ ap (unmarked held) none ∙ no_marks held c.len.result
+    let base = c.args.base.now in
+    let none : c.in_ok-marks.marks.items ≡ replicate c.places.result false = search rules in
+    ap (laid_over text_of_slice item_of_cell (without (owned_table base) (placed base) c.in_ok-marks.marks.items)) c.with_hasher.ensures.empty
+    ∙ ap (without (owned_table base) (placed base)) none ∙ no_marks (owned_table base) (placed base) c.places.result

@@ -1,13 +1,12 @@
-use Rattle.std.proofs.Common.{◌≡◌, ℕ, ◌<◌, true, false, cond, length, get_or, Option, Some, None, Bor, sym, ap, ◌∙◌, rules}
+use Rattle.std.proofs.Common.{◌≡◌, ℕ, List, ◌<◌, true, false, length, get_or, Option, Some, None, Bor, sym, ap, ◌∙◌, rules}
 use Rattle.std.specs.FinMap as map
 use Rattle.std.specs.FinMap.{get-empty}
 use Rattle.mc_model.specs.Table.{key_cmp}
 use Rattle.std.specs.Option.{option_map}
 use Rattle.mc_model.specs.declared.item.Item.{Item}
 use Rattle.mc_tables.specs.declared.owned.Owned.{Owned}
-use Rattle.mc_tables.specs.Entries.{is_marked}
-use Rattle.mc_tables.specs.Layers.{below}
-use Rattle.mc_tables.proofs.Layering.{any_default, under_at}
+use Rattle.mc_tables.specs.Layers.{below, owned_table, placed}
+use Rattle.mc_tables.proofs.Layering.{any_default, place_of, under_none, under_some}
 use Rattle.mc_tables.proofs.layered.Layered.under.Goals as goal
 
 pub returns-in-None : goal.returns-in-None
@@ -20,36 +19,39 @@ pub returns-in-None-place : goal.returns-in-None-place
 returns-in-None-place c =
     let marks = c.args.self.now.marks.items in
     let key = c.args.key.now in
-    let held = c.in-Some.base.now.held.entries in
-    let found : c.place.result ≡ None = c.in-None-place.is in
-    sym (ap (λ (b : Option (Bor Owned)). map.get (below b marks) key) c.in-Some.is
-    ∙ under_at held marks key c.place.result c.place.ensures.place c.place.ensures.item
-    ∙ ap (λ (found : Option (ℕ × Bor Item)). cond (is_marked marks (option_map (λ (p : ℕ × Bor Item). p.0) found)) None (option_map (λ (p : ℕ × Bor Item). p.1.now) found)) found)
+    let base = c.in-Some.base.now in
+    let none : map.get (owned_table base) key ≡ None =
+    ap (map.get (owned_table base)) (sym c.as_bytes.ensures.value) ∙ sym c.place.ensures.item ∙ ap (option_map (λ (p : ℕ × Bor Item). p.1.now)) c.in-None-place.is in
+    sym (ap (λ (b : Option (Bor Owned)). map.get (below b marks) key) c.in-Some.is ∙ under_none (owned_table base) (placed base) marks key none)
 
 pub returns-then-index : goal.returns-then-index
 returns-then-index c =
     let marks = c.args.self.now.marks.items in
     let key = c.args.key.now in
-    let held = c.in-Some.base.now.held.entries in
-    let found : c.place.result ≡ Some (c.in-Some-place.place, c.in-Some-place.item) = search rules in
-    let inside : c.in-Some-place.place < length marks = search rules in
-    let is : c.index.result.now ≡ get_or marks c.in-Some-place.place c.index.result.now = search rules in
+    let base = c.in-Some.base.now in
+    let place = c.in-Some-place.place in
+    let item = c.in-Some-place.item.now in
+    let there : map.get (owned_table base) key ≡ Some item =
+    ap (map.get (owned_table base)) (sym c.as_bytes.ensures.value) ∙ sym c.place.ensures.item ∙ ap (option_map (λ (p : ℕ × Bor Item). p.1.now)) c.in-Some-place.is in
+    let at : place_of (placed base) key ≡ Some place = rw c.as_bytes.ensures.value at c.in-Some-place.ensures.place in
+    let inside : place < length marks = search rules in
+    let is : c.index.result.now ≡ get_or marks place c.index.result.now = search rules in
     let mark : c.index.result.now ≡ true = search rules in
-    let yes : get_or marks c.in-Some-place.place false ≡ true = any_default marks c.in-Some-place.place false c.index.result.now inside ∙ sym is ∙ mark in
-    sym (ap (λ (b : Option (Bor Owned)). map.get (below b marks) key) c.in-Some.is
-    ∙ under_at held marks key c.place.result c.place.ensures.place c.place.ensures.item
-    ∙ ap (λ (found : Option (ℕ × Bor Item)). cond (is_marked marks (option_map (λ (p : ℕ × Bor Item). p.0) found)) None (option_map (λ (p : ℕ × Bor Item). p.1.now) found)) found ∙ ap (λ b. cond b None (Some c.in-Some-place.item.now)) yes)
+    let yes : get_or marks place false ≡ true = any_default marks place false c.index.result.now inside ∙ sym is ∙ mark in
+    sym (ap (λ (b : Option (Bor Owned)). map.get (below b marks) key) c.in-Some.is ∙ under_some (owned_table base) (placed base) marks key place item true there at yes)
 
 pub returns-else-index : goal.returns-else-index
 returns-else-index c =
     let marks = c.args.self.now.marks.items in
     let key = c.args.key.now in
-    let held = c.in-Some.base.now.held.entries in
-    let found : c.place.result ≡ Some (c.in-Some-place.place, c.in-Some-place.item) = search rules in
-    let inside : c.in-Some-place.place < length marks = search rules in
-    let is : c.index.result.now ≡ get_or marks c.in-Some-place.place c.index.result.now = search rules in
+    let base = c.in-Some.base.now in
+    let place = c.in-Some-place.place in
+    let item = c.in-Some-place.item.now in
+    let there : map.get (owned_table base) key ≡ Some item =
+    ap (map.get (owned_table base)) (sym c.as_bytes.ensures.value) ∙ sym c.place.ensures.item ∙ ap (option_map (λ (p : ℕ × Bor Item). p.1.now)) c.in-Some-place.is in
+    let at : place_of (placed base) key ≡ Some place = rw c.as_bytes.ensures.value at c.in-Some-place.ensures.place in
+    let inside : place < length marks = search rules in
+    let is : c.index.result.now ≡ get_or marks place c.index.result.now = search rules in
     let mark : c.index.result.now ≡ false = search rules in
-    let no : get_or marks c.in-Some-place.place false ≡ false = any_default marks c.in-Some-place.place false c.index.result.now inside ∙ sym is ∙ mark in
-    sym (ap (λ (b : Option (Bor Owned)). map.get (below b marks) key) c.in-Some.is
-    ∙ under_at held marks key c.place.result c.place.ensures.place c.place.ensures.item
-    ∙ ap (λ (found : Option (ℕ × Bor Item)). cond (is_marked marks (option_map (λ (p : ℕ × Bor Item). p.0) found)) None (option_map (λ (p : ℕ × Bor Item). p.1.now) found)) found ∙ ap (λ b. cond b None (Some c.in-Some-place.item.now)) no)
+    let no : get_or marks place false ≡ false = any_default marks place false c.index.result.now inside ∙ sym is ∙ mark in
+    sym (ap (λ (b : Option (Bor Owned)). map.get (below b marks) key) c.in-Some.is ∙ under_some (owned_table base) (placed base) marks key place item false there at no)

@@ -1,11 +1,8 @@
-use Rattle.std.proofs.Common.{List, ℕ, ap, ◌∙◌}
-use Rattle.std.specs.FinMap as map
-use Rattle.mc_tables.specs.Entries.{same_item, text_of_vec}
-use Rattle.mc_tables.specs.Layers.{owned_table}
-use Rattle.mc_tables.proofs.Layering.{laid-put}
+use Rattle.mc_tables.specs.Layers.{left}
+use Rattle.mc_tables.proofs.Layering.{items_over-put, on_ok}
 use Rattle.mc_tables.proofs.owned.Owned.put_new.Goals as goal
 
 pub returns-clause-table : goal.returns-clause-table
 returns-clause-table c =
-    laid-put text_of_vec same_item map.empty c.args.self.now.held c.insert.new.self c.in_ok-text.text.items c.args.item c.in_ok-insert.ensures.updates
-    ∙ ap (λ (key : List ℕ). map.insert (owned_table c.args.self.now) key c.args.item) c.in_ok-text.ensures.items
+    let old = c.args.self.now in
+    on_ok c.put_new.result (items_over-put (left old.base) old.changes.held.entries c.put_new.new.self.held.entries c.args.text.now c.args.item) c.put_new.ensures.table

@@ -1,0 +1,23 @@
+use Rattle.std.proofs.Common.{◌≡◌, ◌<◌, length, Some, None, sym, ap, ◌∙◌, rules}
+use Rattle.std.specs.Arc.{arc_value}
+use Rattle.std.specs.FinMap as map
+use Rattle.mc_tables.specs.Entries.{owned_entries, unmarked}
+use Rattle.mc_tables.proofs.Layering.{marked, nothing_there, place_of}
+use Rattle.mc_tables.proofs.base.Base.remove.Goals as goal
+
+pub returns-in-Some-clause-table : goal.returns-in-Some-clause-table
+returns-in-Some-clause-table c =
+    let held = (arc_value c.args.self.now.items).held.entries in
+    let marks = c.args.self.now.marks.items in
+    let text = c.args.text.now in
+    let at : place_of held text ≡ Some c.in-Some.place = search rules in
+    let inside : c.in-Some.place < length marks = search rules in
+    marked (owned_entries held) held marks text c.in-Some.place at inside
+
+pub returns-in_default-clause-table : goal.returns-in_default-clause-table
+returns-in_default-clause-table c =
+    let held = (arc_value c.args.self.now.items).held.entries in
+    let marks = c.args.self.now.marks.items in
+    let text = c.args.text.now in
+    let none : map.get (unmarked held marks) text ≡ None = search rules in
+    nothing_there (unmarked held marks) text none
