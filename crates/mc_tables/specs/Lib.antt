@@ -4,4 +4,5 @@ pub mod Entries
 pub mod Found
 pub mod Hashing
 pub mod Layers
+pub mod Meters
 pub mod Views

@@ -5,6 +5,7 @@
 
 pub use hashing::{HashKeys, Hashing};
 pub use layered::CellItems;
+pub use meter::Meter;
 pub use metered::Metered;
 pub use owned::OwnedItems;
 pub use storage::{Storage, StorageFor};
@@ -15,6 +16,7 @@ pub mod cell_item;
 mod copied;
 pub mod hashing;
 pub mod layered;
+pub mod meter;
 pub mod metered;
 pub mod owned;
 pub mod sip;
