@@ -1,5 +1,5 @@
 -- Entries of hash maps as tables, marks on them, and what lies over them.
-use Rattle.std.proofs.Common.{◌≡◌, ◌≢◌, ℕ, ◌+◌, ◌<◌, Bool, true, false, cond, not, List, [], ◌∷◌, length, get_or, set, replicate, position, Option, Some, None, Result, Ok, Err, OnOk, OnErr, refl, sym, ap, ◌∙◌, true≢false, arith, Bor}
+use Rattle.std.proofs.Common.{◌≡◌, ◌≢◌, ℕ, ◌+◌, ◌<◌, Bool, true, false, cond, if◌then◌else◌, not, List, [], ◌∷◌, length, get_or, set, replicate, position, Option, Some, None, Result, Ok, Err, OnOk, OnErr, refl, sym, ap, ◌∙◌, true≢false, arith, Bor}
 use Rattle.std.proofs.lemmas.List.{get_or-set_same, get_or-set_other, get_or-replicate}
 use Rattle.std.proofs.lemmas.List.Quantifiers.{position-Some}
 use Rattle.std.proofs.lemmas.Grind.{common_steps}
@@ -18,7 +18,8 @@ use Rattle.std.specs.Option.{is_some, option_map}
 use Rattle.mc_model.specs.declared.item.Item.{Item}
 use Rattle.mc_model.specs.declared.key.Key.{Key}
 use Rattle.mc_model.specs.Table.{Table, is_tied, key_cmp, key_cmp_exact, key_cmp_total, tied_itself, tied_keys}
-use Rattle.mc_tables.specs.Entries.{is_marked, laid_over, owned_entries, same_item, text_of_vec, texts_of, unmarked, without}
+use Rattle.mc_tables.specs.declared.cell_item.CellItem.{CellItem}
+use Rattle.mc_tables.specs.Entries.{is_marked, item_of_cell, laid_over, owned_entries, same_item, text_of_vec, texts_of, unmarked, without}
 
 -- the two tests of keys
 abbrev pub same : Key → Key → Bool
@@ -288,6 +289,15 @@ pub insert_same : (table : Table) (key : Key) (item : Item) → map.get table ke
 insert_same table key item is = same_map key_cmp_total key_cmp_exact _ _ (λ q.
     get-insert key_cmp_total table key item q ∙ put_again (is_tied q key) (map.get table q) (Some item) (λ tied. ap (map.get table) (tied_keys q key tied) ∙ is))
 
+-- the table once what is kept was overwritten, or left as it was
+pub overwritten : (fits : Bool) (table new : Table) (key : Key) (item : Item) (kept one other : CellItem) →
+    new ≡ map.insert table key (item_of_cell kept) → kept ≡ (if fits then one else other) → item_of_cell one ≡ item →
+    map.get table key ≡ Some (item_of_cell other) → new ≡ (if fits then map.insert table key item else table)
+overwritten true table new key item kept one other put is same there =
+    put ∙ ap (λ (k : CellItem). map.insert table key (item_of_cell k)) is ∙ ap (map.insert table key) same
+overwritten false table new key item kept one other put is same there =
+    put ∙ ap (λ (k : CellItem). map.insert table key (item_of_cell k)) is ∙ insert_same table key (item_of_cell other) there
+
 -- what is read within a list needs no default
 pub any_default : (xs : List Bool) (i : ℕ) (d e : Bool) → i < length xs → get_or xs i d ≡ get_or xs i e
 any_default xs i d e inside = sym (same_Some _ _ (sym (slice_get-get_or xs i e inside) ∙ slice_get-get_or xs i d inside))
@@ -300,3 +310,7 @@ on_ok (Err error) follows holds = tt
 pub on_err : {A E P Q : Type 0} (result : Result A E) → (P → Q) → OnErr result P → OnErr result Q
 on_err (Ok value) follows holds = tt
 on_err (Err error) follows holds = follows holds
+
+pub if_err : {A E P : Type 0} (result : Result A E) → P → OnErr result P
+if_err (Ok value) holds = tt
+if_err (Err error) holds = holds

@@ -1,5 +1,5 @@
 -- What a table counts for in total, and what its quotas allow.
-use Rattle.std.proofs.Common.{◌≡◌, ℕ, ◌+◌, ◌-◌, ◌≤◌, ◌&&◌, true, Bool, cond, nat_le, length, Option, Some, None, refl, sym, ap, subst, ◌∙◌, arith}
+use Rattle.std.proofs.Common.{◌≡◌, ℕ, ◌+◌, ◌-◌, ◌≤◌, ◌&&◌, true, false, Bool, cond, nat_le, length, Option, Some, None, refl, sym, ap, subst, ◌∙◌, arith}
 use Rattle.std.proofs.lemmas.Option.{none-some, same_Some}
 use Rattle.std.specs.FinMap as map
 use Rattle.std.specs.FinMap.{len-empty, len-insert, len-remove}
@@ -9,7 +9,7 @@ use Rattle.mc_model.specs.declared.key.Key.{Key}
 use Rattle.mc_model.specs.declared.settings.Limits.{Limits}
 use Rattle.mc_model.specs.Table.{Table, count_of, is_within, key_cmp, key_cmp_total, use_of}
 use Rattle.mc_model.specs.Use.{use_under, weight_of}
-use Rattle.model_lemmas.proofs.Uses.{removed, restored, use-empty, use-insert, use-remove, within_parts}
+use Rattle.model_lemmas.proofs.Uses.{removed, restored, use-empty, use-insert, use-remove}
 use Rattle.mc_tables.specs.declared.storage.Found.{Found}
 use Rattle.mc_tables.specs.Found.{found_of}
 
@@ -87,8 +87,15 @@ module _ (table : Table) (key : Key) (item : Item) (used count under added : ℕ
   pub fits_put : (limits : Limits) → (nat_le (used - under + added) limits.bytes && nat_le (cond (is_some found) count (count + 1)) limits.items) ≡ is_within limits (map.insert table key item)
   fits_put limits = λ i. nat_le (put_used i) limits.bytes && nat_le (put_count i) limits.items
 
-  -- if they do, the totals are within them
-  pub put_bounds : (limits : Limits) → is_within limits (map.insert table key item) ≡ true → (used - under + added ≤ limits.bytes) × (cond (is_some found) count (count + 1) ≤ limits.items)
-  put_bounds limits allowed =
-      let parts = within_parts limits (map.insert table key item) allowed in
-      (omega (arith, put_used, parts.0), omega (arith, put_count, parts.1))
+  -- they don't where the bytes are too many, or the items
+  pub no_room : (limits : Limits) → false ≡ nat_le (used - under + added) limits.bytes → false ≡ is_within limits (map.insert table key item)
+  no_room limits full = ap (λ (b : Bool). b && nat_le (cond (is_some found) count (count + 1)) limits.items) full ∙ fits_put limits
+
+  pub no_place : (limits : Limits) → true ≡ nat_le (used - under + added) limits.bytes → false ≡ nat_le (cond (is_some found) count (count + 1)) limits.items →
+      false ≡ is_within limits (map.insert table key item)
+  no_place limits room full = (λ i. room i && full i) ∙ fits_put limits
+
+  -- and else they do
+  pub all_fits : (limits : Limits) → true ≡ nat_le (used - under + added) limits.bytes → true ≡ nat_le (cond (is_some found) count (count + 1)) limits.items →
+      true ≡ is_within limits (map.insert table key item)
+  all_fits limits room place = (λ i. room i && place i) ∙ fits_put limits

@@ -21,14 +21,14 @@ flags_under (Some old) = old.flags
 -- the data after a change
 abbrev pub data_after : Option Item → Change → List ℕ
 data_after old (Put flags block) = block.now
-data_after old (Number number) = decimal number
+data_after old (Number flags number) = decimal number
 data_after old (Append block) = block_under old ++ block.now
 data_after old (Prepend block) = block.now ++ block_under old
 
--- the flags after a change: those of what is held, except for a put
+-- the flags after a change: those of what is held, except for a put and a number
 abbrev pub flags_after : Option Item → Change → ℕ
 flags_after old (Put flags block) = flags
-flags_after old (Number number) = flags_under old
+flags_after old (Number flags number) = flags
 flags_after old (Append block) = flags_under old
 flags_after old (Prepend block) = flags_under old
 

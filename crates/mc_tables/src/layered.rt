@@ -1,22 +1,26 @@
 //! Items that borrow from commands, over a table that was there before.
 ghost use Rattle.std.specs.FinMap as map;
-ghost use Rattle.std.specs.Option.{option_copied, option_map};
-ghost use Rattle.std.specs.Prelude.{◌≡◌, [], ◌+◌, ◌≤◌, ◌++◌, length, IfOk, OnOk, OnErr, IsOkUnless};
+ghost use Rattle.std.specs.Option.{is_some, option_copied, option_map};
+ghost use Rattle.std.specs.Prelude.{◌≡◌, [], ◌+◌, ◌≤◌, ◌++◌, length, IfOk, OnOk, OnErr, IsOkUnless, Some, if◌then◌else◌};
 ghost use Rattle.mc_model.specs.declared.item.TheConstants.{DATA_BYTES};
 ghost use Rattle.mc_model.specs.Effect.{shown_item};
 ghost use Rattle.mc_model.specs.History.{StandsFor};
 ghost use Rattle.mc_model.specs.State.{empty_table};
+ghost use Rattle.mc_model.specs.Table.{Table};
 ghost use Rattle.mc_tables.specs.Changes.{block_under, data_after, flags_under, with_change};
 ghost use Rattle.mc_tables.specs.declared.storage.Change.TheVariants.{Append, Prepend};
 ghost use Rattle.mc_tables.specs.Entries.{item_of_cell};
+ghost use Rattle.mc_tables.specs.Found.{found_of};
+ghost use Rattle.mc_tables.specs.Meters.{IsMeterIf, IsMeterOf};
 ghost use Rattle.mc_tables.specs.Views.{item_in_view};
 ghost use Rattle.mc_tables.specs.Layers.{AreMarked, below, layers, owned_table};
 
 use crate::cell_item::CellItem;
 use crate::hashing::Hashing;
+use crate::meter::Meter;
 use crate::metered::Metered;
 use crate::owned::{Owned, OwnedItems};
-use crate::storage::{Change, Found, Storage, StorageFor};
+use crate::storage::{Change, Counter, Found, Storage, StorageFor};
 use crate::view::View;
 use mc_model::{Data, Fault, Fragments, Item, Key, Limits, Value};
 use std::alloc::Global;
@@ -162,14 +166,14 @@ impl<'a> Layered<'a> {
         }
     }
 
-    /// Returns the flags under a key; 0 if it isn't held.
-    fn flags(&self, key: &Key) -> u32
-        ensures { result ≡ flags_under
-            (map.get (layers self.now.base self.now.marks.items self.now.over) key.now) }
+    /// Returns what a look-up tells of what is left of the base under a key.
+    fn find_under(&self, key: &Key) -> Option<Found>
+        ensures { result
+            ≡ option_map found_of (map.get (below self.now.base self.now.marks.items) key.now) }
     {
-        match self.find(key) {
-            Some(found) => found.flags,
-            None => 0,
+        match self.under(key) {
+            Some(item) => Some(Found::of(item)),
+            None => None,
         }
     }
 
@@ -244,28 +248,20 @@ impl<'a> Storage for Layered<'a> {
 
     fn find(&self, key: &Key) -> Option<Found> {
         if let Some(kept) = self.over.get(key.as_bytes()) {
-            return Some(Found {
-                flags: kept.flags,
-                len: kept.block.len() as u32,
-                unique: kept.unique,
+            return Some(found_in(kept));
+        }
+        self.find_under(key)
+    }
+
+    fn counter(&self, key: &Key) -> Option<Counter> {
+        if let Some(kept) = self.over.get(key.as_bytes()) {
+            return Some(Counter {
+                found: found_in(kept),
+                number: kept.block.number(),
             });
         }
         match self.under(key) {
-            Some(item) => Some(Found {
-                flags: item.flags,
-                len: item.block.as_bytes().len() as u32,
-                unique: item.unique,
-            }),
-            None => None,
-        }
-    }
-
-    fn number(&self, key: &Key) -> Option<u64> {
-        if let Some(kept) = self.over.get(key.as_bytes()) {
-            return kept.block.number();
-        }
-        match self.under(key) {
-            Some(item) => Fragments::new(&item.block).number(),
+            Some(item) => Some(Counter::of(item)),
             None => None,
         }
     }
@@ -303,21 +299,73 @@ impl<'a> StorageFor<'a> for Layered<'a> {
                     block: Fragments::new(*block),
                 },
             ),
-            Change::Number(number) => {
-                let flags = self.flags(key);
-                self.put(
-                    key,
-                    CellItem {
-                        flags,
-                        unique,
-                        block: Fragments::from_number(*number),
-                    },
-                )
-            }
+            Change::Number(flags, number) => self.put(
+                key,
+                CellItem {
+                    flags: *flags,
+                    unique,
+                    block: Fragments::from_number(*number),
+                },
+            ),
             Change::Append(block) => self.append(key, *block, unique),
             Change::Prepend(block) => self.prepend(key, *block, unique),
         }
     }
+
+    // An item that was put since is overwritten where it stands, without a second look-up.
+    fn put_within(
+        &mut self,
+        key: &'a Key,
+        flags: u32,
+        block: &'a Data,
+        unique: u64,
+        meter: &Meter,
+    ) -> Result<Option<Meter>, Fault> {
+        let item = CellItem {
+            flags,
+            unique,
+            block: Fragments::new(block),
+        };
+        if let Some(kept) = self.over.get_mut(key.as_bytes()) {
+            return Ok(overwrite(kept, item, key, meter));
+        }
+        let old = self.find_under(key);
+        let Some(after) = meter.with(key, old, item.block.len()) else {
+            return Ok(None);
+        };
+        self.put(key, item)?;
+        Ok(Some(after))
+    }
+}
+
+/// Returns what a look-up tells of what is kept.
+fn found_in(kept: &CellItem<'_>) -> Found
+    ensures { result ≡ found_of (item_of_cell kept.now) }
+{
+    Found {
+        flags: kept.flags,
+        len: kept.block.len() as u32,
+        unique: kept.unique,
+    }
+}
+
+/// Writes an item over what is kept under a key, if the quotas of `meter` allow it, and returns the
+/// totals then. Returns `None` if they don't; nothing changes then.
+fn overwrite<'a>(
+    kept: &mut CellItem<'a>,
+    item: CellItem<'a>,
+    key: &Key,
+    meter: &Meter,
+) -> Option<Meter>
+    requires { length item.block ≤ DATA_BYTES }
+    ensures meter { (table : Table) → IsMeterOf meter.now table →
+        map.get table key.now ≡ Some (item_of_cell kept.old) → IsMeterIf result meter.now.limits
+        (map.insert table key.now (item_of_cell item.entry)) }
+    ensures put { kept.new ≡ (if is_some result then item.entry else kept.old) }
+{
+    let after = meter.with(key, Some(found_in(kept)), item.block.len())?;
+    *kept = item;
+    Some(after)
 }
 
 /// Appends a block to what is kept. Returns `Memory` if an allocation fails; nothing changes then.

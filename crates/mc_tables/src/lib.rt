@@ -5,6 +5,7 @@
 
 pub use hashing::{HashKeys, Hashing};
 pub use layered::CellItems;
+pub use meter::Meter;
 pub use metered::Metered;
 pub use owned::OwnedItems;
 pub use storage::{Storage, StorageFor};
@@ -17,6 +18,7 @@ mod copied;
 pub mod hashing;
 pub mod item_map;
 pub mod layered;
+pub mod meter;
 pub mod metered;
 pub mod owned;
 pub mod sip;

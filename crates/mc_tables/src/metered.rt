@@ -4,7 +4,7 @@ ghost use Rattle.std.specs.List.{filter_map};
 ghost use Rattle.std.specs.Option.{option_map};
 ghost use Rattle.std.specs.Prelude.{◌≡◌, ℕ, ◌+◌, ◌-◌, ◌^◌, ◌<◌, ◌≤◌, true, false, [], length, IfOk, OnOk, OnErr, IsOk, IsOkUnless, if◌then◌else◌};
 ghost use Rattle.mc_model.specs.declared.command.Command.TheVariants.{Store, Cas, Get, Delete, Incr, Decr, Flush, Limit};
-ghost use Rattle.mc_model.specs.declared.item.Item.{Item};
+ghost use Rattle.mc_model.specs.declared.command.Verb.TheVariants.{Set};
 ghost use Rattle.mc_model.specs.declared.item.TheConstants.{DATA_BYTES};
 ghost use Rattle.mc_model.specs.declared.reply.Reply.TheVariants.{Number, Refused, Stored};
 ghost use Rattle.mc_model.specs.declared.reply.TheConstants.WireNo.{NO_ROOM};
@@ -14,9 +14,11 @@ ghost use Rattle.mc_model.specs.State.{empty_table, next_reply, next_state};
 ghost use Rattle.mc_model.specs.Table.{count_of, is_within, use_of};
 ghost use Rattle.mc_tables.specs.Changes.{changed_if, data_after, with_change};
 ghost use Rattle.mc_tables.specs.Found.{found_of};
+ghost use Rattle.mc_tables.specs.Meters.{IsMeterOf};
 
-use crate::storage::{Change, Found, Storage, StorageFor};
-use crate::weights::{count_of_digits, count_with, has_place, has_room, weight_found, weight_with};
+use crate::meter::Meter;
+use crate::storage::{Change, Counter, Found, Storage, StorageFor};
+use crate::weights::{count_of_digits, weight_found};
 use mc_model::item::DATA_BYTES;
 use mc_model::{Data, Fault, Key, KeyList, Limits, Reply, Value, ValueList, Verb, WireNo};
 use std::alloc::Global;
@@ -27,11 +29,7 @@ use std::marker::Model;
 #[derive(Debug, Drop)]
 pub struct Metered<S: Storage> {
     pub(crate) alloc: Global,
-    limits: Limits,
-    /// The bytes of all keys and data in total.
-    used: u64,
-    /// The number of items.
-    count: u64,
+    meter: Meter,
     /// The unique of the latest change, or 0 before the first.
     last_unique: u64,
     pub(crate) storage: S,
@@ -40,15 +38,15 @@ pub struct Metered<S: Storage> {
 impl<S: Storage> Model for Metered<S> {
     ghost use Rattle.std.specs.Prelude.{◌≡◌};
     ghost use Rattle.mc_model.specs.State.{TableState, coded_state};
-    ghost use Rattle.mc_model.specs.Table.{count_of, use_of};
+    ghost use Rattle.mc_tables.specs.Meters.{IsMeterOf};
 
     ghost Value = { TableState };
 
     ghost coded = { coded_state };
 
-    ghost view = { λ s. record { limits = s.limits; table = S.table s.storage; last_unique = s.last_unique } };
+    ghost view = { λ s. record { limits = s.meter.limits; table = S.table s.storage; last_unique = s.last_unique } };
 
-    ghost invariant = { λ s. (s.used ≡ use_of (S.table s.storage)) × (s.count ≡ count_of (S.table s.storage)) };
+    ghost invariant = { λ s. IsMeterOf s.meter (S.table s.storage) };
 }
 
 impl<S: Storage> Metered<S> {
@@ -60,9 +58,11 @@ impl<S: Storage> Metered<S> {
     {
         Metered {
             alloc,
-            limits,
-            used: 0,
-            count: 0,
+            meter: Meter {
+                limits,
+                used: 0,
+                count: 0,
+            },
             last_unique: 0,
             storage,
         }
@@ -75,9 +75,7 @@ impl<S: Storage> Metered<S> {
     {
         Metered {
             alloc: self.alloc,
-            limits: self.limits,
-            used: self.used,
-            count: self.count,
+            meter: self.meter,
             last_unique: self.last_unique,
             storage,
         }
@@ -104,6 +102,10 @@ impl<S: Storage> Metered<S> {
         ensures memory { IsOkUnless result Fault.Memory }
         ensures unchanged { OnErr result (self.new ≡ self.old) }
     {
+        // A set needs no look-up before the one that puts the item.
+        if let Verb::Set = verb {
+            return self.set(key, flags, block);
+        }
         let len = block.as_bytes().len();
         let Some(old) = self.storage.find(key) else {
             return match verb {
@@ -125,6 +127,32 @@ impl<S: Storage> Metered<S> {
         }
         let fits = self.make(key, Some(old), &change, len)?;
         Ok(stored_if(fits))
+    }
+
+    /// Stores under a key, whether or not it is held.
+    fn set<'a>(&mut self, key: &'a Key, flags: u32, block: &'a Data) -> Result<Reply<'a>, Fault>
+    where
+        S: StorageFor<'a>,
+        requires { self.old.last_unique < 2 ^ 64 - 1 }
+        ensures reply { IfOk result
+            (λ reply. reply ≡ next_reply self.old (Store Set key.now flags block.now)) }
+        ensures state { OnOk result
+            (self.new ≡ next_state self.old (Store Set key.now flags block.now)) }
+        ensures granted { OnErr result
+            (is_refusal (next_reply self.old (Store Set key.now flags block.now)) ≡ false) }
+        ensures memory { IsOkUnless result Fault.Memory }
+        ensures unchanged { OnErr result (self.new ≡ self.old) }
+    {
+        let unique = self.last_unique + 1;
+        let after = self
+            .storage
+            .put_within(key, flags, block, unique, &self.meter)?;
+        let Some(meter) = after else {
+            return Ok(Reply::Refused(WireNo::NO_ROOM));
+        };
+        self.meter = meter;
+        self.last_unique = unique;
+        Ok(Reply::Stored)
     }
 
     /// Stores under a key if its item still has the unique that was seen.
@@ -182,14 +210,15 @@ impl<S: Storage> Metered<S> {
         ensures memory { IsOkUnless result Fault.Memory }
         ensures unchanged { OnErr result (self.new ≡ self.old) }
     {
-        let Some(old) = self.storage.find(key) else {
+        let Some(Counter { found, number }) = self.storage.counter(key) else {
             return Ok(Reply::NotFound);
         };
-        let Some(number) = self.storage.number(key) else {
+        let Some(number) = number else {
             return Ok(Reply::Refused(WireNo::NOT_A_NUMBER));
         };
         let next = number.wrapping_add(by);
-        let fits = self.make(key, Some(old), &Change::Number(next), count_of_digits(next))?;
+        let change = Change::Number(found.flags, next);
+        let fits = self.make(key, Some(found), &change, count_of_digits(next))?;
         Ok(number_if(fits, next))
     }
 
@@ -205,14 +234,15 @@ impl<S: Storage> Metered<S> {
         ensures memory { IsOkUnless result Fault.Memory }
         ensures unchanged { OnErr result (self.new ≡ self.old) }
     {
-        let Some(old) = self.storage.find(key) else {
+        let Some(Counter { found, number }) = self.storage.counter(key) else {
             return Ok(Reply::NotFound);
         };
-        let Some(number) = self.storage.number(key) else {
+        let Some(number) = number else {
             return Ok(Reply::Refused(WireNo::NOT_A_NUMBER));
         };
         let next = number.saturating_sub(by);
-        let fits = self.make(key, Some(old), &Change::Number(next), count_of_digits(next))?;
+        let change = Change::Number(found.flags, next);
+        let fits = self.make(key, Some(found), &change, count_of_digits(next))?;
         Ok(number_if(fits, next))
     }
 
@@ -225,8 +255,8 @@ impl<S: Storage> Metered<S> {
             return Reply::NotFound;
         };
         self.storage.remove(key);
-        self.used -= weight_found(key, Some(old));
-        self.count -= 1;
+        self.meter.used -= weight_found(key, Some(old));
+        self.meter.count -= 1;
         Reply::Deleted
     }
 
@@ -236,8 +266,8 @@ impl<S: Storage> Metered<S> {
         ensures state { self.new ≡ next_state self.old Flush }
     {
         self.storage.clear();
-        self.used = 0;
-        self.count = 0;
+        self.meter.used = 0;
+        self.meter.count = 0;
         Reply::Ok
     }
 
@@ -246,7 +276,7 @@ impl<S: Storage> Metered<S> {
         ensures reply { result ≡ next_reply self.old (Limit limits) }
         ensures state { self.new ≡ next_state self.old (Limit limits) }
     {
-        self.limits = limits;
+        self.meter.limits = limits;
         Reply::Ok
     }
 
@@ -254,16 +284,16 @@ impl<S: Storage> Metered<S> {
     pub fn used(&self) -> u64
         ensures { result ≡ use_of self.now.table }
     {
-        let Metered { used, .. } = self;
-        *used
+        let Metered { meter, .. } = self;
+        meter.used
     }
 
     /// Returns the number of items.
     pub fn count(&self) -> u64
         ensures { result ≡ count_of self.now.table }
     {
-        let Metered { count, .. } = self;
-        *count
+        let Metered { meter, .. } = self;
+        meter.count
     }
 
     /// Returns the unique of the latest change, or 0 before the first.
@@ -278,8 +308,8 @@ impl<S: Storage> Metered<S> {
     pub fn limits(&self) -> Limits
         ensures { result ≡ self.now.limits }
     {
-        let Metered { limits: quotas, .. } = self;
-        *quotas
+        let Metered { meter, .. } = self;
+        meter.limits
     }
 
     /// Makes a change that gets the next unique, if the quotas allow it, and returns whether they
@@ -306,27 +336,14 @@ impl<S: Storage> Metered<S> {
         ensures memory { IsOkUnless result Fault.Memory }
         ensures unchanged { OnErr result (self.new ≡ self.old) }
     {
-        if !self.fits(key, old, len) {
+        let Some(meter) = self.meter.with(key, old, len) else {
             return Ok(false);
-        }
+        };
         let unique = self.last_unique + 1;
         self.storage.change(key, change, unique)?;
-        self.used = self.used - weight_found(key, old) + weight_with(key, len);
-        self.count = count_with(self.count, old);
+        self.meter = meter;
         self.last_unique = unique;
         Ok(true)
-    }
-
-    /// Returns whether the quotas allow a block of this length under the key, which holds `old`.
-    fn fits(&self, key: &Key, old: Option<Found>, len: usize) -> bool
-        requires few { len ≤ DATA_BYTES }
-        requires old { old ≡ option_map found_of (map.get self.now.table key.now) }
-        ensures { (item : Item) → length item.block ≡ len →
-            result ≡ is_within self.now.limits (map.insert self.now.table key.now item) }
-    {
-        let others = self.used - weight_found(key, old);
-        has_room(others, weight_with(key, len), self.limits.bytes)
-            && has_place(self.count, old, self.limits.items)
     }
 }
 

@@ -14,8 +14,9 @@ ghost use Rattle.mc_tables.specs.Layers.{owned_table, placed};
 use crate::base::Base;
 use crate::hashing::Hashing;
 use crate::item_map::ItemMap;
+use crate::meter::Meter;
 use crate::metered::Metered;
-use crate::storage::{Change, Found, Storage, StorageFor};
+use crate::storage::{Change, Counter, Found, Storage, StorageFor};
 use itoa::Buffer;
 use mc_model::{Data, Fault, Fragments, Item, Key, Limits, Value};
 use std::alloc::Global;
@@ -245,18 +246,14 @@ impl Storage for Owned {
 
     fn find(&self, key: &Key) -> Option<Found> {
         match self.item(key) {
-            Some(item) => Some(Found {
-                flags: item.flags,
-                len: item.block.as_bytes().len() as u32,
-                unique: item.unique,
-            }),
+            Some(item) => Some(Found::of(item)),
             None => None,
         }
     }
 
-    fn number(&self, key: &Key) -> Option<u64> {
+    fn counter(&self, key: &Key) -> Option<Counter> {
         match self.item(key) {
-            Some(item) => Fragments::new(&item.block).number(),
+            Some(item) => Some(Counter::of(item)),
             None => None,
         }
     }
@@ -295,13 +292,12 @@ impl<'a> StorageFor<'a> for Owned {
                 };
                 self.put(key, item)
             }
-            Change::Number(number) => {
-                let flags = self.flags(key);
+            Change::Number(flags, number) => {
                 let block = digits_of(self.alloc, *number)?;
                 self.put(
                     key,
                     Item {
-                        flags,
+                        flags: *flags,
                         block,
                         unique,
                     },
@@ -332,5 +328,26 @@ impl<'a> StorageFor<'a> for Owned {
                 )
             }
         }
+    }
+
+    fn put_within(
+        &mut self,
+        key: &'a Key,
+        flags: u32,
+        block: &'a Data,
+        unique: u64,
+        meter: &Meter,
+    ) -> Result<Option<Meter>, Fault> {
+        let old = self.find(key);
+        let Some(after) = meter.with(key, old, block.as_bytes().len()) else {
+            return Ok(None);
+        };
+        let item = Item {
+            flags,
+            block: block.try_clone()?,
+            unique,
+        };
+        self.put(key, item)?;
+        Ok(Some(after))
     }
 }

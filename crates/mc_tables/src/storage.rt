@@ -1,15 +1,18 @@
 //! What keeps a table's items: look-ups, removals, and the four ways in which a command changes what
 //! a key holds.
 ghost use Rattle.std.specs.FinMap as map;
-ghost use Rattle.std.specs.Option.{option_map};
-ghost use Rattle.std.specs.Prelude.{◌≡◌, ℕ, ◌≤◌, length, IfOk, OnOk, OnErr, IsOkUnless};
+ghost use Rattle.std.specs.Option.{is_some, option_map};
+ghost use Rattle.std.specs.Prelude.{◌≡◌, ◌≤◌, true, length, IfOk, OnOk, OnErr, IsOkUnless, if◌then◌else◌};
 ghost use Rattle.mc_model.specs.declared.item.TheConstants.{DATA_BYTES};
 ghost use Rattle.mc_model.specs.Effect.{shown_at};
-ghost use Rattle.mc_model.specs.Table.{Table};
+ghost use Rattle.mc_model.specs.Table.{Table, is_within};
 ghost use Rattle.mc_tables.specs.Changes.{data_after, with_change};
-ghost use Rattle.mc_tables.specs.Found.{found_of, number_under};
+ghost use Rattle.mc_tables.specs.declared.storage.Change.TheVariants.{Put};
+ghost use Rattle.mc_tables.specs.Found.{counter_of, found_of};
+ghost use Rattle.mc_tables.specs.Meters.{IsMeterIf, IsMeterOf};
 
-use mc_model::{Data, Fault, Key, Value};
+use crate::meter::Meter;
+use mc_model::{Data, Fault, Fragments, Item, Key, Value};
 
 /// What a look-up tells of an item: `len` is the number of its data's bytes.
 #[derive(Clone, Copy, Debug)]
@@ -19,13 +22,45 @@ pub struct Found {
     pub unique: u64,
 }
 
+impl Found {
+    /// Returns what a look-up tells of an item that owns its data.
+    pub(crate) fn of(item: &Item) -> Found
+        ensures { result ≡ found_of item.now }
+    {
+        Found {
+            flags: item.flags,
+            len: item.block.as_bytes().len() as u32,
+            unique: item.unique,
+        }
+    }
+}
+
+/// What a look-up tells of an item as a number: `number` is what its data spell, if they are numeric.
+#[derive(Clone, Copy, Debug)]
+pub struct Counter {
+    pub found: Found,
+    pub number: Option<u64>,
+}
+
+impl Counter {
+    /// Returns what a look-up tells of an item that owns its data, as a number.
+    pub(crate) fn of(item: &Item) -> Counter
+        ensures { result ≡ counter_of item.now }
+    {
+        Counter {
+            found: Found::of(item),
+            number: Fragments::new(&item.block).number(),
+        }
+    }
+}
+
 /// How a command changes what a key holds.
 #[derive(Debug, Drop)]
 pub enum Change<'a> {
     /// New flags and data.
     Put(u32, &'a Data),
-    /// A number's digits; the flags stay.
-    Number(u64),
+    /// New flags, and a number's digits.
+    Number(u32, u64),
     /// These data at the end; the flags stay.
     Append(&'a Data),
     /// These data in front; the flags stay.
@@ -40,10 +75,9 @@ pub trait Storage: Drop {
     fn find(&self, key: &Key) -> Option<Found>
         ensures found { result ≡ option_map found_of (map.get (table self.now) key.now) };
 
-    /// Returns the number that a key's data spell, or `None` if the key isn't held or its data
-    /// aren't numeric.
-    fn number(&self, key: &Key) -> Option<u64>
-        ensures { result ≡ number_under (map.get (table self.now) key.now) };
+    /// Returns what is held under a key as a number, if it is held.
+    fn counter(&self, key: &Key) -> Option<Counter>
+        ensures { result ≡ option_map counter_of (map.get (table self.now) key.now) };
 
     /// Removes a key, if it is held. Allocates nothing.
     fn remove(&mut self, key: &Key)
@@ -71,6 +105,28 @@ pub trait StorageFor<'a>: Storage {
         requires { length (data_after (map.get (Self.table self.old) key.now) change.now) ≤ DATA_BYTES }
         ensures changed { OnOk result
             (Self.table self.new ≡ with_change (Self.table self.old) key.now change.now unique) }
+        ensures memory { IsOkUnless result Fault.Memory }
+        ensures unchanged { OnErr result (Self.table self.new ≡ Self.table self.old) };
+
+    /// Puts flags and data under a key, with this unique, if the quotas of `meter` allow it, and
+    /// returns the totals then. Returns `None` if they don't, and `Memory` if an allocation fails;
+    /// nothing changes then.
+    fn put_within(
+        &mut self,
+        key: &'a Key,
+        flags: u32,
+        block: &'a Data,
+        unique: u64,
+        meter: &Meter,
+    ) -> Result<Option<Meter>, Fault>
+        requires { IsMeterOf meter.now (Self.table self.old) }
+        ensures meter { IfOk result (λ after. IsMeterIf after meter.now.limits
+            (with_change (Self.table self.old) key.now (Put flags block.entry) unique)) }
+        ensures put { IfOk result (λ after. Self.table self.new ≡ (if is_some after
+            then with_change (Self.table self.old) key.now (Put flags block.entry) unique
+            else Self.table self.old)) }
+        ensures granted { OnErr result (is_within meter.now.limits
+            (with_change (Self.table self.old) key.now (Put flags block.entry) unique) ≡ true) }
         ensures memory { IsOkUnless result Fault.Memory }
         ensures unchanged { OnErr result (Self.table self.new ≡ Self.table self.old) };
 }

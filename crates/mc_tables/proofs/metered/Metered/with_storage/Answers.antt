@@ -6,12 +6,12 @@ use Rattle.mc_tables.proofs.metered.Metered.with_storage.Goals as goal
 
 pub invariant_of-result : goal.invariant_of-result
 invariant_of-result g c =
-    let used = c.self.inside.used in
-    let count = c.self.inside.count in
+    let used = c.self.inside.meter.used in
+    let count = c.self.inside.meter.count in
     subst (λ (t : Table). Totals t used count) (sym c.requires)
     (subst (λ (s : TableState). Totals s.table used count) c.self.view_is c.self.invariant)
 
 pub returns : goal.returns
 returns g c =
-    ap (λ (t : Table). record { limits = c.self.inside.limits; table = t; last_unique = c.self.inside.last_unique }) (c.requires ∙ sym (ap (λ (s : TableState). s.table) c.self.view_is))
+    ap (λ (t : Table). record { limits = c.self.inside.meter.limits; table = t; last_unique = c.self.inside.last_unique }) (c.requires ∙ sym (ap (λ (s : TableState). s.table) c.self.view_is))
     ∙ c.self.view_is

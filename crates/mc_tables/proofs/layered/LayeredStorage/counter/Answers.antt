@@ -4,7 +4,7 @@ use Rattle.std.specs.Option.{option_copied}
 use Rattle.mc_tables.specs.Entries.{item_of_cell, laid_over, text_of_slice}
 use Rattle.mc_tables.specs.Layers.{below}
 use Rattle.mc_tables.proofs.Layering.{held_over, held_under, entry_at}
-use Rattle.mc_tables.proofs.layered.LayeredStorage.number.Goals as goal
+use Rattle.mc_tables.proofs.layered.LayeredStorage.counter.Goals as goal
 
 pub returns-in-Some : goal.returns-in-Some
 returns-in-Some c =
