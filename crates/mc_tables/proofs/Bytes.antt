@@ -89,3 +89,7 @@ module _ (v0 v1 v2 v3 latest written byte : ℕ) (fits : latest < 2 ^ 64) (small
         tail = none i;
         length = after written;
       }) (word i))
+
+-- of a whole word no byte is left
+pub none_left : (latest written : ℕ) → latest < 2 ^ 64 → written % 8 ≡ 0 → latest / 2 ^ (64 - 8 * (written % 8)) ≡ 0
+none_left latest written fits whole = ap (λ count. latest / 2 ^ (64 - 8 * count)) whole ∙ div-eq_of_lt fits

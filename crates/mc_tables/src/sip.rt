@@ -1,12 +1,14 @@
-//! SipHash-1-3 of keys, which std feeds byte by byte.
-ghost use Rattle.std.specs.Hash.DefaultHasher.{finish, round, with_keys, write, write_byte, write_word};
-ghost use Rattle.std.specs.Prelude.{◌≡◌};
+//! SipHash-1-3 of keys.
+ghost use Rattle.core.specs.Hash.DefaultHasher.{WritesOn, finish, read_word, round, with_keys, wrapping_add, write, write_byte, write_word};
+ghost use Rattle.std.specs.Prelude.{◌≡◌, ◌+◌, ◌%◌, ◌≤◌, length};
+ghost use Rattle.mc_tables.specs.Hashing.{with_tail};
 
 use std::hash::Hasher;
 use std::marker::Model;
 
-/// SipHash-1-3 by Aumasson and Bernstein, as `DefaultHasher` of std computes it. Each byte is moved
-/// into a word by a shift, where `DefaultHasher` calls its `write` for a slice of one byte.
+/// SipHash-1-3 by Aumasson and Bernstein, as `DefaultHasher` of std computes it. std feeds the bytes of
+/// a key one by one: each is moved into a word by a shift, where `DefaultHasher` calls its `write` for
+/// a slice of one byte. Bytes that come together are taken in as words.
 #[derive(Drop)]
 pub struct SipHasher {
     v0: u64,
@@ -93,6 +95,37 @@ impl SipHasher {
         }
     }
 
+    /// Takes in a word of eight bytes, where no part of a word is awaited.
+    #[inline(always)]
+    fn write_word(&mut self, word: u64)
+        requires whole { self.old.length % 8 ≡ 0 }
+        ensures { self.new ≡ with_tail (write_word self.old word) 0 (wrapping_add self.old.length 8) }
+    {
+        self.compress(word);
+        self.latest = word;
+        self.written = self.written.wrapping_add(8);
+    }
+
+    /// Takes in whole words from the front, where no part of a word is awaited, and returns where
+    /// they end.
+    #[inline(always)]
+    fn write_words(&mut self, bytes: &[u8]) -> usize
+        ensures bound { result ≤ length bytes.now }
+        ensures written { WritesOn bytes.now self.old 0 self.new result }
+    {
+        let mut at = 0;
+        // It is a word of 64 bits, of which nothing is left where no byte is awaited.
+        let _latest = self.latest;
+        if self.written % 8 != 0 {
+            return at;
+        }
+        while bytes.len() - at >= 8 {
+            self.write_word(read_word(bytes, at));
+            at += 8;
+        }
+        at
+    }
+
     /// Returns the bytes since the last whole word, the first of them lowest.
     #[inline(always)]
     fn tail(&self) -> u64
@@ -103,6 +136,22 @@ impl SipHasher {
             count => self.latest >> (64 - 8 * count),
         }
     }
+}
+
+/// Returns the word of the eight bytes from a place on, the first of them lowest.
+#[inline(always)]
+fn read_word(bytes: &[u8], at: usize) -> u64
+    requires { at + 8 ≤ length bytes.now }
+    ensures { result ≡ read_word bytes.now at }
+{
+    let low = bytes[at] as u64
+        | (bytes[at + 1] as u64) << 8
+        | (bytes[at + 2] as u64) << 16
+        | (bytes[at + 3] as u64) << 24;
+    low | (bytes[at + 4] as u64) << 32
+        | (bytes[at + 5] as u64) << 40
+        | (bytes[at + 6] as u64) << 48
+        | (bytes[at + 7] as u64) << 56
 }
 
 impl Hasher for SipHasher {
@@ -130,28 +179,14 @@ impl Hasher for SipHasher {
 
     #[inline(always)]
     fn write(&mut self, bytes: &[u8]) {
-        for byte in bytes {
-            self.write_byte(*byte);
+        let words = self.write_words(bytes);
+        for at in words..bytes.len() {
+            self.write_byte(bytes[at]);
         }
     }
 
     #[inline(always)]
     fn write_u8(&mut self, byte: u8) {
         self.write_byte(byte);
-    }
-
-    // Without a loop, the bytes of a length, which std writes before those of a key, become a word
-    // at once.
-    #[inline(always)]
-    fn write_usize(&mut self, number: usize) {
-        let bytes = number.to_le_bytes();
-        self.write_byte(bytes[0]);
-        self.write_byte(bytes[1]);
-        self.write_byte(bytes[2]);
-        self.write_byte(bytes[3]);
-        self.write_byte(bytes[4]);
-        self.write_byte(bytes[5]);
-        self.write_byte(bytes[6]);
-        self.write_byte(bytes[7]);
     }
 }

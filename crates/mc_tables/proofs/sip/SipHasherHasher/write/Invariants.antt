@@ -1,9 +1,7 @@
-use Rattle.std.proofs.Common.{◌≡◌, drop}
-use Rattle.std.specs.Hash.DefaultHasher.{write_byte}
-use Rattle.std.specs.List.{fold}
+use Rattle.std.proofs.Common.{◌≤◌, length}
+use Rattle.core.specs.Hash.DefaultHasher.{WritesOn}
 use Rattle.mc_tables.proofs.sip.SipHasherHasher.write.Given as goal
 
--- with the bytes that are left, it becomes what all of them make of it
-abbrev pub invariant-loop-byte : goal.invariant-loop-byte
-invariant-loop-byte l =
-    fold write_byte l.self (drop l.byte-index l.bytes) ≡ fold write_byte l.initial.self l.bytes
+-- the bytes so far are written
+abbrev pub invariant-loop-at : goal.invariant-loop-at
+invariant-loop-at l = (l.at ≤ length l.bytes) × WritesOn l.bytes l.initial.self l.initial.at l.self l.at
