@@ -17,7 +17,7 @@ use Rattle.mc_net.specs.declared.halt.Halt.{Halt}
 use Rattle.mc_net.specs.declared.worker_thread.Returned.{Returned}
 use Rattle.mc_net.specs.declared.worker_thread.WorkerThread.{WorkerThread}
 use Rattle.uc_log.specs.declared.log.Log.{Log}
-use Rattle.uc_worker.specs.Going.{Continues}
+use Rattle.uc_worker.specs.Going.{CatchesUp, Continues}
 use Rattle.uc_worker.specs.Worker.{tenants_of}
 use Rattle.uc_worker.specs.declared.worker.Worker.{Worker}
 
@@ -213,3 +213,26 @@ pub all_of : (log : Log) (old new : List Worker) → AllZip Continues old new �
 all_of log old new onward of = λ i d inside.
     let within : i < length old = rw (length_all_zip Continues old new onward) inside in
     ap (λ (log : Bor Log). log.now) (AllZip-get_or Continues old new i d d onward within).log ∙ of i d within
+
+-- the law of a worker that catches up after its work
+abbrev pub CatchesUpAfter : Type 0
+CatchesUpAfter = (until : Bool) (a : Standing) (old new : Worker) (connections : Connections) → Works until a (standing old connections) → CatchesUp old new →
+    Works until a (standing new connections)
+
+-- workers that have caught up since they served have served
+pub served_later : CatchesUpAfter → (until : Bool) (ended : Ended) (workers : List Worker) (before : List EventLoop) (back : List Worker) (after : List EventLoop) (later : List Worker) →
+    HaveServedAt until ended workers before back after → AllZip CatchesUp back later → HaveServedAt until ended workers before later after
+served_later law until ended _ _ _ _ [] no_more caught = no_more
+served_later law until ended _ _ _ _ (z ∷ later) no_more caught = absurd caught
+served_later law until ended _ _ _ _ [] (one_more worker before back after workers befores backs afters served more) caught = absurd caught
+served_later law until ended _ _ _ _ (z ∷ later) (one_more worker before back after workers befores backs afters served more) caught =
+    one_more worker before z after workers befores later afters
+    (record { works = law until (standing_at worker before) back z after.ready.connections served.works caught.0; over = served.over })
+    (served_later law until ended workers befores backs afters later more caught.1)
+
+-- the workers of those that came back
+pub returned_are : (until : Bool) (ended : Ended) (workers : List Worker) (before : List EventLoop) (back : List Worker) (after : List EventLoop) →
+    HaveServedAt until ended workers before back after → map returned_worker (returned_of back after) ≡ back
+returned_are until ended _ _ _ _ no_more = refl
+returned_are until ended _ _ _ _ (one_more worker before back after workers befores backs afters served more) =
+    ap (λ (list : List Worker). back ∷ list) (returned_are until ended workers befores backs afters more)

@@ -9,6 +9,7 @@ ghost use Rattle.mc_net.specs.Beginning.{HaltsServing};
 ghost use Rattle.mc_net.specs.Halting.{IsNetworkFault};
 ghost use Rattle.mc_net.specs.Returning.{returned_of};
 ghost use Rattle.mc_net.specs.Running.{HasBeenServedBy, HaveServedAt, IsEmptyLoop, IsFor, IsNewLoop, KeepsAt, each_followed_by, listeners_of};
+ghost use Rattle.uc_worker.specs.AllWorkers.{AreOnOneRun};
 ghost use Rattle.uc_worker.specs.Going.{Continues};
 
 use crate::accepting::Acceptor;
@@ -18,7 +19,7 @@ use crate::event_loop::EventLoop;
 use crate::halt::Halt;
 use crate::listener::RoleListener;
 use crate::mailbox::{Mailbox, Mailboxes};
-use crate::running::{first_failure, parted, run_all, threads_of};
+use crate::running::{first_failure, on_one_run, parted, run_all, threads_of};
 use crate::worker_thread::Returned;
 use mc_conn::Role;
 use mc_connections::MOST_CONNECTIONS;
@@ -216,6 +217,9 @@ impl Front {
         ensures back { IfOk result (λ pair. AllZip Continues workers.entry.items pair.0.items) }
         ensures logs { IfOk result
             (λ pair. All (λ worker. worker.log.now ≡ log.entry.now) pair.0.items) }
+        // One run of the log, from its opening, has all calls of these workers' seats, in order, and
+        // no other events of theirs.
+        ensures run { IfOk result (λ pair. AreOnOneRun pair.0.items) }
         // The front is one for as many workers and tenants as before.
         ensures loops { IfOk result
             (λ _. vec_len self.new.event_loops ≡ vec_len self.old.event_loops) }
@@ -247,6 +251,7 @@ impl Front {
         first_failure(&threads)?;
         let (workers, left, ended) = parted(alloc, threads)?;
         *event_loops = left;
+        let workers = on_one_run(log, workers);
         // No loop ends as full on the last log.
         Ok((workers, if is_last { Ended::Done } else { ended }))
     }

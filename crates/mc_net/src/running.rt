@@ -1,7 +1,10 @@
 //! The loops of the acceptor and of the workers, each in a thread of its own.
+ghost use Rattle.std.specs.List.{AllZip};
 ghost use Rattle.std.specs.Prelude.{◌≡◌, All, IfOk, MatchResult};
 ghost use Rattle.mc_net.specs.Beginning.{HaltsServing};
 ghost use Rattle.mc_net.specs.Running.{EndsWith, FitTogether, HasRun, HaveRun, event_loops_of, workers_of};
+ghost use Rattle.uc_worker.specs.AllWorkers.{AreOfLog, AreOnOneRun};
+ghost use Rattle.uc_worker.specs.Going.{CatchesUp};
 
 use crate::accepting::Acceptor;
 use crate::beginning::Begin;
@@ -16,6 +19,7 @@ use std::sync::Wait;
 use std::thread;
 use std::thread::{Threads, join_mut};
 use uc_log::Log;
+use uc_worker::all_workers::find_run_of_all;
 use uc_worker::{Gate, Worker};
 
 /// Returns these workers, each with the gate and the event loop of its index.
@@ -157,4 +161,16 @@ pub(crate) fn parted<'a, G: Drop>(
         event_loops.push(event_loop)?;
     }
     Ok((workers, event_loops, ended))
+}
+
+/// Returns these workers of the log, in order, once they have found one run of it that has all that
+/// they have done.
+pub(crate) fn on_one_run<'a>(log: &Log, workers: Vec<Worker<'a>>) -> Vec<Worker<'a>>
+    requires { AreOfLog log.now workers.items }
+    ensures later { AllZip CatchesUp workers.entry.items result.items }
+    ensures run { AreOnOneRun result.items }
+{
+    let mut workers = workers;
+    find_run_of_all(log, &mut workers);
+    workers
 }

@@ -1,6 +1,7 @@
 //! The acceptor and the workers, each in a thread of its own.
 ghost use Rattle.std.specs.List.{AllZip};
 ghost use Rattle.std.specs.Prelude.{◌≡◌, ◌<◌, All, IfErr, IfOk, length, map, vec_len};
+ghost use Rattle.uc_worker.specs.AllWorkers.{AreOnOneRun};
 ghost use Rattle.uc_worker.specs.Going.{Continues};
 ghost use Rattle.mc_conn.specs.Owed.{IsAmong};
 ghost use Rattle.mc_net.specs.Beginning.{HaltsServing};
@@ -79,6 +80,9 @@ pub fn serve<'a, R: Threads + Wait + Net + Sync, G: Gate + Send + Drop, B: Begin
     // All workers are still of the log, so that they can meet.
     ensures logs { IfOk result
         (λ back. All (λ worker. worker.log.now ≡ log.entry.now) (map returned_worker back.items)) }
+    // One run of the log, from its opening, has all calls of these workers' seats, in order, and no
+    // other events of theirs.
+    ensures run { IfOk result (λ back. AreOnOneRun (map returned_worker back.items)) }
     // It began with the state.
     ensures begun { IfOk result (λ _. B.done begin.now state.old state.new) }
     // The network failed before it began with the state, or afterwards; or a fault stopped that.

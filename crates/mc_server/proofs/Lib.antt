@@ -1,4 +1,5 @@
 pub mod Complaints
+pub mod CoreRuns
 pub mod Crews
 pub mod LogRuns
 pub mod Meetings

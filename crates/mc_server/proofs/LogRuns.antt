@@ -25,6 +25,7 @@ use Rattle.mc_server.specs.Logs.{CanBeFollowed, Closes, EndsThere, IsAnsweredBy,
 use Rattle.uc_worker.specs.Cited.{entries}
 use Rattle.uc_log.specs.declared.log.Log.{Log}
 use Rattle.uc_worker.specs.Cited.{Sighting}
+use Rattle.uc_worker.specs.AllWorkers.{AreOnOneRun}
 use Rattle.uc_worker.specs.Going.{CatchesUp, Continues, FillsUp}
 use Rattle.uc_worker.specs.TurningOver.{CanTurnOver, HaveOneHistory, IsAsBefore}
 use Rattle.uc_worker.specs.Worker.{HasReplayedAll, history_of, openings_of, seat_of, tables_of}
@@ -69,12 +70,13 @@ first_stands (y ∷ ys) (z ∷ zs) tables same stands first at =
 
 -- workers that have filled all places and turned over have closed their log
 pub closes : FillsQuietly → FillsOn → (log : Log) (settings : Configuration) (old now new : List Worker) (tables : List TableState) → AllZip FillsUp old now → All (CanTurnOver log settings) now → AllZip IsAsBefore now new →
-    HaveOneHistory new → ((first : Worker) → slice_get now 0 ≡ Some first → EachStands (openings_of first) (entries (history_of first)) tables) → Closes old tables
-closes quietly fills log settings old now new tables later can same one stands = record {
+    HaveOneHistory new → AreOnOneRun new → ((first : Worker) → slice_get now 0 ≡ Some first → EachStands (openings_of first) (entries (history_of first)) tables) → Closes old tables
+closes quietly fills log settings old now new tables later can same one run stands = record {
   closed = new;
   later = all_filled quietly fills old now new later same;
   done = all_done log settings now new can same;
   same = one;
+  run = run;
   stands = first_stands now new tables same stands;
 }
 
@@ -152,6 +154,7 @@ were_served answered asked settings most logs places last number front ends few 
   served = ends.served;
   serves = ends.serves;
   few = few;
+  run = ends.run;
   met = ends.met;
   ended = map ended_at front.event_loops.items;
   answered = all_answered answered asked ends.all front.event_loops.items ends.by ends.over;
@@ -172,7 +175,7 @@ served_by_nobody tenants (x ∷ xs) new =
     (no_worker x.ready.connections (All-head (IsNewLoop tenants) x xs new).1, served_by_nobody tenants xs (All-tail (IsNewLoop tenants) x xs new))
 
 -- the workers of the last log, as they come back
-workers_back : (settings : Configuration) (logs places : ℕ) (all : List InTurn) (served : List Worker) (serves : ServesLast settings logs places all served) → AreWorkersOf settings serves.log served
+pub workers_back : (settings : Configuration) (logs places : ℕ) (all : List InTurn) (served : List Worker) (serves : ServesLast settings logs places all served) → AreWorkersOf settings serves.log served
 workers_back settings logs places all served serves =
     let first = serves.opened.all in
     ⊎_elim

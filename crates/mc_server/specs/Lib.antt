@@ -1,5 +1,6 @@
 pub mod Checking
 pub mod Complaints
+pub mod CoreRuns
 pub mod Crew
 pub mod Listeners
 pub mod Logs

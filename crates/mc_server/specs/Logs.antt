@@ -21,6 +21,7 @@ use Rattle.uc_worker.specs.Cited.{entries}
 use Rattle.uc_log.specs.declared.log.Log.{Log}
 use Rattle.uc_log.specs.declared.pass.Pass.{Pass}
 use Rattle.uc_log.specs.Passes.{IsNew, IsUnusedPass, seat}
+use Rattle.uc_worker.specs.AllWorkers.{AreOnOneRun}
 use Rattle.uc_worker.specs.Going.{Continues, FillsUp}
 use Rattle.uc_worker.specs.TurningOver.{HaveOneHistory}
 use Rattle.uc_worker.specs.Worker.{HasReplayedAll, history_of, openings_of, seat_of, tables_of}
@@ -56,13 +57,15 @@ OpensOver log tables pass result = MatchResult result
 
 -- A log is closed: its workers, later on, have replayed all its places and have one history. All that
 -- they have announced meanwhile are no-ops, which fill the places that were left. So each command that
--- one of them has answered stands in it; and these tables are the ones that the log was opened over,
--- each after its tenant's own commands of that whole log.
+-- one of them has answered stands in it; one run of the log, from its opening, has all that they have
+-- done; and these tables are the ones that the log was opened over, each after its tenant's own
+-- commands of that whole log.
 pub record Closes (workers : List Worker) (tables : List TableState) : Type 0 where
   pub closed : List Worker
   pub later : AllZip FillsUp workers closed
   pub done : All HasReplayedAll closed
   pub same : HaveOneHistory closed
+  pub run : AreOnOneRun closed
   pub stands : (first : Worker) → slice_get closed 0 ≡ Some first →
       EachStands (openings_of first) (entries (history_of first)) tables
 
@@ -113,7 +116,7 @@ pub record IsAnsweredBy (who : InTurn) (ended : List Connection) : Type 0 where
 
 -- Tenants were served over at most so many logs with these settings, one after another (0: without
 -- an end), and so many places were used in total: all of the earlier logs, and those of the last
--- one, whose workers have met.
+-- one, whose workers have met, and whose run has all that they have done while they served.
 pub record WereServed (settings : Configuration) (most number : ℕ) : Type 0 where
   pub logs : ℕ
   pub places : ℕ
@@ -122,6 +125,7 @@ pub record WereServed (settings : Configuration) (most number : ℕ) : Type 0 wh
   pub served : List Worker
   pub serves : ServesLast settings logs places all served
   pub few : (most ≡ 0) ⊎ (logs < most)
+  pub run : AreOnOneRun served
   pub met : HaveMet served last
   pub ended : List (List Connection)
   pub answered : AllZip IsAnsweredBy all ended
@@ -152,13 +156,14 @@ AreServedBy who front = AllZip HasBeenServedBy who front.event_loops.items
 abbrev pub CanBeFollowed : ℕ → Worker → Type 0
 CanBeFollowed places worker = HasReplayedAll worker × HaveRoom (tables_of worker) places
 
--- the last log was served until no connection was left, and its workers have met: so many places of
--- it were used
+-- the last log was served until no connection was left, one run of it has all that its workers have
+-- done, and they have met: so many places of it were used
 pub record EndsThere (settings : Configuration) (logs places last : ℕ) (front : Front) :
     Type 0 where
   pub all : List InTurn
   pub served : List Worker
   pub serves : ServesLast settings logs places all served
+  pub run : AreOnOneRun served
   pub met : HaveMet served last
   pub by : AreServedBy all front
   pub over : All IsEmptyLoop front.event_loops.items

@@ -10,6 +10,7 @@ ghost use Rattle.mc_server.specs.Crew.{AreWorkersOf};
 ghost use Rattle.mc_server.specs.Logs.{AreOpenedOver, AreServedBy, CanBeFollowed, Closes, FitsOver, IsFrontOf, IsNextLog, LogsWere, ServesTo, WereServed, tables_over};
 ghost use Rattle.mc_server.specs.declared.generations.TheConstants.{MOST_PLACES};
 ghost use Rattle.uc_log.specs.Passes.{IsNew, IsUnusedPass};
+ghost use Rattle.uc_worker.specs.AllWorkers.{AreOnOneRun};
 ghost use Rattle.uc_worker.specs.Going.{Continues, FillsUp};
 
 use crate::crew::{meet_all, open_workers};
@@ -110,6 +111,7 @@ fn serve_part<'a, R: Threads + Wait + Sync, B: Begin<S>, S>(
     ensures back { IfOk result (λ pair. AllZip Continues workers.entry.items pair.0.items) }
     ensures workers { IfOk result
         (λ pair. AreWorkersOf log.entry.now.settings log.entry.now pair.0.items) }
+    ensures run { IfOk result (λ pair. AreOnOneRun pair.0.items) }
     ensures front { IfOk result (λ _. IsFrontOf log.entry.now.settings front.new) }
     ensures outcome { MatchResult result (λ _. B.done begin.now state.old state.new)
         (HaltsServing (B.done begin.now) (B.stopped begin.now) state.old state.new) }

@@ -14,6 +14,7 @@ mod checking;
 mod complaint;
 mod crew;
 pub mod generations;
+pub mod laws;
 mod listeners;
 mod network;
 mod network_texts;

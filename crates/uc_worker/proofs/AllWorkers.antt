@@ -18,7 +18,8 @@ use Rattle.uc_places.specs.Calls.{WitnessWith, Witnesses}
 use Rattle.uc_places.specs.OneRun.{RunsBetween}
 use Rattle.uc_places.specs.Run.{HasMade, witnessed_by}
 use Rattle.uc_worker.specs.declared.worker.Worker.{Worker}
-use Rattle.uc_worker.specs.AllWorkers.{AreOnOneRun, TakesNoStep, WasSo, own_part}
+use Rattle.uc_worker.specs.AllWorkers.{AreOfLog, AreOnOneRun, TakesNoStep, WasSo, own_part}
+use Rattle.uc_worker.specs.Going.{CatchesUp}
 use Rattle.uc_worker.specs.TurningOver.{IsAsBefore}
 use Rattle.uc_worker.specs.Worker.{announced_of, history_of, own_desk, seat_of}
 use Rattle.uc_worker.proofs.TurningOver.{get_or_any, still_on, zip_set}
@@ -93,6 +94,18 @@ logs_stay_before one one_now others others_now same still logs k d below =
     let long = length_all_zip IsAsBefore others others_now still in let inside : k < length others = omega (arith, long, below) in
     ap (λ (lent : Bor Log). lent.now) (AllZip-get_or IsAsBefore others others_now k d d still inside).log
     ∙ (logs k d inside ∙ sym (ap (λ (lent : Bor Log). lent.now) same))
+
+pub all_quiet : (old new : List Worker) → AllZip TakesNoStep old new → AllZip CatchesUp old new
+all_quiet [] [] still = tt
+all_quiet [] (y ∷ new) still = absurd still
+all_quiet (x ∷ old) [] still = absurd still
+all_quiet (x ∷ old) (y ∷ new) still = ((as_before x y still.0).caught_up, all_quiet old new still.1)
+
+-- workers of a log are of one with the first of them
+pub are_of_first : (log : Log) (workers : List Worker) → AreOfLog log workers → (first : Worker) (others : List Worker) → workers ≡ first ∷ others →
+    All (λ (other : Worker). other.log.now ≡ first.log.now) others
+are_of_first log workers of first others is =
+    let all : AreOfLog log (first ∷ others) = subst (AreOfLog log) is of in λ k d below. all (suc k) d (omega (arith, below)) ∙ sym (all 0 first (omega arith))
 
 -- One more was so.
 module _ (one one_now : Worker) (others others_now : List Worker) (here : ℕ) (w : Worker) (one_still : TakesNoStep one one_now)

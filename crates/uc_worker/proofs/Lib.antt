@@ -6,8 +6,10 @@ pub mod Telling
 pub mod Replies
 pub mod Counting
 pub mod Lacking
+pub mod Owning
 pub mod NoOps
 pub mod TurningOver
 pub mod AllWorkers
 pub mod RunsOfTheCore
+pub mod OneCoreRun
 pub mod Unsettled

@@ -1,20 +1,28 @@
 -- All workers of a log on one run of it: a history of the log, and each worker's subhistory in it
 -- (Herlihy and Wing, Linearizability, TOPLAS 1990).
-use Rattle.std.specs.Prelude.{◌≡◌, ℕ, ◌<◌, List, Some, length, map, slice_get}
+use Rattle.std.specs.Option.{option_and_then, option_map_or}
+use Rattle.std.specs.Prelude.{◌≡◌, ◌≢◌, ℕ, ◌<◌, ◌≤◌, All, List, Option, None, Some, length, map, slice_get, take}
 use Rattle.lists.specs.Lists.{BeginsWith}
 use Rattle.mc_model.specs.declared.command.Command.{Command}
+use Rattle.mc_model.specs.declared.command.Command.TheVariants.{Flush}
 use Rattle.mc_model.specs.declared.id.Ticket.{Ticket}
+use Rattle.mc_model.specs.declared.request.Entry.{Entry}
 use Rattle.mc_model.specs.declared.shown.LogSize.{LogSize}
 use Rattle.mc_model.specs.declared.shown.ShownState.{ShownState}
 use Rattle.mc_model.specs.Lawful.{IsWorker, LeadOn, ShownEvent}
+use Rattle.mc_model.specs.Log.{own}
 use Rattle.mc_model.specs.Settings.{Configuration}
 use Rattle.mc_model.specs.Shown.{new_log}
 use Rattle.mc_model.specs.State.{TableState}
+use Rattle.uc_cells.specs.Sighting.{Sighting, entries}
+use Rattle.uc_core.specs.Core.{CoreState, log_of}
+use Rattle.uc_log.specs.declared.log.Log.{Log}
 use Rattle.uc_places.specs.declared.view.Part.{Part}
 use Rattle.uc_places.specs.CoreRun.{IsCoreRun, log_size}
 use Rattle.uc_places.specs.OneRun.{AreOfAll}
 use Rattle.uc_places.specs.Run.{AreOneRun, HasMade, part_of}
 use Rattle.uc_worker.specs.declared.worker.Worker.{Worker}
+use Rattle.uc_worker.specs.TurningOver.{HaveOneHistory}
 use Rattle.uc_worker.specs.Worker.{announced_of, history_of, seat_of}
 
 -- what a worker's seat knows of it: its number and state, and all its calls since the opening
@@ -26,6 +34,14 @@ own_part worker = part_of (seat_of worker)
 abbrev pub AreOnOneRun : List Worker → Type 0
 AreOnOneRun workers =
     (size : LogSize) × (log : ShownState) × AreOneRun size (map own_part workers) log
+
+-- all workers are of the log
+abbrev pub AreOfLog : Log → List Worker → Type 0
+AreOfLog log workers = All (λ (worker : Worker). worker.log.now ≡ log) workers
+
+-- these are of the worker's log
+abbrev pub AreOfItsLog : Worker → List Worker → Type 0
+AreOfItsLog worker others = AreOfLog worker.log.now others
 
 -- the worker has taken no event, and announced and replayed nothing; its seat may have been told
 -- something
@@ -62,3 +78,75 @@ TheyRunTheCore = (settings : Configuration) (tables : List TableState) (workers 
     CountsReplayed workers replayed →
     ((ticket : Ticket) → (said ticket).0 < length settings.tenants) →
     IsCoreRun settings tables one.2.run one.1 said replayed
+
+-- all workers of this log, each at the place of its number
+pub record AreAllOf (log : Log) (workers : List Worker) : Type 0 where
+  pub of : (place : ℕ) (worker : Worker) → slice_get workers place ≡ Some worker →
+      worker.log.now ≡ log
+  pub many : length workers ≡ log.settings.workers
+  pub numbers : (place : ℕ) (worker : Worker) → slice_get workers place ≡ Some worker →
+      (seat_of worker).worker ≡ place
+
+-- the tenant and the command of an entry; a no-op, which has none, counts as a flush of this tenant
+abbrev pub said_in : ℕ → Option Entry → ℕ × Command
+said_in nobody (Some entry) = (entry.tenant, entry.command)
+said_in nobody None = (nobody, Flush)
+
+-- what the ticket's worker has put into its cell
+abbrev pub put_under : List Worker → Ticket → Option Sighting
+put_under workers ticket =
+    option_and_then (λ (worker : Worker). slice_get (announced_of worker) ticket.number)
+    (slice_get workers ticket.worker)
+
+-- the tenant and the command that these workers have put under a ticket
+abbrev pub said_under : ℕ → List Worker → Ticket → ℕ × Command
+said_under nobody workers ticket =
+    said_in nobody (option_and_then (λ (seen : Sighting). seen.entry) (put_under workers ticket))
+
+-- how many places the worker of a number has replayed
+abbrev pub places_replayed_by : List Worker → ℕ → ℕ
+places_replayed_by workers number = option_map_or (λ (worker : Worker). length (history_of worker))
+    (slice_get workers number) 0
+
+-- each of these workers has replayed, at each place of its history, what stands there in the run of
+-- the core: that place's ticket, and the tenant and command that its worker has put under it
+abbrev pub HaveReplayed : ℕ → List Worker → ShownState → Type 0
+HaveReplayed nobody workers log = (number place : ℕ) (worker : Worker) (seen : Sighting) →
+    slice_get workers number ≡ Some worker → slice_get (history_of worker) place ≡ Some seen →
+    (slice_get log.decided place ≡ Some seen.ticket)
+    × (said_in nobody seen.entry ≡ said_under nobody workers seen.ticket)
+
+-- of each tenant but this one, the own commands in the core's log are those in the history of each
+-- of these workers, as far as that goes
+abbrev pub HaveItsCommands : ℕ → List Worker → CoreState → Type 0
+HaveItsCommands nobody workers core = (number tenant : ℕ) (worker : Worker) →
+    slice_get workers number ≡ Some worker → tenant ≢ nobody →
+    own tenant (take (length (history_of worker)) (log_of core))
+    ≡ own tenant (entries (history_of worker))
+
+-- What all workers of a log have done is one run of the core over these tables: its events of the
+-- log are exactly their calls, in each worker's order, under each ticket stands what its worker has
+-- put there, and each worker has replayed as many places as its history has.
+pub record DoOneCoreRun (settings : Configuration) (nobody : ℕ) (tables : List TableState)
+    (workers : List Worker) : Type 0 where
+  pub run : List ShownEvent
+  pub log : ShownState
+  pub core : IsCoreRun settings tables run log (said_under nobody workers) (places_replayed_by workers)
+  pub made : (place : ℕ) (worker : Worker) → slice_get workers place ≡ Some worker →
+      HasMade run place (own_part worker).calls
+  pub shown : (place : ℕ) (worker : Worker) → slice_get workers place ≡ Some worker →
+      IsWorker log place (own_part worker).state
+  pub as_put : (number place : ℕ) (worker : Worker) (seen : Sighting) →
+      slice_get workers number ≡ Some worker → slice_get (history_of worker) place ≡ Some seen →
+      seen.ticket.worker ≡ number → put_under workers seen.ticket ≡ Some seen
+  pub replayed : HaveOneHistory workers → HaveReplayed nobody workers log
+  pub commands : HaveOneHistory workers → HaveItsCommands nobody workers core.core
+
+-- All workers of a log that are on one run have done one run of the core: with the log's tenants, or
+-- with one more, to whom the no-ops belong, which belong to nobody in the log.
+abbrev pub AllDoOneCoreRun : Type 0
+AllDoOneCoreRun = (settings : Configuration) (nobody : ℕ) (tables : List TableState) (log : Log)
+    (workers : List Worker) → AreAllOf log workers → AreOnOneRun workers →
+    settings.workers ≡ log.settings.workers → settings.places ≡ log.settings.places →
+    length log.settings.tenants ≤ length settings.tenants → nobody < length settings.tenants →
+    0 < length workers → DoOneCoreRun settings nobody tables workers

@@ -1,6 +1,7 @@
 -- How a worker's history follows the tickets that it has learned.
-use Rattle.std.specs.Prelude.{◌≡◌, ℕ, ◌+◌, ◌≤◌, List, length, take, Some, slice_get}
+use Rattle.std.specs.Prelude.{◌≡◌, ℕ, ◌+◌, ◌≤◌, ◌<◌, List, length, take, Some, slice_get}
 use Rattle.mc_model.specs.declared.id.Ticket.{Ticket}
+use Rattle.mc_model.specs.declared.request.Entry.{Entry}
 use Rattle.mc_model.specs.declared.shown.ShownState.{ShownState}
 use Rattle.mc_model.specs.Legal.{count}
 use Rattle.uc_cells.specs.Sighting.{Sighting}
@@ -26,3 +27,11 @@ AreDecided log history = (place : ℕ) (seen : Sighting) → slice_get history p
 abbrev pub LacksAtMostOne : View → List Sighting → Type 0
 LacksAtMostOne view history =
     view.state.announced ≤ count view.worker (take (length history) view.state.learned) + 1
+
+-- What a worker of this number knows of its own commands, by what it has put into its cells: each is
+-- of one of this many tenants, and where one stands in its history, it was seen there as it was put.
+pub record KnowsItsOwn (tenants number : ℕ) (put history : List Sighting) : Type 0 where
+  pub tenant : (at : ℕ) (seen : Sighting) (entry : Entry) → slice_get put at ≡ Some seen →
+      seen.entry ≡ Some entry → entry.tenant < tenants
+  pub as_put : (place : ℕ) (seen : Sighting) → slice_get history place ≡ Some seen →
+      seen.ticket.worker ≡ number → slice_get put seen.ticket.number ≡ Some seen

@@ -1,13 +1,19 @@
 //! All workers of a log find one run of it that has all that they have done.
 ghost use Rattle.std.specs.List.{AllZip};
-ghost use Rattle.std.specs.Prelude.{◌≡◌, ◌∷◌, All, []};
+ghost use Rattle.std.specs.Prelude.{◌≡◌, ◌<◌, ◌∷◌, All, List, [], length};
 ghost use Rattle.lists.specs.Lists.{BeginsWith};
+ghost use Rattle.mc_model.specs.Replay.{empty_tables};
+ghost use Rattle.mc_model.specs.Settings.{Configuration};
+ghost use Rattle.uc_core.specs.Core.{new_core};
 ghost use Rattle.uc_places.specs.Calls.{WitnessWith, Witnesses};
+ghost use Rattle.uc_places.specs.CoreRun.{core_over};
 ghost use Rattle.uc_places.specs.Run.{witnessed_by};
-ghost use Rattle.uc_worker.specs.AllWorkers.{AreOnOneRun, TakesNoStep, TheyRunTheCore, WasSo, own_part};
+ghost use Rattle.uc_worker.specs.AllWorkers.{AllDoOneCoreRun, AreOfItsLog, AreOfLog, AreOnOneRun, TakesNoStep, TheyRunTheCore, WasSo, own_part};
+ghost use Rattle.uc_worker.specs.Going.{CatchesUp};
 ghost use Rattle.uc_worker.specs.Worker.{own_desk, seat_of};
 
 use crate::worker::Worker;
+use uc_log::Log;
 use uc_places::laws::{a_run_of_the_log_is_one_of_the_core, a_worker_stays_between_two_moments};
 
 impl<'a> Worker<'a> {
@@ -62,12 +68,77 @@ pub(crate) fn find_one_run<'a>(worker: &mut Worker<'a>, others: &mut [Worker<'a>
     witness_each(worker, others);
 }
 
+/// What can find one run with others of its kind. Generic code over it may split a slice of workers
+/// in two, which isn't proved for a type with a lifetime.
+trait FindsRun: Sized {
+    /// The first is of one log with these.
+    ghost is_of_one_log: { Self → List Self → Type 0 };
+
+    /// The second is the first, which has taken no step.
+    ghost stays: { Self → Self → Type 0 };
+
+    /// All that these have done lies on one run.
+    ghost on_one_run: { List Self → Type 0 };
+
+    fn find_run_with(&mut self, others: &mut [Self])
+        requires { is_of_one_log self.old others.old }
+        ensures still { stays self.old self.new × AllZip stays others.old others.new }
+        ensures run { on_one_run (self.new ∷ others.new) };
+}
+
+impl FindsRun for Worker<'_> {
+    ghost is_of_one_log = { AreOfItsLog };
+
+    ghost stays = { TakesNoStep };
+
+    ghost on_one_run = { AreOnOneRun };
+
+    fn find_run_with(&mut self, others: &mut [Self]) {
+        find_one_run(self, others);
+    }
+}
+
+/// Lets the first of a list find one run with all others.
+fn find_run_of_first<W: FindsRun>(all: &mut [W])
+    requires some { 0 < length all.old }
+    requires of { (first : W) (others : List W) → all.old ≡ first ∷ others →
+        W.is_of_one_log first others }
+    ensures still { AllZip W.stays all.old all.new }
+    ensures run { W.on_one_run all.new }
+{
+    let Some((first, others)) = all.split_first_mut() else {
+        unreachable!()
+    };
+    first.find_run_with(others);
+}
+
+/// Lets all workers of a log find one run of it that has all that they have done. None of them takes
+/// a step.
+pub fn find_run_of_all(log: &Log, workers: &mut [Worker<'_>])
+    requires { AreOfLog log.now workers.old }
+    ensures still { AllZip TakesNoStep workers.old workers.new }
+    ensures later { AllZip CatchesUp workers.old workers.new }
+    // One run of the log, from its opening, has all calls of these workers' seats, in order, and no
+    // other events of theirs.
+    ensures run { AreOnOneRun workers.new }
+{
+    if workers.is_empty() {
+        return;
+    }
+    find_run_of_first(workers);
+}
+
 /// What all workers of a log have done, if one run has it all, is a run of the core, the machine of
 /// the headline, in which each worker has replayed as many places as its history has.
-///
-/// Each ticket's tenant and command is given to it: the run of the log has none.
 pub fn all_workers_run_the_core()
-    ensures { TheyRunTheCore }
+    // Each ticket's tenant and command may be given to it: the run of the log has none.
+    ensures given { TheyRunTheCore }
+    // They may be those that the workers have put into their cells: then each worker's history has
+    // what stands in that run.
+    ensures put { AllDoOneCoreRun }
+    // Over empty tables, those of a first log, the core opens as it does in the headline's runs.
+    ensures opening { (settings : Configuration) →
+        core_over settings (empty_tables settings.tenants) ≡ new_core settings }
 {
     a_run_of_the_log_is_one_of_the_core();
 }

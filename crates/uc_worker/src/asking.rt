@@ -6,8 +6,8 @@ ghost use Rattle.mc_model.specs.Lawful.{HasRoom};
 ghost use Rattle.mc_model.specs.Log.{own};
 ghost use Rattle.mc_model.specs.Replay.{HaveRoom};
 ghost use Rattle.uc_cells.specs.Sighting.{entries};
-ghost use Rattle.uc_worker.specs.Histories.{AreDecided, Follows, LacksAtMostOne};
-ghost use Rattle.uc_worker.specs.Worker.{HasReplayedAll, IsClosing, history_of, openings_of, seat_of, tables_of, tenants_of};
+ghost use Rattle.uc_worker.specs.Histories.{AreDecided, Follows, KnowsItsOwn, LacksAtMostOne};
+ghost use Rattle.uc_worker.specs.Worker.{HasReplayedAll, IsClosing, announced_of, history_of, openings_of, seat_of, tables_of, tenants_of};
 ghost use Rattle.uc_places.specs.Reached.{LastIsReached};
 ghost use Rattle.uc_places.specs.SeatLaw.{SeatLaw};
 
@@ -41,6 +41,10 @@ impl<'a> Worker<'a> {
         ensures law { SeatLaw (seat_of self.now).size (seat_of self.now).worker
             (seat_of self.now).state }
         ensures lacks { LacksAtMostOne (seat_of self.now) (history_of self.now) }
+        // Each command that the worker has put is of a known tenant, and where one stands in its
+        // history, it was seen there as it was put.
+        ensures own { KnowsItsOwn (length (tenants_of self.now)) (seat_of self.now).worker
+            (announced_of self.now) (history_of self.now) }
         // Events of the log lead to the state after the worker's last one, and the history's places
         // are decided there.
         ensures reached { LastIsReached (seat_of self.now) }

@@ -1,7 +1,7 @@
 //! A worker.
 ghost use Rattle.std.specs.Prelude.{◌≡◌, ◌≤◌, length};
-ghost use Rattle.uc_log.specs.Passes.{IsOf, learned, seat, state, worker};
-ghost use Rattle.uc_worker.specs.Histories.{Follows, LacksAtMostOne};
+ghost use Rattle.uc_log.specs.Passes.{IsOf, learned, own_sightings, seat, state, worker};
+ghost use Rattle.uc_worker.specs.Histories.{Follows, KnowsItsOwn, LacksAtMostOne};
 ghost use Rattle.uc_worker.specs.Steps.{Rests};
 
 use mc_model::Reply;
@@ -23,6 +23,7 @@ pub struct Worker<'a> {
     ghost short: { length replica.history ≤ length (learned pass) },
     ghost follows: { Follows log.now replica.history (learned pass) },
     ghost lacks: { LacksAtMostOne (seat pass) replica.history },
+    ghost own: { KnowsItsOwn (length log.now.settings.tenants) (worker pass) (own_sightings pass) replica.history },
     ghost rests: { Rests (state pass).phase },
 }
 

@@ -31,4 +31,4 @@ returns-in-Ok-clause-closes c =
     c.places.ensures.value ∙ ap (λ (settings : Configuration). settings.places) (c.settings.ensures ∙ sym c.settings-2.ensures) in
     let can = can_all c.args.log.now c.settings-2.result.now c.fill_all.new.workers c.places.result places all.of (c.can_be_followed.ensures.0 c.if-not-can_be_followed.false) in
     closes c.workers_go_on.ensures.fills c.workers_go_on.ensures.fills_through c.args.log.now c.settings-2.result.now c.args.workers.now c.fill_all.new.workers c.turn_over.new.workers c.in-Ok.next.base.tables.items c.fill_all.ensures.fills can
-    c.turn_over.ensures.before c.in-Ok.ensures.same c.in-Ok.ensures.stands
+    c.turn_over.ensures.before c.in-Ok.ensures.same c.in-Ok.ensures.run c.in-Ok.ensures.stands

@@ -31,6 +31,7 @@ returns-in-Done-clause-serves g c = λ logs places who tables were by opened.
         opened = opened;
         parts = inl (c.in_ok-workers.ensures.back, refl);
       };
+      run = c.in_ok-workers.ensures.run;
       met = c.in_ok-meet_all-in-Done.ensures.outcome;
       by = c.in_ok-workers.ensures.in_turn who by;
       over = c.in_ok-workers.ensures.done c.in-Done.is;
@@ -91,6 +92,7 @@ returns-clause-serves g c = λ logs places who tables were by opened.
         opened = opened;
         parts = inr (record { full = full; again = _; first = c.in_ok-workers.ensures.back; between = later; second = c.in_ok-workers-2.ensures.back; in_turn = refl });
       };
+      run = c.in_ok-workers-2.ensures.run;
       met = c.in_ok-meet_all.ensures.outcome;
       by = c.in_ok-workers-2.ensures.in_turn who_then (c.in_ok-workers.ensures.in_turn who by);
       over = c.in_ok-workers-2.ensures.done (c.in_ok-workers-2.ensures.last refl);

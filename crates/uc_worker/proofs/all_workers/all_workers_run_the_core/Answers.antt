@@ -1,6 +1,14 @@
--- `RunsOfTheCore` shows it.
+-- `RunsOfTheCore` and `OneCoreRun` show it.
+use Rattle.std.proofs.Common.{refl}
+use Rattle.uc_worker.proofs.OneCoreRun.{all_do_one_core_run}
 use Rattle.uc_worker.proofs.RunsOfTheCore.{they_run_the_core}
 use Rattle.uc_worker.proofs.all_workers.all_workers_run_the_core.Goals as goal
 
-pub returns : goal.returns
-returns c = they_run_the_core c.a_run_of_the_log_is_one_of_the_core.ensures
+pub returns-clause-given : goal.returns-clause-given
+returns-clause-given c = they_run_the_core c.a_run_of_the_log_is_one_of_the_core.ensures
+
+pub returns-clause-put : goal.returns-clause-put
+returns-clause-put c = all_do_one_core_run c.a_run_of_the_log_is_one_of_the_core.ensures
+
+pub returns-clause-opening : goal.returns-clause-opening
+returns-clause-opening c = λ settings. refl

@@ -3,7 +3,7 @@ use Rattle.mc_net.specs.Running.{HaveServedAt, IsEmptyLoop, IsFor}
 use Rattle.mc_net.specs.declared.ended.Ended.{Ended}
 use Rattle.mc_net.specs.declared.ended.Ended.TheVariants.{Done}
 use Rattle.mc_net.specs.declared.event_loop.EventLoop.{EventLoop}
-use Rattle.mc_net.proofs.Runnings.{all_of, empty_if_done, front_served, last_is_done, served_in_turn, served_known, served_many, served_onward}
+use Rattle.mc_net.proofs.Runnings.{all_of, empty_if_done, front_served, last_is_done, served_in_turn, served_known, served_later, served_many, served_onward}
 use Rattle.mc_net.proofs.front.Front.serve_generation.Goals as goal
 use Rattle.mc_net.proofs.front.Front.serve_generation.Goals.{else-is_last, then-is_last}
 
@@ -20,13 +20,22 @@ invariant_of-self-2 g c =
           (served_known c.work_adds_up.ensures.goes_on c.work_adds_up.ensures.known c.args.log.now _ _ _ _ _ _ served c.requires.logs known);
     }
 
-pub returns-clause-served : goal.returns-clause-served
-returns-clause-served g c =
+pub on_one_run-requires : goal.on_one_run-requires
+on_one_run-requires g c =
     let served =
     front_served (not c.args.is_last) c.in_ok-workers.ended c.in_ok-threads.threads.items _ c.run_all.new.worker_threads _ _ _ _ _ c.deref_mut.ensures.value c.run_all.ensures.workers
     c.in_ok-threads.threads.ok.0 c.in_ok-workers.ensures.ended c.in_ok-workers.ensures.workers c.in_ok-workers.ensures.event_loops c.in_ok-threads.ensures.workers
     (c.in_ok-threads.ensures.event_loops ∙ ap (λ (event_loops : Vec EventLoop _). event_loops.items) c.replace-lent.ensures.value) in
-    let At : Bool → Ended → Type 0 = λ until ended. HaveServedAt until ended c.args.workers.items c.args.self.now.event_loops.items c.in_ok-workers.workers.items c.in_ok-workers.left.items in
+    all_of _ _ _ (served_onward c.work_adds_up.ensures.goes_on _ _ _ _ _ _ served) c.requires.logs
+
+pub returns-clause-served : goal.returns-clause-served
+returns-clause-served g c =
+    let at_first =
+    front_served (not c.args.is_last) c.in_ok-workers.ended c.in_ok-threads.threads.items _ c.run_all.new.worker_threads _ _ _ _ _ c.deref_mut.ensures.value c.run_all.ensures.workers
+    c.in_ok-threads.threads.ok.0 c.in_ok-workers.ensures.ended c.in_ok-workers.ensures.workers c.in_ok-workers.ensures.event_loops c.in_ok-threads.ensures.workers
+    (c.in_ok-threads.ensures.event_loops ∙ ap (λ (event_loops : Vec EventLoop _). event_loops.items) c.replace-lent.ensures.value) in
+    let served = served_later c.work_adds_up.ensures.catches_up _ _ _ _ _ _ _ at_first c.on_one_run-workers.ensures.later in
+    let At : Bool → Ended → Type 0 = λ until ended. HaveServedAt until ended c.args.workers.items c.args.self.now.event_loops.items c.on_one_run-workers.result.items c.in_ok-workers.left.items in
     elim c.if-is_last.branch [
       | then-is_last w ↦
           let is : not c.args.is_last ≡ false = ap not w.if-is_last.true in

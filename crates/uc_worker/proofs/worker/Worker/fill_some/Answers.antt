@@ -2,10 +2,11 @@
 use Rattle.std.proofs.Common.{◌≡◌, length, refl, sym, ap, ◌∙◌}
 use Rattle.mc_model.specs.declared.shown.Phase.TheVariants.{Idle}
 use Rattle.uc_log.specs.declared.pass.Pass.{Pass}
-use Rattle.uc_log.specs.Passes.{learned, seat, state}
+use Rattle.uc_log.specs.Passes.{learned, next_no_op, seat, state}
 use Rattle.uc_worker.specs.Worker.{history_of}
 use Rattle.lists.proofs.Public.{begins_self}
 use Rattle.uc_worker.proofs.Lacking.{lacks_announced, lacks_on}
+use Rattle.uc_worker.proofs.Owning.{known_no_op, owns_either, owns_still}
 use Rattle.uc_worker.proofs.NoOps.{catches_settled, fills_announced, fills_quietly, fills_through}
 use Rattle.uc_worker.proofs.worker.Worker.fill_some.Goals as goal
 
@@ -56,3 +57,13 @@ returns-clause-fills g c =
     (fills_quietly c.args.self.now one
     (catches_settled c.args.self.now one c.settle-is_idle.new.pass on.log on.openings on.pass on.history c.settle-is_idle.ensures.on))
     (fills_announced one c.replay_to-2.new.self c.decide_no_op.new.pass more.log more.openings more.pass more.history c.decide_no_op.ensures.announces)
+
+pub invariant_of-self-clause-own : goal.invariant_of-self-clause-own
+invariant_of-self-clause-own g c = let self = c.args.self.now in let on = c.settle-is_idle.ensures.on in
+    owns_still (length self.log.now.settings.tenants) self.pass c.settle-is_idle.new.pass self.replica.history on.later.same.1 on.own self.own
+
+pub invariant_of-self-2-clause-own : goal.invariant_of-self-2-clause-own
+invariant_of-self-2-clause-own g c =
+    let self = c.replay_to.new.self in let log = self.log.now in let tenants = length log.settings.tenants in let announces = c.decide_no_op.ensures.announces in
+    owns_either tenants self.pass c.decide_no_op.new.pass (next_no_op log self.pass) self.replica.history announces.advances.same.1 announces.own
+    (known_no_op tenants log self.pass) self.own

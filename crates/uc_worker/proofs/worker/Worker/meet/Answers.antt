@@ -12,6 +12,7 @@ use Rattle.uc_worker.specs.Worker.{history_of}
 use Rattle.uc_worker.proofs.Counting.{takes_nothing}
 use Rattle.uc_worker.proofs.Following.{same_cells}
 use Rattle.uc_worker.proofs.Lacking.{lacks_met}
+use Rattle.uc_worker.proofs.Owning.{owns_still}
 use Rattle.uc_worker.proofs.worker.Worker.meet.Goals as goal
 
 pub agree-requires-clause-cells : goal.agree-requires-clause-cells
@@ -54,3 +55,11 @@ invariant_of-self-clause-lacks c = let self = c.args.self.now in
 pub invariant_of-other-clause-lacks : goal.invariant_of-other-clause-lacks
 invariant_of-other-clause-lacks c = let other = c.args.other.now in
     lacks_met c.args.self.now.log.now other.pass c.even.new.other other.replica.history other.lacks other.short c.even.ensures.other
+
+pub invariant_of-self-clause-own : goal.invariant_of-self-clause-own
+invariant_of-self-clause-own c = let self = c.args.self.now in let more = c.even.ensures.one in
+    owns_still (length self.log.now.settings.tenants) self.pass c.even.new.one self.replica.history more.advances.same.1 more.own self.own
+
+pub invariant_of-other-clause-own : goal.invariant_of-other-clause-own
+invariant_of-other-clause-own c = let other = c.args.other.now in let more = c.even.ensures.other in
+    owns_still (length other.log.now.settings.tenants) other.pass c.even.new.other other.replica.history more.advances.same.1 more.own other.own

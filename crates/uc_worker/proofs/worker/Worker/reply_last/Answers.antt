@@ -5,10 +5,11 @@ use Rattle.mc_model.specs.State.{TableState}
 use Rattle.uc_cells.specs.Sighting.{entries}
 use Rattle.uc_log.specs.declared.pass.Pass.{Pass}
 use Rattle.uc_log.specs.Passes.{learned, own_sightings, row_of, seat, worker}
-use Rattle.uc_worker.specs.Histories.{Follows, LacksAtMostOne}
+use Rattle.uc_worker.specs.Histories.{Follows, KnowsItsOwn, LacksAtMostOne}
 use Rattle.uc_worker.specs.Worker.{last_entry, sighting_of}
 use Rattle.uc_worker.proofs.Following.{follows_replayed, short_replayed}
 use Rattle.uc_worker.proofs.Lacking.{lacks_replayed}
+use Rattle.uc_worker.proofs.Owning.{owns_replayed}
 use Rattle.uc_worker.proofs.Replies.{reply_is, reply_stands, seen_is, stands_last}
 use Rattle.uc_worker.proofs.worker.Worker.reply_last.Goals as goal
 
@@ -83,3 +84,10 @@ unreachable-requires g c =
     reply_stands c.args.self.now.replica.openings (entries (take (length (learned pass) - 1) c.replay.new.self.history)) entry c.requires.tenant
     (sym c.in-None.is ∙ (reply_is replica.worker _ replica.openings replica.history _ entry (row_of log entry.ticket) seen _ is mine c.in_ok-reply.ensures.replays.history here
     c.in_ok-reply.ensures.reply ∙ ap (λ (openings : List TableState). reply_to openings (entries (take (length (learned pass) - 1) c.replay.new.self.history)) (Some entry)) c.replay_to.ensures.replays.openings))
+
+pub invariant_of-self-2-clause-own : goal.invariant_of-self-2-clause-own
+invariant_of-self-2-clause-own g c =
+    let self = c.replay_to.new.self in let new = c.replay.new.self.history in let tenants = length self.log.now.settings.tenants in
+    subst (λ (p : Pass). KnowsItsOwn tenants (worker p) (own_sightings p) new) (sym c.seen.ensures.same) (owns_replayed c.replay.result tenants (worker self.pass)
+    (own_sightings self.pass) self.replica.history new c.in_ok-seen.seen c.replay.ensures.replays.history c.replay.ensures.replays.unchanged (λ same i. (same i).history)
+    c.in_ok-seen.ensures.own self.own)

@@ -1,0 +1,37 @@
+-- The logs of a run of wfmc as runs of the core, the machine of the headline. Herlihy's universal
+-- construction (Wait-Free Synchronization, TOPLAS 1991) knows no no-ops: that they belong to a tenant
+-- of their own is this project's profile.
+use Rattle.std.specs.List.{AllZip}
+use Rattle.std.specs.Prelude.{◌<◌, ℕ, List, [], ◌∷◌, ◌++◌, length}
+use Rattle.mc_model.specs.declared.settings.Limits.{Limits}
+use Rattle.mc_model.specs.Settings.{Configuration}
+use Rattle.mc_model.specs.State.{TableState, empty_table}
+use Rattle.mc_server.specs.Logs.{AreOpenedOver, Closes, WereServed}
+use Rattle.uc_log.specs.declared.log.Log.{Log}
+use Rattle.uc_worker.specs.AllWorkers.{DoOneCoreRun}
+use Rattle.uc_worker.specs.Going.{Continues}
+use Rattle.uc_worker.specs.declared.worker.Worker.{Worker}
+
+-- these settings with one tenant more, of these quotas
+abbrev pub with_tenant : Limits → Configuration → Configuration
+with_tenant limits settings = record settings { tenants = settings.tenants ++ limits ∷ [] }
+
+-- What these workers have done on their log is one run of the core, which opens over the tables that
+-- the log was opened over, and an empty one of the tenant to whom the no-ops belong.
+abbrev pub IsOneCoreRun : Configuration → List TableState → List Worker → Type 0
+IsOneCoreRun settings tables workers = (limits : Limits) →
+    DoOneCoreRun (with_tenant limits settings) (length settings.tenants)
+    (tables ++ empty_table limits ∷ []) workers
+
+-- it is so of the workers of each log that is closed, once they have replayed all its places
+abbrev pub ClosedLogsAreCoreRuns : Type 0
+ClosedLogsAreCoreRuns = (settings : Configuration) (log : Log) (tables after : List TableState)
+    (begun served : List Worker) → 0 < settings.workers →
+    AreOpenedOver settings log tables begun → AllZip Continues begun served →
+    (closes : Closes served after) → IsOneCoreRun settings tables closes.closed
+
+-- and of those of the last log, as they come back
+abbrev pub LastLogsAreCoreRuns : Type 0
+LastLogsAreCoreRuns = (settings : Configuration) (most number : ℕ) →
+    0 < settings.workers → (were : WereServed settings most number) →
+    IsOneCoreRun settings were.serves.tables were.served
