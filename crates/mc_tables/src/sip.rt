@@ -6,9 +6,9 @@ ghost use Rattle.mc_tables.specs.Hashing.{with_tail};
 use std::hash::Hasher;
 use std::marker::Model;
 
-/// SipHash-1-3 by Aumasson and Bernstein, as `DefaultHasher` of std computes it. std feeds the bytes of
-/// a key one by one: each is moved into a word by a shift, where `DefaultHasher` calls its `write` for
-/// a slice of one byte. Bytes that come together are taken in as words.
+/// SipHash-1-3 by Aumasson and Bernstein, as `DefaultHasher` of std computes it. std feeds the bytes
+/// of a key one by one: each is moved into a word by a shift, where `DefaultHasher` calls its `write`
+/// for a slice of one byte. Bytes that come together are taken in as words.
 #[derive(Drop)]
 pub struct SipHasher {
     v0: u64,
@@ -99,7 +99,8 @@ impl SipHasher {
     #[inline(always)]
     fn write_word(&mut self, word: u64)
         requires whole { self.old.length % 8 ≡ 0 }
-        ensures { self.new ≡ with_tail (write_word self.old word) 0 (wrapping_add self.old.length 8) }
+        ensures { self.new
+            ≡ with_tail (write_word self.old word) 0 (wrapping_add self.old.length 8) }
     {
         self.compress(word);
         self.latest = word;

@@ -35,7 +35,8 @@ impl Found {
     }
 }
 
-/// What a look-up tells of an item as a number: `number` is what its data spell, if they are numeric.
+/// What a look-up tells of an item as a number: `number` is what its data spell, if they are
+/// numeric.
 #[derive(Clone, Copy, Debug)]
 pub struct Counter {
     pub found: Found,

@@ -1,4 +1,4 @@
-use Rattle.std.proofs.Common.{◌≡◌, ◌+◌, ◌%◌, ◌^◌, ap, ◌∙◌, arith}
+use Rattle.std.proofs.Common.{◌≡◌, ◌%◌, ap, ◌∙◌, arith}
 use Rattle.core.specs.Hash.DefaultHasher.{wrapping_add}
 use Rattle.core.proofs.hash.SipWords.{write_word_keeps}
 use Rattle.mc_tables.specs.Hashing.{with_tail}
