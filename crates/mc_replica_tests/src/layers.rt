@@ -107,10 +107,10 @@ struct Plain {
 }
 
 impl Plain {
-    /// Returns the list in which all numbers were set, in order.
-    fn all_set(alloc: Global) -> Result<Plain, Fault> {
+    /// Returns the list in which this many numbers were set, in order.
+    fn all_set(alloc: Global, keys: u64) -> Result<Plain, Fault> {
         let mut held = Vec::new(alloc);
-        for number in 0..KEYS {
+        for number in 0..keys {
             held.push(Some(Known {
                 letters: 1,
                 unique: number + 1,
@@ -118,7 +118,7 @@ impl Plain {
         }
         Ok(Plain {
             held,
-            last_unique: KEYS,
+            last_unique: keys,
         })
     }
 
@@ -207,10 +207,10 @@ fn advance_all<'a, T: Table<'a>>(table: &mut T, commands: &'a [Command]) -> Resu
     Ok(())
 }
 
-/// Returns a table in which all numbers were set, in order.
-fn all_set(alloc: Global) -> Result<OwnedItems, Fault> {
+/// Returns a table in which this many numbers were set, in order.
+fn all_set(alloc: Global, keys: u64) -> Result<OwnedItems, Fault> {
     let mut commands = Vec::new(alloc);
-    for number in 0..KEYS {
+    for number in 0..keys {
         commands.push(numbered_set(alloc, number)?)?;
     }
     let mut table = CellItems::new(alloc, QUOTAS, Hashing::Fixed);
@@ -260,8 +260,8 @@ fn is_as(alloc: Global, table: &OwnedItems, gets: &Command, plain: &Plain) -> Re
 /// Returns whether all generations show what the list has, and each leaves the table below.
 fn are_as_the_list(alloc: Global, generations: &[Steps]) -> Result<bool, Fault> {
     let gets = numbered_get(alloc, KEYS)?;
-    let mut plain = Plain::all_set(alloc)?;
-    let mut below = all_set(alloc)?;
+    let mut plain = Plain::all_set(alloc, KEYS)?;
+    let mut below = all_set(alloc, KEYS)?;
     for steps in generations {
         let before = plain.text(alloc)?;
         for step in *steps {
@@ -295,16 +295,16 @@ fn generations_are_as_the_list(rt: HostRuntime) {
 /// after these steps.
 fn owned_is_as_the_list(alloc: Global, steps: &[Step]) -> Result<bool, Fault> {
     let gets = numbered_get(alloc, KEYS)?;
-    let mut plain = Plain::all_set(alloc)?;
+    let mut plain = Plain::all_set(alloc, KEYS)?;
     for step in steps {
         plain.step(*step);
     }
-    let shared = all_set(alloc)?;
+    let shared = all_set(alloc, KEYS)?;
     let commands = commands_for(alloc, steps)?;
     let mut table = shared.try_clone()?;
     advance_all(&mut table, &commands)?;
     let is_changed = is_as(alloc, &table, &gets, &plain)?;
-    let is_left = is_as(alloc, &shared, &gets, &Plain::all_set(alloc)?)?;
+    let is_left = is_as(alloc, &shared, &gets, &Plain::all_set(alloc, KEYS)?)?;
     Ok(is_changed && is_left)
 }
 
@@ -324,16 +324,16 @@ fn owned_tables_are_as_the_list(rt: HostRuntime) {
 /// `tests/allocation_failures.py` refuses them in turn.
 const REPORTED: &str = "the copy reported that memory ran out, and left the table";
 
-/// Copies a table over one of which this much was changed. Returns `false` if memory runs out, and
+/// Copies a table over one of this many keys of which this much was changed. Returns `false` if memory runs out, and
 /// both tables are as they were.
-fn try_copy(alloc: Global, steps: &[Step]) -> Result<bool, Fault> {
-    let gets = numbered_get(alloc, KEYS)?;
-    let mut plain = Plain::all_set(alloc)?;
+fn try_copy(alloc: Global, keys: u64, steps: &[Step]) -> Result<bool, Fault> {
+    let gets = numbered_get(alloc, keys)?;
+    let mut plain = Plain::all_set(alloc, keys)?;
     for step in steps {
         plain.step(*step);
     }
     let want = plain.text(alloc)?;
-    let below = all_set(alloc)?;
+    let below = all_set(alloc, keys)?;
     let commands = commands_for(alloc, steps)?;
     let mut table = CellItems::over(&below)?;
     advance_all(&mut table, &commands)?;
@@ -346,7 +346,7 @@ fn try_copy(alloc: Global, steps: &[Step]) -> Result<bool, Fault> {
 
 #[test]
 fn a_copy_that_shares_reports_out_of_memory(rt: HostRuntime) -> Result<(), Fail> {
-    if try_copy(rt.alloc(), &[Append(1), Delete(2)])? {
+    if try_copy(rt.alloc(), 8, &[Append(1)])? {
         Ok(())
     } else {
         Err(Fail::from(REPORTED))
@@ -355,10 +355,7 @@ fn a_copy_that_shares_reports_out_of_memory(rt: HostRuntime) -> Result<(), Fail>
 
 #[test]
 fn a_copy_that_merges_reports_out_of_memory(rt: HostRuntime) -> Result<(), Fail> {
-    if try_copy(
-        rt.alloc(),
-        &[Set(1), Set(2), Set(3), Set(4), Append(5), Delete(6)],
-    )? {
+    if try_copy(rt.alloc(), 8, &[Append(1), Delete(2)])? {
         Ok(())
     } else {
         Err(Fail::from(REPORTED))

@@ -4,4 +4,5 @@ pub mod Found
 pub mod Hashing
 pub mod Layers
 pub mod Maps
+pub mod Marks
 pub mod Views

@@ -17,6 +17,7 @@ mod copied;
 pub mod hashing;
 pub mod item_map;
 pub mod layered;
+mod marks;
 pub mod metered;
 pub mod owned;
 pub mod sip;
