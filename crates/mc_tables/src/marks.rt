@@ -27,11 +27,11 @@ pub(crate) fn is_set(marks: &[u64], place: usize) -> bool
 }
 
 /// Marks a place.
-pub(crate) fn set(marks: &mut [u64], place: usize)
-    requires { place < 64 * length marks.old }
-    ensures room { length marks.new ≡ length marks.old }
+pub(crate) fn set(marks: &mut Vec<u64>, place: usize)
+    requires { place < 64 * length marks.old.items }
+    ensures room { length marks.new.items ≡ length marks.old.items }
     ensures set { (other : ℕ) →
-        is_set marks.new other ≡ (nat_eq other place || is_set marks.old other) }
+        is_set marks.new.items other ≡ (nat_eq other place || is_set marks.old.items other) }
 {
     let bit = (place % BITS) as u32;
     let word = marks[place / BITS];

@@ -7,7 +7,7 @@ use Rattle.mc_tables.proofs.marks.set.Goals as goal
 
 pub returns-clause-set : goal.returns-clause-set
 returns-clause-set c = λ other.
-    let marks = c.args.marks.now in
+    let marks = c.args.marks.now.items in
     let place = c.args.place in
     let word = get_or marks (place / 64) 0 in
     let inside : place / 64 < length marks = omega (arith, c.requires) in

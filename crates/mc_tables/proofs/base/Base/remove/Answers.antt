@@ -1,9 +1,7 @@
-use Rattle.std.proofs.Common.{◌≡◌, ◌||◌, Some, None, ap, ◌∙◌, rules}
-use Rattle.std.specs.Prelude.{nat_eq}
+use Rattle.std.proofs.Common.{◌≡◌, Some, None, rules}
 use Rattle.std.specs.Arc.{arc_value}
 use Rattle.std.specs.FinMap as map
 use Rattle.mc_tables.specs.Entries.{owned_entries, unmarked}
-use Rattle.mc_tables.specs.Marks.{is_set}
 use Rattle.mc_tables.proofs.Layering.{marked, nothing_there, place_of}
 use Rattle.mc_tables.proofs.base.Base.remove.Goals as goal
 
@@ -13,9 +11,7 @@ returns-in-Some-clause-table c =
     let marks = c.args.self.now.marks.items in
     let text = c.args.text.now in
     let at : place_of held text ≡ Some c.in-Some.place = search rules in
-    let same : c.deref_mut.result.now ≡ marks = search rules in
-    marked (owned_entries held) held marks c.set.new.marks text c.in-Some.place at
-    (λ other. c.set.ensures.set other ∙ ap (λ m. nat_eq other c.in-Some.place || is_set m other) same)
+    marked (owned_entries held) held marks c.set.new.marks.items text c.in-Some.place at c.set.ensures.set
 
 pub returns-in_default-clause-table : goal.returns-in_default-clause-table
 returns-in_default-clause-table c =

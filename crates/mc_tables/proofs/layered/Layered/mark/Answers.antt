@@ -1,4 +1,4 @@
-use Rattle.std.proofs.Common.{◌≡◌, ◌||◌, ℕ, List, Option, Some, None, Bor, sym, ap, subst, ◌∙◌, rules}
+use Rattle.std.proofs.Common.{◌≡◌, ℕ, List, Option, Some, None, Bor, sym, ap, subst, ◌∙◌, rules}
 use Rattle.std.specs.FinMap as map
 use Rattle.std.specs.FinMap.{get-empty}
 use Rattle.mc_model.specs.Table.{key_cmp}
@@ -6,8 +6,6 @@ use Rattle.std.specs.Option.{option_map}
 use Rattle.mc_model.specs.declared.item.Item.{Item}
 use Rattle.mc_tables.specs.declared.owned.Owned.{Owned}
 use Rattle.mc_tables.specs.Layers.{below, owned_table, placed}
-use Rattle.mc_tables.specs.Marks.{is_set}
-use Rattle.std.specs.Prelude.{nat_eq}
 use Rattle.mc_tables.proofs.Layering.{marked, needs_no_mark, nothing_there, place_of}
 use Rattle.mc_tables.proofs.layered.Layered.mark.Goals as goal
 
@@ -17,10 +15,8 @@ returns-in-Some-place-clause-marked c =
     let key = c.args.key.now in
     let base = c.in-Some.base.now in
     let at : place_of (placed base) key ≡ Some c.in-Some-place.place = rw c.as_bytes.ensures.value at c.in-Some-place.ensures.place in
-    let same : c.deref_mut.result.now ≡ marks = search rules in
-    subst (λ (b : Option (Bor Owned)). below b c.set.new.marks ≡ map.remove (below b marks) key) (sym c.in-Some.is)
-    (marked (owned_table base) (placed base) marks c.set.new.marks key c.in-Some-place.place at
-    (λ other. c.set.ensures.set other ∙ ap (λ m. nat_eq other c.in-Some-place.place || is_set m other) same))
+    subst (λ (b : Option (Bor Owned)). below b c.set.new.marks.items ≡ map.remove (below b marks) key) (sym c.in-Some.is)
+    (marked (owned_table base) (placed base) marks c.set.new.marks.items key c.in-Some-place.place at c.set.ensures.set)
 
 pub returns-in_default-place-clause-marked : goal.returns-in_default-place-clause-marked
 returns-in_default-place-clause-marked c =
