@@ -1,6 +1,6 @@
 #!/usr/bin/env python3
 """Injects allocation failures: allocation_failures.py [CASE...] [--every N], with the cases mc_stdin, rows, mc_schedule, wfmc, generations,
-calls, cells, workers and copies.
+calls, cells and workers.
 
 A program is run over and over, each allocation refused in turn, alone and with all later ones (tests/refuse.c, which needs gcc); --every N
 refuses one allocation in N. How a run may end is said at the `judge` of its case. A hang, a signal or a wrong byte is a failure. Prints how the runs
@@ -476,17 +476,8 @@ WORKERS = Tests(
     crate="crates/uc_worker_tests",
     module="refused",
     reported="the turn over reported that memory ran out, and changed no worker",
-    asks={"refused::a_turn_over_reports_out_of_memory": 17},
+    asks={"refused::a_turn_over_reports_out_of_memory": 19},
     first=52,
-)
-
-# A copy that shares a base, and one that merges it with what was changed.
-COPIES = Tests(
-    crate="crates/mc_replica_tests",
-    module="layers::a_copy",
-    reported="the copy reported that memory ran out, and left the table",
-    asks={"layers::a_copy_that_shares_reports_out_of_memory": 0, "layers::a_copy_that_merges_reports_out_of_memory": 0},
-    first=90,
 )
 
 
@@ -528,10 +519,6 @@ def try_workers(_environment, _every):
     try_tests(WORKERS)
 
 
-def try_copies(_environment, _every):
-    try_tests(COPIES)
-
-
 # Each case, and the program that it runs, if it is one that was built.
 CASES = {
     "mc_stdin": (try_stdin, "mc_stdin"),
@@ -542,7 +529,6 @@ CASES = {
     "calls": (try_calls, "refusals"),
     "cells": (try_cells, None),
     "workers": (try_workers, None),
-    "copies": (try_copies, None),
 }
 
 
