@@ -21,8 +21,6 @@ mod hashing;
 #[cfg(test)]
 mod items;
 #[cfg(test)]
-mod layers;
-#[cfg(test)]
 mod lines;
 #[cfg(test)]
 mod model;

@@ -16,6 +16,7 @@ use Rattle.std.specs.Prelude.{nat_eq, nat_lt, suc, Vec}
 use Rattle.mc_model.specs.declared.item.Item.{Item}
 use Rattle.mc_model.specs.declared.key.Key.{Key}
 use Rattle.mc_model.specs.Table.{Table, is_tied, key_cmp, key_cmp_exact, key_cmp_total, tied_keys}
+use Rattle.mc_tables.specs.Marks.{is_set}
 use Rattle.mc_tables.specs.Entries.{is_marked, laid_over, text_of_vec, unmarked, without}
 use Rattle.mc_tables.proofs.Places.{place_within}
 use Rattle.mc_tables.proofs.Layering.{apart_places, entry_at, get-unmarked, get-without, held_under, or_else, place_is, place_of, same, same_itself, same_texts, same_turned}
@@ -93,10 +94,10 @@ no_more_left false None = refl
 no_more_left false (Some item) = refl
 
 -- whether a key's place is marked
-abbrev pub is_gone_from : {Z : Type 0} → List (Vec ℕ Z × Item) → List Bool → Key → Bool
+abbrev pub is_gone_from : {Z : Type 0} → List (Vec ℕ Z × Item) → List ℕ → Key → Bool
 is_gone_from held marks q = is_marked marks (place_of held q)
 
-pub all_copied_left : {Z : Type 0} (marks : List Bool) (copy : Table) (left held : List (Vec ℕ Z × Item)) → left ≡ [] →
+pub all_copied_left : {Z : Type 0} (marks : List ℕ) (copy : Table) (left held : List (Vec ℕ Z × Item)) → left ≡ [] →
     IsCopyingLeft (is_gone_from held marks) copy left held → copy ≡ unmarked held marks
 all_copied_left marks copy left held none so_far = same_map key_cmp_total key_cmp_exact _ _ (λ q.
     no_more_left (is_gone_from held marks q) (map.get copy q)
@@ -134,47 +135,47 @@ same_texts_equiv text = record {
 
 -- MARKED KEYS ARE REMOVED ONE BY ONE
 -- whether a place is marked, of those before an end
-abbrev pub is_marked_before : List Bool → ℕ → Option ℕ → Bool
+abbrev pub is_marked_before : List ℕ → ℕ → Option ℕ → Bool
 is_marked_before marks end None = false
-is_marked_before marks end (Some place) = cond (nat_lt place end) (get_or marks place false) false
+is_marked_before marks end (Some place) = cond (nat_lt place end) (is_set marks place) false
 
 -- the copy lacks the keys whose places are marked, of those before an end
-abbrev pub IsRemoving : {Z : Type 0} → Table → List (Vec ℕ Z × Item) → List Bool → ℕ → Table → Type 0
+abbrev pub IsRemoving : {Z : Type 0} → Table → List (Vec ℕ Z × Item) → List ℕ → ℕ → Table → Type 0
 IsRemoving table held marks end copy = (q : Key) → map.get copy q ≡ cond (is_marked_before marks end (place_of held q)) None (map.get table q)
 
-none_before : (marks : List Bool) (there : Option ℕ) → is_marked_before marks 0 there ≡ false
+none_before : (marks : List ℕ) (there : Option ℕ) → is_marked_before marks 0 there ≡ false
 none_before marks None = refl
 none_before marks (Some place) =
     let past : nat_lt place 0 ≡ false = grind (arith, nat_tests) in
-    ap (λ b. cond b (get_or marks place false) false) past
+    ap (λ b. cond b (is_set marks place) false) past
 
-pub none_removed : {Z : Type 0} (table copy : Table) (held : List (Vec ℕ Z × Item)) (marks : List Bool) → copy ≡ table → IsRemoving table held marks 0 copy
+pub none_removed : {Z : Type 0} (table copy : Table) (held : List (Vec ℕ Z × Item)) (marks : List ℕ) → copy ≡ table → IsRemoving table held marks 0 copy
 none_removed table copy held marks is = λ q.
     ap (λ (t : Table). map.get t q) is ∙ sym (ap (λ b. cond b None (map.get table q)) (none_before marks (place_of held q)))
 
 -- one more place changes nothing elsewhere, or if it isn't marked
-elsewhere : (marks : List Bool) (end : ℕ) (there : Option ℕ) → (there ≡ Some end → get_or marks end false ≡ false) → is_marked_before marks (end + 1) there ≡ is_marked_before marks end there
+elsewhere : (marks : List ℕ) (end : ℕ) (there : Option ℕ) → (there ≡ Some end → is_set marks end ≡ false) → is_marked_before marks (end + 1) there ≡ is_marked_before marks end there
 elsewhere marks end None apart = refl
 elsewhere marks end (Some place) apart = by (nat_eq place end) refl
   where
-    by : (b : Bool) → nat_eq place end ≡ b → cond (nat_lt place (end + 1)) (get_or marks place false) false ≡ cond (nat_lt place end) (get_or marks place false) false
+    by : (b : Bool) → nat_eq place end ≡ b → cond (nat_lt place (end + 1)) (is_set marks place) false ≡ cond (nat_lt place end) (is_set marks place) false
     by true is =
         let here : place ≡ end = grind (arith, nat_tests) in
         let within : nat_lt place (end + 1) ≡ true = grind (arith, nat_tests) in
         let past : nat_lt place end ≡ false = grind (arith, nat_tests) in
-        ap (λ b. cond b (get_or marks place false) false) within ∙ ap (λ n. get_or marks n false) here ∙ apart (ap Some here)
-        ∙ sym (ap (λ b. cond b (get_or marks place false) false) past)
+        ap (λ b. cond b (is_set marks place) false) within ∙ ap (λ n. is_set marks n) here ∙ apart (ap Some here)
+        ∙ sym (ap (λ b. cond b (is_set marks place) false) past)
     by false is =
         let alike : nat_lt place (end + 1) ≡ nat_lt place end = grind (arith, nat_tests) in
-        ap (λ b. cond b (get_or marks place false) false) alike
+        ap (λ b. cond b (is_set marks place) false) alike
 
-pub one_stays : {Z : Type 0} (table copy : Table) (held : List (Vec ℕ Z × Item)) (marks : List Bool) (end : ℕ) → IsRemoving table held marks end copy →
-    ((q : Key) → place_of held q ≡ Some end → get_or marks end false ≡ false) → IsRemoving table held marks (end + 1) copy
+pub one_stays : {Z : Type 0} (table copy : Table) (held : List (Vec ℕ Z × Item)) (marks : List ℕ) (end : ℕ) → IsRemoving table held marks end copy →
+    ((q : Key) → place_of held q ≡ Some end → is_set marks end ≡ false) → IsRemoving table held marks (end + 1) copy
 one_stays table copy held marks end so_far apart = λ q.
     so_far q ∙ ap (λ b. cond b None (map.get table q)) (sym (elsewhere marks end (place_of held q) (apart q)))
 
-pub one_removed : {Z : Type 0} (table copy new : Table) (held : List (Vec ℕ Z × Item)) (marks : List Bool) (end : ℕ) (text : Key) → IsRemoving table held marks end copy →
-    place_of held text ≡ Some end → get_or marks end false ≡ true → new ≡ map.remove copy text → IsRemoving table held marks (end + 1) new
+pub one_removed : {Z : Type 0} (table copy new : Table) (held : List (Vec ℕ Z × Item)) (marks : List ℕ) (end : ℕ) (text : Key) → IsRemoving table held marks end copy →
+    place_of held text ≡ Some end → is_set marks end ≡ true → new ≡ map.remove copy text → IsRemoving table held marks (end + 1) new
 one_removed table copy new held marks end text so_far at mark gone = λ q.
     ap (λ (t : Table). map.get t q) gone ∙ get-remove key_cmp_total copy text q ∙ by q (is_tied q text) refl
   where
@@ -183,11 +184,11 @@ one_removed table copy new held marks end text so_far at mark gone = λ q.
         let here : place_of held q ≡ Some end = ap (place_of held) (tied_keys q text is) ∙ at in
         let within : nat_lt end (end + 1) ≡ true = grind (arith, nat_tests) in
         sym (ap (λ (o : Option ℕ). cond (is_marked_before marks (end + 1) o) None (map.get table q)) here
-        ∙ ap (λ b. cond (cond b (get_or marks end false) false) None (map.get table q)) within ∙ ap (λ b. cond b None (map.get table q)) mark)
+        ∙ ap (λ b. cond (cond b (is_set marks end) false) None (map.get table q)) within ∙ ap (λ b. cond b None (map.get table q)) mark)
     by q false is =
         so_far q ∙ ap (λ b. cond b None (map.get table q)) (sym (elsewhere marks end (place_of held q) (λ there. absurd (apart_places held text q end end is at there refl))))
 
-pub all_removed : {Z : Type 0} (table copy : Table) (held : List (Vec ℕ Z × Item)) (marks : List Bool) (end : ℕ) → length held ≤ end → IsRemoving table held marks end copy →
+pub all_removed : {Z : Type 0} (table copy : Table) (held : List (Vec ℕ Z × Item)) (marks : List ℕ) (end : ℕ) → length held ≤ end → IsRemoving table held marks end copy →
     copy ≡ without table held marks
 all_removed table copy held marks end past so_far = same_map key_cmp_total key_cmp_exact _ _ (λ q.
     so_far q ∙ ap (λ b. cond b None (map.get table q)) (by (place_of held q) (λ i at. place_within held q i at)) ∙ sym (get-without table held marks q))
@@ -197,4 +198,4 @@ all_removed table copy held marks end past so_far = same_map key_cmp_total key_c
     by (Some place) inside =
         let before : place < length held = inside place refl in
         let within : nat_lt place end ≡ true = grind (arith, nat_tests) in
-        ap (λ b. cond b (get_or marks place false) false) within
+        ap (λ b. cond b (is_set marks place) false) within

@@ -1,9 +1,7 @@
 -- Entries of hash maps as tables, marks on them, and what lies over them.
-use Rattle.std.proofs.Common.{◌≡◌, ◌≢◌, ℕ, ◌+◌, ◌<◌, Bool, true, false, cond, if◌then◌else◌, not, List, [], ◌∷◌, length, get_or, set, replicate, position, Option, Some, None, Result, Ok, Err, OnOk, OnErr, refl, sym, ap, ◌∙◌, true≢false, arith, Bor}
-use Rattle.std.proofs.lemmas.List.{get_or-set_same, get_or-set_other, get_or-replicate}
+use Rattle.std.proofs.Common.{◌≡◌, ◌≢◌, ℕ, ◌+◌, ◌||◌, Bool, true, false, cond, if◌then◌else◌, not, List, [], ◌∷◌, length, get_or, position, Option, Some, None, Result, Ok, Err, OnOk, OnErr, refl, sym, ap, ◌∙◌, true≢false, arith, Bor}
+use Rattle.std.proofs.lemmas.Bool.Decides.{nat_tests}
 use Rattle.std.proofs.lemmas.List.Quantifiers.{position-Some}
-use Rattle.std.proofs.lemmas.Grind.{common_steps}
-use Rattle.std.proofs.lemmas.Option.{same_Some, slice_get-get_or}
 use Rattle.std.specs.List.{position_or_len}
 use Rattle.std.specs.Prelude.{nat_eq, nat_lt, suc, Vec}
 use Rattle.indexmap.proofs.MapLemmas.{some_index}
@@ -19,6 +17,7 @@ use Rattle.mc_model.specs.declared.item.Item.{Item}
 use Rattle.mc_model.specs.declared.key.Key.{Key}
 use Rattle.mc_model.specs.Table.{Table, is_tied, key_cmp, key_cmp_exact, key_cmp_total, tied_itself, tied_keys}
 use Rattle.mc_tables.specs.declared.cell_item.CellItem.{CellItem}
+use Rattle.mc_tables.specs.Marks.{is_set}
 use Rattle.mc_tables.specs.Entries.{is_marked, item_of_cell, laid_over, owned_entries, same_item, text_of_vec, texts_of, unmarked, without}
 
 -- the two tests of keys
@@ -132,13 +131,13 @@ pub turned : {A : Type 0} (b : Bool) (x y : A) → cond (not b) x y ≡ cond b y
 turned true x y = refl
 turned false x y = refl
 
-pub get-without : {Z : Type 0} (table : Table) (held : List (Vec ℕ Z × Item)) (marks : List Bool) (q : Key) →
+pub get-without : {Z : Type 0} (table : Table) (held : List (Vec ℕ Z × Item)) (marks : List ℕ) (q : Key) →
     map.get (without table held marks) q ≡ cond (is_marked marks (place_of held q)) None (map.get table q)
 get-without table held marks q =
     get-retain_keys table (λ key. not (is_marked marks (place_of held key))) q (λ x tied. ap (λ key. not (is_marked marks (place_of held key))) (sym (key_cmp_exact q x tied)))
     ∙ turned (is_marked marks (place_of held q)) _ _
 
-pub get-unmarked : {Z : Type 0} (held : List (Vec ℕ Z × Item)) (marks : List Bool) (q : Key) →
+pub get-unmarked : {Z : Type 0} (held : List (Vec ℕ Z × Item)) (marks : List ℕ) (q : Key) →
     map.get (unmarked held marks) q ≡ cond (is_marked marks (place_of held q)) None (entry_at text_of_vec held q)
 get-unmarked held marks q = get-without (owned_entries held) held marks q ∙ ap (cond (is_marked marks (place_of held q)) None) (get-owned held q)
 
@@ -154,9 +153,16 @@ as_many (entry ∷ held) = ap suc (as_many held)
 pub place_is : {Z : Type 0} (held : List (Vec ℕ Z × Item)) (q : Key) → position (λ k. same q (text_of_vec k)) (keys_of held) ≡ place_of held q
 place_is held q = λ i. cond (nat_lt (before_it held q i) (as_many held i)) (Some (before_it held q i)) None
 
-marked_other : (marks : List Bool) (i : ℕ) (there : Option ℕ) → ((j : ℕ) → there ≡ Some j → j ≢ i) → is_marked (set marks i true) there ≡ is_marked marks there
-marked_other marks i None apart = refl
-marked_other marks i (Some j) apart = get_or-set_other marks i j true false (apart j refl)
+-- one more mark
+abbrev pub IsOneMore : List ℕ → ℕ → List ℕ → Type 0
+IsOneMore marks place new = (other : ℕ) → is_set new other ≡ (nat_eq other place || is_set marks other)
+
+marked_other : (marks new : List ℕ) (i : ℕ) (there : Option ℕ) → IsOneMore marks i new → ((j : ℕ) → there ≡ Some j → j ≢ i) → is_marked new there ≡ is_marked marks there
+marked_other marks new i None more apart = refl
+marked_other marks new i (Some j) more apart =
+    let away : j ≢ i = apart j refl in
+    let no : nat_eq j i ≡ false = grind (arith, nat_tests) in
+    more j ∙ ap (λ b. b || is_set marks j) no
 
 -- places of two keys that are apart
 pub apart_places : {Z : Type 0} (held : List (Vec ℕ Z × Item)) (key q : Key) (i j : ℕ) → is_tied q key ≡ false → place_of held key ≡ Some i → place_of held q ≡ Some j → j ≢ i
@@ -168,19 +174,20 @@ apart_places held key q i j apart at there is =
     let both : q ≡ key = q_is ∙ ap (λ n. get_or (texts_of held) n key) is ∙ sym key_is in
     true≢false (sym (tied_itself key) ∙ ap (λ k. is_tied k key) (sym both) ∙ apart)
 
-pub marked : {Z : Type 0} (table : Table) (held : List (Vec ℕ Z × Item)) (marks : List Bool) (key : Key) (i : ℕ) → place_of held key ≡ Some i → i < length marks →
-    without table held (set marks i true) ≡ map.remove (without table held marks) key
-marked table held marks key i at inside = same_map key_cmp_total key_cmp_exact _ _ (λ q.
-    get-without table held (set marks i true) q ∙ by q (is_tied q key) refl
+pub marked : {Z : Type 0} (table : Table) (held : List (Vec ℕ Z × Item)) (marks new : List ℕ) (key : Key) (i : ℕ) → place_of held key ≡ Some i → IsOneMore marks i new →
+    without table held new ≡ map.remove (without table held marks) key
+marked table held marks new key i at more = same_map key_cmp_total key_cmp_exact _ _ (λ q.
+    get-without table held new q ∙ by q (is_tied q key) refl
     ∙ sym (get-remove key_cmp_total (without table held marks) key q ∙ ap (cond (is_tied q key) None) (get-without table held marks q)))
   where
-    by : (q : Key) (tied : Bool) → is_tied q key ≡ tied → cond (is_marked (set marks i true) (place_of held q)) None (map.get table q)
+    by : (q : Key) (tied : Bool) → is_tied q key ≡ tied → cond (is_marked new (place_of held q)) None (map.get table q)
         ≡ cond tied None (cond (is_marked marks (place_of held q)) None (map.get table q))
     by q true is =
         let here : place_of held q ≡ Some i = ap (place_of held) (tied_keys q key is) ∙ at in
-        ap (λ (o : Option ℕ). cond (is_marked (set marks i true) o) None (map.get table q)) here
-        ∙ ap (λ b. cond b None (map.get table q)) (get_or-set_same marks i true false inside)
-    by q false is = ap (λ b. cond b None (map.get table q)) (marked_other marks i (place_of held q) (λ j there. apart_places held key q i j is at there))
+        let yes : nat_eq i i ≡ true = grind (arith, nat_tests) in
+        ap (λ (o : Option ℕ). cond (is_marked new o) None (map.get table q)) here
+        ∙ ap (λ b. cond b None (map.get table q)) (more i ∙ ap (λ b. b || is_set marks i) yes)
+    by q false is = ap (λ b. cond b None (map.get table q)) (marked_other marks new i (place_of held q) more (λ j there. apart_places held key q i j is at there))
 
 -- removing a key that isn't there changes nothing
 pub nothing_there : (table : Table) (key : Key) → map.get table key ≡ None → table ≡ map.remove table key
@@ -195,31 +202,28 @@ nothing true there is = refl
 nothing false there is = is
 
 -- a key that isn't there needs no mark
-pub needs_no_mark : {Z : Type 0} (table : Table) (held : List (Vec ℕ Z × Item)) (marks : List Bool) (key : Key) → map.get table key ≡ None →
+pub needs_no_mark : {Z : Type 0} (table : Table) (held : List (Vec ℕ Z × Item)) (marks : List ℕ) (key : Key) → map.get table key ≡ None →
     without table held marks ≡ map.remove (without table held marks) key
 needs_no_mark table held marks key none =
     nothing_there (without table held marks) key (get-without table held marks key ∙ nothing (is_marked marks (place_of held key)) _ none)
 
 -- no mark is set
-unset : (n i : ℕ) → get_or (replicate n false) i false ≡ false
-unset n i = grind (arith, common_steps, get_or-replicate)
-
-pub no_marks : {Z : Type 0} (table : Table) (held : List (Vec ℕ Z × Item)) (n : ℕ) → without table held (replicate n false) ≡ table
-no_marks table held n = same_map key_cmp_total key_cmp_exact _ _ (λ q.
-    get-without table held (replicate n false) q ∙ ap (λ b. cond b None (map.get table q)) (none (place_of held q)))
+pub no_marks : {Z : Type 0} (table : Table) (held : List (Vec ℕ Z × Item)) (marks : List ℕ) → ((place : ℕ) → is_set marks place ≡ false) → without table held marks ≡ table
+no_marks table held marks clear = same_map key_cmp_total key_cmp_exact _ _ (λ q.
+    get-without table held marks q ∙ ap (λ b. cond b None (map.get table q)) (none (place_of held q)))
   where
-    none : (there : Option ℕ) → is_marked (replicate n false) there ≡ false
+    none : (there : Option ℕ) → is_marked marks there ≡ false
     none None = refl
-    none (Some i) = unset n i
+    none (Some i) = clear i
 
 -- what is found by its place, and what isn't found
-pub under_some : {Z : Type 0} (table : Table) (held : List (Vec ℕ Z × Item)) (marks : List Bool) (q : Key) (i : ℕ) (item : Item) (b : Bool) →
-    map.get table q ≡ Some item → place_of held q ≡ Some i → get_or marks i false ≡ b → map.get (without table held marks) q ≡ cond b None (Some item)
+pub under_some : {Z : Type 0} (table : Table) (held : List (Vec ℕ Z × Item)) (marks : List ℕ) (q : Key) (i : ℕ) (item : Item) (b : Bool) →
+    map.get table q ≡ Some item → place_of held q ≡ Some i → is_set marks i ≡ b → map.get (without table held marks) q ≡ cond b None (Some item)
 under_some table held marks q i item b there at mark =
     get-without table held marks q ∙ ap (λ (o : Option ℕ). cond (is_marked marks o) None (map.get table q)) at
     ∙ ap (λ m. cond m None (map.get table q)) mark ∙ ap (cond b None) there
 
-pub under_none : {Z : Type 0} (table : Table) (held : List (Vec ℕ Z × Item)) (marks : List Bool) (q : Key) →
+pub under_none : {Z : Type 0} (table : Table) (held : List (Vec ℕ Z × Item)) (marks : List ℕ) (q : Key) →
     map.get table q ≡ None → map.get (without table held marks) q ≡ None
 under_none table held marks q none = get-without table held marks q ∙ nothing (is_marked marks (place_of held q)) _ none
 
@@ -297,10 +301,6 @@ overwritten true table new key item kept one other put is same there =
     put ∙ ap (λ (k : CellItem). map.insert table key (item_of_cell k)) is ∙ ap (map.insert table key) same
 overwritten false table new key item kept one other put is same there =
     put ∙ ap (λ (k : CellItem). map.insert table key (item_of_cell k)) is ∙ insert_same table key (item_of_cell other) there
-
--- what is read within a list needs no default
-pub any_default : (xs : List Bool) (i : ℕ) (d e : Bool) → i < length xs → get_or xs i d ≡ get_or xs i e
-any_default xs i d e inside = sym (same_Some _ _ (sym (slice_get-get_or xs i e inside) ∙ slice_get-get_or xs i d inside))
 
 -- what follows from what a call that succeeded, or failed, left
 pub on_ok : {A E P Q : Type 0} (result : Result A E) → (P → Q) → OnOk result P → OnOk result Q

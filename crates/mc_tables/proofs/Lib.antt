@@ -1,5 +1,6 @@
 mod Stands
 mod Totals
+mod Bits
 mod Layering
 mod Places
 mod Copying

@@ -1,5 +1,5 @@
 -- The entries of a hash map, laid over a table.
-use Rattle.std.specs.Prelude.{ℕ, Bool, false, not, List, [], ◌∷◌, get_or, nat_eq, position, map as each, Option, Some, None, Vec}
+use Rattle.std.specs.Prelude.{ℕ, Bool, false, not, List, [], ◌∷◌, nat_eq, position, map as each, Option, Some, None, Vec}
 use Rattle.std.specs.Borrow.{Bor}
 use Rattle.std.specs.Cmp.Lexicographic.{pointwise}
 use Rattle.std.specs.FinMap as map
@@ -7,6 +7,7 @@ use Rattle.mc_model.specs.declared.item.Item.{Item}
 use Rattle.mc_model.specs.declared.key.Key.{Key}
 use Rattle.mc_model.specs.Table.{Table}
 use Rattle.mc_tables.specs.declared.cell_item.CellItem.{CellItem}
+use Rattle.mc_tables.specs.Marks.{is_set}
 
 -- entries over a table: what an entry holds hides what the table has under its key
 abbrev pub laid_over : {K V : Type 0} → (K → Key) → (V → Item) → Table → List (K × V) → Table
@@ -38,15 +39,15 @@ abbrev pub texts_of : {Z : Type 0} → List (Vec ℕ Z × Item) → List Key
 texts_of entries = each (λ entry. text_of_vec entry.0) entries
 
 -- whether the place of a key is marked
-abbrev pub is_marked : List Bool → Option ℕ → Bool
+abbrev pub is_marked : List ℕ → Option ℕ → Bool
 is_marked marks None = false
-is_marked marks (Some place) = get_or marks place false
+is_marked marks (Some place) = is_set marks place
 
 -- a table without the keys whose places among the entries are marked
-abbrev pub without : {Z : Type 0} → Table → List (Vec ℕ Z × Item) → List Bool → Table
+abbrev pub without : {Z : Type 0} → Table → List (Vec ℕ Z × Item) → List ℕ → Table
 without table entries marks =
     map.retain_keys table (λ key. not (is_marked marks (position (pointwise nat_eq key) (texts_of entries))))
 
 -- the entries whose places aren't marked
-abbrev pub unmarked : {Z : Type 0} → List (Vec ℕ Z × Item) → List Bool → Table
+abbrev pub unmarked : {Z : Type 0} → List (Vec ℕ Z × Item) → List ℕ → Table
 unmarked entries marks = without (owned_entries entries) entries marks

@@ -1,5 +1,5 @@
 -- Tables in layers: a base, marks on what of it was removed, and what was changed since.
-use Rattle.std.specs.Prelude.{ℕ, ◌≤◌, Bool, List, [], ◌++◌, length, Option, Some, None, Vec}
+use Rattle.std.specs.Prelude.{ℕ, ◌*◌, ◌≤◌, List, [], ◌++◌, length, Option, Some, None, Vec}
 use Rattle.std.specs.Arc.{arc_value}
 use Rattle.std.specs.Borrow.{Bor}
 use Rattle.std.specs.FinMap as map
@@ -36,14 +36,14 @@ base_len None = 0
 base_len (Some base) = length (placed base.now)
 
 -- each of them has a mark
-abbrev pub AreMarked : Option (Bor Owned) → List Bool → Type 0
-AreMarked base marks = base_len base ≤ length marks
+abbrev pub AreMarked : Option (Bor Owned) → List ℕ → Type 0
+AreMarked base marks = base_len base ≤ 64 * length marks
 
 -- what is left of the table below
-abbrev pub below : Option (Bor Owned) → List Bool → Table
+abbrev pub below : Option (Bor Owned) → List ℕ → Table
 below None marks = map.empty
 below (Some base) marks = without (owned_table base.now) (placed base.now) marks
 
 -- all layers of a table that borrows
-abbrev pub layers : {S : Type 0} → Option (Bor Owned) → List Bool → HashMap (Bor (List ℕ)) CellItem S → Table
+abbrev pub layers : {S : Type 0} → Option (Bor Owned) → List ℕ → HashMap (Bor (List ℕ)) CellItem S → Table
 layers base marks over = laid_over text_of_slice item_of_cell (below base marks) over.entries

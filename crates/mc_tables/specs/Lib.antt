@@ -4,5 +4,6 @@ pub mod Found
 pub mod Hashing
 pub mod Layers
 pub mod Maps
+pub mod Marks
 pub mod Meters
 pub mod Views

@@ -3,11 +3,12 @@ ghost use Rattle.std.specs.Arc.{arc_value};
 ghost use Rattle.std.specs.Cmp.Lexicographic.{pointwise};
 ghost use Rattle.std.specs.FinMap as map;
 ghost use Rattle.std.specs.Option.{option_map};
-ghost use Rattle.std.specs.Prelude.{◌≡◌, ◌<◌, ◌≤◌, ◌^◌, length, nat_eq, position, IfOk, IfSome, OnOk, IsOkUnless};
+ghost use Rattle.std.specs.Prelude.{◌≡◌, ◌*◌, ◌<◌, ◌≤◌, ◌^◌, length, nat_eq, position, IfOk, IfSome, OnOk, IsOkUnless};
 ghost use Rattle.mc_tables.specs.Entries.{texts_of, unmarked};
 ghost use Rattle.mc_tables.specs.Maps.{map_table};
 
 use crate::item_map::ItemMap;
+use crate::marks::{is_set, no_marks, set};
 use mc_model::{Fault, Item};
 use std::alloc::Global;
 use std::sync::Arc;
@@ -17,10 +18,10 @@ use std::sync::Arc;
 #[derive(Debug, Drop)]
 pub struct Base {
     pub(crate) items: Arc<ItemMap, Global>,
-    pub(crate) marks: Vec<bool>,
+    pub(crate) marks: Vec<u64>,
     /// How many items are marked.
     removed: usize,
-    ghost marked: { length (arc_value items).held.entries ≤ length marks.items },
+    ghost marked: { length (arc_value items).held.entries ≤ 64 * length marks.items },
 }
 
 impl Base {
@@ -30,7 +31,7 @@ impl Base {
             unmarked (arc_value base.items).held.entries base.marks.items ≡ map_table items) }
         ensures memory { IsOkUnless result Fault.Memory }
     {
-        let marks = Vec::from_elem(alloc, false, items.len())?;
+        let marks = no_marks(alloc, items.len())?;
         let items = Arc::new(alloc, items)?;
         Ok(Base {
             items,
@@ -76,11 +77,12 @@ impl Base {
             (texts_of (arc_value self.now.items).held.entries) ≡ Some found.0) }
         ensures within { IfSome result
             (λ found. found.0 < length (arc_value self.now.items).held.entries) }
+        ensures small { IfSome result (λ found. found.0 < 2 ^ 63) }
     {
         match self.items.place(text) {
             None => None,
             Some((place, item)) => {
-                if self.marks[place] {
+                if is_set(&self.marks, place) {
                     None
                 } else {
                     Some((place, item))
@@ -107,7 +109,7 @@ impl Base {
             text.now }
     {
         if let Some((place, _)) = self.place(text) {
-            self.marks[place] = true;
+            set(&mut self.marks, place);
             self.removed = self.removed.saturating_add(1);
         }
     }
@@ -122,7 +124,7 @@ impl Base {
     {
         for place in 0..self.items.len() {
             let (text, item) = self.items.entry(place);
-            if !self.marks[place] {
+            if !is_set(&self.marks, place) {
                 copy.put_copy(text, item)?;
             }
         }

@@ -1,6 +1,6 @@
 //! Copies of tables, in memory of their own, of which much is shared.
 ghost use Rattle.std.specs.FinMap as map;
-ghost use Rattle.std.specs.Prelude.{◌≡◌, ◌≤◌, length, IfOk, OnOk, IsOkUnless};
+ghost use Rattle.std.specs.Prelude.{◌≡◌, ◌*◌, ◌≤◌, length, IfOk, OnOk, IsOkUnless};
 ghost use Rattle.mc_tables.specs.Entries.{item_of_cell, laid_over, text_of_slice, without};
 ghost use Rattle.mc_tables.specs.Layers.{below, layers, left, owned_table, placed};
 ghost use Rattle.mc_tables.specs.Maps.{map_table};
@@ -10,6 +10,7 @@ use crate::cell_item::CellItem;
 use crate::hashing::Hashing;
 use crate::item_map::ItemMap;
 use crate::layered::Layered;
+use crate::marks::is_set;
 use crate::owned::Owned;
 use mc_model::{Fault, Item};
 use std::alloc::Global;
@@ -48,15 +49,15 @@ impl<'a> Layered<'a> {
 
 /// Returns a copy of a table without what is marked, with room for this many more changes. Returns
 /// `Memory` if an allocation fails.
-fn copy_unmarked(base: &Owned, marks: &[bool], more: usize) -> Result<Owned, Fault>
-    requires { length (placed base.now) ≤ length marks.now }
+fn copy_unmarked(base: &Owned, marks: &[u64], more: usize) -> Result<Owned, Fault>
+    requires { length (placed base.now) ≤ 64 * length marks.now }
     ensures left { IfOk result (λ copy.
         owned_table copy ≡ without (owned_table base.now) (placed base.now) marks.now) }
     ensures memory { IsOkUnless result Fault.Memory }
 {
     let mut copy = base.shared(more)?;
     for place in 0..base.places() {
-        if marks[place] {
+        if is_set(marks, place) {
             if let Some(text) = base.key_at(place) {
                 copy.take_out(text);
             }

@@ -64,7 +64,10 @@ impl ItemMap {
         ensures item { option_map (λ found. found.1.now) result
             ≡ map.get (map_table self.now) text.now }
         ensures within { IfSome result (λ found. found.0 < length self.now.held.entries) }
+        ensures small { IfSome result (λ found. found.0 < 2 ^ 63) }
     {
+        // There are fewer than 2^63 items.
+        let _ = self.held.len();
         match self.held.get_full(text) {
             Some((place, _, item)) => Some((place, item)),
             None => None,

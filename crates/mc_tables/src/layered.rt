@@ -17,6 +17,7 @@ ghost use Rattle.mc_tables.specs.Layers.{AreMarked, below, layers, owned_table};
 
 use crate::cell_item::CellItem;
 use crate::hashing::Hashing;
+use crate::marks::{is_set, no_marks, set};
 use crate::meter::Meter;
 use crate::metered::Metered;
 use crate::owned::{Owned, OwnedItems};
@@ -33,7 +34,7 @@ pub struct Layered<'a> {
     pub(crate) alloc: Global,
     pub(crate) hashing: Hashing,
     pub(crate) base: Option<&'a Owned>,
-    pub(crate) marks: Vec<bool>,
+    pub(crate) marks: Vec<u64>,
     pub(crate) over: HashMap<&'a [u8], CellItem<'a>, Hashing>,
     ghost marked: { AreMarked base marks.items },
 }
@@ -100,7 +101,7 @@ impl<'a> Layered<'a> {
             (λ items. layers items.base items.marks.items items.over ≡ owned_table base.now) }
         ensures memory { IsOkUnless result Fault.Memory }
     {
-        let marks = Vec::from_elem(alloc, false, base.places())?;
+        let marks = no_marks(alloc, base.places())?;
         let hashing = base.hashing();
         Ok(Layered {
             alloc,
@@ -133,7 +134,13 @@ impl<'a> Layered<'a> {
             None => None,
             Some(base) => match base.place(key.as_bytes()) {
                 None => None,
-                Some((place, item)) => { if self.marks[place] { None } else { Some(item) } }
+                Some((place, item)) => {
+                    if is_set(&self.marks, place) {
+                        None
+                    } else {
+                        Some(item)
+                    }
+                }
             },
         }
     }
@@ -161,7 +168,7 @@ impl<'a> Layered<'a> {
     {
         if let Some(base) = self.base {
             if let Some((place, _)) = base.place(key.as_bytes()) {
-                self.marks[place] = true;
+                set(&mut self.marks, place);
             }
         }
     }

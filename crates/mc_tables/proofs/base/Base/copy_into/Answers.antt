@@ -4,10 +4,11 @@ use Rattle.std.specs.Arc.{arc_value}
 use Rattle.mc_model.specs.declared.key.Key.{Key}
 use Rattle.mc_tables.specs.Entries.{is_marked, text_of_vec}
 use Rattle.mc_tables.specs.Maps.{map_table}
-use Rattle.mc_tables.proofs.Layering.{any_default, entry_at, place_of, same}
+use Rattle.mc_tables.specs.Marks.{is_set}
+use Rattle.mc_tables.proofs.Layering.{entry_at, place_of, same}
 use Rattle.mc_tables.proofs.Copying.{all_copied_left, is_gone_from, none_copied_left, one_copied_left, one_gone}
 use Rattle.mc_tables.proofs.base.Base.copy_into.Goals as goal
-use Rattle.mc_tables.proofs.base.Base.copy_into.Goals.{then-not-index+in_ok-put_copy, else-not-index}
+use Rattle.mc_tables.proofs.base.Base.copy_into.Goals.{then-not-is_set+in_ok-put_copy, else-not-is_set}
 
 pub loop-place-init : goal.loop-place-init
 loop-place-init c =
@@ -31,17 +32,16 @@ loop-place-preserved c =
     let first : (q : Key) → entry_at text_of_vec (drop place held) q ≡ cond (same q text) (Some item) (entry_at text_of_vec (drop (place + 1) held) q) = rw c.deref-in-loop-place.ensures at c.entry.ensures.first in
     let at : place_of held text ≡ Some place = rw c.deref-in-loop-place.ensures at c.entry.ensures.place in
     let there : entry_at text_of_vec held text ≡ Some item = rw c.deref-in-loop-place.ensures at c.entry.ensures.item in
-    let inside : place < length marks = search rules in
-    let read : c.index.result.now ≡ get_or marks place c.index.result.now = search rules in
-    let is : gone text ≡ c.index.result.now = ap (is_marked marks) at ∙ any_default marks place false c.index.result.now inside ∙ sym read in
-    elim c.if-not-index.branch [
-      | then-not-index+in_ok-put_copy w ↦
-          let no : c.index.result.now ≡ false = search rules in
+    let read : is_set marks place ≡ c.is_set.result = search rules in
+    let is : gone text ≡ c.is_set.result = ap (is_marked marks) at ∙ read in
+    elim c.if-not-is_set.branch [
+      | then-not-is_set+in_ok-put_copy w ↦
+          let no : c.is_set.result ≡ false = search rules in
           let copied = one_copied_left gone (map_table c.loop-place.copy) (drop place held) (drop (place + 1) held) held text item c.loop-place.invariant first
           (map_table w.put_copy.new.self) (is ∙ no) there w.in_ok-put_copy.ensures.table in
           rw w.copy-is copied
-      | else-not-index w ↦
-          let yes : c.index.result.now ≡ true = search rules in
+      | else-not-is_set w ↦
+          let yes : c.is_set.result ≡ true = search rules in
           let left = one_gone gone (map_table c.loop-place.copy) (drop place held) (drop (place + 1) held) held text item c.loop-place.invariant first (is ∙ yes) in
           rw w.copy-is left
     ]

@@ -1,11 +1,12 @@
-use Rattle.std.proofs.Common.{◌≡◌, ℕ, ◌<◌, true, false, length, get_or, Some, None, Bor, sym, ap, ◌∙◌, rules}
+use Rattle.std.proofs.Common.{◌≡◌, ℕ, true, false, Some, None, Bor, sym, ap, ◌∙◌, rules}
 use Rattle.std.specs.Arc.{arc_value}
 use Rattle.std.specs.FinMap as map
 use Rattle.std.specs.Option.{option_map}
 use Rattle.mc_model.specs.declared.item.Item.{Item}
 use Rattle.mc_tables.specs.Entries.{owned_entries}
 use Rattle.mc_tables.specs.Maps.{map_table}
-use Rattle.mc_tables.proofs.Layering.{any_default, place_of, under_none, under_some}
+use Rattle.mc_tables.specs.Marks.{is_set}
+use Rattle.mc_tables.proofs.Layering.{place_of, under_none, under_some}
 use Rattle.mc_tables.proofs.base.Base.place.Goals as goal
 
 pub returns-in-None-clause-item : goal.returns-in-None-clause-item
@@ -15,30 +16,24 @@ returns-in-None-clause-item c =
     let none : map.get (map_table items) text ≡ None = search rules in
     sym (under_none (map_table items) items.held.entries c.args.self.now.marks.items text none)
 
-pub returns-then-index-clause-item : goal.returns-then-index-clause-item
-returns-then-index-clause-item c =
+pub returns-then-is_set-clause-item : goal.returns-then-is_set-clause-item
+returns-then-is_set-clause-item c =
     let items = arc_value c.args.self.now.items in
     let marks = c.args.self.now.marks.items in
     let text = c.args.text.now in
     let place = c.in-Some.place in
     let there : map.get (map_table items) text ≡ Some c.in-Some.item.now = search rules in
     let at : place_of items.held.entries text ≡ Some place = search rules in
-    let inside : place < length marks = search rules in
-    let is : c.index.result.now ≡ get_or marks place c.index.result.now = search rules in
-    let mark : c.index.result.now ≡ true = search rules in
-    let yes : get_or marks place false ≡ true = any_default marks place false c.index.result.now inside ∙ sym is ∙ mark in
+    let yes : is_set marks place ≡ true = search rules in
     sym (under_some (map_table items) items.held.entries marks text place c.in-Some.item.now true there at yes)
 
-pub returns-else-index-clause-item : goal.returns-else-index-clause-item
-returns-else-index-clause-item c =
+pub returns-else-is_set-clause-item : goal.returns-else-is_set-clause-item
+returns-else-is_set-clause-item c =
     let items = arc_value c.args.self.now.items in
     let marks = c.args.self.now.marks.items in
     let text = c.args.text.now in
     let place = c.in-Some.place in
     let there : map.get (map_table items) text ≡ Some c.in-Some.item.now = search rules in
     let at : place_of items.held.entries text ≡ Some place = search rules in
-    let inside : place < length marks = search rules in
-    let is : c.index.result.now ≡ get_or marks place c.index.result.now = search rules in
-    let mark : c.index.result.now ≡ false = search rules in
-    let no : get_or marks place false ≡ false = any_default marks place false c.index.result.now inside ∙ sym is ∙ mark in
+    let no : is_set marks place ≡ false = search rules in
     sym (under_some (map_table items) items.held.entries marks text place c.in-Some.item.now false there at no)

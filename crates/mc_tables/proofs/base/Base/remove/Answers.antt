@@ -1,4 +1,4 @@
-use Rattle.std.proofs.Common.{◌≡◌, ◌<◌, length, Some, None, sym, ap, ◌∙◌, rules}
+use Rattle.std.proofs.Common.{◌≡◌, Some, None, rules}
 use Rattle.std.specs.Arc.{arc_value}
 use Rattle.std.specs.FinMap as map
 use Rattle.mc_tables.specs.Entries.{owned_entries, unmarked}
@@ -11,8 +11,7 @@ returns-in-Some-clause-table c =
     let marks = c.args.self.now.marks.items in
     let text = c.args.text.now in
     let at : place_of held text ≡ Some c.in-Some.place = search rules in
-    let inside : c.in-Some.place < length marks = search rules in
-    marked (owned_entries held) held marks text c.in-Some.place at inside
+    marked (owned_entries held) held marks c.set.new.marks.items text c.in-Some.place at c.set.ensures.set
 
 pub returns-in_default-clause-table : goal.returns-in_default-clause-table
 returns-in_default-clause-table c =

@@ -1,4 +1,4 @@
-use Rattle.std.proofs.Common.{◌≡◌, ℕ, List, ◌<◌, true, length, set, Option, Some, None, Bor, sym, ap, subst, ◌∙◌, rules}
+use Rattle.std.proofs.Common.{◌≡◌, ℕ, List, Option, Some, None, Bor, sym, ap, subst, ◌∙◌, rules}
 use Rattle.std.specs.FinMap as map
 use Rattle.std.specs.FinMap.{get-empty}
 use Rattle.mc_model.specs.Table.{key_cmp}
@@ -15,9 +15,8 @@ returns-in-Some-place-clause-marked c =
     let key = c.args.key.now in
     let base = c.in-Some.base.now in
     let at : place_of (placed base) key ≡ Some c.in-Some-place.place = rw c.as_bytes.ensures.value at c.in-Some-place.ensures.place in
-    let inside : c.in-Some-place.place < length marks = search rules in
-    subst (λ (b : Option (Bor Owned)). below b (set marks c.in-Some-place.place true) ≡ map.remove (below b marks) key) (sym c.in-Some.is)
-    (marked (owned_table base) (placed base) marks key c.in-Some-place.place at inside)
+    subst (λ (b : Option (Bor Owned)). below b c.set.new.marks.items ≡ map.remove (below b marks) key) (sym c.in-Some.is)
+    (marked (owned_table base) (placed base) marks c.set.new.marks.items key c.in-Some-place.place at c.set.ensures.set)
 
 pub returns-in_default-place-clause-marked : goal.returns-in_default-place-clause-marked
 returns-in_default-place-clause-marked c =

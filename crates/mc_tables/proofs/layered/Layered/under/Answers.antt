@@ -1,4 +1,4 @@
-use Rattle.std.proofs.Common.{◌≡◌, ℕ, List, ◌<◌, true, false, length, get_or, Option, Some, None, Bor, sym, ap, ◌∙◌, rules}
+use Rattle.std.proofs.Common.{◌≡◌, ℕ, List, true, false, Option, Some, None, Bor, sym, ap, ◌∙◌, rules}
 use Rattle.std.specs.FinMap as map
 use Rattle.std.specs.FinMap.{get-empty}
 use Rattle.mc_model.specs.Table.{key_cmp}
@@ -6,7 +6,8 @@ use Rattle.std.specs.Option.{option_map}
 use Rattle.mc_model.specs.declared.item.Item.{Item}
 use Rattle.mc_tables.specs.declared.owned.Owned.{Owned}
 use Rattle.mc_tables.specs.Layers.{below, owned_table, placed}
-use Rattle.mc_tables.proofs.Layering.{any_default, place_of, under_none, under_some}
+use Rattle.mc_tables.specs.Marks.{is_set}
+use Rattle.mc_tables.proofs.Layering.{place_of, under_none, under_some}
 use Rattle.mc_tables.proofs.layered.Layered.under.Goals as goal
 
 pub returns-in-None : goal.returns-in-None
@@ -24,8 +25,8 @@ returns-in-None-place c =
     ap (map.get (owned_table base)) (sym c.as_bytes.ensures.value) ∙ sym c.place.ensures.item ∙ ap (option_map (λ (p : ℕ × Bor Item). p.1.now)) c.in-None-place.is in
     sym (ap (λ (b : Option (Bor Owned)). map.get (below b marks) key) c.in-Some.is ∙ under_none (owned_table base) (placed base) marks key none)
 
-pub returns-then-index : goal.returns-then-index
-returns-then-index c =
+pub returns-then-is_set : goal.returns-then-is_set
+returns-then-is_set c =
     let marks = c.args.self.now.marks.items in
     let key = c.args.key.now in
     let base = c.in-Some.base.now in
@@ -34,14 +35,11 @@ returns-then-index c =
     let there : map.get (owned_table base) key ≡ Some item =
     ap (map.get (owned_table base)) (sym c.as_bytes.ensures.value) ∙ sym c.place.ensures.item ∙ ap (option_map (λ (p : ℕ × Bor Item). p.1.now)) c.in-Some-place.is in
     let at : place_of (placed base) key ≡ Some place = rw c.as_bytes.ensures.value at c.in-Some-place.ensures.place in
-    let inside : place < length marks = search rules in
-    let is : c.index.result.now ≡ get_or marks place c.index.result.now = search rules in
-    let mark : c.index.result.now ≡ true = search rules in
-    let yes : get_or marks place false ≡ true = any_default marks place false c.index.result.now inside ∙ sym is ∙ mark in
+    let yes : is_set marks place ≡ true = search rules in
     sym (ap (λ (b : Option (Bor Owned)). map.get (below b marks) key) c.in-Some.is ∙ under_some (owned_table base) (placed base) marks key place item true there at yes)
 
-pub returns-else-index : goal.returns-else-index
-returns-else-index c =
+pub returns-else-is_set : goal.returns-else-is_set
+returns-else-is_set c =
     let marks = c.args.self.now.marks.items in
     let key = c.args.key.now in
     let base = c.in-Some.base.now in
@@ -50,8 +48,5 @@ returns-else-index c =
     let there : map.get (owned_table base) key ≡ Some item =
     ap (map.get (owned_table base)) (sym c.as_bytes.ensures.value) ∙ sym c.place.ensures.item ∙ ap (option_map (λ (p : ℕ × Bor Item). p.1.now)) c.in-Some-place.is in
     let at : place_of (placed base) key ≡ Some place = rw c.as_bytes.ensures.value at c.in-Some-place.ensures.place in
-    let inside : place < length marks = search rules in
-    let is : c.index.result.now ≡ get_or marks place c.index.result.now = search rules in
-    let mark : c.index.result.now ≡ false = search rules in
-    let no : get_or marks place false ≡ false = any_default marks place false c.index.result.now inside ∙ sym is ∙ mark in
+    let no : is_set marks place ≡ false = search rules in
     sym (ap (λ (b : Option (Bor Owned)). map.get (below b marks) key) c.in-Some.is ∙ under_some (owned_table base) (placed base) marks key place item false there at no)
