@@ -20,8 +20,8 @@ invariant_of-self-2 g c =
           (served_known c.work_adds_up.ensures.goes_on c.work_adds_up.ensures.known c.args.log.now _ _ _ _ _ _ served c.requires.logs known);
     }
 
-pub on_one_run-requires : goal.on_one_run-requires
-on_one_run-requires g c =
+pub on_one_run-workers-requires : goal.on_one_run-workers-requires
+on_one_run-workers-requires g c =
     let served =
     front_served (not c.args.is_last) c.in_ok-workers.ended c.in_ok-threads.threads.items _ c.run_all.new.worker_threads _ _ _ _ _ c.deref_mut.ensures.value c.run_all.ensures.workers
     c.in_ok-threads.threads.ok.0 c.in_ok-workers.ensures.ended c.in_ok-workers.ensures.workers c.in_ok-workers.ensures.event_loops c.in_ok-threads.ensures.workers
