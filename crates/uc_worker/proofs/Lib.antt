@@ -12,4 +12,5 @@ pub mod TurningOver
 pub mod AllWorkers
 pub mod RunsOfTheCore
 pub mod OneCoreRun
+pub mod OwnReplies
 pub mod Unsettled

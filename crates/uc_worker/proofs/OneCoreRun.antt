@@ -1,5 +1,5 @@
 -- What all workers of a log have done is one run of the core, with what each has put under its tickets.
-use Rattle.std.proofs.Common.{◌≡◌, ◌≢◌, ℕ, suc, ◌<◌, ◌≤◌, Bool, if◌then◌else◌, List, [], ◌∷◌, length, map, take, None, Option, Some, slice_get, refl, sym, ap, subst, ◌∙◌, arith}
+use Rattle.std.proofs.Common.{◌≡◌, ◌≢◌, ℕ, zero, suc, ◌<◌, ◌≤◌, Bool, if◌then◌else◌, List, [], ◌∷◌, length, map, take, None, Option, Some, slice_get, refl, sym, ap, subst, ◌∙◌, arith}
 use Rattle.std.proofs.lemmas.Option.{none-some, same_Some, slice_get-map, slice_get_within}
 use Rattle.std.proofs.lemmas.Bool.{ne_eqb}
 use Rattle.std.specs.List.{cons_option}
@@ -62,19 +62,22 @@ said_known nobody bound workers ticket below known = by_worker (slice_get worker
     by_worker None is = below
     by_worker (Some worker) is = by_put worker is (slice_get (announced_of worker) ticket.number) refl
 
--- the own commands of a log's front
-own_front : (f : Ticket → Option Entry) (tenant : ℕ) (history : List Sighting) (decided : List Ticket) →
+-- the own commands at the first places of a log
+own_first : (f : Ticket → Option Entry) (tenant first : ℕ) (history : List Sighting) (decided : List Ticket) → first ≤ length history →
     ((place : ℕ) (seen : Sighting) → slice_get history place ≡ Some seen →
     (ticket : Ticket) × (slice_get decided place ≡ Some ticket) × (own_command tenant (f ticket) ≡ own_command tenant seen.entry)) →
-    own tenant (take (length history) (map f decided)) ≡ own tenant (entries history)
-own_front f tenant [] [] each = refl
-own_front f tenant [] (ticket ∷ decided) each = refl
-own_front f tenant (seen ∷ history) [] each = absurd (none-some _ (each 0 seen refl).1)
-own_front f tenant (seen ∷ history) (ticket ∷ decided) each =
+    own tenant (take first (map f decided)) ≡ own tenant (entries (take first history))
+own_first f tenant zero [] [] few each = refl
+own_first f tenant zero [] (ticket ∷ decided) few each = refl
+own_first f tenant zero (seen ∷ history) [] few each = refl
+own_first f tenant zero (seen ∷ history) (ticket ∷ decided) few each = refl
+own_first f tenant (suc first) [] decided few each = absurd (omega (arith, few))
+own_first f tenant (suc first) (seen ∷ history) [] few each = absurd (none-some _ (each 0 seen refl).1)
+own_first f tenant (suc first) (seen ∷ history) (ticket ∷ decided) few each =
     let it = each 0 seen refl in
     let same : ticket ≡ it.0 = same_Some ticket it.0 it.1 in
     let here : own_command tenant (f ticket) ≡ own_command tenant seen.entry = ap (λ (t : Ticket). own_command tenant (f t)) same ∙ it.2 in
-    let rest = own_front f tenant history decided (λ place later at. each (suc place) later at) in
+    let rest = own_first f tenant first history decided (omega (arith, few)) (λ place later at. each (suc place) later at) in
     λ i. cons_option (here i) (rest i)
 
 module _ (settings : Configuration) (nobody : ℕ) (tables : List TableState) (log : Log) (workers : List Worker) (all : AreAllOf log workers) (one : AreOnOneRun workers)
@@ -176,7 +179,7 @@ module _ (settings : Configuration) (nobody : ℕ) (tables : List TableState) (l
       ∙ ap (λ (mine : Bool). if mine then Some Flush else None) (ne_eqb nobody tenant (λ same. apart (sym same)))
 
   commands_at : (it : IsCoreRun settings tables one.2.run one.1 (said_under nobody workers) (places_replayed_by workers)) → HaveOneHistory workers → HaveItsCommands nobody workers it.core
-  commands_at it same number tenant worker at apart = own_front (entry_under it.core) tenant (history_of worker) it.core.shown.decided each
+  commands_at it same number tenant first worker at apart few = own_first (entry_under it.core) tenant first (history_of worker) it.core.shown.decided few each
     where
       each : (place : ℕ) (seen : Sighting) → slice_get (history_of worker) place ≡ Some seen →
           (ticket : Ticket) × (slice_get it.core.shown.decided place ≡ Some ticket) × (own_command tenant (entry_under it.core ticket) ≡ own_command tenant seen.entry)

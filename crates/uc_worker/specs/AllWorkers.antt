@@ -6,11 +6,13 @@ use Rattle.lists.specs.Lists.{BeginsWith}
 use Rattle.mc_model.specs.declared.command.Command.{Command}
 use Rattle.mc_model.specs.declared.command.Command.TheVariants.{Flush}
 use Rattle.mc_model.specs.declared.id.Ticket.{Ticket}
+use Rattle.mc_model.specs.declared.reply.Reply.{Reply}
 use Rattle.mc_model.specs.declared.request.Entry.{Entry}
 use Rattle.mc_model.specs.declared.shown.LogSize.{LogSize}
 use Rattle.mc_model.specs.declared.shown.ShownState.{ShownState}
 use Rattle.mc_model.specs.Lawful.{IsWorker, LeadOn, ShownEvent}
 use Rattle.mc_model.specs.Log.{own}
+use Rattle.mc_model.specs.Replay.{empty_tables, reply_to}
 use Rattle.mc_model.specs.Settings.{Configuration}
 use Rattle.mc_model.specs.Shown.{new_log}
 use Rattle.mc_model.specs.State.{TableState}
@@ -116,13 +118,13 @@ HaveReplayed nobody workers log = (number place : ℕ) (worker : Worker) (seen :
     (slice_get log.decided place ≡ Some seen.ticket)
     × (said_in nobody seen.entry ≡ said_under nobody workers seen.ticket)
 
--- of each tenant but this one, the own commands in the core's log are those in the history of each
--- of these workers, as far as that goes
+-- of each tenant but this one, the own commands at the first places of the core's log are those at the
+-- first places of the history of each of these workers
 abbrev pub HaveItsCommands : ℕ → List Worker → CoreState → Type 0
-HaveItsCommands nobody workers core = (number tenant : ℕ) (worker : Worker) →
+HaveItsCommands nobody workers core = (number tenant first : ℕ) (worker : Worker) →
     slice_get workers number ≡ Some worker → tenant ≢ nobody →
-    own tenant (take (length (history_of worker)) (log_of core))
-    ≡ own tenant (entries (history_of worker))
+    first ≤ length (history_of worker) →
+    own tenant (take first (log_of core)) ≡ own tenant (entries (take first (history_of worker)))
 
 -- What all workers of a log have done is one run of the core over these tables: its events of the
 -- log are exactly their calls, in each worker's order, under each ticket stands what its worker has
@@ -150,3 +152,16 @@ AllDoOneCoreRun = (settings : Configuration) (nobody : ℕ) (tables : List Table
     settings.workers ≡ log.settings.workers → settings.places ≡ log.settings.places →
     length log.settings.tenants ≤ length settings.tenants → nobody < length settings.tenants →
     0 < length workers → DoOneCoreRun settings nobody tables workers
+
+-- In such a run over empty tables, of workers that have one history, each own command of a worker is
+-- answered at the place where it has replayed it, with the reply that follows from its history.
+abbrev pub OwnHaveTheirReplies : Type 0
+OwnHaveTheirReplies = (settings : Configuration) (nobody : ℕ) (workers : List Worker)
+    (one : DoOneCoreRun settings nobody (empty_tables settings.tenants) workers) →
+    HaveOneHistory workers →
+    (number place : ℕ) (worker : Worker) (seen : Sighting) (entry : Entry) →
+    slice_get workers number ≡ Some worker → slice_get (history_of worker) place ≡ Some seen →
+    seen.ticket.worker ≡ number → seen.entry ≡ Some entry → entry.tenant ≢ nobody →
+    (at : ℕ) × (reply : Reply) × (slice_get one.core.given at ≡ Some (number, place, reply))
+    × (Some reply ≡ reply_to (empty_tables settings.tenants)
+    (entries (take place (history_of worker))) (Some entry))

@@ -8,7 +8,7 @@ ghost use Rattle.uc_core.specs.Core.{new_core};
 ghost use Rattle.uc_places.specs.Calls.{WitnessWith, Witnesses};
 ghost use Rattle.uc_places.specs.CoreRun.{core_over};
 ghost use Rattle.uc_places.specs.Run.{witnessed_by};
-ghost use Rattle.uc_worker.specs.AllWorkers.{AllDoOneCoreRun, AreOfItsLog, AreOfLog, AreOnOneRun, TakesNoStep, TheyRunTheCore, WasSo, own_part};
+ghost use Rattle.uc_worker.specs.AllWorkers.{AllDoOneCoreRun, AreOfItsLog, AreOfLog, AreOnOneRun, OwnHaveTheirReplies, TakesNoStep, TheyRunTheCore, WasSo, own_part};
 ghost use Rattle.uc_worker.specs.Going.{CatchesUp};
 ghost use Rattle.uc_worker.specs.Worker.{own_desk, seat_of};
 
@@ -136,9 +136,13 @@ pub fn all_workers_run_the_core()
     // They may be those that the workers have put into their cells: then each worker's history has
     // what stands in that run.
     ensures put { AllDoOneCoreRun }
-    // Over empty tables, those of a first log, the core opens as it does in the headline's runs.
+    // Over empty tables, those of a first log, the core opens as it does in the headline's runs,
     ensures opening { (settings : Configuration) →
         core_over settings (empty_tables settings.tenants) ≡ new_core settings }
+    // and answers each worker's own commands with the replies that `Worker::submit` gives.
+    ensures replies { OwnHaveTheirReplies }
 {
     a_run_of_the_log_is_one_of_the_core();
+    uc_core::laws();
+    uc_core::runs_do_what_is_asked();
 }

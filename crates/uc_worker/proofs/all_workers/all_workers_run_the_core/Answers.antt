@@ -1,6 +1,7 @@
--- `RunsOfTheCore` and `OneCoreRun` show it.
+-- `RunsOfTheCore`, `OneCoreRun` and `OwnReplies` show it.
 use Rattle.std.proofs.Common.{refl}
 use Rattle.uc_worker.proofs.OneCoreRun.{all_do_one_core_run}
+use Rattle.uc_worker.proofs.OwnReplies.{own_have_their_replies}
 use Rattle.uc_worker.proofs.RunsOfTheCore.{they_run_the_core}
 use Rattle.uc_worker.proofs.all_workers.all_workers_run_the_core.Goals as goal
 
@@ -12,3 +13,11 @@ returns-clause-put c = all_do_one_core_run c.a_run_of_the_log_is_one_of_the_core
 
 pub returns-clause-opening : goal.returns-clause-opening
 returns-clause-opening c = λ settings. refl
+
+pub returns-clause-replies : goal.returns-clause-replies
+returns-clause-replies c = own_have_their_replies (record {
+  answered = c.laws.ensures.answered;
+  replies = c.laws.ensures.replies;
+  shown = c.laws.ensures.shown;
+  settings = c.runs_do_what_is_asked.ensures.settings;
+})

@@ -1,0 +1,118 @@
+-- What a run of the core answers to a worker's own commands follows from the worker's history.
+use Rattle.std.proofs.Common.{◌≡◌, ◌≢◌, ℕ, ◌<◌, ◌≤◌, List, length, map, take, None, Option, Some, slice_get, refl, sym, ap, subst, ◌∙◌, arith}
+use Rattle.std.proofs.lemmas.Option.{same_Some, slice_get-map, slice_get_within}
+use Rattle.std.specs.Option.{option_map, option_map_or}
+use Rattle.mc_model.specs.declared.command.Command.{Command}
+use Rattle.mc_model.specs.declared.id.Ticket.{Ticket}
+use Rattle.mc_model.specs.declared.reply.Reply.{Reply}
+use Rattle.mc_model.specs.declared.request.Entry.{Entry}
+use Rattle.mc_model.specs.declared.settings.Limits.{Limits}
+use Rattle.mc_model.specs.declared.shown.ShownState.{ShownState}
+use Rattle.mc_model.specs.Helping.{LogLaw}
+use Rattle.mc_model.specs.History.{answer, answer_from}
+use Rattle.mc_model.specs.Lawful.{IsReached, IsWorker, announced_by}
+use Rattle.mc_model.specs.Log.{own}
+use Rattle.mc_model.specs.Replay.{empty_tables, reply_to}
+use Rattle.mc_model.specs.Settings.{Configuration}
+use Rattle.mc_model.specs.State.{TableState, empty_table}
+use Rattle.model_lemmas.proofs.Waiting.{is_lawful}
+use Rattle.uc_cells.specs.Sighting.{Sighting, entries}
+use Rattle.uc_core.specs.Asked.{ByEvents, IsOfSettings}
+use Rattle.uc_core.specs.Core.{CoreState, ReplayState, core_size, entry_under, log_of}
+use Rattle.uc_core.specs.Headline.{HasReply, IsAnswer, OfEveryRun, OwnAreAnswered, RepliesAreAnswers}
+use Rattle.uc_core.specs.Run.{IsRun, replayed_by}
+use Rattle.uc_places.specs.CoreRun.{entry_by}
+use Rattle.uc_worker.specs.declared.worker.Worker.{Worker}
+use Rattle.uc_worker.specs.AllWorkers.{DoOneCoreRun, OwnHaveTheirReplies, own_part, places_replayed_by, said_in, said_under}
+use Rattle.uc_worker.specs.TurningOver.{HaveOneHistory}
+use Rattle.uc_worker.specs.Worker.{history_of}
+
+-- the laws of every run
+pub record Laws : Type 0 where
+  pub answered : OfEveryRun (λ core given. OwnAreAnswered core given)
+  pub replies : OfEveryRun (λ core given. RepliesAreAnswers core given)
+  pub shown : OfEveryRun (λ core given. IsReached (core_size core) core.shown)
+  pub settings : ByEvents (λ settings events core. IsOfSettings settings core)
+
+module _ (laws : Laws) (settings : Configuration) (nobody : ℕ) (workers : List Worker)
+    (one : DoOneCoreRun settings nobody (empty_tables settings.tenants) workers) (same : HaveOneHistory workers)
+    (number place : ℕ) (worker : Worker) (seen : Sighting) (entry : Entry) (at : slice_get workers number ≡ Some worker)
+    (here : slice_get (history_of worker) place ≡ Some seen) (mine : seen.ticket.worker ≡ number) (is : seen.entry ≡ Some entry) (apart : entry.tenant ≢ nobody) where
+  run : IsRun settings one.core.events one.core.core one.core.given
+  run = one.core.runs
+
+  of_settings : IsOfSettings settings one.core.core
+  of_settings = laws.settings settings one.core.events one.core.core one.core.given run
+
+  lawful : LogLaw (core_size one.core.core) one.core.core.shown
+  lawful = is_lawful (core_size one.core.core) one.core.core.shown (laws.shown settings one.core.events one.core.core one.core.given run)
+
+  shows : IsWorker one.core.core.shown number (own_part worker).state
+  shows = subst (λ (log : ShownState). IsWorker log number (own_part worker).state) (sym one.core.shown) (one.shown number worker at)
+
+  decided : slice_get one.core.core.shown.decided place ≡ Some seen.ticket
+  decided = ap (λ (log : ShownState). slice_get log.decided place) one.core.shown ∙ (one.replayed same number place worker seen at here).0
+
+  said : said_under nobody workers seen.ticket ≡ (entry.tenant, entry.command)
+  said = sym (one.replayed same number place worker seen at here).1 ∙ ap (said_in nobody) is
+
+  -- what stands there
+  stands : entry_under one.core.core seen.ticket ≡ Some (entry_by (said_under nobody workers) seen.ticket)
+  stands = one.core.entries seen.ticket.worker seen.ticket.number
+      (subst (λ (log : ShownState). seen.ticket.number < announced_by log seen.ticket.worker) one.core.shown (lawful.announced place seen.ticket decided))
+
+  in_log : slice_get (log_of one.core.core) place ≡ Some (Some (entry_by (said_under nobody workers) seen.ticket))
+  in_log = slice_get-map (entry_under one.core.core) one.core.core.shown.decided place ∙ ap (option_map (entry_under one.core.core)) decided
+      ∙ ap (λ (o : Option Entry). Some o) stands
+
+  -- the worker has replayed it
+  inside : place < length (history_of worker)
+  inside = slice_get_within (history_of worker) place seen here
+
+  count : replayed_by one.core.core number ≡ length (history_of worker)
+  count = one.core.replays number (let within = slice_get_within one.core.core.shown.workers number (own_part worker).state shows in
+      let wide = of_settings.workers in omega (arith, within, wide))
+      ∙ ap (λ (found : Option Worker). option_map_or (λ (w : Worker). length (history_of w)) found 0) at
+
+  has_reply : HasReply one.core.given number place
+  has_reply = by_replay (slice_get one.core.core.replays number) refl
+    where
+      by_replay : (found : Option ReplayState) → slice_get one.core.core.replays number ≡ found → HasReply one.core.given number place
+      by_replay None none =
+          let zero_so_far : replayed_by one.core.core number ≡ 0 = ap (λ (o : Option ReplayState). option_map_or (λ (r : ReplayState). r.replayed) o 0) none in
+          absurd (omega (arith, zero_so_far, count, inside))
+      by_replay (Some replay) some =
+          let long : replayed_by one.core.core number ≡ replay.replayed = ap (λ (o : Option ReplayState). option_map_or (λ (r : ReplayState). r.replayed) o 0) some in
+          laws.answered settings one.core.events one.core.core one.core.given run number place (own_part worker).state replay seen.ticket (shows, some)
+          (omega (arith, long, count, inside)) decided mine
+
+  -- and its reply is the answer
+  module _ (reply : Reply) (answers : IsAnswer one.core.core number place reply) where
+    its : answers.entry ≡ entry_by (said_under nobody workers) seen.ticket
+    its = same_Some _ _ (same_Some _ _ (sym answers.found ∙ in_log))
+
+    tenant : answers.entry.tenant ≡ entry.tenant
+    tenant = ap (λ (e : Entry). e.tenant) its ∙ ap (λ (s : ℕ × Command). s.0) said
+
+    command : answers.entry.command ≡ entry.command
+    command = ap (λ (e : Entry). e.command) its ∙ ap (λ (s : ℕ × Command). s.1) said
+
+    opens : slice_get settings.tenants entry.tenant ≡ Some answers.opening
+    opens = (λ i. slice_get (sym of_settings.tenants i) (sym tenant i)) ∙ answers.limits
+
+    before : own entry.tenant (take place (log_of one.core.core)) ≡ own entry.tenant (entries (take place (history_of worker)))
+    before = one.commands same number entry.tenant place worker at apart (let within = inside in omega (arith, within))
+
+    given_so : Some reply ≡ reply_to (empty_tables settings.tenants) (entries (take place (history_of worker))) (Some entry)
+    given_so =
+        ap (λ (r : Reply). Some r) (answers.replied ∙ (λ i. answer answers.opening (own (tenant i) (take place (log_of one.core.core))) (command i))
+        ∙ ap (λ (list : List Command). answer answers.opening list entry.command) before)
+        ∙ sym (ap (option_map (λ (opening : TableState). answer_from opening (own entry.tenant (entries (take place (history_of worker)))) entry.command))
+        (slice_get-map empty_table settings.tenants entry.tenant ∙ ap (option_map empty_table) opens))
+
+pub own_have_their_replies : Laws → OwnHaveTheirReplies
+own_have_their_replies laws settings nobody workers one same number place worker seen entry at here mine is apart =
+    let found = has_reply laws settings nobody workers one same number place worker seen entry at here mine is apart in
+    let answers = laws.replies settings one.core.events one.core.core one.core.given
+    (run laws settings nobody workers one same number place worker seen entry at here mine is apart) found.0 number place found.1 found.2 in
+    (found.0, found.1, found.2, given_so laws settings nobody workers one same number place worker seen entry at here mine is apart found.1 answers)
