@@ -3,8 +3,8 @@ use Rattle.mc_conn.proofs.conn.Conn.turn_or_close.Goals as goal
 
 pub returns-in-Err-clause-outcome : goal.returns-in-Err-clause-outcome
 returns-in-Err-clause-outcome g c =
-    λ going. stops _ _ _ _ _ _ _ c.in-Err.fault c.close.ensures.same c.in-Err.ensures.outcome c.close.ensures.told c.close.ensures.closed
+    λ going. stops _ _ _ _ _ _ _ c.in-Err.fault c.close.ensures.same c.close.ensures.past c.in-Err.ensures.outcome c.close.ensures.told c.close.ensures.closed
 
 pub returns-in-Err-clause-pulls : goal.returns-in-Err-clause-pulls
 returns-in-Err-clause-pulls g c =
-    pulls_told _ _ _ _ _ _ _ c.in-Err.fault c.close.ensures.same c.in-Err.ensures.outcome c.close.ensures.told c.go_round.ensures.pulls
+    pulls_told _ _ _ _ _ _ _ c.in-Err.fault c.close.ensures.same c.close.ensures.past c.in-Err.ensures.outcome c.close.ensures.told c.go_round.ensures.pulls
