@@ -1,6 +1,6 @@
 #!/usr/bin/env bash
 # The gate: the kit's own (every proof from nothing, the mutants of must-fail/, the tests, the programs on their stored runs), and then the
-# built programs on their golden tests, wfmc over sockets, whether its clients' histories are linearizable, a round of the fuzzer (these two
+# built programs on their golden tests, wfmc over sockets and its metrics, whether its clients' histories are linearizable, a round of the fuzzer (these two
 # over one log, and over one after another), calls of workers with each allocation refused, the metrics of an example by an oracle, that no
 # crate cites another's proofs but those of a crate of lemmas, and that the picture of the crates and the generated documents are up to date.
 # The last line is 'N passed, M failed', in total.
@@ -33,6 +33,8 @@ for binary in wfmc wfmc.by-rattle; do
     echo "$binary over sockets"
     count python3 tests/network.py "crates/wfmc/out/$binary"
 done
+echo "the metrics of wfmc"
+count python3 tests/metrics.py crates/wfmc/out/wfmc
 echo "the histories of wfmc's clients are linearizable"
 count python3 tests/linearizability.py --self-test
 count python3 tests/linearizability.py 20
