@@ -22,7 +22,7 @@ use Rattle.mc_conn.specs.declared.conn.Role.{Role}
 use Rattle.mc_conn.specs.Ending.{LogsInTime, LogsLast}
 use Rattle.mc_conn.specs.Owed.{Mark, Owes, count_logged, demand_of, is_logged, mark_of}
 use Rattle.mc_conn.specs.Parts.{Counts, Does, LooksForNext, Responds}
-use Rattle.mc_conn.specs.Tallying.{AreCounted, CountsFor}
+use Rattle.mc_conn.specs.Tallying.{AreTallied, CountsFor}
 use Rattle.mc_conn.specs.Turn.{NeitherFails, RemembersTheEnd, Scene, Taken, Takes, amount, holding_of, queue_of, scene}
 use Rattle.lists.proofs.Public.{appended_twice, joined}
 use Rattle.mc_conn.proofs.Countings.{counted_append, counted_one}
@@ -132,7 +132,7 @@ taken_trans a b c to one two = record {
   counted = one.counted ++ two.counted;
   counts =
       counted_append a.conn.role one.requests two.requests one.owed two.owed one.counted two.counted one.counts
-      (subst (λ role. AreCounted role two.requests two.owed two.counted) one.role two.counts);
+      (subst (λ role. AreTallied role two.requests two.owed two.counted) one.role two.counts);
   past = appended_twice _ _ _ one.counted two.counted one.past two.past;
 }
 

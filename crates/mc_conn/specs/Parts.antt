@@ -50,7 +50,7 @@ pub record Responds (old new : Worker) (role : Role) (request : Request)
 
 -- a reply was given to a request: its text was queued, unless the request is quiet, and the request
 -- is counted by it and by what its command asks for
-pub record Gives (asked : Option Asked) (before after : List ℕ)
+pub record GivesReply (asked : Option Asked) (before after : List ℕ)
     (old new : List CountedRequest) : Type 0 where
   pub quiet : Bool
   pub reply : Reply

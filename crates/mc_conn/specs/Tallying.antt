@@ -25,16 +25,17 @@ CountsFor role request bytes counted =
     × (counted ≡ record { asked = asked_for (demand_of role request); reply = reply } ∷ [])
 
 -- what is counted for requests to which these bytes are owed, one after another
-abbrev pub AreCounted : Role → List Request → List ℕ → List CountedRequest → Type 0
-AreCounted role [] bytes counted = (bytes ≡ []) × (counted ≡ [])
-AreCounted role (request ∷ requests) bytes counted =
+abbrev pub AreTallied : Role → List Request → List ℕ → List CountedRequest → Type 0
+AreTallied role [] bytes counted = (bytes ≡ []) × (counted ≡ [])
+AreTallied role (request ∷ requests) bytes counted =
     (said : List ℕ) × (rest : List ℕ) × (one : List CountedRequest) × (others : List CountedRequest)
     × (bytes ≡ said ++ rest) × (counted ≡ one ++ others) × CountsFor role request said one
-    × AreCounted role requests rest others
+    × AreTallied role requests rest others
 
 -- The tally counts the requests of a connection that got a reply between two times, and what it
 -- counted before.
-pub record Tallies (before after : List CountedRequest) (old new : Tally) : Type 0 where
+pub record HasCounted (before after : List CountedRequest) (old new : Tally) : Type 0 where
   pub counted : List CountedRequest
   pub past : after ≡ before ++ counted
-  pub counts : (earlier : List CountedRequest) → IsTallyOf earlier old → IsTallyOf (earlier ++ counted) new
+  pub counts : (earlier : List CountedRequest) → IsTallyOf earlier old →
+      IsTallyOf (earlier ++ counted) new

@@ -16,7 +16,7 @@ use Rattle.mc_conn.specs.declared.conn.Conn.{Conn}
 use Rattle.mc_conn.specs.Held.{Holding, IsRead}
 use Rattle.uc_worker.specs.Going.{Continues}
 use Rattle.mc_conn.specs.Owed.{Mark, Owes, mark_of}
-use Rattle.mc_conn.specs.Tallying.{AreCounted}
+use Rattle.mc_conn.specs.Tallying.{AreTallied}
 
 -- all that a turn sees: the connection, the worker, and what the input and the output report
 pub record Scene : Type 0 where
@@ -73,7 +73,7 @@ pub record Taken (before after : Scene) (to : Mark) : Type 0 where
   pub bytes : sent ++ queue_of after.conn ≡ queue_of before.conn ++ owed
   pub waited : waits before.streams.output.events ≤ waits after.streams.output.events
   pub counted : List CountedRequest
-  pub counts : AreCounted before.conn.role requests owed counted
+  pub counts : AreTallied before.conn.role requests owed counted
   pub past : after.conn.past.requests ≡ before.conn.past.requests ++ counted
 
 -- No fault: what was taken goes up to the worker's mark afterwards, and is what the bytes that came

@@ -7,7 +7,7 @@ ghost use Rattle.mc_conn.specs.declared.conn.TheConstants.{PULL_BYTES, QUEUE_BYT
 ghost use Rattle.mc_conn.specs.Ending.{Breaks, Pulls};
 ghost use Rattle.mc_conn.specs.Parts.{Does, IsHeldBehind, IsLeft};
 ghost use Rattle.mc_conn.specs.Owed.{FitsLog};
-ghost use Rattle.mc_conn.specs.Tallying.{Tallies};
+ghost use Rattle.mc_conn.specs.Tallying.{HasCounted};
 ghost use Rattle.mc_conn.specs.Turn.{queue_of, scene};
 
 use crate::conn::{Conn, PULL_BYTES, QUEUE_BYTES};
@@ -90,7 +90,8 @@ impl Conn {
         ensures pulls { Pulls
             (scene self.old worker.old (both (I.tells input.old) (O.tells output.old)))
             (scene self.new worker.new (both (I.tells input.new) (O.tells output.new))) }
-        ensures tally { Tallies self.old.past.requests self.new.past.requests tally.old tally.new }
+        ensures tally { HasCounted self.old.past.requests self.new.past.requests tally.old
+            tally.new }
     {
         if self.waiting.is_some() | (self.queue.len() > QUEUE_BYTES) | self.has_ended {
             return Ok(false);

@@ -8,8 +8,8 @@ ghost use Rattle.mc_conn.specs.declared.conn.Role.TheVariants as Role;
 ghost use Rattle.uc_worker.specs.Worker.{tenants_of};
 ghost use Rattle.uc_worker.specs.Going.{Continues};
 ghost use Rattle.mc_conn.specs.Owed.{FitsLog, answered};
-ghost use Rattle.mc_conn.specs.Parts.{AnswersCommand, Counts, Gives, IsTakeFault, MayAnnounce, Refuses, Responds};
-ghost use Rattle.mc_conn.specs.Tallying.{Tallies};
+ghost use Rattle.mc_conn.specs.Parts.{AnswersCommand, Counts, GivesReply, IsTakeFault, MayAnnounce, Refuses, Responds};
+ghost use Rattle.mc_conn.specs.Tallying.{HasCounted};
 
 use crate::conn::Role;
 use crate::queue::Queue;
@@ -69,9 +69,9 @@ fn reply_and_count(
     ensures queued { MatchResult result (λ _. queue.new ≡ queue.old ++ answered quiet reply.now)
         (λ fault. (fault ≡ faults.Memory) × (queue.new ≡ queue.old)) }
     ensures counts { MatchResult result
-        (λ _. Gives asked.now queue.old queue.new past.old.requests past.new.requests)
+        (λ _. GivesReply asked.now queue.old queue.new past.old.requests past.new.requests)
         (λ _. past.new ≡ past.old) }
-    ensures tally { Tallies past.old.requests past.new.requests tally.old tally.new }
+    ensures tally { HasCounted past.old.requests past.new.requests tally.old tally.new }
 {
     queue_reply(reply, quiet, queue)?;
     tally.count(asked, reply);
@@ -93,9 +93,9 @@ fn refuse(
         (λ _. queue.new ≡ queue.old ++ answered quiet (Reply.Refused refusal))
         (λ fault. (fault ≡ faults.Memory) × (queue.new ≡ queue.old)) }
     ensures counts { MatchResult result
-        (λ _. Gives None queue.old queue.new past.old.requests past.new.requests)
+        (λ _. GivesReply None queue.old queue.new past.old.requests past.new.requests)
         (λ _. past.new ≡ past.old) }
-    ensures tally { Tallies past.old.requests past.new.requests tally.old tally.new }
+    ensures tally { HasCounted past.old.requests past.new.requests tally.old tally.new }
 {
     reply_and_count(&None, &Reply::Refused(refusal), quiet, queue, past, tally)
 }
@@ -121,9 +121,9 @@ fn respond_by_log<G: Gate>(
         (λ _. Responds worker.old worker.new role request queue.old queue.new)
         (Refuses worker.old worker.new role request queue.old queue.new) }
     ensures counts { MatchResult result
-        (λ _. Gives (Some (asked_for_by command)) queue.old queue.new past.old.requests
+        (λ _. GivesReply (Some (asked_for_by command)) queue.old queue.new past.old.requests
         past.new.requests) (λ _. past.new ≡ past.old) }
-    ensures tally { Tallies past.old.requests past.new.requests tally.old tally.new }
+    ensures tally { HasCounted past.old.requests past.new.requests tally.old tally.new }
 {
     let asked = Some(Asked::by(&command));
     let reply = answer(tenant, command, worker, gate)?;
@@ -151,7 +151,7 @@ pub(crate) fn respond<G: Gate>(
     ensures counts { MatchResult result
         (λ _. Counts role.now request queue.old queue.new past.old.requests past.new.requests)
         (λ _. past.new ≡ past.old) }
-    ensures tally { Tallies past.old.requests past.new.requests tally.old tally.new }
+    ensures tally { HasCounted past.old.requests past.new.requests tally.old tally.new }
 {
     match request {
         Request::Logged { command, quiet } => match role {

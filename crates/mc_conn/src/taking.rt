@@ -7,7 +7,7 @@ ghost use Rattle.mc_conn.specs.Ending.{AwaitsLog, Breaks};
 ghost use Rattle.mc_conn.specs.Held.{HoldsNone, IsRead, most_held};
 ghost use Rattle.mc_conn.specs.Parts.{Does, IsHeldBehind, IsLeft, KeepsStreams, LooksForNext};
 ghost use Rattle.mc_conn.specs.Owed.{FitsLog, demand_of, is_logged};
-ghost use Rattle.mc_conn.specs.Tallying.{Tallies};
+ghost use Rattle.mc_conn.specs.Tallying.{HasCounted};
 ghost use Rattle.mc_conn.specs.Turn.{holding_of, scene};
 
 use crate::conn::{Conn, QUEUE_BYTES, Role};
@@ -83,7 +83,8 @@ impl Conn {
             (most_held (holding_of self.new) < most_held (holding_of self.old))
             ((self.old.waiting ≡ None) × (self.new ≡ self.old))) }
         ensures keeps { KeepsStreams self.old self.new worker.old worker.new }
-        ensures tally { Tallies self.old.past.requests self.new.past.requests tally.old tally.new }
+        ensures tally { HasCounted self.old.past.requests self.new.past.requests tally.old
+            tally.new }
     {
         match self.waiting.take() {
             Some(request) => {
@@ -119,7 +120,8 @@ impl Conn {
         ensures held { IfOk result
             (λ did. did ≡ false → IsHeldBehind until_done self.new worker.new) }
         ensures keeps { KeepsStreams self.old self.new worker.old worker.new }
-        ensures tally { Tallies self.old.past.requests self.new.past.requests tally.old tally.new }
+        ensures tally { HasCounted self.old.past.requests self.new.past.requests tally.old
+            tally.new }
     {
         self.look()?;
         if self.queue.len() > QUEUE_BYTES {
@@ -149,7 +151,8 @@ impl Conn {
             Breaks (scene self.old worker.old streams) (scene self.new worker.new streams) fault) }
         ensures held { OnOk result (IsHeldBehind until_done self.new worker.new) }
         ensures keeps { KeepsStreams self.old self.new worker.old worker.new }
-        ensures tally { Tallies self.old.past.requests self.new.past.requests tally.old tally.new }
+        ensures tally { HasCounted self.old.past.requests self.new.past.requests tally.old
+            tally.new }
     {
         let mut did = false;
         while self.take_one(until_done, worker, gate, tally)? {

@@ -5,7 +5,7 @@ ghost use Rattle.mc_conn.specs.ConnFault.{TellsStarved};
 ghost use Rattle.mc_conn.specs.Ending.{Breaks, Pulls, Stops, Turns, TurnsUntil};
 ghost use Rattle.mc_conn.specs.Parts.{GoesRound, StateIs, TellsOf};
 ghost use Rattle.mc_conn.specs.Owed.{FitsLog};
-ghost use Rattle.mc_conn.specs.Tallying.{Tallies};
+ghost use Rattle.mc_conn.specs.Tallying.{HasCounted};
 ghost use Rattle.mc_conn.specs.Turn.{queue_of, scene};
 
 use crate::conn::{Conn, PULL_BYTES, State};
@@ -66,7 +66,8 @@ impl Conn {
         ensures pulls { Pulls
             (scene self.old worker.old (both (I.tells input.old) (O.tells output.old)))
             (scene self.new worker.new (both (I.tells input.new) (O.tells output.new))) }
-        ensures tally { Tallies self.old.past.requests self.new.past.requests tally.old tally.new }
+        ensures tally { HasCounted self.old.past.requests self.new.past.requests tally.old
+            tally.new }
     {
         let first = self.push(output)?;
         let taken = self.take(until_done, worker, gate, tally)?;
@@ -112,7 +113,8 @@ impl Conn {
             (scene self.old worker.old (both (I.tells input.old) (O.tells output.old)))
             (scene self.new worker.new (both (I.tells input.new) (O.tells output.new))) }
         ensures same { (self.new.role ≡ self.old.role) × (worker.new.log ≡ worker.old.log) }
-        ensures tally { Tallies self.old.past.requests self.new.past.requests tally.old tally.new }
+        ensures tally { HasCounted self.old.past.requests self.new.past.requests tally.old
+            tally.new }
         ensures closed { self.old.is_closed ≡ true → (result ≡ Ok State.Closed)
             × (self.new ≡ self.old) × (worker.new ≡ worker.old)
             × (input.new ≡ input.old) × (output.new ≡ output.old) }
@@ -168,7 +170,8 @@ impl Conn {
         // It is still the same client's, on the same log.
         ensures same { (self.new.role ≡ self.old.role) × (worker.new.log ≡ worker.old.log) }
         // The tally counts the requests that got a reply, besides what it counted before.
-        ensures tally { Tallies self.old.past.requests self.new.past.requests tally.old tally.new }
+        ensures tally { HasCounted self.old.past.requests self.new.past.requests tally.old
+            tally.new }
         ensures closed { self.old.is_closed ≡ true → (result ≡ Ok State.Closed)
             × (self.new ≡ self.old) × (worker.new ≡ worker.old)
             × (input.new ≡ input.old) × (output.new ≡ output.old) }
@@ -201,7 +204,8 @@ impl Conn {
             (scene self.old worker.old (both (I.tells input.old) (O.tells output.old)))
             (scene self.new worker.new (both (I.tells input.new) (O.tells output.new))) }
         ensures same { (self.new.role ≡ self.old.role) × (worker.new.log ≡ worker.old.log) }
-        ensures tally { Tallies self.old.past.requests self.new.past.requests tally.old tally.new }
+        ensures tally { HasCounted self.old.past.requests self.new.past.requests tally.old
+            tally.new }
         ensures closed { self.old.is_closed ≡ true → (result ≡ Ok State.Closed)
             × (self.new ≡ self.old) × (worker.new ≡ worker.old)
             × (input.new ≡ input.old) × (output.new ≡ output.old) }

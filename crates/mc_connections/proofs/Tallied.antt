@@ -2,10 +2,10 @@
 use Rattle.std.proofs.Common.{List, [], ◌++◌, sym, ap, ◌∙◌, subst, append-nil, append_assoc}
 use Rattle.mc_counters.specs.Tallied.{CountedRequest, IsTallyOf}
 use Rattle.mc_counters.specs.declared.tally.Tally.{Tally}
-use Rattle.mc_conn.specs.Tallying.{Tallies}
+use Rattle.mc_conn.specs.Tallying.{HasCounted}
 
 -- nothing is counted
-pub tallies_self : (past : List CountedRequest) (tally : Tally) → Tallies past past tally tally
+pub tallies_self : (past : List CountedRequest) (tally : Tally) → HasCounted past past tally tally
 tallies_self past tally = record {
   counted = [];
   past = sym (append-nil past);
@@ -13,7 +13,7 @@ tallies_self past tally = record {
 }
 
 -- one part after another
-pub tallies_trans : (a b c : List CountedRequest) (one two three : Tally) → Tallies a b one two → Tallies b c two three → Tallies a c one three
+pub tallies_trans : (a b c : List CountedRequest) (one two three : Tally) → HasCounted a b one two → HasCounted b c two three → HasCounted a c one three
 tallies_trans a b c one two three first second = record {
   counted = first.counted ++ second.counted;
   past = second.past ∙ (ap (λ (all : List CountedRequest). all ++ second.counted) first.past ∙ append_assoc a first.counted second.counted);

@@ -2,7 +2,7 @@
 ghost use Rattle.std.specs.Prelude.{◌≡◌, ◌<◌, true, false, length, IfOk, MatchResult, Ok};
 ghost use Rattle.mc_conn.specs.Ending.{PullsOnce, Stops};
 ghost use Rattle.mc_conn.specs.Owed.{FitsLog};
-ghost use Rattle.mc_conn.specs.Tallying.{Tallies};
+ghost use Rattle.mc_conn.specs.Tallying.{HasCounted};
 ghost use Rattle.mc_conn.specs.Turn.{scene};
 ghost use Rattle.mc_connections.specs.Serving.{HasAtMost, HasComeTo, MovesAt, moved_between, tenant_at, IsServedLater, TakesOrStops, Stands, TurnsOnce};
 ghost use Rattle.mc_connections.specs.Working.{ServesAt, standing};
@@ -58,7 +58,7 @@ fn turn_once<I: Input, O: Output, G: Gate>(
         (Stops (scene conn.old worker.old (both (I.tells input.old) (O.tells output.old)))
         (scene conn.new worker.new (both (I.tells input.new) (O.tells output.new)))) }
     ensures pulls { PullsOnce (I.tells input.old) (I.tells input.new) }
-    ensures tally { Tallies conn.old.past.requests conn.new.past.requests tally.old tally.new }
+    ensures tally { HasCounted conn.old.past.requests conn.new.past.requests tally.old tally.new }
     ensures full { IfOk result (λ state. state ≡ State.Full → until_done ≡ true) }
     ensures role { conn.new.role ≡ conn.old.role }
     ensures closed { conn.old.is_closed ≡ true → (result ≡ Ok State.Closed)
@@ -93,7 +93,7 @@ fn turns<I: Input, O: Output, G: Gate>(
         (scene conn.new worker.new (both (I.tells input.new) (O.tells output.new))) result }
     ensures few { HasAtMost TURNS (I.tells input.old).events (I.tells input.new).events }
     ensures role { conn.new.role ≡ conn.old.role }
-    ensures tally { Tallies conn.old.past.requests conn.new.past.requests tally.old tally.new }
+    ensures tally { HasCounted conn.old.past.requests conn.new.past.requests tally.old tally.new }
 {
     // The law from which the clauses on all turns follow.
     mc_conn::laws::turns_add_up();
@@ -122,7 +122,7 @@ impl Connection {
         ensures later { IsServedLater until_done worker.old worker.new self.old self.new
             result.state }
         ensures bytes { result.bytes ≡ moved_between self.old self.new }
-        ensures tally { Tallies self.old.conn.past.requests self.new.conn.past.requests tally.old
+        ensures tally { HasCounted self.old.conn.past.requests self.new.conn.past.requests tally.old
             tally.new }
     {
         let (came, went) = (self.bytes_received, self.bytes_sent);

@@ -5,6 +5,7 @@ use Rattle.mc_read.specs.Administering.{lines_spoken}
 use Rattle.mc_conn.proofs.Awaiting.{not_left}
 use Rattle.mc_conn.proofs.Readings.{fewer_taken, read_answered, read_same}
 use Rattle.mc_conn.proofs.Takings.{does_looked, does_responded}
+use Rattle.mc_conn.proofs.Countings.{tallies_self}
 use Rattle.mc_conn.proofs.conn.Conn.answer_waiting.Goals as goal
 
 pub returns-in_ok-respond-in-Some-clause-outcome : goal.returns-in_ok-respond-in-Some-clause-outcome
@@ -42,3 +43,6 @@ returns-in-None-clause-outcome g c until streams room =
     let same : c.take.new.self ≡ c.args.self.now.waiting = cc in
     does_looked until c.args.self.now _ _ streams (read_same (lines_spoken c.args.self.now.reader.speaker) c.args.self.now.waiting c.take.new.self c.args.self.now.reader.held same)
     (record { role = refl; has_ended = refl; is_closed = refl; queue = refl; over = refl; past = refl })
+
+pub returns-in-None-clause-tally : goal.returns-in-None-clause-tally
+returns-in-None-clause-tally g c = tallies_self _ _
