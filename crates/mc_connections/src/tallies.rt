@@ -25,7 +25,8 @@ impl Tallies {
     ///
     /// Returns an error if memory runs out.
     pub(crate) fn new(alloc: Global, tenants: usize) -> Result<Tallies, AllocError>
-        ensures { IfOk result (λ tallies. length tallies.all.items ≡ min (tenants + 1) (2 ^ 64 - 1)) }
+        ensures { IfOk result
+            (λ tallies. length tallies.all.items ≡ min (tenants + 1) (2 ^ 64 - 1)) }
     {
         let none = OneTally {
             tally: Tally::new(),
