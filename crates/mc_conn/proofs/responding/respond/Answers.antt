@@ -21,18 +21,18 @@ returns-in-Logged-clause-counts g c = rw (c.in-Admin.is, c.in-Logged.is)
 
 pub returns-in-Tenant-role-clause-counts : goal.returns-in-Tenant-role-clause-counts
 returns-in-Tenant-role-clause-counts g c = rw (c.in-Tenant-role.is, c.in-Limit.is)
-    (match_map c.refuse.result _ _ _ _ (λ x gives. counts_tenants_limit _ _ _ _ c.in-Tenant-role.field-0 c.in-Limit.name c.in-Limit.limits c.in-Limit.quiet gives) (λ x same. same) c.refuse.ensures.counts)
+    (match_map c.refuse-in-Tenant-role.result _ _ _ _ (λ x gives. counts_tenants_limit _ _ _ _ c.in-Tenant-role.field-0 c.in-Limit.name c.in-Limit.limits c.in-Limit.quiet gives) (λ x same. same) c.refuse-in-Tenant-role.ensures.counts)
 
 pub returns-in-Some-clause-counts : goal.returns-in-Some-clause-counts
 returns-in-Some-clause-counts g c = rw (c.in-Admin-role.is, c.in-Limit.is)
-    (match_map c.respond_by_log.result _ _ _ _
+    (match_map c.respond_by_log-in-Some.result _ _ _ _
     (λ x gives. counts_setting _ _ _ _ c.in-Admin-role.names c.in-Limit.name c.in-Limit.limits c.in-Limit.quiet c.in-Some.tenant (sym c.tenant.ensures ∙ c.in-Some.is) gives) (λ x same. same)
-    c.respond_by_log.ensures.counts)
+    c.respond_by_log-in-Some.ensures.counts)
 
 pub returns-in-Limit-clause-counts : goal.returns-in-Limit-clause-counts
 returns-in-Limit-clause-counts g c = rw (c.in-Admin-role.is, c.in-Limit.is)
-    (match_map c.refuse.result _ _ _ _
-    (λ x gives. counts_unnamed _ _ _ _ c.in-Admin-role.names c.in-Limit.name c.in-Limit.limits c.in-Limit.quiet (sym c.tenant.ensures ∙ c.in-None.is) gives) (λ x same. same) c.refuse.ensures.counts)
+    (match_map c.refuse-in-None.result _ _ _ _
+    (λ x gives. counts_unnamed _ _ _ _ c.in-Admin-role.names c.in-Limit.name c.in-Limit.limits c.in-Limit.quiet (sym c.tenant.ensures ∙ c.in-None.is) gives) (λ x same. same) c.refuse-in-None.ensures.counts)
 
 pub returns-in-Local-clause-counts : goal.returns-in-Local-clause-counts
 returns-in-Local-clause-counts g c = rw c.in-Local.is
@@ -43,4 +43,4 @@ returns-in-Quit-clause-counts g c = rw c.in-Quit.is (counts_quit _ _ _)
 
 pub returns-clause-counts : goal.returns-clause-counts
 returns-clause-counts g c = rw c.in-TooLong.is
-    (match_map c.refuse.result _ _ _ _ (λ x gives. counts_long _ _ _ _ c.args.role.now gives) (λ x same. same) c.refuse.ensures.counts)
+    (match_map c.refuse-in-TooLong.result _ _ _ _ (λ x gives. counts_long _ _ _ _ c.args.role.now gives) (λ x same. same) c.refuse-in-TooLong.ensures.counts)
