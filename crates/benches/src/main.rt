@@ -1,7 +1,7 @@
-//! Measures the reader, the cells, the shared words or submits, as the first word says, each by
-//! itself and without the programs. Each line that is printed is a measurement: its name, its value
+//! Measures the reader, the cells, the shared words, submits or tables, as the first word says, each
+//! by itself and without the programs. Each line that is printed is a measurement: its name, its value
 //! and its unit, with tabs between them. With `--time` after the first word, what depends on the
-//! machine is printed too; submits take further words. Without a word each of the four is run, and
+//! machine is printed too; submits take further words. Without a word each of the five is run, and
 //! what it counted is printed.
 #![tactic(auto)]
 
@@ -10,6 +10,7 @@ mod figures;
 mod places;
 mod reader;
 mod submits;
+mod tables;
 
 use std::fs::Files;
 use std::rt::Clock;
@@ -25,12 +26,13 @@ fn is_timed(words: &[String]) -> io::Result<bool> {
     }
 }
 
-/// Runs each of the four, untimed.
+/// Runs each of the five, untimed.
 fn run_all<R: AllocGlobal + Clock + Files + Print + Threads + Sync>(rt: &R) -> io::Result<()> {
     reader::run_all(rt, false)?;
     cells::run_all(rt, false)?;
     places::run_all(rt, false)?;
-    submits::run(rt, &[])
+    submits::run(rt, &[])?;
+    tables::run_all(rt, false)
 }
 
 fn main(rt: HostRuntime) -> io::Result<()> {
@@ -43,6 +45,7 @@ fn main(rt: HostRuntime) -> io::Result<()> {
         "cells" => cells::run_all(&rt, is_timed(words)?),
         "places" => places::run_all(&rt, is_timed(words)?),
         "submits" => submits::run(&rt, words),
+        "tables" => tables::run_all(&rt, is_timed(words)?),
         _ => Err(io::ErrorKind::InvalidInput.into()),
     }
 }
