@@ -476,7 +476,7 @@ WORKERS = Tests(
     crate="crates/uc_worker_tests",
     module="refused",
     reported="the turn over reported that memory ran out, and changed no worker",
-    asks={"refused::a_turn_over_reports_out_of_memory": 17},
+    asks={"refused::a_turn_over_reports_out_of_memory": 19},
     first=52,
 )
 
@@ -486,7 +486,7 @@ COPIES = Tests(
     module="layers::a_copy",
     reported="the copy reported that memory ran out, and left the table",
     asks={"layers::a_copy_that_shares_reports_out_of_memory": 0, "layers::a_copy_that_merges_reports_out_of_memory": 0},
-    first=90,
+    first=84,
 )
 
 
