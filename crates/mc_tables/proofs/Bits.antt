@@ -3,10 +3,15 @@ use Rattle.std.proofs.Common.{◌≡◌, ◌≢◌, ℕ, ◌+◌, ◌*◌, ◌/�
 use Rattle.std.proofs.lemmas.Bool.Decides.{nat_tests}
 use Rattle.std.proofs.lemmas.List.{get_or-set_same, get_or-set_other}
 use Rattle.std.proofs.lemmas.Nat.Bits.{bit_at-lt, bit_at-pow_other, bit_at-pow_same, bit_at_or}
+use Rattle.std.proofs.lemmas.Option.{same_Some, slice_get-get_or}
 use Rattle.std.specs.Int.{bit_at}
 use Rattle.std.specs.Int.Bits.{bit_or}
 use Rattle.std.specs.Prelude.{nat_eq}
 use Rattle.mc_tables.specs.Marks.{is_set}
+
+-- what is read within a list needs no default
+pub any_default : (xs : List ℕ) (i d e : ℕ) → i < length xs → get_or xs i d ≡ get_or xs i e
+any_default xs i d e inside = sym (same_Some _ _ (sym (slice_get-get_or xs i e inside) ∙ slice_get-get_or xs i d inside))
 
 either_bit : (b : ℕ) → b < 2 → nat_eq (max b 1) 1 ≡ true
 either_bit b lt = grind (arith, nat_tests)
