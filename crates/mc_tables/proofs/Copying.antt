@@ -19,6 +19,7 @@ use Rattle.mc_model.specs.declared.key.Key.{Key}
 use Rattle.mc_model.specs.Table.{Table, is_tied, key_cmp, key_cmp_exact, key_cmp_total, tied_keys}
 use Rattle.mc_tables.specs.declared.cell_item.CellItem.{CellItem}
 use Rattle.mc_tables.specs.Copies.{is_hidden, unhidden}
+use Rattle.mc_tables.specs.declared.text.Text.{Text}
 use Rattle.mc_tables.specs.Entries.{is_marked, item_of_cell, laid_over, owned_entries, text_of_slice, text_of_vec, unmarked}
 use Rattle.mc_tables.proofs.Layering.{entry_at, get-laid_over, get-owned, get-unmarked, held_under, nothing, or_else, place_is, place_of, same, same_itself, same_texts, same_turned, turned}
 
@@ -118,7 +119,7 @@ module _ {Z : Type 0} (gone : Key → Bool) (copy : Table) (left next held : Lis
       by q false is = ap (or_else (map.get copy q)) (sym (other q is)) ∙ so_far q
 
 -- what is below entries, without the keys that they hide
-pub get-unhidden : {S : Type 0} (over : HashMap (Bor (List ℕ)) CellItem S) (table : Table) (q : Key) →
+pub get-unhidden : {S : Type 0} (over : HashMap Text CellItem S) (table : Table) (q : Key) →
     map.get (unhidden over table) q ≡ cond (is_hidden over q) None (map.get table q)
 get-unhidden over table q =
     get-retain_keys table (λ key. not (is_hidden over key)) q (λ x tied. ap (λ key. not (is_hidden over key)) (sym (key_cmp_exact q x tied)))
@@ -137,10 +138,10 @@ no_more_left false None = refl
 no_more_left false (Some item) = refl
 
 -- whether a key's place is marked, or it is hidden
-abbrev pub is_gone_from : {Z S : Type 0} → List (Vec ℕ Z × Item) → List Bool → HashMap (Bor (List ℕ)) CellItem S → Key → Bool
+abbrev pub is_gone_from : {Z S : Type 0} → List (Vec ℕ Z × Item) → List Bool → HashMap Text CellItem S → Key → Bool
 is_gone_from held marks over q = is_marked marks (place_of held q) || is_hidden over q
 
-pub all_copied_left : {Z S : Type 0} (marks : List Bool) (over : HashMap (Bor (List ℕ)) CellItem S) (copy : Table) (left held : List (Vec ℕ Z × Item)) → left ≡ [] →
+pub all_copied_left : {Z S : Type 0} (marks : List Bool) (over : HashMap Text CellItem S) (copy : Table) (left held : List (Vec ℕ Z × Item)) → left ≡ [] →
     IsCopyingLeft (is_gone_from held marks over) copy left held → copy ≡ unhidden over (unmarked held marks)
 all_copied_left marks over copy left held none so_far = same_map key_cmp_total key_cmp_exact _ _ (λ q.
     no_more_left (is_gone_from held marks over q) (map.get copy q)
@@ -149,30 +150,30 @@ all_copied_left marks over copy left held none so_far = same_map key_cmp_total k
     ∙ sym (get-unhidden over (unmarked held marks) q ∙ ap (cond (is_hidden over q) None) (get-unmarked held marks q)))
 
 -- ENTRIES ARE LAID OVER A COPY
-abbrev pub at_slice : List (Bor (List ℕ) × CellItem) → Key → Option CellItem
+abbrev pub at_slice : List (Text × CellItem) → Key → Option CellItem
 at_slice entries q = entry_at text_of_slice entries q
 
 -- but for the keys of the entries that are left, the copy has what it is to have
-abbrev pub IsLaying : Table → Table → List (Bor (List ℕ) × CellItem) → Type 0
+abbrev pub IsLaying : Table → Table → List (Text × CellItem) → Type 0
 IsLaying whole copy left = (q : Key) → at_slice left q ≡ None → map.get copy q ≡ map.get whole q
 
-pub none_laid : (table : Table) (entries : List (Bor (List ℕ) × CellItem)) → IsLaying (laid_over text_of_slice item_of_cell table entries) table entries
+pub none_laid : (table : Table) (entries : List (Text × CellItem)) → IsLaying (laid_over text_of_slice item_of_cell table entries) table entries
 none_laid table entries = λ q none. sym (held_under text_of_slice item_of_cell table entries q none)
 
-pub one_laid : (whole copy new : Table) (left next : List (Bor (List ℕ) × CellItem)) (key : Bor (List ℕ)) (kept : CellItem) → IsLaying whole copy left → left ≡ (key, kept) ∷ next →
-    map.get whole key.now ≡ Some (item_of_cell kept) → new ≡ map.insert copy key.now (item_of_cell kept) → IsLaying whole new next
+pub one_laid : (whole copy new : Table) (left next : List (Text × CellItem)) (key : Text) (kept : CellItem) → IsLaying whole copy left → left ≡ (key, kept) ∷ next →
+    map.get whole key.bytes.now ≡ Some (item_of_cell kept) → new ≡ map.insert copy key.bytes.now (item_of_cell kept) → IsLaying whole new next
 one_laid whole copy new left next key kept so_far left_is there put_in = λ q none.
-    ap (λ (t : Table). map.get t q) put_in ∙ get-insert key_cmp_total copy key.now (item_of_cell kept) q ∙ by q none (is_tied q key.now) refl
+    ap (λ (t : Table). map.get t q) put_in ∙ get-insert key_cmp_total copy key.bytes.now (item_of_cell kept) q ∙ by q none (is_tied q key.bytes.now) refl
   where
-    by : (q : Key) → at_slice next q ≡ None → (tied : Bool) → is_tied q key.now ≡ tied → cond tied (Some (item_of_cell kept)) (map.get copy q) ≡ map.get whole q
-    by q none true is = sym (ap (map.get whole) (tied_keys q key.now is) ∙ there)
-    by q none false is = so_far q (ap (λ es. at_slice es q) left_is ∙ ap (λ b. cond b (Some kept) (at_slice next q)) (texts_ties q key.now ∙ is) ∙ none)
+    by : (q : Key) → at_slice next q ≡ None → (tied : Bool) → is_tied q key.bytes.now ≡ tied → cond tied (Some (item_of_cell kept)) (map.get copy q) ≡ map.get whole q
+    by q none true is = sym (ap (map.get whole) (tied_keys q key.bytes.now is) ∙ there)
+    by q none false is = so_far q (ap (λ es. at_slice es q) left_is ∙ ap (λ b. cond b (Some kept) (at_slice next q)) (texts_ties q key.bytes.now ∙ is) ∙ none)
 
-pub all_laid : (whole copy : Table) (left : List (Bor (List ℕ) × CellItem)) → left ≡ [] → IsLaying whole copy left → copy ≡ whole
+pub all_laid : (whole copy : Table) (left : List (Text × CellItem)) → left ≡ [] → IsLaying whole copy left → copy ≡ whole
 all_laid whole copy left none so_far = same_map key_cmp_total key_cmp_exact _ _ (λ q. so_far q (ap (λ es. at_slice es q) none))
 
 -- entries hide what was left out below them
-pub laid_unhidden : {S : Type 0} (table : Table) (over : HashMap (Bor (List ℕ)) CellItem S) →
+pub laid_unhidden : {S : Type 0} (table : Table) (over : HashMap Text CellItem S) →
     laid_over text_of_slice item_of_cell (unhidden over table) over.entries ≡ laid_over text_of_slice item_of_cell table over.entries
 laid_unhidden table over = same_map key_cmp_total key_cmp_exact _ _ (λ q.
     get-laid_over text_of_slice item_of_cell (unhidden over table) over.entries q ∙ by q (at_slice over.entries q) refl
@@ -185,7 +186,7 @@ laid_unhidden table over = same_map key_cmp_total key_cmp_exact _ _ (λ q.
         ap (λ (o : Option CellItem). or_else (option_map item_of_cell o) (map.get (unhidden over table) q)) is
         ∙ sym (ap (λ (o : Option CellItem). or_else (option_map item_of_cell o) (map.get table q)) is)
 
-pub nothing_unhidden : {S : Type 0} (over : HashMap (Bor (List ℕ)) CellItem S) (copy table : Table) → copy ≡ map.empty → table ≡ map.empty → copy ≡ unhidden over table
+pub nothing_unhidden : {S : Type 0} (over : HashMap Text CellItem S) (copy table : Table) → copy ≡ map.empty → table ≡ map.empty → copy ≡ unhidden over table
 nothing_unhidden over copy table none below = same_map key_cmp_total key_cmp_exact _ _ (λ q.
     let empty : map.get table q ≡ None = ap (λ (t : Table). map.get t q) below ∙ get-empty key_cmp q in
     ap (λ (t : Table). map.get t q) none ∙ get-empty key_cmp q ∙ sym (get-unhidden over table q ∙ nothing (is_hidden over q) (map.get table q) empty))

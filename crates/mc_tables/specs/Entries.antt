@@ -7,6 +7,7 @@ use Rattle.mc_model.specs.declared.item.Item.{Item}
 use Rattle.mc_model.specs.declared.key.Key.{Key}
 use Rattle.mc_model.specs.Table.{Table}
 use Rattle.mc_tables.specs.declared.cell_item.CellItem.{CellItem}
+use Rattle.mc_tables.specs.declared.text.Text.{Text}
 
 -- entries over a table: what an entry holds hides what the table has under its key
 abbrev pub laid_over : {K V : Type 0} → (K → Key) → (V → Item) → Table → List (K × V) → Table
@@ -18,8 +19,8 @@ laid_over text item table (entry ∷ entries) =
 abbrev pub text_of_vec : {Z : Type 0} → Vec ℕ Z → Key
 text_of_vec key = key.items
 
-abbrev pub text_of_slice : Bor (List ℕ) → Key
-text_of_slice key = key.now
+abbrev pub text_of_slice : Text → Key
+text_of_slice key = key.bytes.now
 
 -- an item that borrows its data, as an item
 abbrev pub item_of_cell : CellItem → Item

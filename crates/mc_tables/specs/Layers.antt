@@ -6,6 +6,7 @@ use Rattle.std.specs.HashMap.{HashMap}
 use Rattle.mc_model.specs.Table.{Table}
 use Rattle.mc_tables.specs.declared.cell_item.CellItem.{CellItem}
 use Rattle.mc_tables.specs.declared.owned.Owned.{Owned}
+use Rattle.mc_tables.specs.declared.text.Text.{Text}
 use Rattle.mc_tables.specs.Entries.{item_of_cell, laid_over, owned_entries, text_of_slice, unmarked}
 
 -- the table that a map of its own holds
@@ -27,5 +28,5 @@ below None marks = map.empty
 below (Some base) marks = unmarked base.now.held.entries marks
 
 -- all layers
-abbrev pub layers : {S : Type 0} → Option (Bor Owned) → List Bool → HashMap (Bor (List ℕ)) CellItem S → Table
+abbrev pub layers : {S : Type 0} → Option (Bor Owned) → List Bool → HashMap Text CellItem S → Table
 layers base marks over = laid_over text_of_slice item_of_cell (below base marks) over.entries

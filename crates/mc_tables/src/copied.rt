@@ -10,6 +10,7 @@ use crate::cell_item::CellItem;
 use crate::hashing::Hashing;
 use crate::layered::Layered;
 use crate::owned::Owned;
+use crate::text::Text;
 use mc_model::{Fault, Item};
 use std::alloc::Global;
 use std::collections::HashMap;
@@ -47,7 +48,7 @@ impl<'a> Layered<'a> {
 fn copy_left<'a>(
     base: &Owned,
     marks: &[bool],
-    over: &HashMap<&'a [u8], CellItem<'a>, Hashing>,
+    over: &HashMap<Text<'a>, CellItem<'a>, Hashing>,
     copy: &mut Owned,
 ) -> Result<(), Fault>
     requires marks { length base.now.held.entries ≤ length marks.now }
@@ -68,20 +69,20 @@ fn copy_left<'a>(
 /// Returns whether a base's item at a place, under a key of these bytes, is marked or hidden.
 fn is_gone<'a>(
     marks: &[bool],
-    over: &HashMap<&'a [u8], CellItem<'a>, Hashing>,
+    over: &HashMap<Text<'a>, CellItem<'a>, Hashing>,
     place: usize,
     text: &[u8],
 ) -> bool
     requires { place < length marks.now }
     ensures { result ≡ (get_or marks.now place false || is_hidden over.now text.now) }
 {
-    marks[place] || over.contains_key(text)
+    marks[place] || over.contains_key(&Text { bytes: text })
 }
 
 /// Puts copies of all entries into a copy. Returns `Memory` if an allocation fails.
 fn copy_over<'a>(
     alloc: Global,
-    over: &HashMap<&'a [u8], CellItem<'a>, Hashing>,
+    over: &HashMap<Text<'a>, CellItem<'a>, Hashing>,
     copy: &mut Owned,
 ) -> Result<(), Fault>
     ensures over { OnOk result (owned_table copy.new
@@ -89,7 +90,7 @@ fn copy_over<'a>(
     ensures memory { IsOkUnless result Fault.Memory }
 {
     for (text, kept) in over {
-        copy.put_new(*text, item_of(alloc, kept)?)?;
+        copy.put_new(text.bytes, item_of(alloc, kept)?)?;
     }
     Ok(())
 }

@@ -21,6 +21,7 @@ use crate::meter::Meter;
 use crate::metered::Metered;
 use crate::owned::{Owned, OwnedItems};
 use crate::storage::{Change, Counter, Found, Storage, StorageFor};
+use crate::text::Text;
 use crate::view::View;
 use mc_model::{Data, Fault, Fragments, Item, Key, Limits, Value};
 use std::alloc::Global;
@@ -34,7 +35,7 @@ pub struct Layered<'a> {
     pub(crate) hashing: Hashing,
     pub(crate) base: Option<&'a Owned>,
     pub(crate) marks: Vec<bool>,
-    pub(crate) over: HashMap<&'a [u8], CellItem<'a>, Hashing>,
+    pub(crate) over: HashMap<Text<'a>, CellItem<'a>, Hashing>,
     ghost marked: { AreMarked base marks.items },
 }
 
@@ -116,7 +117,7 @@ impl<'a> Layered<'a> {
         ensures { option_map item_in_view result
             ≡ map.get (layers self.now.base self.now.marks.items self.now.over) key.now }
     {
-        if let Some(kept) = self.over.get(key.as_bytes()) {
+        if let Some(kept) = self.over.get(&Text::of(key)) {
             return Some(View::Over(kept));
         }
         match self.under(key) {
@@ -148,7 +149,7 @@ impl<'a> Layered<'a> {
         ensures unchanged { OnErr result (layers self.new.base self.new.marks.items self.new.over
             ≡ layers self.old.base self.old.marks.items self.old.over) }
     {
-        self.over.insert(key.as_bytes(), kept)?;
+        self.over.insert(Text::of(key), kept)?;
         Ok(())
     }
 
@@ -190,7 +191,7 @@ impl<'a> Layered<'a> {
             ≡ layers self.old.base self.old.marks.items self.old.over) }
     {
         let alloc = self.alloc;
-        if let Some(kept) = self.over.get_mut(key.as_bytes()) {
+        if let Some(kept) = self.over.get_mut(&Text::of(key)) {
             return push_back(alloc, kept, block, unique);
         }
         let mut kept = self.borrowed(key, unique);
@@ -211,7 +212,7 @@ impl<'a> Layered<'a> {
             ≡ layers self.old.base self.old.marks.items self.old.over) }
     {
         let alloc = self.alloc;
-        if let Some(kept) = self.over.get_mut(key.as_bytes()) {
+        if let Some(kept) = self.over.get_mut(&Text::of(key)) {
             return push_front(alloc, kept, block, unique);
         }
         let mut kept = self.borrowed(key, unique);
@@ -247,14 +248,14 @@ impl<'a> Storage for Layered<'a> {
     ghost table = { λ items. layers items.base items.marks.items items.over };
 
     fn find(&self, key: &Key) -> Option<Found> {
-        if let Some(kept) = self.over.get(key.as_bytes()) {
+        if let Some(kept) = self.over.get(&Text::of(key)) {
             return Some(found_in(kept));
         }
         self.find_under(key)
     }
 
     fn counter(&self, key: &Key) -> Option<Counter> {
-        if let Some(kept) = self.over.get(key.as_bytes()) {
+        if let Some(kept) = self.over.get(&Text::of(key)) {
             return Some(Counter {
                 found: found_in(kept),
                 number: kept.block.number(),
@@ -267,7 +268,7 @@ impl<'a> Storage for Layered<'a> {
     }
 
     fn remove(&mut self, key: &Key) {
-        self.over.remove(key.as_bytes());
+        self.over.remove(&Text::of(key));
         self.mark(key);
     }
 
@@ -280,7 +281,7 @@ impl<'a> Storage for Layered<'a> {
 impl<'a> StorageFor<'a> for Layered<'a> {
     fn show(&mut self, key: &Key, uniques: bool) -> Result<Option<Value<'a>>, Fault> {
         let alloc = self.alloc;
-        if let Some(kept) = self.over.get_mut(key.as_bytes()) {
+        if let Some(kept) = self.over.get_mut(&Text::of(key)) {
             return Ok(Some(show_kept(alloc, key, kept, uniques)?));
         }
         match self.under(key) {
@@ -326,7 +327,7 @@ impl<'a> StorageFor<'a> for Layered<'a> {
             unique,
             block: Fragments::new(block),
         };
-        if let Some(kept) = self.over.get_mut(key.as_bytes()) {
+        if let Some(kept) = self.over.get_mut(&Text::of(key)) {
             return Ok(overwrite(kept, item, key, meter));
         }
         let old = self.find_under(key);

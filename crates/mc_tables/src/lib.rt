@@ -22,5 +22,6 @@ pub mod owned;
 pub mod sip;
 pub mod storage;
 pub mod table;
+pub mod text;
 pub mod view;
 mod weights;

@@ -25,9 +25,9 @@ loop-text-preserved c =
     let rest = rest_more deref_pair c.loop-text.text-iterator c.next.new.self c.next.result (c.in-Some.text, c.in-Some.kept) c.in-Some.is c.next.ensures.steps in
     let turn = hash_map_turn deref_pair c.loop-text.yielded c.into_iter-text-iterator.result c.loop-text.text-iterator c.next.new.self c.next.result (c.in-Some.text, c.in-Some.kept)
     c.loop-text.yielded_by c.in-Some.is c.next.ensures.steps (same_texts_equiv text_of_slice) over c.into_iter-text-iterator.ensures.into_iter_gives.0 (search rules) in
-    let there : map.get whole key.now ≡ Some (item_of_cell kept) = held_over text_of_slice item_of_cell table over.entries key.now kept turn.1 in
+    let there : map.get whole key.bytes.now ≡ Some (item_of_cell kept) = held_over text_of_slice item_of_cell table over.entries key.bytes.now kept turn.1 in
     one_laid whole (owned_table c.loop-text.copy) (owned_table c.put_new.new.self) c.loop-text.text-iterator c.next.new.self key kept c.loop-text.invariant rest there
-    (c.in_ok-put_new.ensures.table ∙ ap (λ (item : Item). map.insert (owned_table c.loop-text.copy) key.now item) c.in_ok-item_of.ensures.same)
+    (c.in_ok-put_new.ensures.table ∙ ap (λ (item : Item). map.insert (owned_table c.loop-text.copy) key.bytes.now item) c.in_ok-item_of.ensures.same)
 
 pub returns-clause-over : goal.returns-clause-over
 returns-clause-over c =

@@ -16,7 +16,7 @@ push_back-requires c =
     let table = below c.args.self.now.base c.args.self.now.marks.items in
     let over = c.args.self.now.over.entries in
     let key = c.args.key.now in
-    let here : entry_at text_of_slice over key ≡ Some c.in-Some.kept.now = ap (λ (q : List ℕ). entry_at text_of_slice over q) (sym c.as_bytes.ensures.value) ∙ sym c.get_mut.ensures.value ∙ ap option_copied_mut c.in-Some.is in
+    let here : entry_at text_of_slice over key ≡ Some c.in-Some.kept.now = ap (λ (q : List ℕ). entry_at text_of_slice over q) (sym c.of.ensures) ∙ sym c.get_mut.ensures.value ∙ ap option_copied_mut c.in-Some.is in
     let there = held_over text_of_slice item_of_cell table over key c.in-Some.kept.now here in
     let long : length (c.in-Some.kept.now.block ++ c.args.block.now) ≤ DATA_BYTES = subst (λ (o : Option Item). length (block_under o ++ c.args.block.now) ≤ DATA_BYTES) there c.requires in
     omega (arith, long, length-append c.in-Some.kept.now.block c.args.block.now)
@@ -26,13 +26,13 @@ returns-in-Some-clause-joined c =
     let table = below c.args.self.now.base c.args.self.now.marks.items in
     let over = c.args.self.now.over.entries in
     let key = c.args.key.now in
-    let here : entry_at text_of_slice over key ≡ Some c.in-Some.kept.now = ap (λ (q : List ℕ). entry_at text_of_slice over q) (sym c.as_bytes.ensures.value) ∙ sym c.get_mut.ensures.value ∙ ap option_copied_mut c.in-Some.is in
+    let here : entry_at text_of_slice over key ≡ Some c.in-Some.kept.now = ap (λ (q : List ℕ). entry_at text_of_slice over q) (sym c.of.ensures) ∙ sym c.get_mut.ensures.value ∙ ap option_copied_mut c.in-Some.is in
     let there = held_over text_of_slice item_of_cell table over key c.in-Some.kept.now here in
     let new = c.get_mut.follows.lender c.push_back.new.kept in
     let writes = c.get_mut.follows.holds c.push_back.new.kept in
     let updates = writes.3 (subst IsSome c.in-Some.ensures.value refl) in
-    let put = laid-put text_of_slice item_of_cell table c.args.self.now.over new c.as_bytes.result.now c.push_back.new.kept updates
-    ∙ ap (λ (k : List ℕ). map.insert (laid_over text_of_slice item_of_cell table over) k (item_of_cell c.push_back.new.kept)) c.as_bytes.ensures.value in
+    let put = laid-put text_of_slice item_of_cell table c.args.self.now.over new c.of.result.bytes.now c.push_back.new.kept updates
+    ∙ ap (λ (k : List ℕ). map.insert (laid_over text_of_slice item_of_cell table over) k (item_of_cell c.push_back.new.kept)) c.of.ensures in
     on_ok c.push_back.result (λ is. put ∙ ap (λ (kept : CellItem). map.insert (laid_over text_of_slice item_of_cell table over) key (item_of_cell kept)) is
     ∙ sym (ap (λ (o : Option Item). map.insert (laid_over text_of_slice item_of_cell table over) key (changed_item o (Append c.args.block) c.args.unique)) there)) c.push_back.ensures.joined
 
@@ -41,13 +41,13 @@ returns-in-Some-clause-unchanged c =
     let table = below c.args.self.now.base c.args.self.now.marks.items in
     let over = c.args.self.now.over.entries in
     let key = c.args.key.now in
-    let here : entry_at text_of_slice over key ≡ Some c.in-Some.kept.now = ap (λ (q : List ℕ). entry_at text_of_slice over q) (sym c.as_bytes.ensures.value) ∙ sym c.get_mut.ensures.value ∙ ap option_copied_mut c.in-Some.is in
+    let here : entry_at text_of_slice over key ≡ Some c.in-Some.kept.now = ap (λ (q : List ℕ). entry_at text_of_slice over q) (sym c.of.ensures) ∙ sym c.get_mut.ensures.value ∙ ap option_copied_mut c.in-Some.is in
     let there = held_over text_of_slice item_of_cell table over key c.in-Some.kept.now here in
     let new = c.get_mut.follows.lender c.push_back.new.kept in
     let writes = c.get_mut.follows.holds c.push_back.new.kept in
     let updates = writes.3 (subst IsSome c.in-Some.ensures.value refl) in
-    let put = laid-put text_of_slice item_of_cell table c.args.self.now.over new c.as_bytes.result.now c.push_back.new.kept updates
-    ∙ ap (λ (k : List ℕ). map.insert (laid_over text_of_slice item_of_cell table over) k (item_of_cell c.push_back.new.kept)) c.as_bytes.ensures.value in
+    let put = laid-put text_of_slice item_of_cell table c.args.self.now.over new c.of.result.bytes.now c.push_back.new.kept updates
+    ∙ ap (λ (k : List ℕ). map.insert (laid_over text_of_slice item_of_cell table over) k (item_of_cell c.push_back.new.kept)) c.of.ensures in
     on_err c.push_back.result (λ is. put ∙ ap (λ (kept : CellItem). map.insert (laid_over text_of_slice item_of_cell table over) key (item_of_cell kept)) is
     ∙ insert_same (laid_over text_of_slice item_of_cell table over) key (item_of_cell c.in-Some.kept.now) there) c.push_back.ensures.unchanged
 
@@ -56,7 +56,7 @@ append-requires c =
     let table = below c.args.self.now.base c.args.self.now.marks.items in
     let over = c.args.self.now.over.entries in
     let key = c.args.key.now in
-    let absent : entry_at text_of_slice over key ≡ None = ap (λ (q : List ℕ). entry_at text_of_slice over q) (sym c.as_bytes.ensures.value) ∙ sym c.get_mut.ensures.value ∙ ap option_copied_mut c.in_default.is in
+    let absent : entry_at text_of_slice over key ≡ None = ap (λ (q : List ℕ). entry_at text_of_slice over q) (sym c.of.ensures) ∙ sym c.get_mut.ensures.value ∙ ap option_copied_mut c.in_default.is in
     let there : map.get (laid_over text_of_slice item_of_cell table over) key ≡ map.get table key = held_under text_of_slice item_of_cell table over key absent in
     let long : length (block_under (map.get table key) ++ c.args.block.now) ≤ DATA_BYTES = subst (λ (o : Option Item). length (block_under o ++ c.args.block.now) ≤ DATA_BYTES) there c.requires in
     omega (arith, long, ap (λ (b : List ℕ). length b) c.borrowed-kept.ensures.block, length-append (block_under (map.get table key)) c.args.block.now)
@@ -66,7 +66,7 @@ returns-clause-joined c =
     let table = below c.args.self.now.base c.args.self.now.marks.items in
     let over = c.args.self.now.over.entries in
     let key = c.args.key.now in
-    let absent : entry_at text_of_slice over key ≡ None = ap (λ (q : List ℕ). entry_at text_of_slice over q) (sym c.as_bytes.ensures.value) ∙ sym c.get_mut.ensures.value ∙ ap option_copied_mut c.in_default.is in
+    let absent : entry_at text_of_slice over key ≡ None = ap (λ (q : List ℕ). entry_at text_of_slice over q) (sym c.of.ensures) ∙ sym c.get_mut.ensures.value ∙ ap option_copied_mut c.in_default.is in
     let there : map.get (laid_over text_of_slice item_of_cell table over) key ≡ map.get table key = held_under text_of_slice item_of_cell table over key absent in
     let flags_is = c.borrowed-kept.ensures.flags ∙ ap flags_under (sym there) in
     let block_is = c.in_ok-append.ensures.joined ∙ ap (λ (b : List ℕ). b ++ c.args.block.now) (c.borrowed-kept.ensures.block ∙ ap block_under (sym there)) in

@@ -11,7 +11,7 @@ returns-in-Some c =
     let table = below c.args.self.now.base c.args.self.now.marks.items in
     let over = c.args.self.now.over.entries in
     let key = c.args.key.now in
-    let here = ap (λ (q : List ℕ). entry_at text_of_slice over q) (sym c.as_bytes.ensures.value) ∙ sym c.get.ensures.value ∙ ap option_copied c.in-Some.is in
+    let here = ap (λ (q : List ℕ). entry_at text_of_slice over q) (sym c.of.ensures) ∙ sym c.get.ensures.value ∙ ap option_copied c.in-Some.is in
     let there : map.get (laid_over text_of_slice item_of_cell table over) key ≡ Some (item_of_cell c.in-Some.kept.now) = held_over text_of_slice item_of_cell table over key c.in-Some.kept.now here in
     rw there (search rules)
 
@@ -20,7 +20,7 @@ returns-in-Some-under c =
     let table = below c.args.self.now.base c.args.self.now.marks.items in
     let over = c.args.self.now.over.entries in
     let key = c.args.key.now in
-    let absent : entry_at text_of_slice over key ≡ None = ap (λ (q : List ℕ). entry_at text_of_slice over q) (sym c.as_bytes.ensures.value) ∙ sym c.get.ensures.value ∙ ap option_copied c.in_default.is in
+    let absent : entry_at text_of_slice over key ≡ None = ap (λ (q : List ℕ). entry_at text_of_slice over q) (sym c.of.ensures) ∙ sym c.get.ensures.value ∙ ap option_copied c.in_default.is in
     let there : map.get (laid_over text_of_slice item_of_cell table over) key ≡ Some c.in-Some-under.item.now = held_under text_of_slice item_of_cell table over key absent ∙ sym c.under.ensures ∙ ap option_copied c.in-Some-under.is in
     rw there (search rules)
 
@@ -29,6 +29,6 @@ returns-in-None c =
     let table = below c.args.self.now.base c.args.self.now.marks.items in
     let over = c.args.self.now.over.entries in
     let key = c.args.key.now in
-    let absent : entry_at text_of_slice over key ≡ None = ap (λ (q : List ℕ). entry_at text_of_slice over q) (sym c.as_bytes.ensures.value) ∙ sym c.get.ensures.value ∙ ap option_copied c.in_default.is in
+    let absent : entry_at text_of_slice over key ≡ None = ap (λ (q : List ℕ). entry_at text_of_slice over q) (sym c.of.ensures) ∙ sym c.get.ensures.value ∙ ap option_copied c.in_default.is in
     let there : map.get (laid_over text_of_slice item_of_cell table over) key ≡ None = held_under text_of_slice item_of_cell table over key absent ∙ sym c.under.ensures ∙ ap option_copied c.in-None.is in
     rw there (search rules)

@@ -11,7 +11,7 @@ returns-in-Some c =
     let table = below c.args.self.now.base c.args.self.now.marks.items in
     let over = c.args.self.now.over.entries in
     let key = c.args.key.now in
-    let here = ap (λ (q : List ℕ). entry_at text_of_slice over q) (sym c.as_bytes.ensures.value) ∙ sym c.get.ensures.value ∙ ap option_copied c.in-Some.is in
+    let here = ap (λ (q : List ℕ). entry_at text_of_slice over q) (sym c.of.ensures) ∙ sym c.get.ensures.value ∙ ap option_copied c.in-Some.is in
     let there : map.get (laid_over text_of_slice item_of_cell table over) key ≡ Some (item_of_cell c.in-Some.kept.now) = held_over text_of_slice item_of_cell table over key c.in-Some.kept.now here in
     record { found = rw there (search rules) }
 
@@ -20,6 +20,6 @@ returns c =
     let table = below c.args.self.now.base c.args.self.now.marks.items in
     let over = c.args.self.now.over.entries in
     let key = c.args.key.now in
-    let absent : entry_at text_of_slice over key ≡ None = ap (λ (q : List ℕ). entry_at text_of_slice over q) (sym c.as_bytes.ensures.value) ∙ sym c.get.ensures.value ∙ ap option_copied c.in_default.is in
+    let absent : entry_at text_of_slice over key ≡ None = ap (λ (q : List ℕ). entry_at text_of_slice over q) (sym c.of.ensures) ∙ sym c.get.ensures.value ∙ ap option_copied c.in_default.is in
     let there : map.get (laid_over text_of_slice item_of_cell table over) key ≡ map.get table key = held_under text_of_slice item_of_cell table over key absent in
     record { found = rw there (search rules) }

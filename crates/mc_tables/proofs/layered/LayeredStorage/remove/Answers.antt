@@ -10,7 +10,7 @@ returns c =
     let table = below c.args.self.now.base c.args.self.now.marks.items in
     let over = c.args.self.now.over.entries in
     let key = c.args.key.now in
-    let gone = laid-removed text_of_slice item_of_cell table (below c.mark.new.self.base c.mark.new.self.marks.items) c.args.self.now.over c.remove.new.self c.as_bytes.result.now c.remove.ensures.updates
-    (c.mark.ensures.marked ∙ ap (map.remove table) (sym c.as_bytes.ensures.value)) in
+    let gone = laid-removed text_of_slice item_of_cell table (below c.mark.new.self.base c.mark.new.self.marks.items) c.args.self.now.over c.remove.new.self c.of.result.bytes.now c.remove.ensures.updates
+    (c.mark.ensures.marked ∙ ap (map.remove table) (sym c.of.ensures)) in
     ap (λ (over : _). laid_over text_of_slice item_of_cell (below c.mark.new.self.base c.mark.new.self.marks.items) over.entries) c.mark.ensures.over
-    ∙ gone ∙ ap (map.remove (laid_over text_of_slice item_of_cell table over)) c.as_bytes.ensures.value
+    ∙ gone ∙ ap (map.remove (laid_over text_of_slice item_of_cell table over)) c.of.ensures

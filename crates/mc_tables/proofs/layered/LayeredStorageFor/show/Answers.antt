@@ -14,12 +14,12 @@ returns-in_err-show_kept-clause-unchanged c =
     let table = below c.args.self.now.base c.args.self.now.marks.items in
     let over = c.args.self.now.over.entries in
     let key = c.args.key.now in
-    let here : entry_at text_of_slice over key ≡ Some c.in-Some.kept.now = ap (λ (q : List ℕ). entry_at text_of_slice over q) (sym c.as_bytes.ensures.value) ∙ sym c.get_mut.ensures.value ∙ ap option_copied_mut c.in-Some.is in
+    let here : entry_at text_of_slice over key ≡ Some c.in-Some.kept.now = ap (λ (q : List ℕ). entry_at text_of_slice over q) (sym c.of.ensures) ∙ sym c.get_mut.ensures.value ∙ ap option_copied_mut c.in-Some.is in
     let there = held_over text_of_slice item_of_cell table over key c.in-Some.kept.now here in
     let writes = c.get_mut.follows.holds c.show_kept.new.kept in
     let updates = writes.3 (subst IsSome c.in-Some.ensures.value refl) in
-    laid-put text_of_slice item_of_cell table c.args.self.now.over (c.get_mut.follows.lender c.show_kept.new.kept) c.as_bytes.result.now c.show_kept.new.kept updates
-    ∙ ap (λ (k : List ℕ). map.insert (laid_over text_of_slice item_of_cell table over) k (item_of_cell c.show_kept.new.kept)) c.as_bytes.ensures.value
+    laid-put text_of_slice item_of_cell table c.args.self.now.over (c.get_mut.follows.lender c.show_kept.new.kept) c.of.result.bytes.now c.show_kept.new.kept updates
+    ∙ ap (λ (k : List ℕ). map.insert (laid_over text_of_slice item_of_cell table over) k (item_of_cell c.show_kept.new.kept)) c.of.ensures
     ∙ ap (λ (kept : CellItem). map.insert (laid_over text_of_slice item_of_cell table over) key (item_of_cell kept)) c.show_kept.ensures.unchanged
     ∙ insert_same (laid_over text_of_slice item_of_cell table over) key (item_of_cell c.in-Some.kept.now) there
 
@@ -28,12 +28,12 @@ returns-in-Some-clause-unchanged c =
     let table = below c.args.self.now.base c.args.self.now.marks.items in
     let over = c.args.self.now.over.entries in
     let key = c.args.key.now in
-    let here : entry_at text_of_slice over key ≡ Some c.in-Some.kept.now = ap (λ (q : List ℕ). entry_at text_of_slice over q) (sym c.as_bytes.ensures.value) ∙ sym c.get_mut.ensures.value ∙ ap option_copied_mut c.in-Some.is in
+    let here : entry_at text_of_slice over key ≡ Some c.in-Some.kept.now = ap (λ (q : List ℕ). entry_at text_of_slice over q) (sym c.of.ensures) ∙ sym c.get_mut.ensures.value ∙ ap option_copied_mut c.in-Some.is in
     let there = held_over text_of_slice item_of_cell table over key c.in-Some.kept.now here in
     let writes = c.get_mut.follows.holds c.show_kept.new.kept in
     let updates = writes.3 (subst IsSome c.in-Some.ensures.value refl) in
-    laid-put text_of_slice item_of_cell table c.args.self.now.over (c.get_mut.follows.lender c.show_kept.new.kept) c.as_bytes.result.now c.show_kept.new.kept updates
-    ∙ ap (λ (k : List ℕ). map.insert (laid_over text_of_slice item_of_cell table over) k (item_of_cell c.show_kept.new.kept)) c.as_bytes.ensures.value
+    laid-put text_of_slice item_of_cell table c.args.self.now.over (c.get_mut.follows.lender c.show_kept.new.kept) c.of.result.bytes.now c.show_kept.new.kept updates
+    ∙ ap (λ (k : List ℕ). map.insert (laid_over text_of_slice item_of_cell table over) k (item_of_cell c.show_kept.new.kept)) c.of.ensures
     ∙ ap (λ (kept : CellItem). map.insert (laid_over text_of_slice item_of_cell table over) key (item_of_cell kept)) c.show_kept.ensures.unchanged
     ∙ insert_same (laid_over text_of_slice item_of_cell table over) key (item_of_cell c.in-Some.kept.now) there
 
@@ -42,7 +42,7 @@ returns-in-Some-clause-shown c =
     let table = below c.args.self.now.base c.args.self.now.marks.items in
     let over = c.args.self.now.over.entries in
     let key = c.args.key.now in
-    let here : entry_at text_of_slice over key ≡ Some c.in-Some.kept.now = ap (λ (q : List ℕ). entry_at text_of_slice over q) (sym c.as_bytes.ensures.value) ∙ sym c.get_mut.ensures.value ∙ ap option_copied_mut c.in-Some.is in
+    let here : entry_at text_of_slice over key ≡ Some c.in-Some.kept.now = ap (λ (q : List ℕ). entry_at text_of_slice over q) (sym c.of.ensures) ∙ sym c.get_mut.ensures.value ∙ ap option_copied_mut c.in-Some.is in
     let there = held_over text_of_slice item_of_cell table over key c.in-Some.kept.now here in
     ap Some c.in_ok-show_kept.ensures.shown ∙ sym (ap (λ (o : Option Item). option_map (shown_item c.args.uniques key) o) there)
 
@@ -51,7 +51,7 @@ returns-in-None-clause-shown c =
     let table = below c.args.self.now.base c.args.self.now.marks.items in
     let over = c.args.self.now.over.entries in
     let key = c.args.key.now in
-    let absent : entry_at text_of_slice over key ≡ None = ap (λ (q : List ℕ). entry_at text_of_slice over q) (sym c.as_bytes.ensures.value) ∙ sym c.get_mut.ensures.value ∙ ap option_copied_mut c.in_default.is in
+    let absent : entry_at text_of_slice over key ≡ None = ap (λ (q : List ℕ). entry_at text_of_slice over q) (sym c.of.ensures) ∙ sym c.get_mut.ensures.value ∙ ap option_copied_mut c.in_default.is in
     let there : map.get (laid_over text_of_slice item_of_cell table over) key ≡ None = held_under text_of_slice item_of_cell table over key absent ∙ sym c.under.ensures ∙ ap option_copied c.in-None.is in
     sym (ap (λ (o : Option Item). option_map (shown_item c.args.uniques key) o) there)
 
@@ -60,6 +60,6 @@ returns-in_ok-show_item-in-Some-under-clause-shown c =
     let table = below c.args.self.now.base c.args.self.now.marks.items in
     let over = c.args.self.now.over.entries in
     let key = c.args.key.now in
-    let absent : entry_at text_of_slice over key ≡ None = ap (λ (q : List ℕ). entry_at text_of_slice over q) (sym c.as_bytes.ensures.value) ∙ sym c.get_mut.ensures.value ∙ ap option_copied_mut c.in_default.is in
+    let absent : entry_at text_of_slice over key ≡ None = ap (λ (q : List ℕ). entry_at text_of_slice over q) (sym c.of.ensures) ∙ sym c.get_mut.ensures.value ∙ ap option_copied_mut c.in_default.is in
     let there : map.get (laid_over text_of_slice item_of_cell table over) key ≡ Some c.in-Some-under.item.now = held_under text_of_slice item_of_cell table over key absent ∙ sym c.under.ensures ∙ ap option_copied c.in-Some-under.is in
     ap Some c.in_ok-show_item-in-Some-under.ensures.shown ∙ sym (ap (λ (o : Option Item). option_map (shown_item c.args.uniques key) o) there)
