@@ -56,7 +56,7 @@ network: kit ## tests wfmc over sockets: the golden tests of mc_stdin, and clien
 	@tools/prove.sh wfmc >&2
 	@python3 tests/network.py
 
-metrics: kit ## tests the metrics of wfmc over sockets, in half a minute: numbers, scrapes at full speed beside clients, and requests that are slow, huge or none
+metrics: kit ## tests the metrics of wfmc over sockets, in half a minute: numbers, scrapes at full speed beside clients, and requests that are slow, huge or none; in the gate too
 	@tools/prove.sh wfmc >&2
 	@python3 tests/metrics.py
 
