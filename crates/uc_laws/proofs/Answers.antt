@@ -89,18 +89,18 @@ both_answer tables core (given ∷ first) later before after zero worker place r
 both_answer tables core (given ∷ first) later before after (suc k) worker place reply at =
     both_answer tables core first later (λ n. before (suc n)) after k worker place reply at
 
-module _ (laws : Laws) (settings : Configuration) (tables : List TableState) (many : length tables ≡ length settings.tenants) where
+module _ (laws : Laws) (settings : Configuration) (tables : List TableState) where
   abbrev Leads : CoreState → Type 0
-  Leads core = IsOpened laws settings tables many core
+  Leads core = IsOpened laws settings tables core
 
   replay_answers : (old new : CoreState) (number : ℕ) (reply : Option Reply) → Leads old → AllStand tables old → (step : CoreStep old (Replay number) new reply) →
       (it : Reply) → reply ≡ Some it → IsAnswerOver tables old number step.3.replayed it
   replay_answers old new number reply from stands step it is =
       let place = step.3.replayed in
-      let inside : place < length old.shown.decided = omega (arith, step.5, learned_inside laws settings tables many old number step.0 from step.1) in
+      let inside : place < length old.shown.decided = omega (arith, step.5, learned_inside laws settings tables old number step.0 from step.1) in
       let mine = replies_to_own number step.3.tables (entry_at old place) it (sym step.9 ∙ is) in
       let ticket = there old.shown.decided place inside in
-      let known = (sound_log laws settings tables many old from).announced place ticket.0 ticket.1 in
+      let known = (sound_log laws settings tables old from).announced place ticket.0 ticket.1 in
       let here : entry_at old place ≡ entry_under old ticket.0 = ap (option_and_then (entry_under old)) ticket.1 in
       let same : known.0 ≡ mine.0 = same_Some known.0 mine.0 (sym known.1 ∙ sym here ∙ mine.1) in
       let log = take place (log_of old) in
@@ -130,10 +130,10 @@ module _ (laws : Laws) (settings : Configuration) (tables : List TableState) (ma
   run_answers old new [] given from stands runs = λ k worker place reply at.
       absurd (none-some (worker, place, reply) (ap (λ (list : List Given). slice_get list k) (sym runs.1) ∙ at))
   run_answers old new (event ∷ events) given from stands runs =
-      let next = opened_on laws settings tables many old runs.0 event runs.1 from runs.3 in
-      let further = stand_after laws settings tables many old runs.0 event runs.1 from stands runs.3 in
-      let grown = grows_through old runs.0 new (grows old runs.0 event runs.1 (has_entries laws settings tables many old from) runs.3)
-      (stand_at_end laws settings tables many runs.0 new events runs.2 next further runs.4).1 in
+      let next = opened_on laws settings tables old runs.0 event runs.1 from runs.3 in
+      let further = stand_after laws settings tables old runs.0 event runs.1 from stands runs.3 in
+      let grown = grows_through old runs.0 new (grows old runs.0 event runs.1 (has_entries laws settings tables old from) runs.3)
+      (stand_at_end laws settings tables runs.0 new events runs.2 next further runs.4).1 in
       subst (RepliesAreAnswersOver tables new) (sym runs.5)
       (both_answer tables new (given_by old event runs.1) runs.2
       (λ k worker place reply at. answer_stays tables old new worker place reply grown (event_answers old runs.0 event runs.1 from stands runs.3 k worker place reply at))
@@ -141,11 +141,11 @@ module _ (laws : Laws) (settings : Configuration) (tables : List TableState) (ma
 
   pub are_answers : (events : List Event) (core : CoreState) (given : List Given) → Runs (core_over settings tables) events core given →
       RepliesAreAnswersOver tables core given
-  are_answers events core given run = run_answers (core_over settings tables) core events given (opened laws settings tables many)
-      (all_stand_first laws settings tables many) run
+  are_answers events core given run = run_answers (core_over settings tables) core events given (opened laws settings tables)
+      (all_stand_first laws settings tables) run
 
   -- a reply's place is decided, and what is announced then stands later
   pub keeps_real_time : (events : List Event) (core : CoreState) (given : List Given) → Runs (core_over settings tables) events core given → KeepsRealTime core given
   keeps_real_time events core given run at worker place later reply told it =
       let stands = (are_answers events core given run at worker place reply told).stands in
-      omega (arith, slice_get_within core.shown.decided place _ stands, is_after laws settings tables events core given many run later it)
+      omega (arith, slice_get_within core.shown.decided place _ stands, is_after laws settings tables events core given run later it)

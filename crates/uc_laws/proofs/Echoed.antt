@@ -8,21 +8,18 @@ use Rattle.mc_model.specs.Log.{PlaceSighting}
 use Rattle.mc_model.specs.Settings.{Configuration}
 use Rattle.mc_model.specs.State.{TableState}
 use Rattle.uc_core.specs.Core.{CoreState, ReplayState, core_size, entry_under, new_core}
-use Rattle.uc_core.specs.Headline.{AnsweredOnce, HasReplica, HasReply, IsDecidedSoon, LogIsSound, OfEveryRun, OwnAreAnswered, ReplicasAgree, StandsAfterDecided, StandsLater, StepsAreAlone, StopsForGood, TablesStand, replica_of}
+use Rattle.uc_core.specs.Headline.{HasReplica, IsDecidedSoon, LogIsSound, OfEveryRun, ReplicasAgree, StandsAfterDecided, StandsLater, StepsAreAlone, StopsForGood, TablesStand, replica_of}
 use Rattle.uc_core.specs.Run.{Given, Runs}
 use Rattle.uc_core.specs.Step.{CoreStep, actor}
 use Rattle.uc_core.specs.declared.event.Event.{Event}
 use Rattle.uc_core.specs.declared.event.Event.TheVariants.{Announce, Stop}
 use Rattle.uc_laws.proofs.Echoes.{AreAlike, Echoed, announce_echoes, open_alike, run_echoes, stop_echoes, with_replays}
-use Rattle.uc_laws.proofs.Given.{told_too}
 use Rattle.uc_places.specs.CoreRun.{core_over}
 
 -- the laws of every run over empty tables
 pub record Laws : Type 0 where
   pub once : OfEveryRun (λ core given. LogIsSound core)
   pub replicas : OfEveryRun (λ core given. ReplicasAgree core)
-  pub answered : OfEveryRun (λ core given. OwnAreAnswered core given)
-  pub answered_once : OfEveryRun (λ core given. AnsweredOnce given)
   pub tables : OfEveryRun (λ core given. TablesStand core)
   pub helped : OfEveryRun (λ core given. IsDecidedSoon (length core.shown.workers + 1) core)
   pub after : OfEveryRun (λ core given. StandsAfterDecided core)
@@ -44,9 +41,9 @@ stays alone old new number (event ∷ events) given runs others =
     ∙ (alone old event runs.0 runs.1 number runs.3 (λ same. others 0 event refl (sym same))).1
 
 module _ (laws : Laws) (settings : Configuration) (tables : List TableState) (events : List Event) (core : CoreState) (given : List Given)
-    (many : length tables ≡ length settings.tenants) (run : Runs (core_over settings tables) events core given) where
+    (run : Runs (core_over settings tables) events core given) where
   it : Echoed (core_over settings tables) events core given (new_core settings).replays
-  it = run_echoes (core_over settings tables) core events given (new_core settings).replays (open_alike settings tables many) run
+  it = run_echoes (core_over settings tables) core events given (new_core settings).replays (open_alike settings tables) run
 
   abbrev plain : CoreState
   plain = with_replays core it.later
@@ -60,7 +57,7 @@ module _ (laws : Laws) (settings : Configuration) (tables : List TableState) (ev
   -- the replica over empty tables
   replica_too : (number : ℕ) (worker : WorkerState) (replay : ReplayState) → HasReplica core number worker replay →
       (other : ReplayState) × HasReplica plain number worker other × (other.replayed ≡ replay.replayed)
-  replica_too number worker replay has = let found = it.alike number replay has.1 in (found.0, (has.0, found.1), found.2.replayed)
+  replica_too number worker replay has = let found = it.alike number replay has.1 in (found.0, (has.0, found.1), found.2)
 
   pub are_learned : (number : ℕ) (worker : WorkerState) (replay : ReplayState) → HasReplica core number worker replay → replay.replayed ≤ length worker.learned
   are_learned number worker replay has =
@@ -74,20 +71,6 @@ module _ (laws : Laws) (settings : Configuration) (tables : List TableState) (ev
       let same = p.2 in let same_other = q.2 in
       subst (λ (n : ℕ × ℕ). take n.0 (seen_by core v) ≡ take n.0 (take n.1 (seen_by core w))) (λ i. (p.2 i, q.2 i))
       ((laws.replicas settings events plain it.told it.runs).prefixes one other v w p.0 q.0 p.1 q.1 (omega (arith, fewer, same, same_other)))
-
-  pub own_are_answered : OwnAreAnswered core given
-  own_are_answered number place worker replay ticket has below at mine =
-      let too = replica_too number worker replay has in
-      let reply = laws.answered settings events plain it.told it.runs number place worker too.0 ticket too.1
-      (subst (λ (n : ℕ). place < n) (sym too.2) below) at mine in
-      let its = told_too it.told given reply.0 number place reply.1 (sym it.places) reply.2 in
-      (reply.0, its.0, its.1)
-
-  pub are_answered_once : AnsweredOnce given
-  are_answered_once one other worker other_worker place reply other_reply at there =
-      let first = told_too given it.told one worker place reply it.places at in
-      let second = told_too given it.told other other_worker place other_reply it.places there in
-      laws.answered_once settings events plain it.told it.runs one other worker other_worker place first.0 second.0 first.1 second.1
 
   -- an event that replays nothing leaves the replays as they are
   still_alike : (new : CoreState) → new.replays ≡ core.replays → AreAlike new.replays it.later

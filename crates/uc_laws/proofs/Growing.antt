@@ -82,14 +82,16 @@ announced_keeps old entry ticket found is =
 
 -- a core that another goes on from
 pub record Grows (old new : CoreState) : Type 0 where
+  pub openings : new.openings ≡ old.openings
   pub decided : BeginsWith new.shown.decided old.shown.decided
   pub log : BeginsWith (log_of new) (log_of old)
 
 pub grows_self : (core : CoreState) → Grows core core
-grows_self core = record { decided = begins_self core.shown.decided; log = begins_self (log_of core) }
+grows_self core = record { openings = refl; decided = begins_self core.shown.decided; log = begins_self (log_of core) }
 
 pub grows_through : (old between new : CoreState) → Grows old between → Grows between new → Grows old new
 grows_through old between new first second = record {
+  openings = second.openings ∙ first.openings;
   decided = begins_through new.shown.decided between.shown.decided old.shown.decided second.decided first.decided;
   log = begins_through (log_of new) (log_of between) (log_of old) second.log first.log;
 }
@@ -98,8 +100,10 @@ grows_through old between new first second = record {
 abbrev pub HasEntries : CoreState → Type 0
 HasEntries core = (place : ℕ) (ticket : Ticket) → slice_get core.shown.decided place ≡ Some ticket → (entry : Entry) × (entry_under core ticket ≡ Some entry)
 
-keeping : (old new : CoreState) → HasEntries old → BeginsWith new.shown.decided old.shown.decided → KeepsEntries old new → Grows old new
-keeping old new has begins keeps = record {
+keeping : (old new : CoreState) → HasEntries old → new.openings ≡ old.openings → BeginsWith new.shown.decided old.shown.decided → KeepsEntries old new →
+    Grows old new
+keeping old new has openings begins keeps = record {
+  openings = openings;
   decided = begins;
   log = (
     map (entry_under new) begins.0,
@@ -112,18 +116,22 @@ keeping old new has begins keeps = record {
 
 pub grows : (old new : CoreState) (event : Event) (reply : Option Reply) → HasEntries old → CoreStep old event new reply → Grows old new
 grows old new (Announce number tenant command) reply has step =
-    keeping old new has (stays_decided (core_size old) old.shown new.shown (announces number) step.1)
+    keeping old new has (ap (λ (core : CoreState). core.openings) step.2) (stays_decided (core_size old) old.shown new.shown (announces number) step.1)
     (λ ticket found is. ap (λ (core : CoreState). entry_under core ticket) step.2 ∙ announced_keeps old (announced_entry old number tenant command) ticket found is)
-grows old new (Read number) reply has step = keeping old new has (stays_decided (core_size old) old.shown new.shown (reads number) step.0)
+grows old new (Read number) reply has step =
+    keeping old new has (ap (λ (core : CoreState). core.openings) step.1) (stays_decided (core_size old) old.shown new.shown (reads number) step.0)
     (λ ticket found is. ap (λ (core : CoreState). entry_under core ticket) step.1 ∙ is)
-grows old new (Look number) reply has step = keeping old new has (stays_decided (core_size old) old.shown new.shown (looks number) step.0)
+grows old new (Look number) reply has step =
+    keeping old new has (ap (λ (core : CoreState). core.openings) step.1) (stays_decided (core_size old) old.shown new.shown (looks number) step.0)
     (λ ticket found is. ap (λ (core : CoreState). entry_under core ticket) step.1 ∙ is)
-grows old new (Propose number) reply has step = keeping old new has (stays_decided (core_size old) old.shown new.shown (proposes number) step.0)
+grows old new (Propose number) reply has step =
+    keeping old new has (ap (λ (core : CoreState). core.openings) step.1) (stays_decided (core_size old) old.shown new.shown (proposes number) step.0)
     (λ ticket found is. ap (λ (core : CoreState). entry_under core ticket) step.1 ∙ is)
-grows old new (Stop number) reply has step = keeping old new has (stays_decided (core_size old) old.shown new.shown (stops number) step.0)
+grows old new (Stop number) reply has step =
+    keeping old new has (ap (λ (core : CoreState). core.openings) step.1) (stays_decided (core_size old) old.shown new.shown (stops number) step.0)
     (λ ticket found is. ap (λ (core : CoreState). entry_under core ticket) step.1 ∙ is)
 grows old new (Replay number) reply has step =
-    keeping old new has (begins_same new.shown.decided old.shown.decided (ap (λ (core : CoreState). core.shown.decided) step.8))
+    keeping old new has (ap (λ (core : CoreState). core.openings) step.8) (begins_same new.shown.decided old.shown.decided (ap (λ (core : CoreState). core.shown.decided) step.8))
     (λ ticket found is. ap (λ (core : CoreState). entry_under core ticket) step.8 ∙ is)
 
 -- the log's place has the entry that stands there

@@ -1,8 +1,9 @@
-mod Given
+mod Effects
 mod Echoes
 mod Echoed
 mod Growing
 mod Standing
 mod Answers
+mod Replaying
 mod Worlds
 mod Empty

@@ -89,7 +89,7 @@ runs_then one two three (event ∷ events) more given later first runs = (
   ap (λ (list : List Given). list ++ later) first.5 ∙ append_assoc (given_by one event first.1) first.2 later,
 )
 
-module _ (laws : Laws) (settings : Configuration) (tables : List TableState) (many : length tables ≡ length settings.tenants) where
+module _ (laws : Laws) (settings : Configuration) (tables : List TableState) where
   -- some run over the tables leads to the core
   abbrev pub IsOpened : CoreState → Type 0
   IsOpened core = (events : List Event) × (given : List Given) × Runs (core_over settings tables) events core given
@@ -105,10 +105,10 @@ module _ (laws : Laws) (settings : Configuration) (tables : List TableState) (ma
   )
 
   pub sound_log : (core : CoreState) → IsOpened core → LogIsSound core
-  sound_log core from = echoed.is_sound laws settings tables from.0 core from.1 many from.2
+  sound_log core from = echoed.is_sound laws settings tables from.0 core from.1 from.2
 
   pub sound_shown : (core : CoreState) → IsOpened core → IsSound (core_size core) core.shown
-  sound_shown core from = let there = is_reached laws settings tables from.0 core from.1 many from.2 in is_sound (core_size core) there.0 core.shown there.1
+  sound_shown core from = let there = is_reached laws settings tables from.0 core from.1 from.2 in is_sound (core_size core) there.0 core.shown there.1
 
   pub has_entries : (core : CoreState) → IsOpened core → HasEntries core
   has_entries core from place ticket at = let entry = (sound_log core from).announced place ticket at in (entry.0, entry.1)
@@ -172,7 +172,7 @@ module _ (laws : Laws) (settings : Configuration) (tables : List TableState) (ma
         entries_seen (replica_of core worker replay) ≡ take replay.replayed (log_of core)
     replica_is number worker replay has =
         let begins = ((sound_shown core from).each number worker has.0).begins in
-        let few = are_learned laws settings tables from.0 core from.1 many from.2 number worker replay has in
+        let few = are_learned laws settings tables from.0 core from.1 from.2 number worker replay has in
         let known : map entry_seen (map seen worker.learned) ≡ map (entry_under core) worker.learned = map-map entry_seen seen worker.learned
         ∙ map-agree _ (entry_under core) worker.learned (λ k ticket at. counts k ticket (stands_on core.shown.decided worker.learned begins k ticket at)) in
         let goes_on : BeginsWith (log_of core) (map (entry_under core) worker.learned) =
@@ -183,13 +183,13 @@ module _ (laws : Laws) (settings : Configuration) (tables : List TableState) (ma
 
     pub tables_stand : TablesStandOver tables core
     tables_stand number worker replay has = (
-      are_learned laws settings tables from.0 core from.1 many from.2 number worker replay has,
+      are_learned laws settings tables from.0 core from.1 from.2 number worker replay has,
       subst (λ (log : List (Option Entry)). EachStands tables log replay.tables) (sym (replica_is number worker replay has)) (all_stand number replay has.1).1,
     )
 
     pub replicas_agree : ReplicasAgree core
     replicas_agree = record {
-      prefixes = prefixes_agree laws settings tables from.0 core from.1 many from.2;
+      prefixes = prefixes_agree laws settings tables from.0 core from.1 from.2;
       tables = λ one other v w r s has there same. same_by_places r.tables s.tables (λ tenant.
           (all_stand one r has.1).1 tenant
           ∙ ap (λ (n : ℕ). option_map (λ (opening : TableState). state_from opening (own tenant (take n (log_of core)))) (slice_get tables tenant)) same

@@ -15,13 +15,16 @@ use Rattle.uc_core.specs.Run.{Given, Runs}
 use Rattle.uc_core.specs.declared.event.Event.{Event}
 use Rattle.uc_places.specs.CoreRun.{core_over}
 
--- true of every run in which each worker begins with these tables, one for each tenant, whatever the
--- settings, the tables and the events: of the tables, of the core that the run leads to, and of the
--- replies that it gives
+-- true of every run in which each worker begins with these tables, whatever the settings, the tables
+-- and the events: of the tables, of the core that the run leads to, and of the replies that it gives
 abbrev pub OfEveryRunOver : (List TableState → CoreState → List Given → Type 0) → Type 0
 OfEveryRunOver Holds = (settings : Configuration) (tables : List TableState) (events : List Event)
-    (core : CoreState) (given : List Given) → length tables ≡ length settings.tenants →
-    Runs (core_over settings tables) events core given → Holds tables core given
+    (core : CoreState) (given : List Given) → Runs (core_over settings tables) events core given →
+    Holds tables core given
+
+-- each tenant has a table among these
+abbrev pub EachHasATable : List TableState → CoreState → Type 0
+EachHasATable tables core = length core.openings ≤ length tables
 
 -- each worker has replayed no more than it has learned, and each of its tables is the one with which
 -- the tenant began, after the tenant's commands that the worker has replayed

@@ -1,5 +1,4 @@
-//! The theorem, for every run of the core whose workers begin with any tables, one for each tenant:
-//! whatever these are, each announced command stands at most once in the log, all replicas agree on
+//! The theorem, for every run of the core whose workers begin with any tables: each announced command stands at most once in the log, all replicas agree on
 //! every replayed prefix, and each replayed command's reply is what memcached's commands give on the
 //! table with which its tenant began, after only its tenant's commands in log order. So logs that go
 //! on from equal tables of a tenant, and agree for it, give equal replies.
@@ -11,10 +10,10 @@ ghost use Rattle.uc_core.specs.Core.{CoreState, core_size, new_core};
 ghost use Rattle.uc_core.specs.Headline.{AnswerAlike, AnsweredOnce, IsDecidedSoon, KeepsRealTime, LogIsSound, OwnAreAnswered, RepliesAreAnswers, ReplicasAgree, StandsAfterDecided, StopsForGood, TablesStand};
 ghost use Rattle.uc_core.specs.Run.{Given};
 ghost use Rattle.uc_places.specs.CoreRun.{core_over};
-ghost use Rattle.uc_laws.specs.Over.{AnswerAlikeOver, OfEveryRunOver, RepliesAreAnswersOver, TablesStandOver};
+ghost use Rattle.uc_laws.specs.Over.{AnswerAlikeOver, EachHasATable, OfEveryRunOver, RepliesAreAnswersOver, TablesStandOver};
 
-/// What is true of every run over tables: of any settings, any tables, one for each tenant, and any
-/// events of any workers in any order.
+/// What is true of every run over tables: of any settings, any tables, and any events of any workers
+/// in any order.
 pub fn laws_over_tables()
     // Each announced command stands at most once in the log.
     ensures once { OfEveryRunOver (λ tables core given. LogIsSound core) }
@@ -27,8 +26,9 @@ pub fn laws_over_tables()
     ensures replies { OfEveryRunOver
         (λ tables core given. RepliesAreAnswersOver tables core given) }
 
-    // Each command of its own that a worker has replayed was answered.
-    ensures answered { OfEveryRunOver (λ tables core given. OwnAreAnswered core given) }
+    // Each command of its own that a worker has replayed was answered, if each tenant has a table.
+    ensures answered { OfEveryRunOver
+        (λ tables core given. EachHasATable tables core → OwnAreAnswered core given) }
 
     // No place is answered twice.
     ensures answered_once { OfEveryRunOver (λ tables core given. AnsweredOnce given) }
@@ -40,6 +40,9 @@ pub fn laws_over_tables()
     // next places, of which there are one more than workers.
     ensures helped { OfEveryRunOver
         (λ tables core given. IsDecidedSoon (length core.shown.workers + 1) core) }
+    // As many as there are workers aren't enough.
+    ensures sharp { ¬ OfEveryRunOver
+        (λ tables core given. IsDecidedSoon (length core.shown.workers) core) }
 
     // A command stands after all places that were decided when it was announced.
     ensures after { OfEveryRunOver (λ tables core given. StandsAfterDecided core) }
