@@ -1,9 +1,8 @@
 -- Each reply of a run over tables is the answer by the log: that of one event by what its worker's
 -- tables stand for, and it stays the answer while the log goes on.
-use Rattle.std.proofs.Common.{◌≡◌, ℕ, zero, suc, ◌+◌, ◌<◌, ◌≤◌, ◌==◌, Bool, true, false, if◌then◌else◌, List, [], ◌∷◌, ◌++◌, length, take, Option, Some, None, slice_get, refl, sym, ap, subst, ◌∙◌, arith, eqb-true}
+use Rattle.std.proofs.Common.{◌≡◌, ℕ, zero, suc, ◌<◌, ◌≤◌, ◌==◌, Bool, true, false, if◌then◌else◌, List, [], ◌∷◌, ◌++◌, length, take, Option, Some, None, slice_get, refl, sym, ap, subst, ◌∙◌, arith, eqb-true}
 use Rattle.std.proofs.lemmas.Option.{none-some, same_Some, slice_get_within}
 use Rattle.std.specs.Option.{option_and_then, option_map, option_map_or}
-use Rattle.mc_model.specs.declared.command.Command.{Command}
 use Rattle.mc_model.specs.declared.reply.Reply.{Reply}
 use Rattle.mc_model.specs.declared.request.Entry.{Entry}
 use Rattle.mc_model.specs.History.{answer_from}
@@ -19,7 +18,7 @@ use Rattle.uc_core.specs.Step.{CoreStep, actor, entry_at}
 use Rattle.uc_core.specs.declared.event.Event.{Event}
 use Rattle.uc_core.specs.declared.event.Event.TheVariants.{Announce, Look, Propose, Read, Replay, Stop}
 use Rattle.uc_laws.proofs.Echoed.{Laws, is_after}
-use Rattle.uc_laws.proofs.Growing.{Grows, grows, grows_through, log_at, log_long, stands_on, take-begins, there}
+use Rattle.uc_laws.proofs.Growing.{Grows, grows, grows_through, log_at, stands_on, take-begins, there}
 use Rattle.uc_laws.proofs.Standing.{AllStand, IsOpened, all_stand_first, has_entries, learned_inside, opened, opened_on, sound_log, stand_after, stand_at_end}
 use Rattle.uc_laws.specs.Over.{IsAnswerOver, RepliesAreAnswersOver}
 use Rattle.uc_places.specs.CoreRun.{core_over}

@@ -1,6 +1,6 @@
 -- What the headline says of a run over tables by the run over empty ones that it echoes: all that
 -- doesn't speak of tables.
-use Rattle.std.proofs.Common.{◌≡◌, ◌≢◌, ℕ, suc, ◌+◌, ◌<◌, ◌≤◌, List, [], ◌∷◌, length, map, take, Option, Some, None, slice_get, refl, sym, ap, subst, ◌∙◌, arith}
+use Rattle.std.proofs.Common.{◌≡◌, ◌≢◌, ℕ, suc, ◌+◌, ◌≤◌, List, [], ◌∷◌, length, map, take, Some, None, slice_get, refl, sym, ap, subst, ◌∙◌, arith}
 use Rattle.mc_model.specs.declared.id.Ticket.{Ticket}
 use Rattle.mc_model.specs.declared.shown.WorkerState.{WorkerState}
 use Rattle.mc_model.specs.Lawful.{IsReached}
@@ -10,9 +10,8 @@ use Rattle.mc_model.specs.State.{TableState}
 use Rattle.uc_core.specs.Core.{CoreState, ReplayState, core_size, entry_under, new_core}
 use Rattle.uc_core.specs.Headline.{HasReplica, IsDecidedSoon, LogIsSound, OfEveryRun, ReplicasAgree, StandsAfterDecided, StandsLater, StepsAreAlone, StopsForGood, TablesStand, replica_of}
 use Rattle.uc_core.specs.Run.{Given, Runs}
-use Rattle.uc_core.specs.Step.{CoreStep, actor}
+use Rattle.uc_core.specs.Step.{actor}
 use Rattle.uc_core.specs.declared.event.Event.{Event}
-use Rattle.uc_core.specs.declared.event.Event.TheVariants.{Announce, Stop}
 use Rattle.uc_laws.proofs.Echoes.{AreAlike, Echoed, announce_echoes, open_alike, run_echoes, stop_echoes, with_replays}
 use Rattle.uc_places.specs.CoreRun.{core_over}
 

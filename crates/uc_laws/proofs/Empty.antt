@@ -5,14 +5,14 @@ use Rattle.std.proofs.lemmas.Option.{none-some, same_Some, slice_get-map}
 use Rattle.std.specs.Option.{option_map}
 use Rattle.mc_model.specs.declared.reply.Reply.{Reply}
 use Rattle.mc_model.specs.declared.settings.Limits.{Limits}
-use Rattle.mc_model.specs.History.{answer, answer_from}
+use Rattle.mc_model.specs.History.{answer_from}
 use Rattle.mc_model.specs.Log.{own}
 use Rattle.mc_model.specs.Replay.{empty_tables}
 use Rattle.mc_model.specs.State.{TableState, empty_table}
 use Rattle.uc_core.specs.Core.{CoreState, log_of}
-use Rattle.uc_core.specs.Headline.{AnswerAlike, IsAnswer, LogsAgree, RepliesAreAnswers}
+use Rattle.uc_core.specs.Headline.{AnswerAlike, IsAnswer, RepliesAreAnswers}
 use Rattle.uc_core.specs.Run.{Given}
-use Rattle.uc_laws.specs.Over.{AnswerAlikeOver, IsAnswerOver, LogsAgreeOver, RepliesAreAnswersOver}
+use Rattle.uc_laws.specs.Over.{AnswerAlikeOver, IsAnswerOver, RepliesAreAnswersOver}
 
 -- an empty table, and its quotas
 empty_at : (openings : List Limits) (tenant : ℕ) → slice_get (empty_tables openings) tenant ≡ option_map empty_table (slice_get openings tenant)

@@ -1,12 +1,11 @@
 -- A worker replays one place after another, and gives at most one reply at each: so no place is answered
 -- twice. Where there is a table for each tenant, it answers each command of its own that it replays.
-use Rattle.std.proofs.Common.{◌≡◌, ◌≢◌, ℕ, zero, suc, ◌+◌, ◌<◌, ◌≤◌, List, [], ◌∷◌, ◌++◌, length, take, Option, Some, None, if◌then◌else◌, slice_get, slice_set, ⊎_elim, refl, sym, ap, ap₂, subst, ◌∙◌, arith, eq-eqb}
+use Rattle.std.proofs.Common.{◌≡◌, ◌≢◌, ℕ, zero, suc, ◌+◌, ◌<◌, ◌≤◌, List, [], ◌∷◌, ◌++◌, length, take, Option, Some, None, if◌then◌else◌, slice_get, ⊎_elim, refl, sym, ap, ap₂, subst, ◌∙◌, arith, eq-eqb}
 use Rattle.std.proofs.lemmas.Bool.{cases_eq, cases_lt}
 use Rattle.std.proofs.lemmas.Option.{none-some, same_Some, slice_get_within}
 use Rattle.std.specs.Option.{option_and_then, option_map, option_map_or}
 use Rattle.lists.proofs.Public.{at_longer, at_replicated, set_elsewhere, set_here}
 use Rattle.lists.specs.Lists.{BeginsWith}
-use Rattle.mc_model.specs.declared.command.Command.{Command}
 use Rattle.mc_model.specs.declared.id.Ticket.{Ticket}
 use Rattle.mc_model.specs.declared.reply.Reply.{Reply}
 use Rattle.mc_model.specs.declared.request.Entry.{Entry}
@@ -187,8 +186,15 @@ module _ (laws : Laws) (settings : Configuration) (tables : List TableState) whe
     replay_answered : (tickets : List Ticket) → BeginsWith tickets old.shown.decided → AreAnswered old new tickets (given_by old (Replay number) reply)
     replay_answered tickets begins other place ticket low upto at mine = ⊎_elim
         (λ (here : other ≡ number).
-        let same : step.3.replayed ≡ place = omega (arith, low, upto, ap (replayed_by old) here, ap (replayed_by new) here,
-        replayed_before old new number reply step, replayed_here old new number reply step) in
+        let same : step.3.replayed ≡ place = omega (
+          arith,
+          low,
+          upto,
+          ap (replayed_by old) here,
+          ap (replayed_by new) here,
+          replayed_before old new number reply step,
+          replayed_here old new number reply step,
+        ) in
         let inside : step.3.replayed < length old.shown.decided = omega (arith, step.5, learned_inside laws settings tables old number step.0 from step.1) in
         let known = there old.shown.decided step.3.replayed inside in
         let stood : slice_get old.shown.decided step.3.replayed ≡ Some ticket = known.1

@@ -1,5 +1,6 @@
--- The headline for a log that is opened over tables: the clauses that speak of tables, each with the
--- table with which a tenant began in place of an empty one. The other clauses are the headline's own.
+-- The headline for a log that is opened over tables: the clauses that speak of tables, each with
+-- the table with which a tenant began in place of an empty one. The other clauses are the
+-- headline's own.
 use Rattle.std.specs.Prelude.{◌≡◌, ℕ, ◌+◌, ◌≤◌, List, length, take, Some, slice_get}
 use Rattle.mc_model.specs.declared.reply.Reply.{Reply}
 use Rattle.mc_model.specs.declared.request.Entry.{Entry}
@@ -15,8 +16,9 @@ use Rattle.uc_core.specs.Run.{Given, Runs}
 use Rattle.uc_core.specs.declared.event.Event.{Event}
 use Rattle.uc_places.specs.CoreRun.{core_over}
 
--- true of every run in which each worker begins with these tables, whatever the settings, the tables
--- and the events: of the tables, of the core that the run leads to, and of the replies that it gives
+-- true of every run in which each worker begins with these tables, whatever the settings, the
+-- tables and the events: of the tables, of the core that the run leads to, and of the replies that
+-- it gives
 abbrev pub OfEveryRunOver : (List TableState → CoreState → List Given → Type 0) → Type 0
 OfEveryRunOver Holds = (settings : Configuration) (tables : List TableState) (events : List Event)
     (core : CoreState) (given : List Given) → Runs (core_over settings tables) events core given →
@@ -26,8 +28,8 @@ OfEveryRunOver Holds = (settings : Configuration) (tables : List TableState) (ev
 abbrev pub EachHasATable : List TableState → CoreState → Type 0
 EachHasATable tables core = length core.openings ≤ length tables
 
--- each worker has replayed no more than it has learned, and each of its tables is the one with which
--- the tenant began, after the tenant's commands that the worker has replayed
+-- each worker has replayed no more than it has learned, and each of its tables is the one with
+-- which the tenant began, after the tenant's commands that the worker has replayed
 abbrev pub TablesStandOver : List TableState → CoreState → Type 0
 TablesStandOver tables core = (number : ℕ) (worker : WorkerState) (replay : ReplayState) →
     HasReplica core number worker replay →
@@ -52,8 +54,8 @@ abbrev pub RepliesAreAnswersOver : List TableState → CoreState → List Given 
 RepliesAreAnswersOver tables core given = (k worker place : ℕ) (reply : Reply) →
     slice_get given k ≡ Some (worker, place, reply) → IsAnswerOver tables core worker place reply
 
--- two runs' logs agree for a tenant of each up to its command number j: it began with the same table
--- in both, and the tenants' commands up to that one are the same
+-- two runs' logs agree for a tenant of each up to its command number j: it began with the same
+-- table in both, and the tenants' commands up to that one are the same
 pub record LogsAgreeOver (tables other_tables : List TableState) (one other : CoreState)
     (tenant other_tenant j : ℕ) : Type 0 where
   pub opening : slice_get tables tenant ≡ slice_get other_tables other_tenant

@@ -1,7 +1,8 @@
-//! The theorem, for every run of the core whose workers begin with any tables: each announced command stands at most once in the log, all replicas agree on
-//! every replayed prefix, and each replayed command's reply is what memcached's commands give on the
-//! table with which its tenant began, after only its tenant's commands in log order. So logs that go
-//! on from equal tables of a tenant, and agree for it, give equal replies.
+//! The theorem, for every run of the core whose workers begin with any tables: each announced
+//! command stands at most once in the log, all replicas agree on every replayed prefix, and each
+//! replayed command's reply is what memcached's commands give on the table with which its tenant
+//! began, after only its tenant's commands in log order. So logs that go on from equal tables of a
+//! tenant, and agree for it, give equal replies.
 ghost use Rattle.std.specs.Prelude.{◌≡◌, ◌↔◌, ℕ, ◌+◌, List, length};
 ghost use Rattle.mc_model.specs.Lawful.{IsReached};
 ghost use Rattle.mc_model.specs.Replay.{empty_tables};
@@ -12,8 +13,8 @@ ghost use Rattle.uc_core.specs.Run.{Given};
 ghost use Rattle.uc_places.specs.CoreRun.{core_over};
 ghost use Rattle.uc_laws.specs.Over.{AnswerAlikeOver, EachHasATable, OfEveryRunOver, RepliesAreAnswersOver, TablesStandOver};
 
-/// What is true of every run over tables: of any settings, any tables, and any events of any workers
-/// in any order.
+/// What is true of every run over tables: of any settings, any tables, and any events of any
+/// workers in any order.
 pub fn laws_over_tables()
     // Each announced command stands at most once in the log.
     ensures once { OfEveryRunOver (λ tables core given. LogIsSound core) }
@@ -80,7 +81,8 @@ pub fn empty_tables_are_the_first_logs()
     ensures tables { (core : CoreState) →
         TablesStandOver (empty_tables core.openings) core ↔ TablesStand core }
     ensures replies { (core : CoreState) (given : List Given) →
-        RepliesAreAnswersOver (empty_tables core.openings) core given ↔ RepliesAreAnswers core given }
+        RepliesAreAnswersOver (empty_tables core.openings) core given
+        ↔ RepliesAreAnswers core given }
     ensures alike { (core other : CoreState) (given other_given : List Given) →
         AnswerAlikeOver (empty_tables core.openings) core given (empty_tables other.openings) other
         other_given ↔ AnswerAlike core given other other_given }
