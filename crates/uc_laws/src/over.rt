@@ -22,8 +22,8 @@ pub fn laws_over_tables()
     // All replicas agree on every replayed prefix.
     ensures replicas { OfEveryRunOver (λ tables core given. ReplicasAgree core) }
 
-    // Each reply is the answer of its tenant's first table after only its tenant's commands in log
-    // order.
+    // Each reply is the answer of the table with which its tenant began, after only its tenant's
+    // commands in log order.
     ensures replies { OfEveryRunOver
         (λ tables core given. RepliesAreAnswersOver tables core given) }
 
@@ -34,7 +34,8 @@ pub fn laws_over_tables()
     // No place is answered twice.
     ensures answered_once { OfEveryRunOver (λ tables core given. AnsweredOnce given) }
 
-    // Each table is its tenant's first one after its commands that its worker has replayed.
+    // Each table is the one with which its tenant began, after its tenant's commands that its worker
+    // has replayed.
     ensures tables { OfEveryRunOver (λ tables core given. TablesStandOver tables core) }
 
     // An announced command stands in the log soon, whether or not its worker has stopped: among the
