@@ -35,8 +35,8 @@ pub fn laws_over_tables()
     // No place is answered twice.
     ensures answered_once { OfEveryRunOver (λ tables core given. AnsweredOnce given) }
 
-    // Each table is the one with which its tenant began, after its tenant's commands that its worker
-    // has replayed.
+    // Each table is the one with which its tenant began, after its tenant's commands that its
+    // worker has replayed.
     ensures tables { OfEveryRunOver (λ tables core given. TablesStandOver tables core) }
 
     // An announced command stands in the log soon, whether or not its worker has stopped: among the
