@@ -26,6 +26,21 @@ use uc_worker::{Gate, Worker};
 /// turn takes at most a buffer of bytes.
 const TURNS: u32 = 2;
 
+/// How many commands a read is to bring at most, so that a turn is short where they are small.
+const COMMANDS_OF_A_READ: u64 = 64;
+
+/// How many bytes a read takes at most where a connection's commands are small, or not known yet.
+const LEAST_READ: usize = 2_048;
+
+/// Returns how many bytes a connection's next reads take at most, after so many have brought this
+/// many commands: all that there is room for if they have brought none, since a block is on its way.
+fn read_bytes(bytes: u64, commands: u64) -> usize {
+    match bytes.checked_div(commands) {
+        Some(each) => (each.saturating_mul(COMMANDS_OF_A_READ) as usize).clamp(LEAST_READ, PULL_BYTES),
+        None => PULL_BYTES,
+    }
+}
+
 /// What serving a connection came to.
 #[derive(Clone, Copy)]
 pub(crate) struct Served {
@@ -124,11 +139,13 @@ impl Connection {
             sent,
             bytes_received,
             bytes_sent,
+            most_read,
             is_served,
         } = self;
         *is_served = true;
+        let announced = worker.announced();
         let tape = mem::replace(received, Tape::new());
-        let mut input = SocketInput::resume(stream, stops_short, tape, came);
+        let mut input = SocketInput::resume(stream, *most_read, stops_short, tape, came);
         let tape = mem::replace(sent, Tape::new());
         let mut output = SocketOutput::resume(stream, tape, went);
         let state = turns(
@@ -143,6 +160,8 @@ impl Connection {
         (*received, *bytes_received) = input.into_parts();
         (*sent, *bytes_sent) = output.into_parts();
         let given = bytes_received.saturating_sub(came);
+        let commands = worker.announced().saturating_sub(announced);
+        *most_read = read_bytes(given, commands);
         let bytes = given.saturating_add(bytes_sent.saturating_sub(went));
         Served { state, bytes }
     }
@@ -193,6 +212,7 @@ impl Connections {
             sent: Tape::new(),
             bytes_received: 0,
             bytes_sent: 0,
+            most_read: LEAST_READ,
             is_served: false,
         };
         Admission::Admitted(self.by_key.insert_reserved(connection))
