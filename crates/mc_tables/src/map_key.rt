@@ -31,10 +31,8 @@ impl<'a> KeyBytes<'a> {
 impl Hash for KeyBytes<'_> {
     ghost hash_input = { λ key. text_of_bytes key ∷ [] };
 
-    ghost respects_eq = {
-        λ one other same. ap (λ bytes. bytes ∷ [])
-            ((bytes_decides (text_of_bytes one) (text_of_bytes other)).0 same)
-    };
+    ghost respects_eq = { λ one other same. ap (λ bytes. bytes ∷ [])
+        ((bytes_decides (text_of_bytes one) (text_of_bytes other)).0 same) };
 
     #[inline(always)]
     fn hash<H: Hasher>(&self, state: &mut H) {
@@ -82,10 +80,8 @@ impl Eq for MapKey<'_> {
 impl Hash for MapKey<'_> {
     ghost hash_input = { λ key. text_of_key key ∷ [] };
 
-    ghost respects_eq = {
-        λ one other same. ap (λ bytes. bytes ∷ [])
-            ((bytes_decides (text_of_key one) (text_of_key other)).0 same)
-    };
+    ghost respects_eq = { λ one other same. ap (λ bytes. bytes ∷ [])
+        ((bytes_decides (text_of_key one) (text_of_key other)).0 same) };
 
     #[inline(always)]
     fn hash<H: Hasher>(&self, state: &mut H) {
