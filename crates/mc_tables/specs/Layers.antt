@@ -3,7 +3,6 @@ use Rattle.std.specs.Prelude.{ℕ, ◌*◌, ◌≤◌, List, [], ◌++◌, lengt
 use Rattle.std.specs.Arc.{arc_value}
 use Rattle.std.specs.Borrow.{Bor}
 use Rattle.std.specs.FinMap as map
-use Rattle.std.specs.Global.{Global}
 use Rattle.std.specs.HashMap.{HashMap}
 use Rattle.mc_model.specs.declared.item.Item.{Item}
 use Rattle.mc_model.specs.Table.{Table}

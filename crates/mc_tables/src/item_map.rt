@@ -72,10 +72,7 @@ impl ItemMap {
         let Some(place) = self.place_of(text) else {
             return None;
         };
-        match self.held.get_index(place) {
-            Some((_, item)) => Some((place, item)),
-            None => unreachable!(),
-        }
+        Some((place, &self.held[place]))
     }
 
     /// Returns the place among the items of a key of these bytes. Hashes none if there are no items.

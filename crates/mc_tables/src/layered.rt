@@ -139,10 +139,7 @@ impl<'a> Layered<'a> {
         let Some(place) = self.over_place(key) else {
             return None;
         };
-        match self.over.get_index(place) {
-            Some((_, kept)) => Some(kept),
-            None => unreachable!(),
-        }
+        Some(&self.over[place])
     }
 
     /// Returns the place among what was put over the base of a key. Hashes none if nothing was put.

@@ -1,7 +1,6 @@
-use Rattle.std.proofs.Common.{◌≡◌, [], List, ℕ, length, position, sym, ap, ◌∙◌, rules}
-use Rattle.std.specs.Map.{keys_of}
+use Rattle.std.proofs.Common.{◌≡◌, List, ℕ, length, ap, ◌∙◌, rules}
 use Rattle.mc_tables.specs.Keys.{text_of_bytes}
-use Rattle.mc_tables.proofs.Indexing.{empty, if_none, if_some, index_at, none_at}
+use Rattle.mc_tables.proofs.Indexing.{empty, if_some, index_at, none_at}
 use Rattle.mc_tables.proofs.Layering.{entry_at}
 use Rattle.mc_tables.proofs.layered.Layered.over_place.Goals as goal
 
