@@ -1,8 +1,7 @@
 -- Where a worker keeps the tallies of its tenants; this project's profile.
-use Rattle.std.specs.Prelude.{◌≡◌, ℕ, Option, Some, None, min, slice_get}
+use Rattle.std.specs.Prelude.{◌≡◌, ℕ, List, Option, Some, None, min, slice_get}
 use Rattle.mc_counters.specs.declared.tally.Tally.{Tally}
 use Rattle.mc_connections.specs.declared.tallies.OneTally.{OneTally}
-use Rattle.mc_connections.specs.declared.tallies.Tallies.{Tallies}
 
 -- where the tally of a tenant is among them; that of administrators is the last
 abbrev pub tally_place : ℕ → Option ℕ → ℕ
@@ -10,7 +9,7 @@ tally_place last None = last
 tally_place last (Some number) = min number last
 
 -- the tally at a place
-pub record IsTallyAt (place : ℕ) (tallies : Tallies) (tally : Tally) : Type 0 where
+pub record IsTallyAt (place : ℕ) (tallies : List OneTally) (tally : Tally) : Type 0 where
   pub one : OneTally
-  pub at : slice_get tallies.all.items place ≡ Some one
+  pub at : slice_get tallies place ≡ Some one
   pub is : tally ≡ one.tally

@@ -51,7 +51,7 @@ impl Tallies {
     /// Returns the tally of a tenant, if a connection of that tenant was served since this was last
     /// asked for.
     pub fn take_new(&mut self, tenant: usize) -> Option<Tally>
-        ensures { IfSome result (λ tally. IsTallyAt tenant self.old tally) }
+        ensures { IfSome result (λ tally. IsTallyAt tenant self.old.all.items tally) }
     {
         let one = self.all.get_mut(tenant)?;
         if !one.is_new {
