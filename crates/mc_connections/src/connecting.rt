@@ -2,6 +2,7 @@
 ghost use Rattle.std.specs.Prelude.{◌≡◌, ◌<◌, true, false, length, IfOk, MatchResult, Ok};
 ghost use Rattle.mc_conn.specs.Ending.{PullsOnce, Stops};
 ghost use Rattle.mc_conn.specs.Owed.{FitsLog};
+ghost use Rattle.mc_conn.specs.Tallying.{HasCounted};
 ghost use Rattle.mc_conn.specs.Turn.{scene};
 ghost use Rattle.mc_connections.specs.Serving.{HasAtMost, HasComeTo, MovesAt, moved_between, tenant_at, IsServedLater, TakesOrStops, Stands, TurnsOnce};
 ghost use Rattle.mc_connections.specs.Working.{ServesAt, standing};
@@ -14,6 +15,7 @@ use crate::connection::Connection;
 use crate::connections::{Connections, is_among};
 use crate::socket::{SocketInput, SocketOutput};
 use mc_conn::{Conn, PULL_BYTES, Role, State};
+use mc_counters::Tally;
 use mc_model::Fault;
 use mc_stream::{Input, Output, Tape};
 use mio::net::TcpStream;
@@ -61,6 +63,7 @@ fn turn_once<I: Input, O: Output, G: Gate>(
     output: &mut O,
     gate: &mut G,
     buffer: &mut [u8; PULL_BYTES],
+    tally: &mut Tally,
 ) -> Result<State, Fault>
     requires { FitsLog conn.old.role worker.old }
     ensures outcome { conn.old.is_closed ≡ false → MatchResult result
@@ -70,6 +73,7 @@ fn turn_once<I: Input, O: Output, G: Gate>(
         (Stops (scene conn.old worker.old (both (I.tells input.old) (O.tells output.old)))
         (scene conn.new worker.new (both (I.tells input.new) (O.tells output.new)))) }
     ensures pulls { PullsOnce (I.tells input.old) (I.tells input.new) }
+    ensures tally { HasCounted conn.old.past.requests conn.new.past.requests tally.old tally.new }
     ensures full { IfOk result (λ state. state ≡ State.Full → until_done ≡ true) }
     ensures role { conn.new.role ≡ conn.old.role }
     ensures closed { conn.old.is_closed ≡ true → (result ≡ Ok State.Closed)
@@ -77,9 +81,9 @@ fn turn_once<I: Input, O: Output, G: Gate>(
         × (input.new ≡ input.old) × (output.new ≡ output.old) }
 {
     if until_done {
-        conn.turn_until(worker, input, output, gate, buffer)
+        conn.turn_until(worker, input, output, gate, buffer, tally)
     } else {
-        conn.turn(worker, input, output, gate, buffer)
+        conn.turn(worker, input, output, gate, buffer, tally)
     }
 }
 
@@ -93,6 +97,7 @@ fn turns<I: Input, O: Output, G: Gate>(
     output: &mut O,
     gate: &mut G,
     buffer: &mut [u8; PULL_BYTES],
+    tally: &mut Tally,
 ) -> State
     requires { FitsLog conn.old.role worker.old }
     ensures served { TakesOrStops
@@ -103,11 +108,12 @@ fn turns<I: Input, O: Output, G: Gate>(
         (scene conn.new worker.new (both (I.tells input.new) (O.tells output.new))) result }
     ensures few { HasAtMost TURNS (I.tells input.old).events (I.tells input.new).events }
     ensures role { conn.new.role ≡ conn.old.role }
+    ensures tally { HasCounted conn.old.past.requests conn.new.past.requests tally.old tally.new }
 {
     // The law from which the clauses on all turns follow.
     mc_conn::laws::turns_add_up();
     for _ in 0..TURNS {
-        match turn_once(until_done, conn, worker, input, output, gate, buffer) {
+        match turn_once(until_done, conn, worker, input, output, gate, buffer, tally) {
             Ok(State::Busy) => {}
             Ok(state) => return state,
             Err(_) => return State::Closed,
@@ -117,7 +123,7 @@ fn turns<I: Input, O: Output, G: Gate>(
 }
 
 impl Connection {
-    /// Makes turns over the connection's stream.
+    /// Makes turns over the connection's stream. The tally counts the requests that get a reply.
     fn serve<G: Gate>(
         &mut self,
         until_done: bool,
@@ -125,11 +131,14 @@ impl Connection {
         gate: &mut G,
         buffer: &mut [u8; PULL_BYTES],
         stops_short: bool,
+        tally: &mut Tally,
     ) -> Served
         requires { FitsLog self.old.conn.role worker.old }
         ensures later { IsServedLater until_done worker.old worker.new self.old self.new
             result.state }
         ensures bytes { result.bytes ≡ moved_between self.old self.new }
+        ensures tally { HasCounted self.old.conn.past.requests self.new.conn.past.requests tally.old
+            tally.new }
     {
         let (came, went) = (self.bytes_received, self.bytes_sent);
         let Connection {
@@ -156,6 +165,7 @@ impl Connection {
             &mut output,
             gate,
             buffer,
+            tally,
         );
         (*received, *bytes_received) = input.into_parts();
         (*sent, *bytes_sent) = output.into_parts();
@@ -218,8 +228,8 @@ impl Connections {
         Admission::Admitted(self.by_key.insert_reserved(connection))
     }
 
-    /// Serves the connection under a key, if there is one. If it has ended it is removed, and its
-    /// stream closes.
+    /// Serves the connection under a key, if there is one, and counts its requests in the tally. If it
+    /// has ended it is removed, and its stream closes.
     pub(crate) fn serve<G: Gate>(
         &mut self,
         until_done: bool,
@@ -229,6 +239,7 @@ impl Connections {
         key: usize,
         stops_short: bool,
         closing: &mut Closing,
+        tally: &mut Tally,
     ) -> Served
         requires { self.old.tenants ≡ length (tenants_of worker.old) }
         ensures serves { ServesAt until_done key result.state (standing worker.old self.old)
@@ -241,7 +252,7 @@ impl Connections {
                 bytes: 0,
             };
         };
-        let served = connection.serve(until_done, worker, gate, buffer, stops_short);
+        let served = connection.serve(until_done, worker, gate, buffer, stops_short, tally);
         if served.state == State::Closed {
             let Some(connection) = self.by_key.try_remove(key) else {
                 unreachable!();
