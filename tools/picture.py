@@ -24,6 +24,7 @@ SAYS = {
     "mc_replica": "each tenant's table",
     "uc_core": "the theorem, on a machine",
     "uc_places": "words that threads share",
+    "uc_laws": "the theorem, over tables",
     "uc_log": "contents and order joined",
     "uc_worker": "submit, help, meet",
     "mc_read": "bytes to requests",

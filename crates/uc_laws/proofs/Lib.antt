@@ -1,0 +1,9 @@
+mod Effects
+mod Echoes
+mod Echoed
+mod Growing
+mod Standing
+mod Answers
+mod Replaying
+mod Worlds
+mod Empty
