@@ -12,7 +12,7 @@ use Rattle.uc_core.specs.Headline.{HasReplica, IsDecidedSoon, LogIsSound, OfEver
 use Rattle.uc_core.specs.Run.{Given, Runs}
 use Rattle.uc_core.specs.Step.{actor}
 use Rattle.uc_core.specs.declared.event.Event.{Event}
-use Rattle.uc_laws.proofs.Echoes.{AreAlike, Echoed, announce_echoes, open_alike, run_echoes, stop_echoes, with_replays}
+use Rattle.uc_laws.proofs.Echoes.{AreAlike, Echoed, announce_echoes, found_alike, open_alike, run_echoes, stop_echoes, with_replays}
 use Rattle.uc_places.specs.CoreRun.{core_over}
 
 -- the laws of every run over empty tables
@@ -56,7 +56,7 @@ module _ (laws : Laws) (settings : Configuration) (tables : List TableState) (ev
   -- the replica over empty tables
   replica_too : (number : ℕ) (worker : WorkerState) (replay : ReplayState) → HasReplica core number worker replay →
       (other : ReplayState) × HasReplica plain number worker other × (other.replayed ≡ replay.replayed)
-  replica_too number worker replay has = let found = it.alike number replay has.1 in (found.0, (has.0, found.1), found.2)
+  replica_too number worker replay has = let found = found_alike core.replays it.later number replay it.alike has.1 in (found.0, (has.0, found.1), found.2)
 
   pub are_learned : (number : ℕ) (worker : WorkerState) (replay : ReplayState) → HasReplica core number worker replay → replay.replayed ≤ length worker.learned
   are_learned number worker replay has =

@@ -1,8 +1,10 @@
 -- Which events a core can take, and what they make of all but its tables, doesn't depend on these: so
 -- a run over tables is, with other tables and other replies, a run over these.
-use Rattle.std.proofs.Common.{◌≡◌, ℕ, zero, suc, ◌+◌, ◌<◌, List, [], ◌∷◌, ◌++◌, length, replicate, Option, Some, slice_get, slice_set, ⊎_elim, refl, sym, ap, subst, ◌∙◌}
-use Rattle.std.proofs.lemmas.Option.{none-some, slice_get_within}
-use Rattle.lists.proofs.Public.{at_replicated, at_set, set_elsewhere, set_here}
+use Rattle.std.proofs.Common.{◌≡◌, ℕ, zero, suc, ◌+◌, ◌<◌, List, [], ◌∷◌, ◌++◌, length, replicate, Option, None, Some, slice_get, slice_set, ⊎_elim, refl, sym, ap, subst, ◌∙◌}
+use Rattle.std.proofs.lemmas.Bool.{cases_eq}
+use Rattle.std.proofs.lemmas.Option.{none-some, same_Some, slice_get_within}
+use Rattle.std.specs.Option.{option_map}
+use Rattle.lists.proofs.Public.{set_elsewhere, set_here}
 use Rattle.mc_model.specs.declared.command.Command.{Command}
 use Rattle.mc_model.specs.declared.reply.Reply.{Reply}
 use Rattle.mc_model.specs.declared.request.Entry.{Entry}
@@ -17,20 +19,31 @@ use Rattle.uc_core.specs.declared.event.Event.TheVariants.{Announce, Look, Propo
 use Rattle.uc_laws.proofs.Effects.{effects, takes_effect}
 use Rattle.uc_places.specs.CoreRun.{core_over}
 
--- for each worker's there is another of as many places
+-- each worker has replayed as many places here as there
+abbrev pub counted : Option ReplayState → Option ℕ
+counted found = option_map (λ (replay : ReplayState). replay.replayed) found
+
 abbrev pub AreAlike : List ReplayState → List ReplayState → Type 0
-AreAlike replays others = (number : ℕ) (one : ReplayState) → slice_get replays number ≡ Some one →
+AreAlike replays others = (number : ℕ) → counted (slice_get others number) ≡ counted (slice_get replays number)
+
+pub found_alike : (replays others : List ReplayState) (number : ℕ) (one : ReplayState) → AreAlike replays others → slice_get replays number ≡ Some one →
     (other : ReplayState) × (slice_get others number ≡ Some other) × (other.replayed ≡ one.replayed)
+found_alike replays others number one alike at = by_found (slice_get others number) refl (alike number ∙ ap counted at)
+  where
+    by_found : (found : Option ReplayState) → slice_get others number ≡ found → counted found ≡ Some one.replayed →
+        (other : ReplayState) × (slice_get others number ≡ Some other) × (other.replayed ≡ one.replayed)
+    by_found None there is = absurd (none-some one.replayed is)
+    by_found (Some other) there is = (other, there, same_Some other.replayed one.replayed is)
 
 abbrev pub with_replays : CoreState → List ReplayState → CoreState
 with_replays core replays = record core { replays = replays }
 
 -- one event over other tables
-record Echo (old : CoreState) (event : Event) (new : CoreState) (reply : Option Reply) (others : List ReplayState) : Type 0 where
-  later : List ReplayState
-  told : Option Reply
-  step : CoreStep (with_replays old others) event (with_replays new later) told
-  alike : AreAlike new.replays later
+pub record Echo (old : CoreState) (event : Event) (new : CoreState) (reply : Option Reply) (others : List ReplayState) : Type 0 where
+  pub later : List ReplayState
+  pub told : Option Reply
+  pub step : CoreStep (with_replays old others) event (with_replays new later) told
+  pub alike : AreAlike new.replays later
 
 -- an event that replays nothing
 unmoved : (old new : CoreState) (event : Event) (reply : Option Reply) (others : List ReplayState) → new.replays ≡ old.replays →
@@ -55,7 +68,7 @@ stop_echoes old new number reply others step = (step.0, ap (λ (core : CoreState
 module _ (old new : CoreState) (number : ℕ) (reply : Option Reply) (others : List ReplayState) (alike : AreAlike old.replays others)
     (step : CoreStep old (Replay number) new reply) where
   abbrev its : (other : ReplayState) × (slice_get others number ≡ Some other) × (other.replayed ≡ step.3.replayed)
-  its = alike number step.3 step.4
+  its = found_alike old.replays others number step.3 alike step.4
 
   abbrev entry : Option Entry
   entry = entry_at old its.0.replayed
@@ -67,14 +80,14 @@ module _ (old new : CoreState) (number : ℕ) (reply : Option Reply) (others : L
   further = record { replayed = its.0.replayed + 1; tables = effects 0 entry its.0.tables }
 
   all_alike : AreAlike (slice_set old.replays number over) (slice_set others number further)
-  all_alike other one at = ⊎_elim
-      (λ (here : (other ≡ number) × (over ≡ one)). (
-        further,
-        ap (slice_get (slice_set others number further)) here.0 ∙ set_here others number further (slice_get_within others number its.0 its.1),
-        subst (λ (it : ReplayState). further.replayed ≡ it.replayed) here.1 (ap (λ (n : ℕ). n + 1) its.2),
-      ))
-      (λ apart. let it = alike other one apart.1 in (it.0, set_elsewhere others number other further apart.0 ∙ it.1, it.2))
-      (at_set old.replays number other over one at)
+  all_alike other = ⊎_elim
+      (λ (here : other ≡ number). subst (λ (n : ℕ). counted (slice_get (slice_set others number further) n) ≡ counted (slice_get (slice_set old.replays number over) n))
+      (sym here)
+      (ap counted (set_here others number further (slice_get_within others number its.0 its.1))
+      ∙ (ap (λ (n : ℕ). Some (n + 1)) its.2
+      ∙ sym (ap counted (set_here old.replays number over (slice_get_within old.replays number step.3 step.4))))))
+      (λ apart. ap counted (set_elsewhere others number other further apart) ∙ (alike other ∙ sym (ap counted (set_elsewhere old.replays number other over apart))))
+      (cases_eq other number)
 
   replay_echoes : Echo old (Replay number) new reply others
   replay_echoes = record {
@@ -95,7 +108,7 @@ module _ (old new : CoreState) (number : ℕ) (reply : Option Reply) (others : L
     alike = subst (λ (list : List ReplayState). AreAlike list (slice_set others number further)) (sym (ap (λ (core : CoreState). core.replays) step.8)) all_alike;
   }
 
-echoes : (old new : CoreState) (event : Event) (reply : Option Reply) (others : List ReplayState) → AreAlike old.replays others →
+pub echoes : (old new : CoreState) (event : Event) (reply : Option Reply) (others : List ReplayState) → AreAlike old.replays others →
     CoreStep old event new reply → Echo old event new reply others
 echoes old new (Announce number tenant command) reply others alike step =
     unmoved old new (Announce number tenant command) reply others (ap (λ (core : CoreState). core.replays) step.2) alike
@@ -139,16 +152,11 @@ run_echoes old new (event ∷ events) given others alike runs =
     }
 
 -- from the openings
-replicated_too : {X : Type 0} (many : ℕ) (x y z : X) (k : ℕ) → slice_get (replicate many x) k ≡ Some y → slice_get (replicate many z) k ≡ Some z
-replicated_too zero x y z k at = absurd (none-some y at)
-replicated_too (suc many) x y z zero at = refl
-replicated_too (suc many) x y z (suc k) at = replicated_too many x y z k at
+replicated_alike : (many : ℕ) (one other : ReplayState) → other.replayed ≡ one.replayed → AreAlike (replicate many one) (replicate many other)
+replicated_alike zero one other same k = refl
+replicated_alike (suc many) one other same zero = ap (λ (n : ℕ). Some n) same
+replicated_alike (suc many) one other same (suc k) = replicated_alike many one other same k
 
 pub open_alike : (settings : Configuration) (tables : List TableState) → AreAlike (core_over settings tables).replays (new_core settings).replays
-open_alike settings tables number one at =
-    let first : ReplayState = record { replayed = 0; tables = tables } in
-    let empty : ReplayState = record { replayed = 0; tables = empty_tables settings.tenants } in (
-      empty,
-      replicated_too settings.workers first one empty number at,
-      ap (λ (it : ReplayState). it.replayed) (at_replicated settings.workers number first one at),
-    )
+open_alike settings tables =
+    replicated_alike settings.workers (record { replayed = 0; tables = tables }) (record { replayed = 0; tables = empty_tables settings.tenants }) refl

@@ -1,6 +1,8 @@
 mod Effects
 mod Echoes
 mod Echoed
+mod AskedOver
+mod Refused
 mod Growing
 mod Standing
 mod Answers

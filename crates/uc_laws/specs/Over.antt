@@ -24,6 +24,13 @@ OfEveryRunOver Holds = (settings : Configuration) (tables : List TableState) (ev
     (core : CoreState) (given : List Given) → Runs (core_over settings tables) events core given →
     Holds tables core given
 
+-- what the settings and the events say of a core is true of every run over tables, whatever these
+-- are
+abbrev pub ByEventsOver : (Configuration → List Event → CoreState → Type 0) → Type 0
+ByEventsOver Holds = (settings : Configuration) (tables : List TableState) (events : List Event)
+    (core : CoreState) (given : List Given) → Runs (core_over settings tables) events core given →
+    Holds settings events core
+
 -- each tenant has a table among these
 abbrev pub EachHasATable : List TableState → CoreState → Type 0
 EachHasATable tables core = length core.openings ≤ length tables

@@ -3,6 +3,9 @@
 //! is opened over those that the log before has left. Nothing here runs.
 #![tactic(auto)]
 
-pub use over::{empty_tables_are_the_first_logs, laws_over_tables, two_worlds_over_tables};
+pub use over::{
+    empty_tables_are_the_first_logs, laws_over_tables, runs_over_tables_do_what_is_asked,
+    two_worlds_over_tables,
+};
 
 pub mod over;

@@ -7,11 +7,12 @@ ghost use Rattle.std.specs.Prelude.{◌≡◌, ◌↔◌, ℕ, ◌+◌, List, le
 ghost use Rattle.mc_model.specs.Lawful.{IsReached};
 ghost use Rattle.mc_model.specs.Replay.{empty_tables};
 ghost use Rattle.mc_model.specs.Settings.{Configuration};
+ghost use Rattle.uc_core.specs.Asked.{AnnouncementsStand, FewProposals, IsOfSettings, ReplaysCount};
 ghost use Rattle.uc_core.specs.Core.{CoreState, core_size, new_core};
-ghost use Rattle.uc_core.specs.Headline.{AnswerAlike, AnsweredOnce, IsDecidedSoon, KeepsRealTime, LogIsSound, OwnAreAnswered, RepliesAreAnswers, ReplicasAgree, StandsAfterDecided, StopsForGood, TablesStand};
+ghost use Rattle.uc_core.specs.Headline.{AnswerAlike, AnsweredOnce, IsDecidedSoon, KeepsRealTime, LogIsSound, OwnAreAnswered, RepliesAreAnswers, ReplicasAgree, StandsAfterDecided, StepsAreEnabled, StopsForGood, TablesStand};
 ghost use Rattle.uc_core.specs.Run.{Given};
 ghost use Rattle.uc_places.specs.CoreRun.{core_over};
-ghost use Rattle.uc_laws.specs.Over.{AnswerAlikeOver, EachHasATable, OfEveryRunOver, RepliesAreAnswersOver, TablesStandOver};
+ghost use Rattle.uc_laws.specs.Over.{AnswerAlikeOver, ByEventsOver, EachHasATable, OfEveryRunOver, RepliesAreAnswersOver, TablesStandOver};
 
 /// What is true of every run over tables: of any settings, any tables, and any events of any
 /// workers in any order.
@@ -34,8 +35,8 @@ pub fn laws_over_tables()
     // No place is answered twice.
     ensures answered_once { OfEveryRunOver (λ tables core given. AnsweredOnce given) }
 
-    // Each table is the one with which its tenant began, after its tenant's commands that its worker
-    // has replayed.
+    // Each table is the one with which its tenant began, after its tenant's commands that its
+    // worker has replayed.
     ensures tables { OfEveryRunOver (λ tables core given. TablesStandOver tables core) }
 
     // An announced command stands in the log soon, whether or not its worker has stopped: among the
@@ -55,6 +56,9 @@ pub fn laws_over_tables()
     // A worker that stops has stopped for good.
     ensures stopped { OfEveryRunOver (λ tables core given. StopsForGood core) }
 
+    // An event that leads on meets no fault.
+    ensures enabled { OfEveryRunOver (λ tables core given. StepsAreEnabled core) }
+
     // Whatever the log shows is reachable by events of the shown log alone.
     ensures shown { OfEveryRunOver (λ tables core given. IsReached (core_size core) core.shown) }
 {
@@ -71,6 +75,25 @@ pub fn two_worlds_over_tables()
         AnswerAlikeOver tables core given other_tables other other_given)) }
 {
     laws_over_tables();
+}
+
+/// What the settings and the events of a run over tables say of the core that it leads to, by the
+/// list of events alone.
+pub fn runs_over_tables_do_what_is_asked()
+    // The core has the workers, the places and the tenants' quotas of its settings.
+    ensures settings { ByEventsOver (λ settings events core. IsOfSettings settings core) }
+
+    // Under a worker's ticket number k are, for good, the tenant and the command of its
+    // announcement number k.
+    ensures announced { ByEventsOver (λ settings events core. AnnouncementsStand events core) }
+
+    // A worker has replayed as many places as the run has replays of it.
+    ensures replayed { ByEventsOver (λ settings events core. ReplaysCount events core) }
+
+    // For one command a worker makes at most one proposal more than there are workers.
+    ensures proposed { ByEventsOver (λ settings events core. FewProposals settings events) }
+{
+    uc_core::runs_do_what_is_asked();
 }
 
 /// Over empty tables, those of a first log, a run is one of the headline, and each clause on tables

@@ -3,6 +3,7 @@
 use Rattle.mc_model.specs.Replay.{empty_tables}
 use Rattle.uc_laws.proofs.Answers.{are_answers, keeps_real_time}
 use Rattle.uc_laws.proofs.Echoed.{Laws, is_after, is_reached, is_soon, is_sound, stops}
+use Rattle.uc_laws.proofs.Refused.{steps_are_enabled}
 use Rattle.uc_laws.proofs.Replaying.{are_answered_once, own_are_answered}
 use Rattle.uc_laws.proofs.Standing.{replicas_agree, tables_stand}
 use Rattle.uc_laws.proofs.over.laws_over_tables.Goals as goal
@@ -52,6 +53,9 @@ returns-clause-real_time c = λ settings tables events core given run. keeps_rea
 
 pub returns-clause-stopped : goal.returns-clause-stopped
 returns-clause-stopped c = λ settings tables events core given run. stops (known c) settings tables events core given run
+
+pub returns-clause-enabled : goal.returns-clause-enabled
+returns-clause-enabled c = steps_are_enabled c.events_lead_one_way.ensures.enabled
 
 pub returns-clause-shown : goal.returns-clause-shown
 returns-clause-shown c = λ settings tables events core given run. is_reached (known c) settings tables events core given run
