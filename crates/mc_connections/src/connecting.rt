@@ -38,7 +38,9 @@ const LEAST_READ: usize = 2_048;
 /// many commands: all that there is room for if they have brought none, since a block is on its way.
 fn read_bytes(bytes: u64, commands: u64) -> usize {
     match bytes.checked_div(commands) {
-        Some(each) => (each.saturating_mul(COMMANDS_OF_A_READ) as usize).clamp(LEAST_READ, PULL_BYTES),
+        Some(each) => (each.saturating_mul(COMMANDS_OF_A_READ) as usize).clamp(
+            LEAST_READ, PULL_BYTES,
+        ),
         None => PULL_BYTES,
     }
 }
