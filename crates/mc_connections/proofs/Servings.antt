@@ -2,11 +2,9 @@
 use Rattle.std.proofs.Common.{◌≡◌, ◌≢◌, ◌⊎◌, ℕ, ◌+◌, ◌≤◌, ◌∷◌, length, ap, arith, Bool, true, false, List, Option, Some, None, Result, Ok, Err, IsSome, ⊎_elim, inl, inr, refl, sym, subst, ◌∙◌}
 use Rattle.std.proofs.lemmas.Option.{same_Some}
 use Rattle.std.specs.Option.{option_map_or}
-use denote.Enum.Bare.{sameb}
 use Rattle.slab.specs.Slab.{Slab, Updates, get, with_value}
 use Rattle.slab.proofs.SlabLemmas.{Updates-with_value}
 use Rattle.mc_conn.specs.declared.conn.Conn.{Conn}
-use Rattle.mc_conn.specs.contracts.conn.State.{the_type}
 use Rattle.mc_conn.specs.declared.conn.State.{State}
 use Rattle.mc_conn.specs.declared.conn.State.TheVariants.{Closed, Idle, Busy, Full}
 use Rattle.mc_conn.specs.Ending.{AwaitsLog, IsDone, IsState, PullsOnce, Stops, logs_next}
@@ -67,13 +65,6 @@ stands_going until takes_self a b Full full opened once turns = (
   full refl,
   record { going = not_ended b opened (unfinished b.conn b.worker (turned until a b Full turns).1); between = a; earlier = takes_self a; once = once; last = turns },
 )
-
--- what passes the test for a closed connection's state is that state
-pub found_closed : (state : State) (test : Bool) → test ≡ sameb the_type state Closed → test ≡ true → state ≡ Closed
-found_closed Closed test tests is = refl
-found_closed Idle test tests is = let no : false ≡ true = sym tests ∙ is in cc
-found_closed Busy test tests is = let no : false ≡ true = sym tests ∙ is in cc
-found_closed Full test tests is = let no : false ≡ true = sym tests ∙ is in cc
 
 -- the state that a turn returned
 abbrev pub state_answered : Result State Fault → State
