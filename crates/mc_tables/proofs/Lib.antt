@@ -5,4 +5,3 @@ mod Layering
 mod Places
 mod Copying
 mod Bytes
-mod Indexing
