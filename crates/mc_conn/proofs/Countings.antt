@@ -1,5 +1,5 @@
 -- Lemmas on what is counted of requests.
-use Rattle.std.proofs.Common.{◌≡◌, ℕ, ◌+◌, ◌^◌, ◌-◌, cond, List, [], ◌∷◌, ◌++◌, Option, Some, None, Bool, sym, refl, ap, ◌∙◌, subst, arith, append-nil, append_assoc, sum_by}
+use Rattle.std.proofs.Common.{◌≡◌, ℕ, cond, List, [], ◌∷◌, ◌++◌, Option, Some, None, Bool, sym, refl, ap, ◌∙◌, subst, arith, append-nil, append_assoc, sum_by}
 use Rattle.std.proofs.lemmas.List.Sums.{sum_by-cons, sum_by_push}
 use Rattle.mc_counters.specs.Kinds.{asked_for_by}
 use Rattle.mc_counters.specs.Tallied.{CountedRequest, IsTallyOf, capped, is_of_kind, is_refused, items_found, keys_missed}
