@@ -12,7 +12,7 @@ use Rattle.mc_model.specs.declared.shown.LogSize.{LogSize}
 use Rattle.mc_model.specs.declared.shown.ShownState.{ShownState}
 use Rattle.mc_model.specs.Lawful.{IsWorker, LeadOn, ShownEvent}
 use Rattle.mc_model.specs.Log.{own}
-use Rattle.mc_model.specs.Replay.{empty_tables, reply_to}
+use Rattle.mc_model.specs.Replay.{reply_to}
 use Rattle.mc_model.specs.Settings.{Configuration}
 use Rattle.mc_model.specs.Shown.{new_log}
 use Rattle.mc_model.specs.State.{TableState}
@@ -153,15 +153,15 @@ AllDoOneCoreRun = (settings : Configuration) (nobody : ℕ) (tables : List Table
     length log.settings.tenants ≤ length settings.tenants → nobody < length settings.tenants →
     0 < length workers → DoOneCoreRun settings nobody tables workers
 
--- In such a run over empty tables, of workers that have one history, each own command of a worker is
--- answered at the place where it has replayed it, with the reply that follows from its history.
+-- In such a run of workers that have one history each own command of a worker is answered at the
+-- place where it has replayed it, with the reply that follows from its history over the tables that
+-- the log was opened over, if each tenant has one.
 abbrev pub OwnHaveTheirReplies : Type 0
-OwnHaveTheirReplies = (settings : Configuration) (nobody : ℕ) (workers : List Worker)
-    (one : DoOneCoreRun settings nobody (empty_tables settings.tenants) workers) →
-    HaveOneHistory workers →
+OwnHaveTheirReplies = (settings : Configuration) (nobody : ℕ) (tables : List TableState)
+    (workers : List Worker) (one : DoOneCoreRun settings nobody tables workers) →
+    length settings.tenants ≤ length tables → HaveOneHistory workers →
     (number place : ℕ) (worker : Worker) (seen : Sighting) (entry : Entry) →
     slice_get workers number ≡ Some worker → slice_get (history_of worker) place ≡ Some seen →
     seen.ticket.worker ≡ number → seen.entry ≡ Some entry → entry.tenant ≢ nobody →
     (at : ℕ) × (reply : Reply) × (slice_get one.core.given at ≡ Some (number, place, reply))
-    × (Some reply ≡ reply_to (empty_tables settings.tenants)
-    (entries (take place (history_of worker))) (Some entry))
+    × (Some reply ≡ reply_to tables (entries (take place (history_of worker))) (Some entry))
