@@ -1,15 +1,17 @@
 -- Places among the entries of two lists, one after the other.
-use Rattle.std.proofs.Common.{◌≡◌, ◌≢◌, ℕ, ◌+◌, ◌<◌, ◌≤◌, Bool, true, false, cond, not, List, [], ◌∷◌, ◌++◌, length, get_or, position, Option, Some, None, refl, sym, ap, ◌∙◌, arith, length-append}
+use Rattle.std.proofs.Common.{◌≡◌, ◌≢◌, ℕ, ◌+◌, ◌<◌, ◌≤◌, Bool, true, false, cond, not, List, [], ◌∷◌, ◌++◌, length, get_or, position, Some, None, refl, sym, ap, ◌∙◌, arith, length-append}
 use Rattle.std.proofs.lemmas.Bool.Decides.{nat_tests}
 use Rattle.std.proofs.lemmas.Grind.{common_steps}
 use Rattle.std.proofs.lemmas.List.{get_or-append-add, length-map, map-append}
 use Rattle.std.proofs.lemmas.List.Quantifiers.{position-Some}
 use Rattle.std.proofs.lemmas.Option.{same_Some}
 use Rattle.std.specs.List.{position_or_len}
-use Rattle.std.specs.Prelude.{nat_lt, suc, Vec}
+use Rattle.std.specs.Prelude.{nat_lt, suc}
 use Rattle.mc_model.specs.declared.item.Item.{Item}
 use Rattle.mc_model.specs.declared.key.Key.{Key}
-use Rattle.mc_tables.specs.Entries.{text_of_vec, texts_of}
+use Rattle.mc_tables.specs.declared.map_key.MapKey.{MapKey}
+use Rattle.mc_tables.specs.Entries.{texts_of}
+use Rattle.mc_tables.specs.Keys.{text_of_key}
 use Rattle.mc_tables.proofs.Layering.{is_same, place_of, same}
 
 sooner : (b : Bool) (n m l : ℕ) → (n < l → m ≡ n) → cond (not b) (1 + n) 0 < suc l → cond (not b) (1 + m) 0 ≡ cond (not b) (1 + n) 0
@@ -47,12 +49,12 @@ position-later p xs ys j none is =
     let found : nat_lt (length xs + j) (length (xs ++ ys)) ≡ true = grind (arith, nat_tests) in
     (λ k. cond (nat_lt (whole k) (length (xs ++ ys))) (Some (whole k)) None) ∙ ap (λ b. cond b (Some (length xs + j)) None) found
 
-module _ {Z : Type 0} (front end : List (Vec ℕ Z × Item)) where
+module _ (front end : List (MapKey × Item)) where
   both : texts_of (front ++ end) ≡ texts_of front ++ texts_of end
-  both = map-append (λ entry. text_of_vec entry.0) front end
+  both = map-append (λ entry. text_of_key entry.0) front end
 
   as_long : length (texts_of front) ≡ length front
-  as_long = length-map front (λ entry. text_of_vec entry.0)
+  as_long = length-map front (λ entry. text_of_key entry.0)
 
   pub place_first : (q : Key) (i : ℕ) → place_of front q ≡ Some i → place_of (front ++ end) q ≡ Some i
   place_first q i is = ap (position (same q)) both ∙ position-first (same q) (texts_of front) (texts_of end) i is
@@ -73,8 +75,8 @@ module _ {Z : Type 0} (front end : List (Vec ℕ Z × Item)) where
       let front_is : length (texts_of front) ≡ length front = as_long in
       absurd (omega (arith, before, same_place, front_is))
 
-pub place_within : {Z : Type 0} (held : List (Vec ℕ Z × Item)) (q : Key) (i : ℕ) → place_of held q ≡ Some i → i < length held
+pub place_within : (held : List (MapKey × Item)) (q : Key) (i : ℕ) → place_of held q ≡ Some i → i < length held
 place_within held q i at =
     let inside : i < length (texts_of held) = (position-Some (same q) (texts_of held) i q at).0 in
-    let long : length (texts_of held) ≡ length held = length-map held (λ entry. text_of_vec entry.0) in
+    let long : length (texts_of held) ≡ length held = length-map held (λ entry. text_of_key entry.0) in
     omega (arith, inside, long)

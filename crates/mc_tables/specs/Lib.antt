@@ -2,6 +2,7 @@ pub mod Changes
 pub mod Entries
 pub mod Found
 pub mod Hashing
+pub mod Keys
 pub mod Layers
 pub mod Maps
 pub mod Marks

@@ -1,7 +1,11 @@
 //! Copies of tables, in memory of their own, of which much is shared.
+ghost use Rattle.std.specs.Cmp.Lexicographic.{pointwise};
 ghost use Rattle.std.specs.FinMap as map;
-ghost use Rattle.std.specs.Prelude.{◌≡◌, ◌*◌, ◌≤◌, length, IfOk, OnOk, IsOkUnless};
-ghost use Rattle.mc_tables.specs.Entries.{item_of_cell, laid_over, text_of_slice, without};
+ghost use Rattle.std.specs.Map.{lookup};
+ghost use Rattle.std.specs.Prelude.{◌≡◌, ◌+◌, ◌*◌, ◌<◌, ◌≤◌, cond, drop, length, nat_eq, Some, IfOk, OnOk, IsOkUnless};
+ghost use Rattle.mc_model.specs.declared.key.Key.{Key};
+ghost use Rattle.mc_tables.specs.Entries.{item_of_cell, laid_over, without};
+ghost use Rattle.mc_tables.specs.Keys.{text_of_bytes};
 ghost use Rattle.mc_tables.specs.Layers.{below, layers, left, owned_table, placed};
 ghost use Rattle.mc_tables.specs.Maps.{map_table};
 
@@ -10,11 +14,12 @@ use crate::cell_item::CellItem;
 use crate::hashing::Hashing;
 use crate::item_map::ItemMap;
 use crate::layered::Layered;
+use crate::map_key::KeyBytes;
 use crate::marks::is_set;
 use crate::owned::Owned;
+use indexmap::IndexMap;
 use mc_model::{Fault, Item};
 use std::alloc::Global;
-use std::collections::HashMap;
 
 /// A base is shared until one in this many of its items was changed: then it is merged with them.
 const SHARED_PARTS: usize = 8;
@@ -69,17 +74,38 @@ fn copy_unmarked(base: &Owned, marks: &[u64], more: usize) -> Result<Owned, Faul
 /// Puts copies of all entries into a copy. Returns `Memory` if an allocation fails.
 fn copy_over<'a>(
     alloc: Global,
-    over: &HashMap<&'a [u8], CellItem<'a>, Hashing>,
+    over: &IndexMap<KeyBytes<'a>, CellItem<'a>, Hashing>,
     copy: &mut Owned,
 ) -> Result<(), Fault>
     ensures over { OnOk result (owned_table copy.new
-        ≡ laid_over text_of_slice item_of_cell (owned_table copy.old) over.now.entries) }
+        ≡ laid_over text_of_bytes item_of_cell (owned_table copy.old) over.now.entries) }
     ensures memory { IsOkUnless result Fault.Memory }
 {
-    for (text, kept) in over {
-        copy.put_new(*text, item_of(alloc, kept)?)?;
+    for place in 0..over.len() {
+        let (text, kept) = entry_over(over, place);
+        copy.put_new(text, item_of(alloc, kept)?)?;
     }
     Ok(())
+}
+
+/// Returns the bytes of the key, and what is kept under it, at a place.
+fn entry_over<'s, 'a>(
+    over: &'s IndexMap<KeyBytes<'a>, CellItem<'a>, Hashing>,
+    place: usize,
+) -> (&'s [u8], &'s CellItem<'a>)
+    requires { place < length over.now.entries }
+    ensures kept { lookup (λ held. pointwise nat_eq result.0.now (text_of_bytes held))
+        over.now.entries ≡ Some result.1.now }
+    ensures first { (key : Key) →
+        lookup (λ held. pointwise nat_eq key (text_of_bytes held)) (drop place over.now.entries)
+        ≡ cond (pointwise nat_eq key result.0.now) (Some result.1.now)
+        (lookup (λ held. pointwise nat_eq key (text_of_bytes held))
+        (drop (place + 1) over.now.entries)) }
+{
+    match over.get_index(place) {
+        Some((key, kept)) => (key.bytes, kept),
+        None => unreachable!(),
+    }
 }
 
 /// Returns an item with a copy of the data. Returns `Memory` if the allocation fails.

@@ -2,13 +2,16 @@
 ghost use Rattle.std.specs.Cmp.Lexicographic.{pointwise};
 ghost use Rattle.std.specs.FinMap as map;
 ghost use Rattle.std.specs.Option.{option_map};
-ghost use Rattle.std.specs.Prelude.{◌≡◌, ◌+◌, ◌<◌, ◌^◌, cond, drop, length, nat_eq, position, IfOk, IfSome, OnOk, OnErr, IsOkUnless};
+ghost use Rattle.std.specs.Prelude.{◌≡◌, ◌+◌, ◌<◌, ◌^◌, cond, drop, length, nat_eq, None, position, slice_get, IfNone, IfOk, IfSome, OnOk, OnErr, IsOkUnless};
 ghost use Rattle.std.specs.Map.{lookup};
+ghost use Rattle.indexmap.specs.IndexMap.{values};
 ghost use Rattle.mc_model.specs.declared.key.Key.{Key};
-ghost use Rattle.mc_tables.specs.Entries.{laid_over, same_item, text_of_vec, texts_of};
+ghost use Rattle.mc_tables.specs.Entries.{laid_over, same_item, texts_of};
+ghost use Rattle.mc_tables.specs.Keys.{text_of_key};
 ghost use Rattle.mc_tables.specs.Maps.{map_table};
 
 use crate::hashing::Hashing;
+use crate::map_key::MapKey;
 use indexmap::IndexMap;
 use mc_model::{Fault, Item, Key};
 use std::alloc::Global;
@@ -17,7 +20,7 @@ use std::alloc::Global;
 #[derive(Debug, Drop)]
 pub struct ItemMap {
     alloc: Global,
-    pub(crate) held: IndexMap<Vec<u8>, Item, Hashing>,
+    pub(crate) held: IndexMap<MapKey<'static>, Item, Hashing>,
 }
 
 impl ItemMap {
@@ -66,12 +69,25 @@ impl ItemMap {
         ensures within { IfSome result (λ found. found.0 < length self.now.held.entries) }
         ensures small { IfSome result (λ found. found.0 < 2 ^ 63) }
     {
-        // There are fewer than 2^63 items.
-        let _ = self.held.len();
-        match self.held.get_full(text) {
-            Some((place, _, item)) => Some((place, item)),
-            None => None,
+        let Some(place) = self.place_of(text) else {
+            return None;
+        };
+        Some((place, &self.held[place]))
+    }
+
+    /// Returns the place among the items of a key of these bytes. Hashes none if there are no items.
+    fn place_of(&self, text: &[u8]) -> Option<usize>
+        ensures place { result ≡ position (pointwise nat_eq text.now) (texts_of self.now.held.entries) }
+        ensures item { IfSome result (λ place. slice_get (values self.now.held) place
+            ≡ map.get (map_table self.now) text.now) }
+        ensures none { IfNone result (map.get (map_table self.now) text.now ≡ None) }
+        ensures within { IfSome result (λ place. place < length self.now.held.entries) }
+        ensures small { IfSome result (λ place. place < 2 ^ 63) }
+    {
+        if self.held.len() == 0 {
+            return None;
         }
+        self.held.get_index_of(&MapKey::Borrowed(text))
     }
 
     /// Returns the key and the item at a place.
@@ -79,18 +95,18 @@ impl ItemMap {
         requires { place < length self.now.held.entries }
         ensures place { position (pointwise nat_eq result.0.now) (texts_of self.now.held.entries)
             ≡ Some place }
-        ensures item { lookup (λ held. pointwise nat_eq result.0.now (text_of_vec held))
+        ensures item { lookup (λ held. pointwise nat_eq result.0.now (text_of_key held))
             self.now.held.entries ≡ Some result.1.now }
         ensures first { (key : Key) →
-            lookup (λ held. pointwise nat_eq key (text_of_vec held)) (drop place self.now.held.entries)
+            lookup (λ held. pointwise nat_eq key (text_of_key held)) (drop place self.now.held.entries)
             ≡ cond (pointwise nat_eq key result.0.now) (Some result.1.now)
-            (lookup (λ held. pointwise nat_eq key (text_of_vec held))
+            (lookup (λ held. pointwise nat_eq key (text_of_key held))
             (drop (place + 1) self.now.held.entries)) }
     {
         // No two of the keys are equal.
         let _ = self.held.len();
         match self.held.get_index(place) {
-            Some((text, item)) => (text.as_slice(), item),
+            Some((key, item)) => (key.as_bytes(), item),
             None => unreachable!(),
         }
     }
@@ -103,13 +119,14 @@ impl ItemMap {
         ensures memory { IsOkUnless result Fault.Memory }
         ensures unchanged { OnErr result (map_table self.new ≡ map_table self.old) }
     {
-        if let Some(place) = self.held.get_mut(key.as_bytes()) {
-            *place = item;
+        if let Some(place) = self.place_of(key.as_bytes()) {
+            let Some(held) = self.held.get_index_mut(place) else {
+                unreachable!()
+            };
+            *held = item;
             return Ok(());
         }
-        let text = Vec::from_slice(self.alloc, key.as_bytes())?;
-        self.held.insert(text, item)?;
-        Ok(())
+        self.put_new(key.as_bytes(), item)
     }
 
     /// Puts an item under a key that is made of these bytes. Returns `Memory` if an allocation
@@ -118,9 +135,10 @@ impl ItemMap {
         ensures table { OnOk result
             (map_table self.new ≡ map.insert (map_table self.old) text.now item) }
         ensures memory { IsOkUnless result Fault.Memory }
+        ensures unchanged { OnErr result (map_table self.new ≡ map_table self.old) }
     {
         let text = Vec::from_slice(self.alloc, text)?;
-        self.held.insert(text, item)?;
+        self.held.insert(MapKey::Owned(text), item)?;
         Ok(())
     }
 
@@ -142,7 +160,7 @@ impl ItemMap {
     /// Puts copies of all items into another map. Returns `Memory` if an allocation fails.
     pub(crate) fn copy_into(&self, copy: &mut ItemMap) -> Result<(), Fault>
         ensures over { OnOk result (map_table copy.new
-            ≡ laid_over text_of_vec same_item (map_table copy.old) self.now.held.entries) }
+            ≡ laid_over text_of_key same_item (map_table copy.old) self.now.held.entries) }
         ensures memory { IsOkUnless result Fault.Memory }
     {
         for place in 0..self.len() {
@@ -156,7 +174,9 @@ impl ItemMap {
     pub(crate) fn remove(&mut self, text: &[u8])
         ensures { map_table self.new ≡ map.remove (map_table self.old) text.now }
     {
-        self.held.swap_remove(text);
+        if let Some(place) = self.place_of(text) {
+            self.held.swap_remove_index(place);
+        }
     }
 
     /// Removes all keys. Allocates nothing.

@@ -18,6 +18,7 @@ mod copied;
 pub mod hashing;
 pub mod item_map;
 pub mod layered;
+pub mod map_key;
 mod marks;
 pub mod meter;
 pub mod metered;

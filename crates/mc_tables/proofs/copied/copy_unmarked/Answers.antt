@@ -1,4 +1,4 @@
-use Rattle.std.proofs.Common.{◌≡◌, ◌≤◌, true, false, length, Some, arith, rules}
+use Rattle.std.proofs.Common.{◌≡◌, ◌≤◌, true, false, length, Some, rules}
 use Rattle.mc_model.specs.declared.key.Key.{Key}
 use Rattle.mc_tables.specs.Layers.{owned_table, placed}
 use Rattle.mc_tables.proofs.Copying.{all_removed, none_removed, one_removed, one_stays}

@@ -1,9 +1,6 @@
-use Rattle.std.proofs.Common.{◌≡◌, ℕ, true, false, Some, None, Bor, sym, ap, ◌∙◌, rules}
+use Rattle.std.proofs.Common.{◌≡◌, true, false, Some, None, sym, rules}
 use Rattle.std.specs.Arc.{arc_value}
 use Rattle.std.specs.FinMap as map
-use Rattle.std.specs.Option.{option_map}
-use Rattle.mc_model.specs.declared.item.Item.{Item}
-use Rattle.mc_tables.specs.Entries.{owned_entries}
 use Rattle.mc_tables.specs.Maps.{map_table}
 use Rattle.mc_tables.specs.Marks.{is_set}
 use Rattle.mc_tables.proofs.Layering.{place_of, under_none, under_some}
