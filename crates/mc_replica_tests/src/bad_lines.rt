@@ -1,5 +1,5 @@
 //! Event lists with bad lines: the number of the first is reported.
-use crate::event_lists::{assert_bad, bad_line, is_list};
+use crate::event_lists::{Bad, assert_bad, bad_line, is_list};
 use mc_model::{Fault, Limits};
 use std::alloc::Global;
 use std::process::Abort;
@@ -17,7 +17,7 @@ fn bad_with(alloc: Global, front: &str, words: &str) -> Result<Option<u64>, Faul
 /// Asserts that the list is bad at its third line, with `front` before any of these words.
 fn assert_bad_lines(rt: &impl Abort, alloc: Global, front: &str, all: &str) {
     for words in all.split('/') {
-        assert_eq!(rt; bad_with(alloc, front, words), Ok(Some(3)), "{words}");
+        assert!(rt; bad_with(alloc, front, words) == Ok(Some(3)), "{words}");
     }
 }
 
@@ -41,7 +41,7 @@ fn commands_of_no_form(rt: HostRuntime) {
 }
 
 /// Lists, and at which line each is bad: lines out of their places, and lists without tenants.
-const BAD: [(&str, u64); 13] = [
+const BAD: [Bad; 13] = [
     ("core 1 4\ntenant 4 100\njump 0\n", 3),
     ("tenant 4 100\ncore 1 4\n", 1),
     ("#\n\nread 0\n", 3),
@@ -59,8 +59,8 @@ const BAD: [(&str, u64); 13] = [
 
 #[test]
 fn lines_out_of_their_places(rt: HostRuntime) {
-    for (text, line) in BAD {
-        assert_bad(&rt, rt.alloc(), text, line);
+    for bad in &BAD {
+        assert_bad(&rt, rt.alloc(), bad);
     }
 }
 

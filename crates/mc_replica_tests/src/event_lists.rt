@@ -41,20 +41,18 @@ pub(crate) fn is_list(
     Ok(has(&list, size, tenants, lines))
 }
 
-/// Asserts that the text reads as a list of these settings, and of items at these lines.
-pub(crate) fn assert_list(
-    rt: &impl Abort,
-    alloc: Global,
-    text: &str,
-    size: (u64, u64),
-    tenants: &[Limits],
-    lines: &[u64],
-) {
-    assert_eq!(rt;
-        is_list(alloc, text, size, tenants, lines),
-        Ok(true),
-        "{text}"
-    );
+/// A list, how many workers and places it opens a core with, its tenants' quotas, and the lines at
+/// which its items stand.
+pub(crate) type List = (&'static str, (u64, u64), &'static [Limits], &'static [u64]);
+
+fn is_listed(alloc: Global, list: &List) -> Result<bool, Fault> {
+    let (text, size, tenants, lines) = *list;
+    is_list(alloc, text, size, tenants, lines)
+}
+
+/// Asserts that the text reads as the list.
+pub(crate) fn assert_list(rt: &impl Abort, alloc: Global, list: &List) {
+    assert!(rt; is_listed(alloc, list) == Ok(true), "{}", list.0);
 }
 
 /// Returns whether the items are one, which asks for this.
@@ -80,7 +78,11 @@ pub(crate) fn bad_line(alloc: Global, bytes: &[u8]) -> Result<Option<u64>, Fault
     })
 }
 
-/// Asserts that the list is bad at this line.
-pub(crate) fn assert_bad(rt: &impl Abort, alloc: Global, text: &str, line: u64) {
-    assert_eq!(rt; bad_line(alloc, text.as_bytes()), Ok(Some(line)), "{text}");
+/// A list, and at which line it is bad.
+pub(crate) type Bad = (&'static str, u64);
+
+/// Asserts that the list is bad at its line.
+pub(crate) fn assert_bad(rt: &impl Abort, alloc: Global, bad: &Bad) {
+    let line = bad_line(alloc, bad.0.as_bytes());
+    assert!(rt; line == Ok(Some(bad.1)), "{}", bad.0);
 }

@@ -120,7 +120,7 @@ fn first_wrong(
 
 /// Asserts that each command in turn gets its reply.
 fn assert_next(rt: &impl Abort, alloc: Global, twins: &mut Twins, rows: &[Row]) {
-    assert_eq!(rt; first_wrong(alloc, twins, rows), Ok(None));
+    assert!(rt; first_wrong(alloc, twins, rows) == Ok(None));
 }
 
 /// Returns the table after these commands, each of which gets its reply within the quotas.
@@ -344,24 +344,24 @@ fn is_left_with(items: &Items, left: Option<(u64, u64)>) -> bool {
     left.is_none() || left == Some((items.used(), items.count()))
 }
 
-fn assert_run(rt: &impl Abort, alloc: Global, run: Run) {
+fn assert_run(rt: &impl Abort, alloc: Global, run: &Run) {
     let items = answered(rt, alloc, run.quotas, run.rows);
     assert!(rt; is_left_with(&items, run.left), "{}", run.name);
 }
 
 #[test]
 fn runs_of_one_table(rt: HostRuntime) {
-    for run in RUNS {
+    for run in &RUNS {
         assert_run(&rt, rt.alloc(), run);
     }
 }
 
-/// Asserts that an increment of these data is answered like this, and one of a missing item in its
-/// own way.
-fn assert_increment(rt: &impl Abort, alloc: Global, set: &'static str, want: &'static str) {
+/// Asserts that an increment of the data that a case sets is answered like the case, and one of a
+/// missing item in its own way.
+fn assert_increment(rt: &impl Abort, alloc: Global, case: &Row) {
     let rows = [
-        (set, "STORED\r\n"),
-        ("incr n 1\r\n", want),
+        (case.0, "STORED\r\n"),
+        ("incr n 1\r\n", case.1),
         ("incr m 1\r\n", "NOT_FOUND\r\n"),
         ("decr m 1\r\n", "NOT_FOUND\r\n"),
     ];
@@ -379,8 +379,8 @@ fn arithmetic_refusals(rt: HostRuntime) {
         ("set n 0 0 2\r\n-1\r\n", NON_NUMERIC),
         ("set n 0 0 2\r\n1 \r\n", NON_NUMERIC),
     ];
-    for (set, want) in CASES {
-        assert_increment(&rt, rt.alloc(), set, want);
+    for case in &CASES {
+        assert_increment(&rt, rt.alloc(), case);
     }
 }
 
@@ -610,10 +610,10 @@ fn is_answered_at_last(alloc: Global, command: &Command, want: &[u8]) -> Result<
     is_answered_alike(alloc, &mut items, &mut advanced, command, want)
 }
 
-/// Returns whether this is so for the command that a client writes as this text.
-fn bears_a_fault(alloc: Global, text: &str, want: &str) -> Result<bool, Fault> {
-    let command = command_of(alloc, text.as_bytes())?;
-    let answered = is_answered_at_last(alloc, &command, want.as_bytes());
+/// Returns whether this is so for the command and the reply of the row.
+fn bears_a_fault(alloc: Global, row: &Row) -> Result<bool, Fault> {
+    let command = command_of(alloc, row.0.as_bytes())?;
+    let answered = is_answered_at_last(alloc, &command, row.1.as_bytes());
     drop(command);
     answered
 }
@@ -635,8 +635,8 @@ fn a_fault_changes_nothing(rt: HostRuntime) -> Result<(), Fail> {
         ("delete a\r\n", "DELETED\r\n"),
         ("flush_all\r\n", "OK\r\n"),
     ];
-    for (text, want) in ROWS {
-        assert!(rt; bears_a_fault(rt.alloc(), text, want)?, "{text}");
+    for row in &ROWS {
+        assert!(rt; bears_a_fault(rt.alloc(), row)?, "{}", row.0);
     }
     Ok(())
 }

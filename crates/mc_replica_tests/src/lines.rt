@@ -1,5 +1,5 @@
 //! Golden event lists, and what each line means.
-use crate::event_lists::{asks_for, assert_list};
+use crate::event_lists::{List, asks_for, assert_list};
 use crate::events::AMPLE;
 use crate::values::command_of;
 use mc_model::{Command, Fault, Limits};
@@ -7,10 +7,6 @@ use mc_schedules::Action;
 use std::alloc::Global;
 use std::process::Abort;
 use uc_core::Event;
-
-/// A list, how many workers and places it opens a core with, its tenants' quotas, and the lines at
-/// which its items stand.
-type List = (&'static str, (u64, u64), &'static [Limits], &'static [u64]);
 
 const LISTS: [List; 8] = [
     // Tenants are apart.
@@ -81,8 +77,8 @@ const LISTS: [List; 8] = [
 
 #[test]
 fn lists_are_read(rt: HostRuntime) {
-    for (text, size, tenants, lines) in LISTS {
-        assert_list(&rt, rt.alloc(), text, size, tenants, lines);
+    for list in &LISTS {
+        assert_list(&rt, rt.alloc(), list);
     }
 }
 
@@ -96,9 +92,8 @@ fn is_asked(alloc: Global, line: &str, action: Action) -> Result<bool, Fault> {
 
 /// Asserts that the line asks for this event.
 fn assert_event(rt: &impl Abort, alloc: Global, line: &str, event: Event) {
-    assert_eq!(rt;
-        is_asked(alloc, line, Action::Event(event)),
-        Ok(true),
+    assert!(rt;
+        is_asked(alloc, line, Action::Event(event)) == Ok(true),
         "{line}"
     );
 }
@@ -145,7 +140,7 @@ fn is_command(alloc: Global, words: &str, sent: &str) -> Result<bool, Fault> {
 }
 
 fn assert_command(rt: &impl Abort, alloc: Global, words: &str, sent: &str) {
-    assert_eq!(rt; is_command(alloc, words, sent), Ok(true), "{words}");
+    assert!(rt; is_command(alloc, words, sent) == Ok(true), "{words}");
 }
 
 #[test]
@@ -176,7 +171,7 @@ fn other_commands_are_read(rt: HostRuntime) {
 /// Asserts that `words` are a command that sets these quotas.
 fn assert_limits(rt: &impl Abort, alloc: Global, words: &str, limits: Limits) {
     let command = Command::Limit { limits };
-    assert_eq!(rt; is_submitted(alloc, words, command), Ok(true), "{words}");
+    assert!(rt; is_submitted(alloc, words, command) == Ok(true), "{words}");
 }
 
 #[test]

@@ -170,28 +170,28 @@ fn no_list_without_keys(rt: HostRuntime) {
     assert!(rt; KeyList::new(Vec::new(rt.alloc())).is_none());
 }
 
-/// Returns whether two keys make a list that is equal to that of `a` and `b`.
-fn is_key_list(alloc: Global, first: &str, second: &str) -> Result<bool, Fault> {
+/// Two keys, and whether their list is equal to that of `a` and `b`.
+type KeysCase = (&'static str, &'static str, bool);
+
+/// Returns whether that is so of the list of the case's keys.
+fn is_keys_case(alloc: Global, case: &KeysCase) -> Result<bool, Fault> {
     let list = keys_of(alloc, "a", "b")?;
-    let other = keys_of(alloc, first, second)?;
-    Ok(list == other)
+    let other = keys_of(alloc, case.0, case.1)?;
+    Ok((list == other) == case.2)
 }
 
 /// Lists of equally many keys are equal exactly if their keys are, in order.
 #[test]
 fn keys_compared(rt: HostRuntime) {
-    const CASES: [(&str, &str, bool); 5] = [
+    const CASES: [KeysCase; 5] = [
         ("a", "b", true),
         ("b", "a", false),
         ("a", "c", false),
         ("c", "b", false),
         ("a", "a", false),
     ];
-    for (first, second, alike) in CASES {
-        assert!(rt;
-            is_key_list(rt.alloc(), first, second) == Ok(alike),
-            "{first} {second}"
-        );
+    for case in &CASES {
+        assert!(rt; is_keys_case(rt.alloc(), case) == Ok(true), "{case:?}");
     }
 }
 
@@ -213,11 +213,14 @@ fn values_there_and_back(rt: HostRuntime) {
     assert!(rt; ValueList::new(Vec::new(rt.alloc())).as_slice().is_empty());
 }
 
-/// Returns whether two values make a list that is equal to that of `FIRST` and `SECOND`.
-fn is_value_list(alloc: Global, first: Shown, second: Shown) -> Result<bool, Fault> {
+/// Two values, and whether their list is equal to that of `FIRST` and `SECOND`.
+type ValuesCase = (Shown, Shown, bool);
+
+/// Returns whether that is so of the list of the case's values.
+fn is_values_case(alloc: Global, case: &ValuesCase) -> Result<bool, Fault> {
     let list = values_of(alloc, FIRST, SECOND)?;
-    let other = values_of(alloc, first, second)?;
-    Ok(list == other)
+    let other = values_of(alloc, case.0, case.1)?;
+    Ok((list == other) == case.2)
 }
 
 const FIRST: Shown = ("a", 5, "x", Some(1));
@@ -227,7 +230,7 @@ const SECOND: Shown = ("b", 6, "y", None);
 /// Lists of equally many values are equal exactly if each part of their values is, in order.
 #[test]
 fn values_compared(rt: HostRuntime) {
-    const CASES: [(Shown, Shown, bool); 8] = [
+    const CASES: [ValuesCase; 8] = [
         (FIRST, SECOND, true),
         (SECOND, FIRST, false),
         (("c", 5, "x", Some(1)), SECOND, false),
@@ -237,8 +240,8 @@ fn values_compared(rt: HostRuntime) {
         (FIRST, ("b", 6, "y", Some(0)), false),
         (FIRST, FIRST, false),
     ];
-    for (first, second, alike) in CASES {
-        assert!(rt; is_value_list(rt.alloc(), first, second) == Ok(alike));
+    for case in &CASES {
+        assert!(rt; is_values_case(rt.alloc(), case) == Ok(true), "{case:?}");
     }
 }
 
@@ -272,7 +275,7 @@ fn each_command_copied(rt: HostRuntime) {
         "append a 5 0 1\r\nx\r\n",
         "prepend a 5 0 1\r\nx\r\n",
     ];
-    for text in TEXTS {
+    for text in &TEXTS {
         assert!(rt; check_copy(rt.alloc(), text) == Ok(()), "{text}");
     }
     assert!(rt; check_copied_limit() == Ok(()));

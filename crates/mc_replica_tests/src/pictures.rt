@@ -13,19 +13,18 @@ fn picture_of(alloc: Global, list: &str) -> Result<Vec<u8>, Fault> {
     Ok(drawn)
 }
 
-/// Returns whether the list's run is drawn as this picture, and an empty line after it.
-fn is_picture(alloc: Global, list: &str, picture: &str) -> Result<bool, Fault> {
+/// A list, and the picture of its run.
+type Picture = (&'static str, &'static str);
+
+/// Returns whether the list's run is drawn as its picture, and an empty line after it.
+fn is_picture(alloc: Global, case: &Picture) -> Result<bool, Fault> {
+    let (list, picture) = *case;
     let drawn = picture_of(alloc, list)?;
     let want = format!(in alloc; "{picture}\n\n")?;
     Ok(drawn.as_slice() == want.as_bytes())
 }
 
-fn assert_picture(rt: &impl Abort, alloc: Global, list: &str, picture: &str) {
-    assert_eq!(rt; is_picture(alloc, list, picture), Ok(true), "{picture}");
-}
-
-/// Lists, and the pictures of their runs.
-const PICTURES: [(&str, &str); 4] = [
+const PICTURES: [Picture; 4] = [
     // A stopped worker is helped.
     (
         "core 2 8\ntenant 4 100\nannounce 0 0 set a 0 x\nstop 0\nsubmit 1 0 get a\n",
@@ -79,8 +78,8 @@ const PICTURES: [(&str, &str); 4] = [
 
 #[test]
 fn runs_are_drawn(rt: HostRuntime) {
-    for (list, picture) in PICTURES {
-        assert_picture(&rt, rt.alloc(), list, picture);
+    for case in &PICTURES {
+        assert!(rt; is_picture(rt.alloc(), case) == Ok(true), "{}", case.1);
     }
 }
 

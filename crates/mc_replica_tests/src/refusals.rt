@@ -42,7 +42,7 @@ fn assert_each_refused(
 type Row = (u64, &'static str, &'static str, Fault);
 
 /// Asserts that each of a row's last events is refused by its fault after the first ones.
-fn assert_all_refused(rt: &impl Abort, alloc: Global, row: Row) {
+fn assert_all_refused(rt: &impl Abort, alloc: Global, row: &Row) {
     match after(alloc, row.0, row.1) {
         Ok(mut core) => assert_each_refused(rt, alloc, &mut core, row.2, row.3),
         Err(fault) => panic!(rt; "{fault}"),
@@ -128,7 +128,7 @@ const ROWS: [Row; 11] = [
 
 #[test]
 fn events_out_of_their_phases(rt: HostRuntime) {
-    for row in ROWS {
+    for row in &ROWS {
         assert_all_refused(&rt, rt.alloc(), row);
     }
 }

@@ -167,7 +167,7 @@ fn assert_rows<'a>(
 ) {
     for (number, row) in rows.iter().enumerate() {
         let answered = is_row(rt, alloc, cells, replica, number as u64, *row);
-        assert_eq!(rt; answered, Ok(true), "{}", row.2);
+        assert!(rt; answered == Ok(true), "{}", row.2);
     }
 }
 
@@ -272,7 +272,7 @@ const RUNS: [Run; 3] = [
 ];
 
 /// Returns whether the replica is what the run leaves.
-fn is_left(replica: &Replica<'_>, run: Run) -> bool {
+fn is_left(replica: &Replica<'_>, run: &Run) -> bool {
     replica.worker().number() == run.worker
         && replica.history().len() == run.rows.len()
         && replica.has_place() == (run.rows.len() < 8)
@@ -283,14 +283,14 @@ fn is_left(replica: &Replica<'_>, run: Run) -> bool {
 }
 
 /// Returns whether a replica is what the run leaves, after asserting the run's answers.
-fn is_run(rt: &impl Abort, alloc: Global, cells: &Cells, run: Run) -> Result<bool, Fault> {
+fn is_run(rt: &impl Abort, alloc: Global, cells: &Cells, run: &Run) -> Result<bool, Fault> {
     let replica = replayed(rt, alloc, cells, run.worker, run.limits, run.rows)?;
     Ok(is_left(&replica, run))
 }
 
 #[test]
 fn runs_of_one_replica(rt: HostRuntime) -> Result<(), Fail> {
-    for run in RUNS {
+    for run in &RUNS {
         let cells = cells_of(rt.alloc())?;
         assert!(rt; is_run(&rt, rt.alloc(), &cells, run) == Ok(true));
     }
@@ -497,9 +497,8 @@ fn are_learned(
 }
 
 fn assert_worker(rt: &impl Abort, alloc: Global, cells: &Cells, worker: u8, learned: &[LogRow]) {
-    assert_eq!(rt;
-        are_learned(rt, alloc, cells, worker, learned),
-        Ok(true),
+    assert!(rt;
+        are_learned(rt, alloc, cells, worker, learned) == Ok(true),
         "{worker}"
     );
 }

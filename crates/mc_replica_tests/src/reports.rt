@@ -46,13 +46,12 @@ fn is_report_of(
     Ok(report.as_slice() == text.as_bytes())
 }
 
-fn is_report(alloc: Global, run: &Run, quiet: bool, text: &str) -> Result<bool, Fault> {
-    let events = events_of(alloc, run.events)?;
-    is_report_of(alloc, run, &events, quiet, text)
-}
+/// A run, whether its report is quiet, and that.
+type Report = (Run, bool, &'static str);
 
-fn assert_report(rt: &impl Abort, alloc: Global, run: &Run, quiet: bool, text: &str) {
-    assert_eq!(rt; is_report(alloc, run, quiet, text), Ok(true), "{text}");
+fn is_report(alloc: Global, report: &Report) -> Result<bool, Fault> {
+    let events = events_of(alloc, report.0.events)?;
+    is_report_of(alloc, &report.0, &events, report.1, report.2)
 }
 
 /// A worker stops before its command is decided, and another helps it.
@@ -71,8 +70,7 @@ const FULL: Run = Run {
     fault: Some((4, Fault::LogFull)),
 };
 
-/// Runs, whether their reports are quiet, and these.
-const REPORTS: [(Run, bool, &str); 4] = [
+const REPORTS: [Report; 4] = [
     (
         HELPED,
         false,
@@ -104,8 +102,8 @@ const REPORTS: [(Run, bool, &str); 4] = [
 
 #[test]
 fn lines_of_reports(rt: HostRuntime) {
-    for (run, quiet, text) in REPORTS {
-        assert_report(&rt, rt.alloc(), &run, quiet, text);
+    for report in &REPORTS {
+        assert!(rt; is_report(rt.alloc(), report) == Ok(true), "{}", report.2);
     }
 }
 

@@ -115,7 +115,7 @@ const ROWS: [Row<'static>; 5] = [
 
 #[test]
 fn golden_runs(rt: HostRuntime) {
-    for row in ROWS {
-        assert_row(&rt, rt.alloc(), &row);
+    for row in &ROWS {
+        assert_row(&rt, rt.alloc(), row);
     }
 }
