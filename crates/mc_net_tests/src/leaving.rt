@@ -64,7 +64,7 @@ fn one_never_reads_and_resets(rt: HostRuntime) -> Result<(), Fail> {
         acts: &acts,
     };
     let Outcome { failed, tenants } = outcome_of(&rt, rt.alloc(), visit, false)?;
-    assert_eq!(rt; failed, None);
+    assert!(rt; failed == None, "{failed:?}");
     assert!(rt; tenants.is_ok());
     Ok(())
 }

@@ -200,8 +200,8 @@ fn a_connection_outlives_its_log(rt: HostRuntime) -> Result<(), Fail> {
         acts: &STAYS,
     };
     let Outcome { failed, ended } = outcome_of(&rt, rt.alloc(), visit, 2, false)?;
-    assert_eq!(rt; failed, None);
-    assert_eq!(rt; ended?, (Ended::Full, Ended::Done));
+    assert!(rt; failed == None, "{failed:?}");
+    assert!(rt; ended == Ok((Ended::Full, Ended::Done)));
     Ok(())
 }
 
@@ -239,7 +239,7 @@ fn a_held_worker_finds_its_log_closing(rt: HostRuntime) -> Result<(), Fail> {
         acts: &HELD,
     };
     let Outcome { failed, ended } = outcome_of(&rt, rt.alloc(), visit, 6, true)?;
-    assert_eq!(rt; failed, None);
-    assert_eq!(rt; ended?, (Ended::Full, Ended::Done));
+    assert!(rt; failed == None, "{failed:?}");
+    assert!(rt; ended == Ok((Ended::Full, Ended::Done)));
     Ok(())
 }

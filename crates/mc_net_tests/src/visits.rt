@@ -148,7 +148,7 @@ where
         + Abort,
 {
     let Outcome { failed, tenants } = outcome_of(rt, rt.alloc(), visit, is_held)?;
-    assert_eq!(rt; failed, None);
+    assert!(rt; failed == None, "{failed:?}");
     let tenants = tenants?;
     assert!(rt; have_counts(&tenants, counts), "{tenants:?}");
     Ok(())
