@@ -15,9 +15,9 @@ import sys
 
 ROOT = os.path.dirname(os.path.dirname(os.path.abspath(__file__)))
 CRATE = f"{ROOT}/crates/mc_scrape"
-COMMANDS = "get gets set add replace append prepend cas delete incr decr flush_all limit".split()
+COMMANDS = "get gets set add replace append prepend cas delete incr decr flush_all".split()
 REFUSALS = ("unknown_command bad_format bad_block no_expiry line_too_long too_large no_room "
-            "not_a_number bad_delta log_full out_of_memory").split()
+            "not_a_number bad_delta log_full").split()
 TENANTS = [("shop", 1), ("b-2_x", 2)]
 WORKERS = [(0, 0, 13), (1, 42, 14)]
 LARGEST = 2 ** 64 - 1

@@ -1,13 +1,17 @@
 #!/usr/bin/env python3
 """Tests the metrics of wfmc, as built, over sockets on loopback: metrics.py [BINARY].
 
-What a scrape shows is held against what the clients know: items, bytes, quotas and connections of each tenant, and which log is served. Then
-scrapes as fast as they come while clients are answered as ever, more connections than there are places for, requests that are slow, huge or
-none, and one that does nothing, which is closed after ten seconds. And the words: an address that is taken, a tenant named metrics.
+What a scrape shows is held against what the clients know: items, bytes, quotas, connections, commands by kind, hits, misses and refusals of
+each tenant, and which log is served. Then scrapes as fast as they come while clients are answered as ever, more connections than there are
+places for, requests that are slow, huge or none, and one that does nothing, which is closed after ten seconds. And the words: an address that
+is taken, a tenant named metrics. A live scrape and the rules of etc/ are held against promtool (Debian's package prometheus; PROMTOOL names
+another) where it is installed, and it is said where it isn't.
 Prints a line for each failure; the last line is 'N passed, M failed'.
 """
 
+import os
 import re
+import shutil
 import socket
 import subprocess
 import sys
@@ -20,6 +24,8 @@ from harness.results import Results
 from harness.servers import ADMIN, LARGE, Server
 
 PROGRAM = sys.argv[1] if len(sys.argv) > 1 else repository.program("wfmc")
+PROMTOOL = os.environ.get("PROMTOOL") or shutil.which("promtool")
+RULES = os.path.join(os.path.dirname(os.path.dirname(os.path.abspath(__file__))), "etc", "prometheus-wfmc.rules.yml")
 METRICS = ("--metrics", "127.0.0.1:0")
 PATIENCE = 5
 PLACES = 500
@@ -142,11 +148,86 @@ def check_numbers():
         check("another path", scraper.get("/favicon.ico")[0] == "HTTP/1.1 404 Not Found")
         scraper.send(b"POST /metrics HTTP/1.1\r\nHost: wfmc\r\nContent-Length: 0\r\n\r\n")
         check("another method", scraper.reply()[0] == "HTTP/1.1 405 Method Not Allowed")
-        check("nothing that nobody counts", "_total" not in scraper.get()[2])
+        text = scraper.get()[2]
+        check("each kind of commands and refusals", text.count("wfmc_tenant_commands_total{") == 2 * 12 and text.count("wfmc_tenant_refusals_total{") == 2 * 10)
+        check_by_promtool(text)
 
 
-def works(server, tenant, stop, wrong):
-    """A client that checks each reply."""
+def check_by_promtool(text):
+    """Holds a scrape and the rules against promtool."""
+    if not PROMTOOL:
+        print("promtool isn't installed (Debian's package prometheus), so neither a scrape nor the rules are held against it")
+        return
+    for what, words, given in (("metrics", ["check", "metrics"], text), ("rules", ["check", "rules", RULES], "")):
+        told = subprocess.run([PROMTOOL, *words], input=given, capture_output=True, text=True, timeout=20)
+        check(f"promtool check {what}", told.returncode == 0, told.stdout + told.stderr)
+
+
+# What a client sends and is answered, and what is counted of it: the kind of its command, how many keys that retrieves, and its refusal. The
+# tenant may hold two items.
+VALUE = "VALUE k 0 3\r\n645\r\nEND\r\n"
+COUNTED = [
+    ("set k 0 0 1\r\n1\r\n", "STORED\r\n", "set", 0, None),
+    ("set k 0 0 1 noreply\r\n2\r\n", "", "set", 0, None),
+    ("add k 0 0 1\r\n3\r\n", "NOT_STORED\r\n", "add", 0, None),
+    ("replace k 0 0 1\r\n4\r\n", "STORED\r\n", "replace", 0, None),
+    ("append k 0 0 1\r\n5\r\n", "STORED\r\n", "append", 0, None),
+    ("prepend k 0 0 1\r\n6\r\n", "STORED\r\n", "prepend", 0, None),
+    ("cas k 0 0 1 999999\r\n7\r\n", "EXISTS\r\n", "cas", 0, None),
+    ("incr k 1\r\n", "646\r\n", "incr", 0, None),
+    ("decr k 1 noreply\r\n", "", "decr", 0, None),
+    ("get k\r\n", VALUE, "get", 1, None),
+    ("get x k y\r\n", VALUE, "get", 3, None),
+    ("gets x\r\n", "END\r\n", "gets", 1, None),
+    ("delete x\r\n", "NOT_FOUND\r\n", "delete", 0, None),
+    ("set n 0 0 1\r\na\r\n", "STORED\r\n", "set", 0, None),
+    ("incr n 1\r\n", "CLIENT_ERROR cannot increment or decrement non-numeric value\r\n", "incr", 0, "not_a_number"),
+    ("set o 0 0 1\r\nb\r\n", "SERVER_ERROR out of memory storing object\r\n", "set", 0, "no_room"),
+    ("set o 0 0 1 noreply\r\nb\r\n", "", "set", 0, "no_room"),
+    ("nothing\r\n", "ERROR\r\n", None, 0, "unknown_command"),
+    ("set k 0 7 1\r\n8\r\n", "CLIENT_ERROR expiry is not supported\r\n", None, 0, "no_expiry"),
+    ("set k 0 7 1 noreply\r\n9\r\n", "", None, 0, "no_expiry"),
+    ("incr k x\r\n", "CLIENT_ERROR invalid numeric delta argument\r\n", None, 0, "bad_delta"),
+    ("version\r\n", "VERSION 1.0.0\r\n", None, 0, None),
+    ("flush_all\r\n", "OK\r\n", "flush_all", 0, None),
+]
+KINDS = "get gets set add replace append prepend cas delete incr decr flush_all".split()
+REFUSALS = "unknown_command bad_format bad_block no_expiry line_too_long too_large no_room not_a_number bad_delta log_full".split()
+
+
+def tallies(tenant, rounds):
+    """The samples of a tenant whose clients have sent this so often."""
+    def kinds(metric, label, names, place):
+        named = [row[place] for row in COUNTED]
+        return {f'wfmc_tenant_{metric}_total{{tenant="{tenant}",{label}="{name}"}}': rounds * named.count(name) for name in names}
+
+    hits = sum(row[1].count("VALUE") for row in COUNTED if row[3])
+    misses = sum(row[3] for row in COUNTED) - hits
+    found = {of("hits_total", tenant): rounds * hits, of("misses_total", tenant): rounds * misses}
+    return {**found, **kinds("commands", "command", KINDS, 2), **kinds("refusals", "refusal", REFUSALS, 4)}
+
+
+def check_tallies():
+    """Commands, hits, misses and refusals of two tenants, over two workers and over logs that follow one another."""
+    sent, wanted = ("".join(row[at] for row in COUNTED).encode() for at in (0, 1))
+    tenants = {"a": (2, 1000), "b": (2, 1000)}
+    with Server(PROGRAM, ("--workers", "2", "--places", "60", "--generations", "0", *METRICS), tenants) as server:
+        awaits(server, "no request yet", {**tallies("a", 0), **tallies("b", 0)})
+        clients = [server.client(tenant, worker) for tenant in ("a", "a", "b") for worker in (0, 1)]
+        for number, client in enumerate(clients * 3):
+            reply = client.ask(sent, wanted[-30:])
+            check("the replies that are counted", reply == wanted, f"{number}: {reply}")
+        shown = awaits(server, "tallies that the clients know", {**tallies("a", 12), **tallies("b", 6)})
+        check("over several logs", shown["wfmc_log_generation"] >= 4, str(shown["wfmc_log_generation"]))
+        for client in clients:
+            client.close()
+        with server.client("b", 1) as client:
+            check("another client's replies", client.ask(sent, wanted[-30:]) == wanted)
+        awaits(server, "tallies after connections have ended", {**tallies("a", 12), **tallies("b", 7), of("connections", "a"): 0})
+
+
+def works(server, tenant, stop, wrong, served):
+    """A client that checks each reply, and tells how many sets and gets it sent."""
     with server.client(tenant) as client:
         number = 0
         while not stop.is_set():
@@ -156,14 +237,14 @@ def works(server, tenant, stop, wrong):
             wanted = f"VALUE k{number % 7} 0 6\r\n{number:06}\r\nEND\r\n".encode()
             if client.ask(f"get k{number % 7}\r\n".encode(), b"END\r\n") != wanted:
                 wrong.append(f"get {number}")
-    wrong.append(number)
+    served[tenant] = number
 
 
 def check_full_speed():
     """Scrapes as fast as they come, over logs that follow one another, while clients of two tenants are answered as ever."""
     tenants = {"a": LARGE, "b": LARGE}
     with Server(PROGRAM, ("--workers", "2", "--places", str(PLACES), "--generations", "0", *METRICS), tenants) as server:
-        stop, wrong, counts = threading.Event(), [], []
+        stop, wrong, counts, served = threading.Event(), [], [], {}
 
         def scrapes():
             scraper, count = Scraper(server), 0
@@ -176,7 +257,7 @@ def check_full_speed():
             counts.append(count)
 
         # Each client has a tenant of its own, and so knows what it is to be answered.
-        threads = [threading.Thread(target=works, args=(server, tenant, stop, wrong)) for tenant in tenants]
+        threads = [threading.Thread(target=works, args=(server, tenant, stop, wrong, served)) for tenant in tenants]
         threads += [threading.Thread(target=scrapes) for _ in range(3)]
         for thread in threads:
             thread.start()
@@ -184,12 +265,15 @@ def check_full_speed():
         stop.set()
         for thread in threads:
             thread.join()
-        served = sum(entry for entry in wrong if isinstance(entry, int))
-        wrong = [entry for entry in wrong if not isinstance(entry, int)]
         check("replies and scrapes at full speed", not wrong, str(wrong[:5]))
-        check("many of both", served > 200 and len(counts) == 3 and min(counts) > 20, f"{served} {counts}")
-        shown = awaits(server, "what two clients leave", {of("items", "a"): 7, of("items", "b"): 7, of("connections", "a"): 0})
-        logs = 4 * served // PLACES
+        total = sum(served.values())
+        check("many of both", total > 200 and len(counts) == 3 and min(counts) > 20, f"{served} {counts}")
+        wanted = {of("items", "a"): 7, of("items", "b"): 7, of("connections", "a"): 0}
+        for tenant, number in served.items():
+            wanted |= {f'wfmc_tenant_commands_total{{tenant="{tenant}",command="{kind}"}}': number for kind in ("set", "get")}
+            wanted |= {of("hits_total", tenant): number, of("misses_total", tenant): 0}
+        shown = awaits(server, "what two clients leave", wanted)
+        logs = 4 * total // PLACES
         check("logs that followed", logs // 2 <= shown["wfmc_log_generation"] <= logs + 2, f"{shown['wfmc_log_generation']} {logs}")
         check("turn overs", shown["wfmc_turn_over_seconds_count"] == shown["wfmc_log_generation"] - 1 and shown["wfmc_turn_over_seconds_sum"] > 0)
 
@@ -273,6 +357,7 @@ def check_words():
 
 check_words()
 check_numbers()
+check_tallies()
 check_full_speed()
 check_strangers()
 results.finish()

@@ -1,31 +1,28 @@
 -- Logs one after another, each with one worker: what each owes, and which commands it leaves to the next.
-use Rattle.std.proofs.Common.{◌≡◌, ◌⊎◌, ℕ, zero, suc, ◌+◌, ◌<◌, ◌≤◌, Bool, true, false, if◌then◌else◌, List, [], ◌∷◌, ◌++◌, length, take, slice_get, Some, sym, refl, ap, ◌∙◌, subst, inl, inr, ⊎_elim, arith, append_assoc, append-nil, length-append}
+use Rattle.std.proofs.Common.{◌≡◌, ◌⊎◌, ℕ, suc, ◌+◌, ◌<◌, ◌≤◌, Bool, true, false, if◌then◌else◌, List, [], ◌∷◌, ◌++◌, length, take, slice_get, Some, sym, refl, ap, ◌∙◌, subst, inl, inr, ⊎_elim, arith, append_assoc, append-nil, length-append}
 use Rattle.std.specs.Bool.{nat_le, nat_lt}
 use Rattle.mc_model.specs.declared.shown.LogSize.{LogSize}
 use Rattle.std.proofs.lemmas.Bool.{ltb-false, ltb-true}
 use Rattle.std.proofs.lemmas.List.{take_all}
 use Rattle.mc_model.specs.declared.command.Command.{Command}
-use Rattle.mc_model.specs.declared.reply.Reply.{Reply}
 use Rattle.mc_model.specs.declared.reply.Reply.TheVariants.{Refused}
 use Rattle.mc_model.specs.declared.reply.TheConstants.WireNo.{LINE_TOO_LONG, UNKNOWN_COMMAND}
 use Rattle.mc_model.specs.declared.request.Request.{Request}
 use Rattle.mc_model.specs.declared.request.Request.TheVariants.{Limit, Local, Logged, Quit, TooLong}
 use Rattle.mc_model.specs.declared.settings.Limits.{Limits}
-use Rattle.mc_model.specs.History.{answer}
 use Rattle.mc_model.specs.Log.{own}
 use Rattle.mc_write.specs.Text.{text}
 use Rattle.uc_worker.specs.Cited.{Sighting, entries}
 use Rattle.uc_worker.specs.declared.worker.Worker.{Worker}
-use Rattle.uc_worker.specs.Going.{Continues}
-use Rattle.uc_worker.specs.Worker.{HasReplayedAll, IsClosing, announced_of, history_of, places_kept, seat_of}
+use Rattle.uc_worker.specs.Worker.{HasReplayedAll, IsClosing, history_of, places_kept, seat_of}
 use Rattle.mc_conn.specs.declared.conn.Role.TheVariants.{Tenant}
 use Rattle.mc_conn.specs.Alone.{IsAloneOver, applied_with, commands_of, first_mark, logged_reply, owed_after}
 use Rattle.mc_conn.specs.Ending.{LogsInTime, LogsLast}
-use Rattle.mc_conn.specs.Onward.{own_entry, own_sighting}
+use Rattle.mc_conn.specs.Onward.{own_sighting}
 use Rattle.mc_conn.specs.Owed.{IsPlaced, IsTurnedAway, Mark, Owes, answered, count_logged, mark_of}
 use Rattle.mc_conn.specs.Turn.{Scene, Takes}
 use Rattle.mc_conn.proofs.Alone.{announced_all, placed_in_order, turned_away_last}
-use Rattle.mc_conn.proofs.AloneOwed.{few, own_later, owes_in_order, with_room, without_room}
+use Rattle.mc_conn.proofs.AloneOwed.{own_later, owes_in_order, with_room, without_room}
 
 below_or_not : (n m : ℕ) (below : Bool) → nat_lt n m ≡ below → (n < m) ⊎ (m ≤ n)
 below_or_not n m true is = inl (ltb-true n m is)

@@ -1,16 +1,13 @@
 -- What a submit says is an answer.
-use Rattle.std.proofs.Common.{◌≡◌, ℕ, ◌+◌, ◌<◌, Bool, List, [], ◌∷◌, ◌++◌, length, take, slice_get, Some, sym, refl, ap, ◌∙◌, subst, inl, inr, ⊎_elim, arith, append-nil, length-append, length-take}
+use Rattle.std.proofs.Common.{◌≡◌, ℕ, ◌+◌, ◌<◌, List, [], ◌∷◌, ◌++◌, length, take, slice_get, Some, sym, refl, ap, ◌∙◌, inl, inr, ⊎_elim, arith, length-append, length-take}
 use Rattle.std.proofs.lemmas.List.Quantifiers.{position-Some}
 use Rattle.std.specs.Cmp.Lexicographic.{pointwise}
 use Rattle.std.specs.Prelude.{nat_eq}
 use Rattle.mc_model.specs.declared.command.Command.{Command}
 use Rattle.mc_model.specs.declared.fault.Fault.{Fault}
 use Rattle.mc_model.specs.declared.fault.Fault.TheVariants.{LogFull}
-use Rattle.mc_model.specs.declared.reply.Reply.{Reply}
 use Rattle.mc_model.specs.declared.reply.Reply.TheVariants.{Refused}
 use Rattle.mc_model.specs.declared.reply.TheConstants.WireNo.{LOG_FULL}
-use Rattle.mc_model.specs.declared.request.Request.{Request}
-use Rattle.mc_model.specs.declared.request.Request.TheVariants.{Logged}
 use Rattle.mc_model.specs.declared.id.TheConstants.{TENANTS}
 use Rattle.mc_model.specs.Name.{tenant_named}
 use Rattle.mc_model.specs.Replay.{reply_to}
@@ -22,9 +19,8 @@ use Rattle.lists.proofs.Public.{begins_longer, last_at}
 use Rattle.mc_conn.specs.Onward.{own_entry, own_sighting}
 use Rattle.uc_worker.specs.declared.worker.Answer.{Answer}
 use Rattle.uc_worker.specs.Going.{AnnouncesAtMost, Continues, Submits}
-use Rattle.mc_conn.specs.declared.conn.Role.TheVariants.{Tenant}
-use Rattle.mc_conn.specs.Owed.{answered, demand_of, mark_of}
-use Rattle.mc_conn.specs.Parts.{AnswersCommand, MayAnnounce, MayAnnounceFor, Responds}
+use Rattle.mc_conn.specs.Owed.{mark_of}
+use Rattle.mc_conn.specs.Parts.{AnswersCommand, MayAnnounce}
 use Rattle.mc_conn.proofs.Counts.{number_below}
 use Rattle.mc_conn.proofs.Owings.{same_entry, same_sighting}
 

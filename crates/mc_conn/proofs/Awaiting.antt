@@ -1,5 +1,5 @@
 -- A request that is left to the next log.
-use Rattle.std.proofs.Common.{◌≡◌, Bool, true, false, Some, None, Option, ◌∙◌, ap, sym, subst}
+use Rattle.std.proofs.Common.{◌≡◌, Bool, true, false, Some, None, ◌∙◌, ap, sym, subst}
 use Rattle.std.specs.Option.{option_map_or}
 use Rattle.mc_model.specs.declared.request.Request.{Request}
 use Rattle.uc_worker.specs.declared.worker.Worker.{Worker}

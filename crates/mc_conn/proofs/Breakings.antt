@@ -3,6 +3,7 @@ use Rattle.std.proofs.Common.{◌≡◌, ℕ, ◌+◌, List, [], ◌∷◌, ◌+
 use Rattle.std.proofs.lemmas.List.{take-append-drop}
 use Rattle.std.specs.Io.KnownBytes.{Consumes}
 use Rattle.std.proofs.KnownBytes.{Consumes-nil}
+use Rattle.mc_counters.specs.declared.past_requests.PastRequests.{PastRequests}
 use Rattle.mc_model.specs.declared.fault.Fault.{Fault}
 use Rattle.mc_model.specs.declared.fault.Fault.TheVariants.{Memory, Output}
 use Rattle.mc_model.specs.declared.request.Request.{Request}
@@ -66,30 +67,30 @@ breaks_here cause old new worker before after taken none counts = record {
 }
 
 -- while a front of the queue was pushed
-pub breaks_pushing : (old new : Conn) (worker : Worker) (input : Inflow) (before after : Outflow) (count : ℕ) → queue_of new ≡ drop count (queue_of old) → new.role ≡ old.role →
+pub breaks_pushing : (old new : Conn) (worker : Worker) (input : Inflow) (before after : Outflow) (count : ℕ) → queue_of new ≡ drop count (queue_of old) → new.role ≡ old.role → new.past ≡ old.past →
     Pushes before after (take count (queue_of old)) → FailsOnce before after → waits after.events ≡ waits before.events →
     Breaks (scene old worker (both input before)) (scene new worker (both input after)) Output
 unfolding taken_none
-breaks_pushing old new worker input before after count left role went failed waited =
+breaks_pushing old new worker input before after count left role past went failed waited =
     breaks_here OutputFailed old new worker (both input before) (both input after)
-    (taken_none old new worker (both input before) (both input after) [] (take count (queue_of old)) (sym (append-nil (moved input.events))) (Consumes-nil input.left) went role
+    (taken_none old new worker (both input before) (both input after) [] (take count (queue_of old)) (sym (append-nil (moved input.events))) (Consumes-nil input.left) went role past
     (ap (λ rest. take count (queue_of old) ++ rest) left ∙ take-append-drop count (queue_of old)) (omega (arith, waited)))
     refl (refl, failed)
 
 -- while bytes were pulled, or kept
-pub breaks_pulling : (cause : ConnFault) (old new : Conn) (worker : Worker) (before after : Inflow) (output : Outflow) (piece : List ℕ) → queue_of new ≡ queue_of old → new.role ≡ old.role →
+pub breaks_pulling : (cause : ConnFault) (old new : Conn) (worker : Worker) (before after : Inflow) (output : Outflow) (piece : List ℕ) → queue_of new ≡ queue_of old → new.role ≡ old.role → new.past ≡ old.past →
     moved after.events ≡ moved before.events ++ piece → Consumes before.left after.left piece → CountsFailures cause (both before output) (both after output) →
     Breaks (scene old worker (both before output)) (scene new worker (both after output)) (fault_of cause)
 unfolding taken_none
-breaks_pulling cause old new worker before after output piece queue role pulled consumed counts =
+breaks_pulling cause old new worker before after output piece queue role past pulled consumed counts =
     breaks_here cause old new worker (both before output) (both after output)
-    (taken_none old new worker (both before output) (both after output) piece [] pulled consumed (sym (append-nil (moved output.events))) role queue (omega arith)) refl counts
+    (taken_none old new worker (both before output) (both after output) piece [] pulled consumed (sym (append-nil (moved output.events))) role past queue (omega arith)) refl counts
 
 -- while a request was looked for
 pub breaks_looking : (old new : Conn) (worker : Worker) (streams : Streams) → LooksForNext old new → Breaks (scene old worker streams) (scene new worker streams) Memory
 unfolding taken_still taken_none
 breaks_looking old new worker streams looks =
-    breaks_here OutOfMemory old new worker streams streams (taken_still old new worker streams looks.role looks.queue) refl (refl, refl)
+    breaks_here OutOfMemory old new worker streams streams (taken_still old new worker streams looks.role looks.past looks.queue) refl (refl, refl)
 
 -- what the request that met a fault announced
 meets_one : (worker later : Worker) (demand : Demand) → Continues worker later → MayAnnounceFor worker later demand → MayStandBehind later (mark_of worker) demand
@@ -110,9 +111,9 @@ take_cause fault streams which = ⊎_elim (λ is. (OutOfMemory, is, (refl, refl)
 
 -- while a request was taken
 pub breaks_taking : (fault : Fault) (old new : Conn) (worker later : Worker) (streams : Streams) (request : Request) → IsRead (holding_of old) [] (request ∷ []) (holding_of new) →
-    new.role ≡ old.role → Continues worker later → Refuses worker later old.role request (queue_of old) (queue_of new) fault →
+    new.role ≡ old.role → new.past ≡ old.past → Continues worker later → Refuses worker later old.role request (queue_of old) (queue_of new) fault →
     Breaks (scene old worker streams) (scene new later streams) fault
-breaks_taking fault old new worker later streams request read role on refuses =
+breaks_taking fault old new worker later streams request read role past on refuses =
     let why = take_cause fault streams refuses.is in
     record {
       cause = why.0;
@@ -131,6 +132,9 @@ breaks_taking fault old new worker later streams request read role on refuses =
         owes = (refl, refl, omega arith);
         bytes = refuses.unchanged ∙ sym (append-nil (queue_of old));
         waited = omega arith;
+        counted = [];
+        counts = (refl, refl);
+        past = ap (λ (past : PastRequests). past.requests) past ∙ sym (append-nil old.past.requests);
       };
       met = request ∷ [];
       reads = λ more all reads. let follows = (read more all).0 reads in (follows.0, follows.1);

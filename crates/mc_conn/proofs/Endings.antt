@@ -3,6 +3,7 @@ use Rattle.std.proofs.Common.{◌≡◌, ◌≢◌, ◌⊎◌, ℕ, ◌+◌, ◌
 use Rattle.std.proofs.lemmas.Bool.{ltb-false}
 use Rattle.std.specs.Bool.{MatchBool, ◌==◌}
 use Rattle.std.specs.Prelude.{MatchResult, nat_lt}
+use Rattle.mc_counters.specs.declared.past_requests.PastRequests.{PastRequests}
 use Rattle.mc_model.specs.declared.fault.Fault.{Fault}
 use Rattle.mc_model.specs.declared.fault.Fault.TheVariants.{Memory, Taken, Input, Output}
 use Rattle.mc_model.specs.declared.request.Request.{Request}
@@ -377,7 +378,7 @@ told_of InputFailed fault queue before after is tells = tells.1 (λ memory. let 
 told_of OutputFailed fault queue before after is tells = tells.1 (λ memory. let no : Output ≡ Memory = sym is ∙ memory in cc)
 
 -- a fault that was reported to the client, after which the connection is closed
-module _ (before : Scene) (old new : Conn) (worker : Worker) (input : Inflow) (between after : Outflow) (fault : Fault) (same : (new.role ≡ old.role) × (queue_of new ≡ queue_of old))
+module _ (before : Scene) (old new : Conn) (worker : Worker) (input : Inflow) (between after : Outflow) (fault : Fault) (same : (new.role ≡ old.role) × (queue_of new ≡ queue_of old)) (past : new.past ≡ old.past)
     (breaks : Breaks before (scene old worker (both input between)) fault) (tells : TellsOf fault (queue_of old) between after) where
   closed : Breaks before (scene new worker (both input between)) fault
   closed = record {
@@ -397,6 +398,9 @@ module _ (before : Scene) (old new : Conn) (worker : Worker) (input : Inflow) (b
       owes = breaks.taken.owes;
       bytes = ap (λ rest. breaks.taken.sent ++ rest) same.1 ∙ breaks.taken.bytes;
       waited = breaks.taken.waited;
+      counted = breaks.taken.counted;
+      counts = breaks.taken.counts;
+      past = ap (λ (past : PastRequests). past.requests) past ∙ breaks.taken.past;
     };
     met = breaks.met;
     reads = breaks.reads;

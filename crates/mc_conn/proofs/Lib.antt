@@ -2,6 +2,7 @@ pub mod Queues
 pub mod Unqueued
 pub mod Counts
 pub mod Owings
+pub mod Countings
 pub mod Answering
 pub mod Readings
 pub mod Awaiting

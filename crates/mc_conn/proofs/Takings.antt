@@ -2,12 +2,13 @@
 use Rattle.std.proofs.Common.{◌≡◌, ◌⊎◌, ℕ, ◌+◌, ◌≤◌, ◌<◌, ◌||◌, Bool, true, false, cond, zero, suc, List, [], ◌∷◌, ◌++◌, length, take, drop, sym, refl, ap, ◌∙◌, subst, inl, inr, ⊎_elim, arith, append-nil, length-append}
 use Rattle.std.specs.Bool.{MatchBool, nat_lt}
 use Rattle.std.proofs.lemmas.Bool.{lt-ltb}
-use Rattle.std.proofs.lemmas.List.{length-take-le, take-append-drop}
+use Rattle.std.proofs.lemmas.List.{append_cancel_left, length-take-le, take-append-drop}
 use Rattle.std.specs.List.{list_any}
 use Rattle.std.proofs.lemmas.List.Folds.{list_any-append}
 use Rattle.mc_read.specs.Reading.{ends_stream}
 use Rattle.std.specs.Io.KnownBytes.{Consumes, IsAtEnd}
 use Rattle.std.proofs.KnownBytes.{Consumes-nil, Consumes-trans}
+use Rattle.mc_counters.specs.declared.past_requests.PastRequests.{PastRequests}
 use Rattle.mc_model.specs.declared.request.Request.{Request}
 use Rattle.mc_stream.specs.Event.{ends, failures, has_ended, moved, waits}
 use Rattle.mc_stream.specs.Pushing.{IsUnfailed, Pushes}
@@ -20,9 +21,11 @@ use Rattle.uc_worker.specs.Going.{Continues}
 use Rattle.mc_conn.specs.declared.conn.Role.{Role}
 use Rattle.mc_conn.specs.Ending.{LogsInTime, LogsLast}
 use Rattle.mc_conn.specs.Owed.{Mark, Owes, count_logged, demand_of, is_logged, mark_of}
-use Rattle.mc_conn.specs.Parts.{Does, LooksForNext, Responds}
+use Rattle.mc_conn.specs.Parts.{Counts, Does, LooksForNext, Responds}
+use Rattle.mc_conn.specs.Tallying.{AreTallied, CountsFor}
 use Rattle.mc_conn.specs.Turn.{NeitherFails, RemembersTheEnd, Scene, Taken, Takes, amount, holding_of, queue_of, scene}
 use Rattle.lists.proofs.Public.{appended_twice, joined}
+use Rattle.mc_conn.proofs.Countings.{counted_append, counted_one}
 use Rattle.mc_conn.proofs.Owings.{owes_append, owes_grow, owes_nothing}
 use Rattle.uc_worker.specs.contracts.laws.WorkerGoesOn.TheImpl.{continues_self-value, continues_through-value}
 use Rattle.mc_conn.proofs.Readings.{read_refl, read_trans}
@@ -83,9 +86,9 @@ unfailed_trans first second third one two = (two.0 ∙ one.0, two.1 ∙ one.1)
 
 -- what was taken if no request was
 unfoldable pub taken_none : (old new : Conn) (worker : Worker) (before after : Streams) (came sent : List ℕ) → moved after.input.events ≡ moved before.input.events ++ came →
-    Consumes before.input.left after.input.left came → Pushes before.output after.output sent → new.role ≡ old.role → sent ++ queue_of new ≡ queue_of old →
+    Consumes before.input.left after.input.left came → Pushes before.output after.output sent → new.role ≡ old.role → new.past ≡ old.past → sent ++ queue_of new ≡ queue_of old →
     waits before.output.events ≤ waits after.output.events → Taken (scene old worker before) (scene new worker after) (mark_of worker)
-taken_none old new worker before after came sent pulled consumed pushed role bytes waited = record {
+taken_none old new worker before after came sent pulled consumed pushed role past bytes waited = record {
   came = came;
   requests = [];
   owed = [];
@@ -98,13 +101,16 @@ taken_none old new worker before after came sent pulled consumed pushed role byt
   owes = owes_nothing worker old.role;
   bytes = bytes ∙ sym (append-nil (queue_of old));
   waited = waited;
+  counted = [];
+  counts = (refl, refl);
+  past = ap (λ (past : PastRequests). past.requests) past ∙ sym (append-nil old.past.requests);
 }
 
 -- and if nothing came or was sent
-unfoldable pub taken_still : (old new : Conn) (worker : Worker) (streams : Streams) → new.role ≡ old.role → queue_of new ≡ queue_of old →
+unfoldable pub taken_still : (old new : Conn) (worker : Worker) (streams : Streams) → new.role ≡ old.role → new.past ≡ old.past → queue_of new ≡ queue_of old →
     Taken (scene old worker streams) (scene new worker streams) (mark_of worker)
-taken_still old new worker streams role queue =
-    taken_none old new worker streams streams [] [] (sym (append-nil (moved streams.input.events))) (Consumes-nil streams.input.left) (sym (append-nil (moved streams.output.events))) role queue (omega arith)
+taken_still old new worker streams role past queue =
+    taken_none old new worker streams streams [] [] (sym (append-nil (moved streams.input.events))) (Consumes-nil streams.input.left) (sym (append-nil (moved streams.output.events))) role past queue (omega arith)
 
 unfoldable pub taken_trans : (a b c : Scene) (to : Mark) → Taken a b (mark_of b.worker) → Taken b c to → Taken a c to
 taken_trans a b c to one two = record {
@@ -123,6 +129,11 @@ taken_trans a b c to one two = record {
       (subst (λ role. Owes c.worker role (mark_of b.worker) two.requests two.owed to) one.role two.owes);
   bytes = joined one.sent two.sent (queue_of a.conn) (queue_of b.conn) (queue_of c.conn) one.owed two.owed one.bytes two.bytes;
   waited = omega (arith, one.waited, two.waited);
+  counted = one.counted ++ two.counted;
+  counts =
+      counted_append a.conn.role one.requests two.requests one.owed two.owed one.counted two.counted one.counts
+      (subst (λ role. AreTallied role two.requests two.owed two.counted) one.role two.counts);
+  past = appended_twice _ _ _ one.counted two.counted one.past two.past;
 }
 
 -- how many requests are logged, one part after another
@@ -134,7 +145,7 @@ count_logged-append role (request ∷ first) second = let rest = count_logged-ap
 pub takes_self : (a : Scene) → Takes a a
 unfolding taken_still taken_none
 takes_self a = record {
-  taken = taken_still a.conn a.conn a.worker a.streams refl refl;
+  taken = taken_still a.conn a.conn a.worker a.streams refl refl refl;
   reads = read_refl (holding_of a.conn);
   unfailed = (refl, refl);
   end = remembers_self a.conn.has_ended a.streams.input;
@@ -226,7 +237,7 @@ did_some zero n same = same
 did_some (suc count) n same = let some : 0 < n = omega (arith, same) in subst (λ did. MatchBool did (0 < n) (n ≡ 0)) (sym (lt-ltb 0 (suc count) (omega arith))) some
 
 -- a front of the queue is pushed
-module _ (old new : Conn) (worker : Worker) (input : Inflow) (before after : Outflow) (count : ℕ) (same : holding_of new ≡ holding_of old) (role : new.role ≡ old.role)
+module _ (old new : Conn) (worker : Worker) (input : Inflow) (before after : Outflow) (count : ℕ) (same : holding_of new ≡ holding_of old) (role : new.role ≡ old.role) (past : new.past ≡ old.past)
     (ended : new.has_ended ≡ old.has_ended) (over : new.is_over ≡ old.is_over) (shut : new.is_closed ≡ old.is_closed) (few : count ≤ length (queue_of old))
     (left : queue_of new ≡ drop count (queue_of old)) (went : Pushes before after (take count (queue_of old))) (waited : waits before.events ≤ waits after.events)
     (unfailed : IsUnfailed before after) where
@@ -234,7 +245,7 @@ module _ (old new : Conn) (worker : Worker) (input : Inflow) (before after : Out
   unfolding taken_none
   takes_pushed = record {
     taken =
-        taken_none old new worker (both input before) (both input after) [] (take count (queue_of old)) (sym (append-nil (moved input.events))) (Consumes-nil input.left) went role
+        taken_none old new worker (both input before) (both input after) [] (take count (queue_of old)) (sym (append-nil (moved input.events))) (Consumes-nil input.left) went role past
         (ap (λ rest. take count (queue_of old) ++ rest) left ∙ take-append-drop count (queue_of old)) waited;
     reads = subst (λ holding. IsRead (holding_of old) [] [] holding) (sym same) (read_refl (holding_of old));
     unfailed = (refl, unfailed);
@@ -256,7 +267,7 @@ unfolding taken_still taken_none
 does_looked until old new worker streams read looks = record {
   in_time = λ is. inl refl;
   takes = record {
-    taken = taken_still old new worker streams looks.role looks.queue;
+    taken = taken_still old new worker streams looks.role looks.past looks.queue;
     reads = read;
     unfailed = (refl, refl);
     end = end_same old new worker worker streams.input streams.output streams.output looks.has_ended;
@@ -269,7 +280,8 @@ does_looked until old new worker streams read looks = record {
 -- a request is taken
 module _ (old new : Conn) (worker later : Worker) (streams : Streams) (request : Request) (read : IsRead (holding_of old) [] (request ∷ []) (holding_of new)) (role : new.role ≡ old.role)
     (ended : new.has_ended ≡ old.has_ended) (shut : new.is_closed ≡ old.is_closed) (over : new.is_over ≡ (old.is_over || ends_stream request)) (on : Continues worker later)
-    (responds : Responds worker later old.role request (queue_of old) (queue_of new)) where
+    (responds : Responds worker later old.role request (queue_of old) (queue_of new))
+    (counts : Counts old.role request (queue_of old) (queue_of new) old.past.requests new.past.requests) where
   takes_responded : Takes (scene old worker streams) (scene new later streams)
   takes_responded = record {
     taken = record {
@@ -285,6 +297,10 @@ module _ (old new : Conn) (worker later : Worker) (streams : Streams) (request :
       owes = responds.owes;
       bytes = responds.queued;
       waited = omega arith;
+      counted = counts.counted;
+      counts = counted_one old.role request responds.bytes counts.counted
+          (subst (λ bytes. CountsFor old.role request bytes counts.counted) (append_cancel_left (queue_of old) counts.bytes responds.bytes (sym counts.queued ∙ responds.queued)) counts.is);
+      past = counts.past;
     };
     reads = read;
     unfailed = (refl, refl);
@@ -312,14 +328,14 @@ module _ (old new : Conn) (worker later : Worker) (streams : Streams) (request :
   }
 
 -- a piece came, or none
-module _ (old new : Conn) (worker : Worker) (before after : Inflow) (output : Outflow) (piece : List ℕ) (read : IsRead (holding_of old) piece [] (holding_of new)) (role : new.role ≡ old.role)
+module _ (old new : Conn) (worker : Worker) (before after : Inflow) (output : Outflow) (piece : List ℕ) (read : IsRead (holding_of old) piece [] (holding_of new)) (role : new.role ≡ old.role) (past : new.past ≡ old.past)
     (queue : queue_of new ≡ queue_of old) (shut : new.is_closed ≡ old.is_closed) (pulled : moved after.events ≡ moved before.events ++ piece) (consumed : Consumes before.left after.left piece)
     (unfailed : failures after.events ≡ failures before.events) (end : Remembers old.has_ended before new.has_ended after) (over : new.is_over ≡ old.is_over) where
   takes_fed : Takes (scene old worker (both before output)) (scene new worker (both after output))
   unfolding taken_none
   takes_fed = record {
     taken =
-        taken_none old new worker (both before output) (both after output) piece [] pulled consumed (sym (append-nil (moved output.events))) role queue (omega arith);
+        taken_none old new worker (both before output) (both after output) piece [] pulled consumed (sym (append-nil (moved output.events))) role past queue (omega arith);
     reads = read;
     unfailed = (unfailed, refl);
     end = end;

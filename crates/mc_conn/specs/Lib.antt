@@ -1,5 +1,6 @@
 pub mod Onward
 pub mod Owed
+pub mod Tallying
 pub mod Held
 pub mod Turn
 pub mod ConnFault

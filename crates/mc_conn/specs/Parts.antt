@@ -1,6 +1,8 @@
 -- The parts of a turn, as the contracts of its functions state them.
 use Rattle.std.specs.Bool.{MatchBool}
-use Rattle.std.specs.Prelude.{◌≡◌, ◌≢◌, ◌⊎◌, ℕ, ◌≤◌, ◌<◌, Bool, true, false, List, [], ◌∷◌, ◌++◌, length, None}
+use Rattle.std.specs.Prelude.{◌≡◌, ◌≢◌, ◌⊎◌, ℕ, ◌≤◌, ◌<◌, Bool, true, false, List, [], ◌∷◌, ◌++◌, length, Option, None}
+use Rattle.mc_counters.specs.Tallied.{CountedRequest}
+use Rattle.mc_counters.specs.declared.kinds.Asked.{Asked}
 use Rattle.mc_model.specs.declared.command.Command.{Command}
 use Rattle.mc_model.specs.declared.fault.Fault.{Fault}
 use Rattle.mc_model.specs.declared.fault.Fault.TheVariants.{Memory, Taken}
@@ -20,7 +22,8 @@ use Rattle.mc_conn.specs.Ending.{AwaitsLog, HoldsOnlyBehind, IsState, LogsInTime
 use Rattle.mc_conn.specs.Held.{HoldsNone}
 use Rattle.mc_conn.specs.Onward.{own_sighting}
 use Rattle.uc_worker.specs.Going.{Continues}
-use Rattle.mc_conn.specs.Owed.{Demand, IsAnswered, Logs, Mark, Owes, Says, demand_of, mark_of}
+use Rattle.mc_conn.specs.Owed.{Demand, IsAnswered, Logs, Mark, Owes, Says, answered, demand_of, mark_of}
+use Rattle.mc_conn.specs.Tallying.{CountsFor}
 use Rattle.mc_conn.specs.Turn.{Scene, Takes, amount, holding_of, queue_of}
 
 -- a part of a turn, and whether it did anything; whether commands are left to the next log is the
@@ -44,6 +47,24 @@ pub record Responds (old new : Worker) (role : Role) (request : Request)
   pub bytes : List ℕ
   pub queued : after ≡ before ++ bytes
   pub owes : Owes new role (mark_of old) (request ∷ []) bytes (mark_of new)
+
+-- a reply was given to a request: its text was queued, unless the request is quiet, and the request
+-- is counted by it and by what its command asks for
+pub record GivesReply (asked : Option Asked) (before after : List ℕ)
+    (old new : List CountedRequest) : Type 0 where
+  pub quiet : Bool
+  pub reply : Reply
+  pub queued : after ≡ before ++ answered quiet reply
+  pub past : new ≡ old ++ record { asked = asked; reply = reply } ∷ []
+
+-- a request was taken, and is counted by what is owed for it, which was queued
+pub record Counts (role : Role) (request : Request) (before after : List ℕ)
+    (old new : List CountedRequest) : Type 0 where
+  pub bytes : List ℕ
+  pub counted : List CountedRequest
+  pub queued : after ≡ before ++ bytes
+  pub past : new ≡ old ++ counted
+  pub is : CountsFor role request bytes counted
 
 -- nothing was announced, or the tenant's command under the next number
 abbrev pub MayAnnounce : Worker → Worker → ℕ → Command → Type 0
@@ -86,6 +107,7 @@ pub record LooksForNext (old new : Conn) : Type 0 where
   pub is_closed : new.is_closed ≡ old.is_closed
   pub queue : queue_of new ≡ queue_of old
   pub over : new.is_over ≡ old.is_over
+  pub past : new.past ≡ old.past
 
 -- the role, what is held, and whether the input or the stream has ended are the same
 pub record IsSameBesideQueue (old new : Conn) : Type 0 where
@@ -93,6 +115,7 @@ pub record IsSameBesideQueue (old new : Conn) : Type 0 where
   pub holding : holding_of new ≡ holding_of old
   pub has_ended : new.has_ended ≡ old.has_ended
   pub over : new.is_over ≡ old.is_over
+  pub past : new.past ≡ old.past
 
 -- a request met a fault: no reply is queued, and the request's command may be announced
 pub record Refuses (old new : Worker) (role : Role) (request : Request) (before after : List ℕ)

@@ -4,6 +4,7 @@ use Rattle.std.specs.Bool.{MatchBool}
 use Rattle.std.specs.List.{list_any}
 use Rattle.std.specs.Io.KnownBytes.{Consumes, IsAtEnd}
 use Rattle.std.specs.Prelude.{◌≡◌, ◌⊎◌, ℕ, ◌+◌, ◌≤◌, ◌||◌, true, false, List, ◌++◌, length}
+use Rattle.mc_counters.specs.Tallied.{CountedRequest}
 use Rattle.mc_model.specs.declared.request.Request.{Request}
 use Rattle.mc_read.specs.Administering.{lines_spoken}
 use Rattle.mc_read.specs.Reading.{ends_stream}
@@ -15,6 +16,7 @@ use Rattle.mc_conn.specs.declared.conn.Conn.{Conn}
 use Rattle.mc_conn.specs.Held.{Holding, IsRead}
 use Rattle.uc_worker.specs.Going.{Continues}
 use Rattle.mc_conn.specs.Owed.{Mark, Owes, mark_of}
+use Rattle.mc_conn.specs.Tallying.{AreTallied}
 
 -- all that a turn sees: the connection, the worker, and what the input and the output report
 pub record Scene : Type 0 where
@@ -54,7 +56,9 @@ RemembersTheEnd before after =
 
 -- What happened from one scene to another: bytes came and requests were taken, and what was sent
 -- followed by what is queued is what was queued before followed by what is owed for these requests;
--- each was taken for the connection's role, from the worker's mark before up to this one.
+-- each was taken for the connection's role, from the worker's mark before up to this one. The
+-- requests that the connection counts more are these, each by what its command asks for and by its
+-- reply.
 pub record Taken (before after : Scene) (to : Mark) : Type 0 where
   pub came : List ℕ
   pub requests : List Request
@@ -68,6 +72,9 @@ pub record Taken (before after : Scene) (to : Mark) : Type 0 where
   pub owes : Owes after.worker before.conn.role (mark_of before.worker) requests owed to
   pub bytes : sent ++ queue_of after.conn ≡ queue_of before.conn ++ owed
   pub waited : waits before.streams.output.events ≤ waits after.streams.output.events
+  pub counted : List CountedRequest
+  pub counts : AreTallied before.conn.role requests owed counted
+  pub past : after.conn.past.requests ≡ before.conn.past.requests ++ counted
 
 -- No fault: what was taken goes up to the worker's mark afterwards, and is what the bytes that came
 -- read as. The end of the input is remembered, and so is a request that ends the stream.

@@ -7,6 +7,7 @@ ghost use Rattle.mc_conn.specs.Held.{nothing_held, speaker_of};
 ghost use Rattle.mc_conn.specs.Turn.{holding_of, queue_of};
 
 use crate::queue::Queue;
+use mc_counters::PastRequests;
 use mc_model::{Fault, Names, Request, TenantId};
 use mc_read::Reader;
 use std::alloc::Global;
@@ -66,6 +67,8 @@ pub struct Conn {
     pub(crate) is_over: bool,
     /// Whether a fault has closed the connection.
     pub(crate) is_closed: bool,
+    /// The requests that got a reply; for contracts only.
+    pub(crate) past: PastRequests,
 }
 
 /// How a turn ended.
@@ -91,6 +94,7 @@ impl Conn {
         ensures queue { queue_of result ≡ [] }
         ensures open { (result.has_ended ≡ false) × (result.is_over ≡ false)
             × (result.is_closed ≡ false) }
+        ensures past { result.past.requests ≡ [] }
     {
         Conn::of(alloc, Role::Tenant(tenant))
     }
@@ -103,6 +107,7 @@ impl Conn {
         ensures queue { queue_of result ≡ [] }
         ensures open { (result.has_ended ≡ false) × (result.is_over ≡ false)
             × (result.is_closed ≡ false) }
+        ensures past { result.past.requests ≡ [] }
     {
         Conn::of(alloc, Role::Admin(names))
     }
@@ -114,6 +119,7 @@ impl Conn {
         ensures queue { queue_of result ≡ [] }
         ensures open { (result.has_ended ≡ false) × (result.is_over ≡ false)
             × (result.is_closed ≡ false) }
+        ensures past { result.past.requests ≡ [] }
     {
         let reader = role.reader(alloc);
         Conn {
@@ -124,6 +130,7 @@ impl Conn {
             has_ended: false,
             is_over: false,
             is_closed: false,
+            past: PastRequests::new(),
         }
     }
 

@@ -7,9 +7,11 @@ ghost use Rattle.mc_conn.specs.declared.conn.TheConstants.{PULL_BYTES, QUEUE_BYT
 ghost use Rattle.mc_conn.specs.Ending.{Breaks, Pulls};
 ghost use Rattle.mc_conn.specs.Parts.{Does, IsHeldBehind, IsLeft};
 ghost use Rattle.mc_conn.specs.Owed.{FitsLog};
+ghost use Rattle.mc_conn.specs.Tallying.{HasCounted};
 ghost use Rattle.mc_conn.specs.Turn.{queue_of, scene};
 
 use crate::conn::{Conn, PULL_BYTES, QUEUE_BYTES};
+use mc_counters::Tally;
 use mc_model::Fault;
 use mc_stream::{Input, Output, Pull};
 use uc_worker::{Gate, Worker};
@@ -39,6 +41,7 @@ impl Conn {
             × ((I.tells input.new).events ≡ event ∷ (I.tells input.old).events) }
         ensures short { length (last_moved (I.tells input.new).events) ≤ PULL_BYTES }
         ensures role { self.new.role ≡ self.old.role }
+        ensures past { self.new.past ≡ self.old.past }
     {
         match input.pull(buffer) {
             Pull::Bytes(count) => {
@@ -67,6 +70,7 @@ impl Conn {
         output: &mut O,
         gate: &mut G,
         buffer: &mut [u8; PULL_BYTES],
+        tally: &mut Tally,
     ) -> Result<bool, Fault>
         requires role { FitsLog self.old.role worker.old }
         requires held { IsHeldBehind until_done self.old worker.old }
@@ -86,6 +90,8 @@ impl Conn {
         ensures pulls { Pulls
             (scene self.old worker.old (both (I.tells input.old) (O.tells output.old)))
             (scene self.new worker.new (both (I.tells input.new) (O.tells output.new))) }
+        ensures tally { HasCounted self.old.past.requests self.new.past.requests tally.old
+            tally.new }
     {
         if self.waiting.is_some() | (self.queue.len() > QUEUE_BYTES) | self.has_ended {
             return Ok(false);
@@ -96,7 +102,7 @@ impl Conn {
             return Ok(pushed);
         }
         let pulled = self.pull(input, buffer)?;
-        let taken = self.take(until_done, worker, gate)?;
+        let taken = self.take(until_done, worker, gate, tally)?;
         Ok(pushed | pulled | taken)
     }
 }

@@ -6,6 +6,7 @@ ghost use Rattle.mc_conn.specs.Owed.{FitsLog};
 ghost use Rattle.mc_conn.specs.Turn.{scene};
 
 use crate::conn::{Conn, PULL_BYTES, State};
+use mc_counters::Tally;
 use mc_model::Fault;
 use mc_stream::{Input, Output};
 use std::sync::Wait;
@@ -39,8 +40,10 @@ pub fn pump<R: Wait, I: Input, O: Output>(
         return Ok(());
     }
     let mut buffer = [0u8; PULL_BYTES];
+    // Nobody looks at it.
+    let mut tally = Tally::new();
     for _ in rt.forever() {
-        match conn.turn(worker, input, output, &mut Open, &mut buffer)? {
+        match conn.turn(worker, input, output, &mut Open, &mut buffer, &mut tally)? {
             State::Closed => return Ok(()),
             State::Idle => {}
             State::Busy => {}
@@ -78,8 +81,10 @@ pub fn pump_until<R: Wait, I: Input, O: Output>(
         return Ok(State::Closed);
     }
     let mut buffer = [0u8; PULL_BYTES];
+    // Nobody looks at it.
+    let mut tally = Tally::new();
     for _ in rt.forever() {
-        match conn.turn_until(worker, input, output, &mut Open, &mut buffer)? {
+        match conn.turn_until(worker, input, output, &mut Open, &mut buffer, &mut tally)? {
             State::Closed => return Ok(State::Closed),
             State::Full => return Ok(State::Full),
             State::Idle => {}

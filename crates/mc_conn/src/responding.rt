@@ -1,15 +1,19 @@
 //! Doing what a request asks for, and queueing its reply.
-ghost use Rattle.std.specs.Prelude.{◌≡◌, ◌<◌, ◌++◌, length, MatchResult};
+ghost use Rattle.std.specs.Prelude.{◌≡◌, ◌<◌, ◌++◌, length, MatchResult, None, Some};
+ghost use Rattle.mc_counters.specs.Kinds.{asked_for_by};
 ghost use Rattle.mc_model.specs.declared.fault.Fault.TheVariants as faults;
+ghost use Rattle.mc_model.specs.declared.reply.Reply.TheVariants as Reply;
 ghost use Rattle.mc_model.specs.declared.request.Request.TheVariants as Request;
 ghost use Rattle.mc_conn.specs.declared.conn.Role.TheVariants as Role;
 ghost use Rattle.uc_worker.specs.Worker.{tenants_of};
 ghost use Rattle.uc_worker.specs.Going.{Continues};
 ghost use Rattle.mc_conn.specs.Owed.{FitsLog, answered};
-ghost use Rattle.mc_conn.specs.Parts.{AnswersCommand, IsTakeFault, MayAnnounce, Refuses, Responds};
+ghost use Rattle.mc_conn.specs.Parts.{AnswersCommand, Counts, GivesReply, IsTakeFault, MayAnnounce, Refuses, Responds};
+ghost use Rattle.mc_conn.specs.Tallying.{HasCounted};
 
 use crate::conn::Role;
 use crate::queue::Queue;
+use mc_counters::{Asked, PastRequests, Tally};
 use mc_model::{Command, Fault, Reply, Request, TenantId, WireNo};
 use uc_worker::{Gate, Worker};
 
@@ -51,7 +55,52 @@ fn queue_reply(reply: &Reply<'_>, quiet: bool, queue: &mut Queue) -> Result<(), 
     queue.append(reply)
 }
 
-/// Submits a tenant's command, and queues its reply unless the request is quiet.
+/// Queues a reply, unless the request is quiet, and counts the request.
+///
+/// Returns `Memory` if memory runs out; the queue is unchanged then, and nothing is counted.
+fn reply_and_count(
+    asked: &Option<Asked>,
+    reply: &Reply<'_>,
+    quiet: bool,
+    queue: &mut Queue,
+    past: &mut PastRequests,
+    tally: &mut Tally,
+) -> Result<(), Fault>
+    ensures queued { MatchResult result (λ _. queue.new ≡ queue.old ++ answered quiet reply.now)
+        (λ fault. (fault ≡ faults.Memory) × (queue.new ≡ queue.old)) }
+    ensures counts { MatchResult result
+        (λ _. GivesReply asked.now queue.old queue.new past.old.requests past.new.requests)
+        (λ _. past.new ≡ past.old) }
+    ensures tally { HasCounted past.old.requests past.new.requests tally.old tally.new }
+{
+    queue_reply(reply, quiet, queue)?;
+    tally.count(asked, reply);
+    *past = past.and(asked, reply);
+    Ok(())
+}
+
+/// Refuses a request without the log, and counts it.
+///
+/// Returns `Memory` if memory runs out; the queue is unchanged then, and nothing is counted.
+fn refuse(
+    refusal: WireNo,
+    quiet: bool,
+    queue: &mut Queue,
+    past: &mut PastRequests,
+    tally: &mut Tally,
+) -> Result<(), Fault>
+    ensures queued { MatchResult result
+        (λ _. queue.new ≡ queue.old ++ answered quiet (Reply.Refused refusal))
+        (λ fault. (fault ≡ faults.Memory) × (queue.new ≡ queue.old)) }
+    ensures counts { MatchResult result
+        (λ _. GivesReply None queue.old queue.new past.old.requests past.new.requests)
+        (λ _. past.new ≡ past.old) }
+    ensures tally { HasCounted past.old.requests past.new.requests tally.old tally.new }
+{
+    reply_and_count(&None, &Reply::Refused(refusal), quiet, queue, past, tally)
+}
+
+/// Submits a tenant's command, queues its reply unless the request is quiet, and counts the request.
 ///
 /// Returns `Memory` if memory runs out, and `Taken` if the command's cell holds another value. No
 /// reply is queued then, and the command may be announced.
@@ -62,6 +111,8 @@ fn respond_by_log<G: Gate>(
     queue: &mut Queue,
     worker: &mut Worker<'_>,
     gate: &mut G,
+    past: &mut PastRequests,
+    tally: &mut Tally,
 ) -> Result<(), Fault>
     requires tenant { tenant < length (tenants_of worker.old) }
     ensures onward { Continues worker.old worker.new }
@@ -69,49 +120,64 @@ fn respond_by_log<G: Gate>(
         MatchResult result
         (λ _. Responds worker.old worker.new role request queue.old queue.new)
         (Refuses worker.old worker.new role request queue.old queue.new) }
+    ensures counts { MatchResult result
+        (λ _. GivesReply (Some (asked_for_by command)) queue.old queue.new past.old.requests
+        past.new.requests) (λ _. past.new ≡ past.old) }
+    ensures tally { HasCounted past.old.requests past.new.requests tally.old tally.new }
 {
+    let asked = Some(Asked::by(&command));
     let reply = answer(tenant, command, worker, gate)?;
-    queue_reply(&reply, quiet, queue)
+    reply_and_count(&asked, &reply, quiet, queue, past, tally)
 }
 
-/// Does what a request asks for, and queues the reply.
+/// Does what a request asks for, queues the reply, and counts the request by it.
 ///
 /// Returns `Memory` if memory runs out, and `Taken` if the cell of the request's command holds
-/// another value. No reply is queued then, and the command may be announced.
+/// another value. No reply is queued then, nothing is counted, and the command may be announced.
 pub(crate) fn respond<G: Gate>(
     role: &Role,
     request: Request,
     queue: &mut Queue,
     worker: &mut Worker<'_>,
     gate: &mut G,
+    past: &mut PastRequests,
+    tally: &mut Tally,
 ) -> Result<(), Fault>
     requires role { FitsLog role.now worker.old }
     ensures onward { Continues worker.old worker.new }
     ensures outcome { MatchResult result
         (λ _. Responds worker.old worker.new role.now request queue.old queue.new)
         (Refuses worker.old worker.new role.now request queue.old queue.new) }
+    ensures counts { MatchResult result
+        (λ _. Counts role.now request queue.old queue.new past.old.requests past.new.requests)
+        (λ _. past.new ≡ past.old) }
+    ensures tally { HasCounted past.old.requests past.new.requests tally.old tally.new }
 {
     match request {
         Request::Logged { command, quiet } => match role {
-            Role::Tenant(tenant) => respond_by_log(*tenant, command, quiet, queue, worker, gate),
-            Role::Admin(_) => queue_reply(&Reply::Refused(WireNo::UNKNOWN_COMMAND), quiet, queue),
+            Role::Tenant(tenant) => {
+                respond_by_log(*tenant, command, quiet, queue, worker, gate, past, tally)
+            }
+            Role::Admin(_) => refuse(WireNo::UNKNOWN_COMMAND, quiet, queue, past, tally),
         },
         Request::Limit {
             name,
             limits,
             quiet,
         } => match role {
-            Role::Tenant(_) => queue_reply(&Reply::Refused(WireNo::UNKNOWN_COMMAND), quiet, queue),
+            Role::Tenant(_) => refuse(WireNo::UNKNOWN_COMMAND, quiet, queue, past, tally),
             Role::Admin(names) => match names.tenant(&name) {
                 Some(tenant) => {
                     let command = Command::Limit { limits };
-                    respond_by_log(tenant, command, quiet, queue, worker, gate)
+                    respond_by_log(tenant, command, quiet, queue, worker, gate, past, tally)
                 }
-                None => queue_reply(&Reply::Refused(WireNo::BAD_FORMAT), false, queue),
+                None => refuse(WireNo::BAD_FORMAT, false, queue, past, tally),
             },
         },
-        Request::Local { reply, quiet } => queue_reply(&reply, quiet, queue),
+        Request::Local { reply, quiet } => {
+            reply_and_count(&None, &reply, quiet, queue, past, tally)
+        }
         Request::Quit => Ok(()),
-        Request::TooLong => queue_reply(&Reply::Refused(WireNo::LINE_TOO_LONG), false, queue),
+        Request::TooLong => refuse(WireNo::LINE_TOO_LONG, false, queue, past, tally),
     }
 }

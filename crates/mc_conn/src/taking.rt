@@ -7,10 +7,12 @@ ghost use Rattle.mc_conn.specs.Ending.{AwaitsLog, Breaks};
 ghost use Rattle.mc_conn.specs.Held.{HoldsNone, IsRead, most_held};
 ghost use Rattle.mc_conn.specs.Parts.{Does, IsHeldBehind, IsLeft, KeepsStreams, LooksForNext};
 ghost use Rattle.mc_conn.specs.Owed.{FitsLog, demand_of, is_logged};
+ghost use Rattle.mc_conn.specs.Tallying.{HasCounted};
 ghost use Rattle.mc_conn.specs.Turn.{holding_of, scene};
 
 use crate::conn::{Conn, QUEUE_BYTES, Role};
 use crate::responding::respond;
+use mc_counters::Tally;
 use mc_model::{Fault, Request};
 use mc_read::ends_stream;
 use uc_worker::{Gate, Worker};
@@ -68,6 +70,7 @@ impl Conn {
         &mut self,
         worker: &mut Worker<'_>,
         gate: &mut G,
+        tally: &mut Tally,
     ) -> Result<bool, Fault>
         requires role { FitsLog self.old.role worker.old }
         ensures outcome { MatchResult result
@@ -80,11 +83,14 @@ impl Conn {
             (most_held (holding_of self.new) < most_held (holding_of self.old))
             ((self.old.waiting ≡ None) × (self.new ≡ self.old))) }
         ensures keeps { KeepsStreams self.old self.new worker.old worker.new }
+        ensures tally { HasCounted self.old.past.requests self.new.past.requests tally.old
+            tally.new }
     {
         match self.waiting.take() {
             Some(request) => {
                 let ends = ends_stream(&request);
-                respond(&self.role, request, &mut self.queue, worker, gate)?;
+                let (queue, past) = (&mut self.queue, &mut self.past);
+                respond(&self.role, request, queue, worker, gate, past, tally)?;
                 self.is_over |= ends;
                 Ok(true)
             }
@@ -99,6 +105,7 @@ impl Conn {
         until_done: bool,
         worker: &mut Worker<'_>,
         gate: &mut G,
+        tally: &mut Tally,
     ) -> Result<bool, Fault>
         requires role { FitsLog self.old.role worker.old }
         ensures outcome { MatchResult result
@@ -113,6 +120,8 @@ impl Conn {
         ensures held { IfOk result
             (λ did. did ≡ false → IsHeldBehind until_done self.new worker.new) }
         ensures keeps { KeepsStreams self.old self.new worker.old worker.new }
+        ensures tally { HasCounted self.old.past.requests self.new.past.requests tally.old
+            tally.new }
     {
         self.look()?;
         if self.queue.len() > QUEUE_BYTES {
@@ -121,7 +130,7 @@ impl Conn {
         if self.is_left(until_done, worker) {
             return Ok(false);
         }
-        self.answer_waiting(worker, gate)
+        self.answer_waiting(worker, gate, tally)
     }
 
     /// Takes whole requests while the queue isn't too long and, if commands are left to the next
@@ -131,6 +140,7 @@ impl Conn {
         until_done: bool,
         worker: &mut Worker<'_>,
         gate: &mut G,
+        tally: &mut Tally,
     ) -> Result<bool, Fault>
         requires role { FitsLog self.old.role worker.old }
         ensures outcome { MatchResult result
@@ -141,9 +151,11 @@ impl Conn {
             Breaks (scene self.old worker.old streams) (scene self.new worker.new streams) fault) }
         ensures held { OnOk result (IsHeldBehind until_done self.new worker.new) }
         ensures keeps { KeepsStreams self.old self.new worker.old worker.new }
+        ensures tally { HasCounted self.old.past.requests self.new.past.requests tally.old
+            tally.new }
     {
         let mut did = false;
-        while self.take_one(until_done, worker, gate)? {
+        while self.take_one(until_done, worker, gate, tally)? {
             did = true;
         }
         Ok(did)

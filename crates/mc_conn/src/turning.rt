@@ -5,10 +5,12 @@ ghost use Rattle.mc_conn.specs.ConnFault.{TellsStarved};
 ghost use Rattle.mc_conn.specs.Ending.{Breaks, Pulls, Stops, Turns, TurnsUntil};
 ghost use Rattle.mc_conn.specs.Parts.{GoesRound, StateIs, TellsOf};
 ghost use Rattle.mc_conn.specs.Owed.{FitsLog};
+ghost use Rattle.mc_conn.specs.Tallying.{HasCounted};
 ghost use Rattle.mc_conn.specs.Turn.{queue_of, scene};
 
 use crate::conn::{Conn, PULL_BYTES, State};
 use crate::queue::Queue;
+use mc_counters::Tally;
 use mc_model::{Fault, WireNo};
 use mc_stream::{Input, Output, push_while_taken};
 use mc_write::refusal_text;
@@ -52,6 +54,7 @@ impl Conn {
         output: &mut O,
         gate: &mut G,
         buffer: &mut [u8; PULL_BYTES],
+        tally: &mut Tally,
     ) -> Result<State, Fault>
         requires role { FitsLog self.old.role worker.old }
         ensures outcome { MatchResult result
@@ -63,10 +66,12 @@ impl Conn {
         ensures pulls { Pulls
             (scene self.old worker.old (both (I.tells input.old) (O.tells output.old)))
             (scene self.new worker.new (both (I.tells input.new) (O.tells output.new))) }
+        ensures tally { HasCounted self.old.past.requests self.new.past.requests tally.old
+            tally.new }
     {
         let first = self.push(output)?;
-        let taken = self.take(until_done, worker, gate)?;
-        let pulled = self.pull_and_take(until_done, worker, input, output, gate, buffer)?;
+        let taken = self.take(until_done, worker, gate, tally)?;
+        let pulled = self.pull_and_take(until_done, worker, input, output, gate, buffer, tally)?;
         let last = self.push(output)?;
         Ok(self.state(until_done, worker, first | taken | pulled | last))
     }
@@ -77,6 +82,7 @@ impl Conn {
     pub fn close<O: Output>(&mut self, fault: Fault, output: &mut O)
         ensures closed { self.new.is_closed ≡ true }
         ensures same { (self.new.role ≡ self.old.role) × (queue_of self.new ≡ queue_of self.old) }
+        ensures past { self.new.past ≡ self.old.past }
         ensures told { TellsOf fault (queue_of self.old) (O.tells output.old) (O.tells output.new) }
     {
         self.is_closed = true;
@@ -94,6 +100,7 @@ impl Conn {
         output: &mut O,
         gate: &mut G,
         buffer: &mut [u8; PULL_BYTES],
+        tally: &mut Tally,
     ) -> Result<State, Fault>
         requires role { FitsLog self.old.role worker.old }
         ensures outcome { self.old.is_closed ≡ false → MatchResult result
@@ -106,6 +113,8 @@ impl Conn {
             (scene self.old worker.old (both (I.tells input.old) (O.tells output.old)))
             (scene self.new worker.new (both (I.tells input.new) (O.tells output.new))) }
         ensures same { (self.new.role ≡ self.old.role) × (worker.new.log ≡ worker.old.log) }
+        ensures tally { HasCounted self.old.past.requests self.new.past.requests tally.old
+            tally.new }
         ensures closed { self.old.is_closed ≡ true → (result ≡ Ok State.Closed)
             × (self.new ≡ self.old) × (worker.new ≡ worker.old)
             × (input.new ≡ input.old) × (output.new ≡ output.old) }
@@ -113,7 +122,7 @@ impl Conn {
         if self.is_closed {
             return Ok(State::Closed);
         }
-        match self.go_round(until_done, worker, input, output, gate, buffer) {
+        match self.go_round(until_done, worker, input, output, gate, buffer, tally) {
             Ok(state) => Ok(state),
             Err(fault) => {
                 self.close(fault, output);
@@ -127,7 +136,7 @@ impl Conn {
     ///
     /// Requests are taken, and bytes pulled, while no more than `QUEUE_BYTES` are queued. Bytes are
     /// pulled only if no whole request is held then, and into the buffer, which the caller may use
-    /// again afterwards.
+    /// again afterwards. The tally counts the requests that get a reply, quiet or not.
     /// A full log is a reply, not an error.
     ///
     /// Each error closes the connection for good; later turns return `Closed` and do nothing.
@@ -141,6 +150,7 @@ impl Conn {
         output: &mut O,
         gate: &mut G,
         buffer: &mut [u8; PULL_BYTES],
+        tally: &mut Tally,
     ) -> Result<State, Fault>
         requires role { FitsLog self.old.role worker.old }
         // What was sent and is queued then is what was queued and what is owed for the requests
@@ -159,11 +169,14 @@ impl Conn {
         ensures takes_all { IfOk result (λ state. state ≢ State.Full) }
         // It is still the same client's, on the same log.
         ensures same { (self.new.role ≡ self.old.role) × (worker.new.log ≡ worker.old.log) }
+        // The tally counts the requests that got a reply, besides what it counted before.
+        ensures tally { HasCounted self.old.past.requests self.new.past.requests tally.old
+            tally.new }
         ensures closed { self.old.is_closed ≡ true → (result ≡ Ok State.Closed)
             × (self.new ≡ self.old) × (worker.new ≡ worker.old)
             × (input.new ≡ input.old) × (output.new ≡ output.old) }
     {
-        self.turn_or_close(false, worker, input, output, gate, buffer)
+        self.turn_or_close(false, worker, input, output, gate, buffer, tally)
     }
 
     /// Makes one turn as `turn` does, but leaves commands to the next log: where the next request is
@@ -178,6 +191,7 @@ impl Conn {
         output: &mut O,
         gate: &mut G,
         buffer: &mut [u8; PULL_BYTES],
+        tally: &mut Tally,
     ) -> Result<State, Fault>
         requires role { FitsLog self.old.role worker.old }
         // As for `turn`; and no request was logged once the worker's log was closing.
@@ -190,10 +204,12 @@ impl Conn {
             (scene self.old worker.old (both (I.tells input.old) (O.tells output.old)))
             (scene self.new worker.new (both (I.tells input.new) (O.tells output.new))) }
         ensures same { (self.new.role ≡ self.old.role) × (worker.new.log ≡ worker.old.log) }
+        ensures tally { HasCounted self.old.past.requests self.new.past.requests tally.old
+            tally.new }
         ensures closed { self.old.is_closed ≡ true → (result ≡ Ok State.Closed)
             × (self.new ≡ self.old) × (worker.new ≡ worker.old)
             × (input.new ≡ input.old) × (output.new ≡ output.old) }
     {
-        self.turn_or_close(true, worker, input, output, gate, buffer)
+        self.turn_or_close(true, worker, input, output, gate, buffer, tally)
     }
 }

@@ -1,7 +1,8 @@
 //! What a line does, and what it must show: rows of acts, one after another.
 use crate::lines::Line;
 use mc_conn::{PULL_BYTES, State};
-use mc_model::Fault;
+use mc_counters::CommandKind;
+use mc_model::{Fault, WireNo};
 use mc_stream::{Pull, Push};
 
 /// More turns than a test needs.
@@ -32,6 +33,12 @@ pub(crate) enum Act<'a> {
     PushedBytes(usize),
     /// The worker has replayed this many entries.
     Replayed(usize),
+    /// Retrievals found this many items, and this many keys had none.
+    Found(u64, u64),
+    /// This many commands of this kind were answered.
+    Commands(CommandKind, u64),
+    /// This many requests got this refusal.
+    Refused(WireNo, u64),
     /// One more pull gives this, and one more push takes this, without the connection.
     Next(Pull, Push),
 }
@@ -77,6 +84,12 @@ impl Line<'_> {
         Ok(is_closed && self.pushed().len() == pushed && self.replayed() == replayed)
     }
 
+    /// Returns whether retrievals found this many items, and this many keys had none.
+    fn found(&self, hits: u64, misses: u64) -> bool {
+        let tally = self.tally();
+        tally.hits == hits && tally.misses == misses
+    }
+
     /// Does this act. Returns whether the line does or shows what it says.
     pub(crate) fn act(&mut self, act: Act) -> Result<bool, Fault> {
         match act {
@@ -94,6 +107,9 @@ impl Line<'_> {
             Act::PushedOf(want) => Ok(want.as_bytes().starts_with(self.pushed())),
             Act::PushedBytes(count) => Ok(self.pushed().len() == count),
             Act::Replayed(count) => Ok(self.replayed() == count),
+            Act::Found(hits, misses) => Ok(self.found(hits, misses)),
+            Act::Commands(kind, count) => Ok(self.tally().of_kind(kind) == count),
+            Act::Refused(refusal, count) => Ok(self.tally().of_refusal(refusal) == count),
             Act::Next(pull, push) => Ok(self.next_pull() == pull && self.next_push() == push),
         }
     }

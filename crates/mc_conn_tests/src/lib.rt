@@ -23,4 +23,6 @@ mod queueing;
 #[cfg(test)]
 mod runs;
 #[cfg(test)]
+mod tallies;
+#[cfg(test)]
 mod tenants;

@@ -5,6 +5,7 @@ ghost use Rattle.uc_log.specs.Passes.{IsUnusedPass};
 
 use crate::acts::Act;
 use mc_conn::{Conn, PULL_BYTES, Role, State};
+use mc_counters::Tally;
 use mc_model::{Fault, Limits, Settings, TenantId};
 use mc_stream::{Input, InputStep, MemoryInput, MemoryOutput, Output, OutputStep, Pull, Push};
 use std::alloc::{AllocError, Global};
@@ -37,12 +38,13 @@ impl Client<'_> {
     }
 }
 
-/// A connection, its input and its output.
+/// A connection, its input and its output, and how its requests were answered.
 #[derive(Drop)]
 pub(crate) struct Wire {
     conn: Conn,
     input: MemoryInput,
     output: MemoryOutput,
+    tally: Tally,
 }
 
 impl Wire {
@@ -54,6 +56,7 @@ impl Wire {
             conn,
             input,
             output,
+            tally: Tally::new(),
         })
     }
 
@@ -100,7 +103,15 @@ fn turn(
     ensures role { wire.new.conn.role ≡ wire.old.conn.role }
     ensures log { worker.new.log ≡ worker.old.log }
 {
-    wire.conn.turn(worker, &mut wire.input, &mut wire.output, &mut Open, buffer)
+    let tally = &mut wire.tally;
+    wire.conn.turn(
+        worker,
+        &mut wire.input,
+        &mut wire.output,
+        &mut Open,
+        buffer,
+        tally,
+    )
 }
 
 /// Makes a turn that leaves commands to the next log, and promises only that the role and the
@@ -114,7 +125,15 @@ fn turn_until(
     ensures role { wire.new.conn.role ≡ wire.old.conn.role }
     ensures log { worker.new.log ≡ worker.old.log }
 {
-    wire.conn.turn_until(worker, &mut wire.input, &mut wire.output, &mut Open, buffer)
+    let tally = &mut wire.tally;
+    wire.conn.turn_until(
+        worker,
+        &mut wire.input,
+        &mut wire.output,
+        &mut Open,
+        buffer,
+        tally,
+    )
 }
 
 impl<'a> Line<'a> {
@@ -143,6 +162,11 @@ impl<'a> Line<'a> {
     /// Closes the connection as after this fault.
     pub(crate) fn close(&mut self, fault: Fault) {
         self.wire.close(fault);
+    }
+
+    /// Returns how the requests of the connection were answered.
+    pub(crate) fn tally(&self) -> Tally {
+        self.wire.tally
     }
 
     /// Returns what was pushed.

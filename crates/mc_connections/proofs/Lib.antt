@@ -5,3 +5,4 @@ pub mod Numbers
 pub mod Servings
 pub mod Turning
 pub mod Workings
+pub mod Tallied

@@ -7,4 +7,5 @@ pub mod Life
 pub mod Moving
 pub mod Serving
 pub mod Waiting
+pub mod Tallying
 pub mod Working

@@ -2,6 +2,7 @@
 ghost use Rattle.std.specs.Prelude.{◌≡◌, ◌<◌, true, false, length, IfOk, MatchResult, Ok};
 ghost use Rattle.mc_conn.specs.Ending.{PullsOnce, Stops};
 ghost use Rattle.mc_conn.specs.Owed.{FitsLog};
+ghost use Rattle.mc_conn.specs.Tallying.{HasCounted};
 ghost use Rattle.mc_conn.specs.Turn.{scene};
 ghost use Rattle.mc_connections.specs.Serving.{HasAtMost, HasComeTo, MovesAt, moved_between, tenant_at, IsServedLater, TakesOrStops, Stands, TurnsOnce};
 ghost use Rattle.mc_connections.specs.Working.{ServesAt, standing};
@@ -14,6 +15,7 @@ use crate::connection::Connection;
 use crate::connections::{Connections, is_among};
 use crate::socket::{SocketInput, SocketOutput};
 use mc_conn::{Conn, PULL_BYTES, Role, State};
+use mc_counters::Tally;
 use mc_model::Fault;
 use mc_stream::{Input, Output, Tape};
 use mio::net::TcpStream;
@@ -25,6 +27,23 @@ use uc_worker::{Gate, Worker};
 /// How many turns a connection gets for one event at most, so that the others get theirs soon: a
 /// turn takes at most a buffer of bytes.
 const TURNS: u32 = 2;
+
+/// How many commands a read is to bring at most, so that a turn is short where they are small.
+const COMMANDS_OF_A_READ: u64 = 64;
+
+/// How many bytes a read takes at most where a connection's commands are small, or not known yet.
+const LEAST_READ: usize = 2_048;
+
+/// Returns how many bytes a connection's next reads take at most, after so many have brought this
+/// many commands: all that there is room for if they have brought none, since a block is on its way.
+fn read_bytes(bytes: u64, commands: u64) -> usize {
+    match bytes.checked_div(commands) {
+        Some(each) => (each.saturating_mul(COMMANDS_OF_A_READ) as usize).clamp(
+            LEAST_READ, PULL_BYTES,
+        ),
+        None => PULL_BYTES,
+    }
+}
 
 /// What serving a connection came to.
 #[derive(Clone, Copy)]
@@ -46,6 +65,7 @@ fn turn_once<I: Input, O: Output, G: Gate>(
     output: &mut O,
     gate: &mut G,
     buffer: &mut [u8; PULL_BYTES],
+    tally: &mut Tally,
 ) -> Result<State, Fault>
     requires { FitsLog conn.old.role worker.old }
     ensures outcome { conn.old.is_closed ≡ false → MatchResult result
@@ -55,6 +75,7 @@ fn turn_once<I: Input, O: Output, G: Gate>(
         (Stops (scene conn.old worker.old (both (I.tells input.old) (O.tells output.old)))
         (scene conn.new worker.new (both (I.tells input.new) (O.tells output.new)))) }
     ensures pulls { PullsOnce (I.tells input.old) (I.tells input.new) }
+    ensures tally { HasCounted conn.old.past.requests conn.new.past.requests tally.old tally.new }
     ensures full { IfOk result (λ state. state ≡ State.Full → until_done ≡ true) }
     ensures role { conn.new.role ≡ conn.old.role }
     ensures closed { conn.old.is_closed ≡ true → (result ≡ Ok State.Closed)
@@ -62,9 +83,9 @@ fn turn_once<I: Input, O: Output, G: Gate>(
         × (input.new ≡ input.old) × (output.new ≡ output.old) }
 {
     if until_done {
-        conn.turn_until(worker, input, output, gate, buffer)
+        conn.turn_until(worker, input, output, gate, buffer, tally)
     } else {
-        conn.turn(worker, input, output, gate, buffer)
+        conn.turn(worker, input, output, gate, buffer, tally)
     }
 }
 
@@ -78,6 +99,7 @@ fn turns<I: Input, O: Output, G: Gate>(
     output: &mut O,
     gate: &mut G,
     buffer: &mut [u8; PULL_BYTES],
+    tally: &mut Tally,
 ) -> State
     requires { FitsLog conn.old.role worker.old }
     ensures served { TakesOrStops
@@ -88,11 +110,12 @@ fn turns<I: Input, O: Output, G: Gate>(
         (scene conn.new worker.new (both (I.tells input.new) (O.tells output.new))) result }
     ensures few { HasAtMost TURNS (I.tells input.old).events (I.tells input.new).events }
     ensures role { conn.new.role ≡ conn.old.role }
+    ensures tally { HasCounted conn.old.past.requests conn.new.past.requests tally.old tally.new }
 {
     // The law from which the clauses on all turns follow.
     mc_conn::laws::turns_add_up();
     for _ in 0..TURNS {
-        match turn_once(until_done, conn, worker, input, output, gate, buffer) {
+        match turn_once(until_done, conn, worker, input, output, gate, buffer, tally) {
             Ok(State::Busy) => {}
             Ok(state) => return state,
             Err(_) => return State::Closed,
@@ -102,7 +125,7 @@ fn turns<I: Input, O: Output, G: Gate>(
 }
 
 impl Connection {
-    /// Makes turns over the connection's stream.
+    /// Makes turns over the connection's stream. The tally counts the requests that get a reply.
     fn serve<G: Gate>(
         &mut self,
         until_done: bool,
@@ -110,11 +133,14 @@ impl Connection {
         gate: &mut G,
         buffer: &mut [u8; PULL_BYTES],
         stops_short: bool,
+        tally: &mut Tally,
     ) -> Served
         requires { FitsLog self.old.conn.role worker.old }
         ensures later { IsServedLater until_done worker.old worker.new self.old self.new
             result.state }
         ensures bytes { result.bytes ≡ moved_between self.old self.new }
+        ensures tally { HasCounted self.old.conn.past.requests self.new.conn.past.requests tally.old
+            tally.new }
     {
         let (came, went) = (self.bytes_received, self.bytes_sent);
         let Connection {
@@ -124,11 +150,13 @@ impl Connection {
             sent,
             bytes_received,
             bytes_sent,
+            most_read,
             is_served,
         } = self;
         *is_served = true;
+        let announced = worker.announced();
         let tape = mem::replace(received, Tape::new());
-        let mut input = SocketInput::resume(stream, stops_short, tape, came);
+        let mut input = SocketInput::resume(stream, *most_read, stops_short, tape, came);
         let tape = mem::replace(sent, Tape::new());
         let mut output = SocketOutput::resume(stream, tape, went);
         let state = turns(
@@ -139,10 +167,13 @@ impl Connection {
             &mut output,
             gate,
             buffer,
+            tally,
         );
         (*received, *bytes_received) = input.into_parts();
         (*sent, *bytes_sent) = output.into_parts();
         let given = bytes_received.saturating_sub(came);
+        let commands = worker.announced().saturating_sub(announced);
+        *most_read = read_bytes(given, commands);
         let bytes = given.saturating_add(bytes_sent.saturating_sub(went));
         Served { state, bytes }
     }
@@ -193,13 +224,14 @@ impl Connections {
             sent: Tape::new(),
             bytes_received: 0,
             bytes_sent: 0,
+            most_read: LEAST_READ,
             is_served: false,
         };
         Admission::Admitted(self.by_key.insert_reserved(connection))
     }
 
-    /// Serves the connection under a key, if there is one. If it has ended it is removed, and its
-    /// stream closes.
+    /// Serves the connection under a key, if there is one, and counts its requests in the tally. If it
+    /// has ended it is removed, and its stream closes.
     pub(crate) fn serve<G: Gate>(
         &mut self,
         until_done: bool,
@@ -209,6 +241,7 @@ impl Connections {
         key: usize,
         stops_short: bool,
         closing: &mut Closing,
+        tally: &mut Tally,
     ) -> Served
         requires { self.old.tenants ≡ length (tenants_of worker.old) }
         ensures serves { ServesAt until_done key result.state (standing worker.old self.old)
@@ -221,7 +254,7 @@ impl Connections {
                 bytes: 0,
             };
         };
-        let served = connection.serve(until_done, worker, gate, buffer, stops_short);
+        let served = connection.serve(until_done, worker, gate, buffer, stops_short, tally);
         if served.state == State::Closed {
             let Some(connection) = self.by_key.try_remove(key) else {
                 unreachable!();

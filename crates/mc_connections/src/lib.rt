@@ -13,6 +13,7 @@ pub use connections::{Connections, is_admin};
 pub use past_connections::PastConnections;
 pub use places::MOST_CONNECTIONS;
 pub use ready_queue::{ReadyQueue, WAKER};
+pub use tallies::Tallies;
 
 pub mod arrival;
 pub mod closing;
@@ -24,4 +25,5 @@ pub mod past_connections;
 pub mod places;
 pub mod ready_queue;
 mod socket;
+pub mod tallies;
 mod waiting;

@@ -10,6 +10,7 @@ ghost use Rattle.uc_worker.specs.Worker.{tenants_of};
 use crate::closing::{Closing, place_of};
 use crate::connections::{Connections, MOST_OF_ALL};
 use crate::places::MOST_CONNECTIONS;
+use crate::tallies::Tallies;
 use crate::waiting::{Next, Waiting};
 use mc_conn::{PULL_BYTES, State};
 use mio::event::Event;
@@ -28,6 +29,8 @@ pub struct ReadyQueue {
     pub connections: Connections,
     /// The streams of connections that have ended.
     pub closing: Closing,
+    /// How the worker has answered the requests of each tenant.
+    pub tallies: Tallies,
     waiting: Waiting,
 }
 
@@ -50,9 +53,11 @@ impl ReadyQueue {
         let waiting = Waiting::new(alloc, tenants)?;
         let connections = Connections::new(alloc, tenants, reserve)?;
         let closing = Closing::new(alloc)?;
+        let tallies = Tallies::new(alloc, tenants)?;
         Ok(ReadyQueue {
             connections,
             closing,
+            tallies,
             waiting,
         })
     }
@@ -97,6 +102,9 @@ impl ReadyQueue {
         let Next { key, stops_short } = next;
         let announced = worker.announced();
         let closing = &mut self.closing;
+        let place = self.tallies.place_of(self.connections.tenant_of(key));
+        let one = &mut self.tallies.all[place];
+        one.is_new = true;
         let served = self.connections.serve(
             until_done,
             worker,
@@ -105,6 +113,7 @@ impl ReadyQueue {
             key,
             stops_short,
             closing,
+            &mut one.tally,
         );
         let commands = worker.announced().saturating_sub(announced);
         self.waiting.charge(commands, served.bytes);

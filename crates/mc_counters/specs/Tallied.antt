@@ -1,7 +1,7 @@
 -- What is counted of requests that were answered; this project's profile, after the counters of
 -- memcached's doc/protocol.txt, "General-purpose statistics". There an item that isn't found is a
 -- miss; so it is here, for each key of a line.
-use Rattle.std.specs.Prelude.{◌≡◌, ℕ, ◌-◌, ◌^◌, ◌<◌, ◌==◌, Bool, false, List, Option, Some, None, count_by, length, min, slice_index, sum_by}
+use Rattle.std.specs.Prelude.{◌≡◌, ℕ, ◌+◌, ◌-◌, ◌^◌, ◌<◌, ◌==◌, Bool, false, List, [], ◌∷◌, Option, Some, None, count_by, length, min, slice_index, sum_by}
 use Rattle.mc_model.specs.declared.reply.Reply.{Reply}
 use Rattle.mc_model.specs.declared.reply.Reply.TheVariants.{Refused, Values}
 use Rattle.mc_counters.specs.Kinds.{place_of_kind, place_of_refusal}
@@ -51,3 +51,17 @@ pub record IsTallyOf (answered : List CountedRequest) (tally : Tally) : Type 0 w
       ≡ capped (count_by (λ one. is_refused place one.reply) answered)
   pub hits : tally.hits ≡ capped (sum_by (λ one. items_found one.reply) answered)
   pub misses : tally.misses ≡ capped (sum_by (λ one. keys_missed one.asked one.reply) answered)
+
+-- the counts that two have together, place by place
+abbrev pub counts_of_both : List ℕ → List ℕ → List ℕ
+counts_of_both (one ∷ ones) (other ∷ others) = capped (one + other) ∷ counts_of_both ones others
+counts_of_both _ _ = []
+
+-- the counts of two tallies together
+abbrev pub tally_of_both : Tally → Tally → Tally
+tally_of_both one other = record {
+  commands = counts_of_both one.commands other.commands;
+  hits = capped (one.hits + other.hits);
+  misses = capped (one.misses + other.misses);
+  refusals = counts_of_both one.refusals other.refusals;
+}

@@ -8,8 +8,14 @@ use mc_model::{Command, Verb, WireNo};
 /// How many kinds of commands there are.
 pub const COMMANDS: usize = 13;
 
+/// How many of them tenants send.
+pub const TENANT_COMMANDS: usize = 12;
+
 /// How many kinds of refusals there are.
 pub const REFUSALS: usize = 11;
+
+/// How many of them requests get.
+pub const REQUEST_REFUSALS: usize = 10;
 
 /// The kind of a command: the name of its line.
 #[derive(Clone, Copy, Debug, PartialEq, Eq)]
@@ -30,8 +36,8 @@ pub enum CommandKind {
     Limit,
 }
 
-/// The kinds of commands, each at its place.
-pub const COMMAND_KINDS: [CommandKind; COMMANDS] = [
+/// The kinds of commands of tenants, each at its place. `Limit` isn't one: an administrator sends it.
+pub const COMMAND_KINDS: [CommandKind; TENANT_COMMANDS] = [
     CommandKind::Get,
     CommandKind::Gets,
     CommandKind::Set,
@@ -44,11 +50,11 @@ pub const COMMAND_KINDS: [CommandKind; COMMANDS] = [
     CommandKind::Incr,
     CommandKind::Decr,
     CommandKind::Flush,
-    CommandKind::Limit,
 ];
 
-/// The kinds of refusals, each at its place.
-pub const REFUSAL_KINDS: [WireNo; REFUSALS] = [
+/// The kinds of refusals that requests get, each at its place. `OUT_OF_MEMORY` isn't one: whoever gets
+/// it is told so in place of a reply, and no request is counted then.
+pub const REFUSAL_KINDS: [WireNo; REQUEST_REFUSALS] = [
     WireNo::E1,
     WireNo::E2,
     WireNo::E3,
@@ -59,7 +65,6 @@ pub const REFUSAL_KINDS: [WireNo; REFUSALS] = [
     WireNo::E8,
     WireNo::E9,
     WireNo::E10,
-    WireNo::E11,
 ];
 
 impl CommandKind {

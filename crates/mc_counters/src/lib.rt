@@ -8,8 +8,10 @@ pub use board::{
     new_log_board,
 };
 pub use kinds::{Asked, COMMAND_KINDS, CommandKind, REFUSAL_KINDS};
+pub use past_requests::PastRequests;
 pub use tally::Tally;
 
 pub mod board;
 pub mod kinds;
+pub mod past_requests;
 pub mod tally;

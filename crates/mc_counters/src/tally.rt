@@ -1,8 +1,8 @@
 //! Numbers of requests.
-ghost use Rattle.std.specs.Prelude.{◌≡◌, ◌<◌, [], ◌∷◌, List, length, slice_index};
+ghost use Rattle.std.specs.Prelude.{◌≡◌, ◌<◌, [], ◌∷◌, ◌++◌, List, length, slice_index};
 ghost use Rattle.mc_counters.specs.Kinds.{place_of_kind, place_of_refusal};
 ghost use Rattle.mc_counters.specs.Steps.{more_at, counts_with_command, counts_with_reply};
-ghost use Rattle.mc_counters.specs.Tallied.{CountedRequest, IsTallyOf, items_found, keys_missed, keys_wanted};
+ghost use Rattle.mc_counters.specs.Tallied.{CountedRequest, IsTallyOf, counts_of_both, items_found, keys_missed, keys_wanted, tally_of_both};
 
 use crate::kinds::{Asked, COMMANDS, CommandKind, REFUSALS, refusal_place};
 use mc_model::{Reply, WireNo};
@@ -26,6 +26,16 @@ fn count_at(counts: &mut [u64], place: usize)
     ensures { counts.new ≡ more_at counts.old place }
 {
     counts[place] = counts[place].saturating_add(1);
+}
+
+/// Adds to each count the one at the same place.
+fn add_counts(counts: &mut [u64], others: &[u64])
+    requires { length counts.old ≡ length others.now }
+    ensures { counts.new ≡ counts_of_both counts.old others.now }
+{
+    for place in 0..others.len() {
+        counts[place] = counts[place].saturating_add(others[place]);
+    }
 }
 
 /// Returns how many items a reply shows.
@@ -103,6 +113,39 @@ impl Tally {
         self.count_refusal(reply);
         self.hits = self.hits.saturating_add(found_in(reply));
         self.misses = self.misses.saturating_add(missed_in(asked, reply));
+    }
+
+    /// Adds the commands that another tally counts.
+    fn add_commands(&mut self, other: &Tally)
+        ensures counts { self.new ≡ record self.old
+            { commands = counts_of_both self.old.commands other.now.commands } }
+        ensures long { (length self.old.commands ≡ COMMANDS)
+            × (length other.now.commands ≡ COMMANDS) }
+    {
+        add_counts(&mut self.commands, &other.commands);
+    }
+
+    /// Adds the refusals that another tally counts.
+    fn add_refusals(&mut self, other: &Tally)
+        ensures counts { self.new ≡ record self.old
+            { refusals = counts_of_both self.old.refusals other.now.refusals } }
+        ensures long { (length self.old.refusals ≡ REFUSALS)
+            × (length other.now.refusals ≡ REFUSALS) }
+    {
+        add_counts(&mut self.refusals, &other.refusals);
+    }
+
+    /// Counts what another tally counts too.
+    pub fn add(&mut self, other: &Tally)
+        ensures both { self.new ≡ tally_of_both self.old other.now }
+        // What either counted is counted now.
+        ensures counts { (first second : List CountedRequest) → IsTallyOf first self.old →
+            IsTallyOf second other.now → IsTallyOf (first ++ second) self.new }
+    {
+        self.add_commands(other);
+        self.add_refusals(other);
+        self.hits = self.hits.saturating_add(other.hits);
+        self.misses = self.misses.saturating_add(other.misses);
     }
 
     /// Returns how many commands of a kind were answered.

@@ -1,8 +1,10 @@
 -- What a scrape shows of a server whose workers show this; this project's profile. Each worker has
 -- tables of its own, and those of the one that has come furthest are the latest.
-use Rattle.std.specs.Prelude.{◌≡◌, ◌==◌, ◌<◌, ◌≤◌, ◌⊎◌, ◌+◌, ◌-◌, ℕ, List, [], ◌∷◌, All, Contains, false, if◌then◌else◌, min, slice_get, unwrap_or}
+use Rattle.std.specs.Prelude.{◌≡◌, ◌==◌, ◌<◌, ◌≤◌, ◌⊎◌, ◌+◌, ◌-◌, ℕ, List, [], ◌∷◌, All, Contains, if◌then◌else◌, min, slice_get, unwrap_or}
+use Rattle.mc_counters.specs.Tallied.{tally_of_both}
 use Rattle.mc_counters.specs.declared.board.TenantShown.{TenantShown}
 use Rattle.mc_counters.specs.declared.board.WorkerShown.{WorkerShown}
+use Rattle.mc_counters.specs.declared.tally.Tally.{Tally}
 use Rattle.mc_metrics.specs.declared.gathering.ServerShown.{ServerShown}
 use Rattle.mc_metrics.specs.declared.gathering.Shown.{Shown}
 use Rattle.mc_metrics.specs.declared.gathering.TheConstants.{NOTHING, NO_TALLY}
@@ -42,7 +44,17 @@ connections_shown number (first ∷ rest) =
     min ((tenant_shown number first).connections + connections_shown number rest)
     18446744073709551615
 
--- the numbers of a tenant: those of its table at this worker, and its connections at all
+-- how a worker shows that it has answered the requests of the tenant of this number
+abbrev pub tally_at : ℕ → Shown → Tally
+tally_at number shown = unwrap_or (slice_get shown.tallies.items number) NO_TALLY
+
+-- how these workers together have answered the requests of the tenant
+abbrev pub tally_shown : ℕ → List Shown → Tally
+tally_shown number [] = NO_TALLY
+tally_shown number (first ∷ rest) =
+    tally_of_both (tally_at number first) (tally_shown number rest)
+
+-- the numbers of a tenant: those of its table at this worker, and its connections and requests at all
 abbrev pub tenant_numbers : List Shown → Shown → ℕ → List ℕ → TenantNumbers
 tenant_numbers workers leader number name = record {
   name = name;
@@ -50,7 +62,7 @@ tenant_numbers workers leader number name = record {
   bytes = (tenant_shown number leader).bytes;
   quotas = (tenant_shown number leader).quotas;
   connections = connections_shown number workers;
-  tally = NO_TALLY;
+  tally = tally_shown number workers;
 }
 
 -- the numbers of tenants, which are numbered from this number on
@@ -82,8 +94,8 @@ log_shown shown leader = record {
   turn_over_micros = shown.logs.turn_over_micros;
 }
 
--- The snapshot has the numbers of the tenants with these names, as the worker shows their tables that
--- has come furthest; requests aren't counted.
+-- The snapshot has the numbers of the tenants with these names: as the worker shows their tables that
+-- has come furthest, and of their requests to all workers.
 pub record Gathers (names : List (List ℕ)) (shown : ServerShown) (snapshot : Snapshot) : Type 0 where
   pub leader : Shown
   pub furthest : IsFurthest shown.workers.items leader
@@ -93,4 +105,3 @@ pub record Gathers (names : List (List ℕ)) (shown : ServerShown) (snapshot : S
       shown.workers.items
   pub log : snapshot.log ≡ log_shown shown leader.worker
   pub memory : snapshot.resident_bytes ≡ shown.resident_bytes
-  pub counts : snapshot.counts_requests ≡ false

@@ -1,6 +1,6 @@
 -- The metrics that a scrape gets of the numbers of a server. Their names keep Prometheus' "Metric
 -- and label naming": a prefix, base units, and `_total` for what only grows.
-use Rattle.std.specs.Prelude.{ℕ, ◌/◌, ◌%◌, ◌+◌, List, [], ◌∷◌, ◌++◌, Option, Some, None, codes, decimal, flat_map, if◌then◌else◌, slice_index}
+use Rattle.std.specs.Prelude.{ℕ, ◌/◌, ◌%◌, ◌+◌, List, [], ◌∷◌, ◌++◌, Option, Some, None, codes, decimal, flat_map, slice_index}
 use Rattle.mc_model.specs.declared.reply.WireNo.{WireNo}
 use Rattle.mc_model.specs.declared.reply.WireNo.TheVariants.{E1, E2, E3, E4, E5, E6, E7, E8, E9, E10, E11}
 use Rattle.mc_counters.specs.Kinds.{place_of_kind, place_of_refusal}
@@ -16,7 +16,7 @@ use Rattle.mc_metrics.specs.declared.metric.TenantMetric.{TenantMetric}
 use Rattle.mc_metrics.specs.declared.metric.TenantMetric.TheVariants.{Items, Bytes, ItemQuota, ByteQuota, Hits, Misses, Connections}
 use Rattle.mc_metrics.specs.declared.metric.WorkerMetric.{WorkerMetric}
 use Rattle.mc_metrics.specs.declared.metric.WorkerMetric.TheVariants as worker
-use Rattle.mc_metrics.specs.declared.metric.TheConstants.{LOGIC, METRICS, TURN_OVER_COUNT, TURN_OVER_SUM, UNCOUNTED_METRICS, VERSION}
+use Rattle.mc_metrics.specs.declared.metric.TheConstants.{LOGIC, METRICS, TURN_OVER_COUNT, TURN_OVER_SUM, VERSION}
 use Rattle.mc_metrics.specs.declared.snapshot.LogNumbers.{LogNumbers}
 use Rattle.mc_metrics.specs.declared.snapshot.Snapshot.{Snapshot}
 use Rattle.mc_metrics.specs.declared.snapshot.TenantNumbers.{TenantNumbers}
@@ -202,10 +202,6 @@ metric_text snapshot metric =
     head_lines (metric_name metric) (metric_help metric) (metric_type metric)
     ++ samples_of snapshot metric
 
--- the metrics that are shown: all, but none that counts requests where these aren't counted
-abbrev pub metrics_of : Snapshot → List Metric
-metrics_of snapshot = if snapshot.counts_requests then METRICS else UNCOUNTED_METRICS
-
--- what a scrape gets: these metrics
+-- what a scrape gets: all metrics
 unfoldable pub metrics_text : Snapshot → List ℕ
-metrics_text snapshot = flat_map (metric_text snapshot) (metrics_of snapshot)
+metrics_text snapshot = flat_map (metric_text snapshot) METRICS

@@ -4,8 +4,8 @@ ghost use Rattle.mc_metrics.specs.Exposition.{comment_line, head_lines, label_te
 ghost use Rattle.mc_metrics.specs.Metrics.{build_sample, command_sample, metric_help, metric_text, metrics_text, metric_name, refusal_sample, samples_of, seconds_text, server_sample, tenant_label, tenant_sample, turn_over_samples, metric_type, worker_sample};
 
 use crate::metric::{
-    LOGIC, METRICS, Metric, ServerMetric, TURN_OVER_COUNT, TURN_OVER_SUM, TenantMetric,
-    UNCOUNTED_METRICS, VERSION, WorkerMetric, command_label, refusal_label,
+    LOGIC, METRICS, Metric, ServerMetric, TURN_OVER_COUNT, TURN_OVER_SUM, TenantMetric, VERSION,
+    WorkerMetric, command_label, refusal_label,
 };
 use crate::snapshot::{LogNumbers, Snapshot, TenantNumbers, WorkerNumbers};
 use itoa::Buffer;
@@ -399,17 +399,12 @@ fn write_each(metrics: &[Metric], snapshot: &Snapshot, out: &mut Vec<u8>) -> Res
     Ok(())
 }
 
-/// Appends the metrics of a snapshot, as a scrape gets them: all of them if requests are counted, and
-/// otherwise those that count none.
+/// Appends the metrics of a snapshot, as a scrape gets them.
 ///
 /// Returns an error if memory runs out; some of the text may be there then.
 #[tactic(auto, unfolding(crate::specs::Metrics::metrics_text))]
 pub fn write_metrics(snapshot: &Snapshot, out: &mut Vec<u8>) -> Result<(), AllocError>
     ensures { OnOk result (out.new.items ≡ out.old.items ++ metrics_text snapshot.now) }
 {
-    if snapshot.counts_requests {
-        write_each(&METRICS, snapshot, out)
-    } else {
-        write_each(&UNCOUNTED_METRICS, snapshot, out)
-    }
+    write_each(&METRICS, snapshot, out)
 }

@@ -1,7 +1,7 @@
 //! The numbers of a server at one time, by what its workers show.
 ghost use Rattle.std.specs.Option.{MatchOption};
 ghost use Rattle.std.specs.Prelude.{◌≡◌, ◌++◌, ◌↔◌, ◌<◌, [], IfOk, IsTrue, OnOk, length};
-ghost use Rattle.mc_metrics.specs.Gathering.{Gathers, IsFurthest, IsNoFurther, connections_shown, kept_in, log_shown, replayed_in, tenant_numbers, tenant_shown, tenants_shown, workers_shown};
+ghost use Rattle.mc_metrics.specs.Gathering.{Gathers, IsFurthest, IsNoFurther, connections_shown, kept_in, log_shown, replayed_in, tally_at, tally_shown, tenant_numbers, tenant_shown, tenants_shown, workers_shown};
 
 use crate::snapshot::{LogNumbers, Snapshot, TenantNumbers, WorkerNumbers};
 use mc_counters::{LogShown, Tally, TenantShown, WorkerShown};
@@ -14,6 +14,8 @@ pub struct Shown {
     pub worker: WorkerShown,
     /// By the tenants' numbers.
     pub tenants: Vec<TenantShown>,
+    /// How the worker has answered the requests of each tenant, by the tenants' numbers.
+    pub tallies: Vec<Tally>,
 }
 
 /// What a server shows, with as many places in each log.
@@ -34,7 +36,7 @@ pub(crate) const NOTHING: TenantShown = TenantShown {
     quotas: Limits { items: 0, bytes: 0 },
 };
 
-/// The tally of a tenant whose requests aren't counted.
+/// The tally of a tenant that a worker doesn't know.
 pub(crate) const NO_TALLY: Tally = Tally {
     commands: [0; 13],
     hits: 0,
@@ -106,6 +108,13 @@ impl Shown {
     {
         self.tenants.get(number).copied().unwrap_or(NOTHING)
     }
+
+    /// Returns how the worker shows that it has answered the requests of the tenant of this number.
+    fn tally(&self, number: usize) -> Tally
+        ensures { result ≡ tally_at number self.now }
+    {
+        self.tallies.get(number).copied().unwrap_or(NO_TALLY)
+    }
 }
 
 /// Returns how many connections of the tenant of this number these workers serve, `u64::MAX` at most.
@@ -121,8 +130,22 @@ fn connections_of(number: usize, workers: &[Shown]) -> u64
     }
 }
 
+/// Returns how these workers together have answered the requests of the tenant of this number.
+fn tally_of(number: usize, workers: &[Shown]) -> Tally
+    ensures { result ≡ tally_shown number workers.now }
+{
+    match workers {
+        [] => NO_TALLY,
+        [first, rest @ ..] => {
+            let mut tally = first.tally(number);
+            tally.add(&tally_of(number, rest));
+            tally
+        }
+    }
+}
+
 /// Returns the numbers of a tenant: of its table as the leader shows it, and of its connections to all
-/// workers.
+/// workers and its requests.
 ///
 /// Returns `Memory` if memory runs out.
 fn numbers_of(
@@ -145,7 +168,7 @@ fn numbers_of(
         bytes: table.bytes,
         quotas: table.quotas,
         connections: connections_of(number, workers),
-        tally: NO_TALLY,
+        tally: tally_of(number, workers),
     })
 }
 
@@ -215,8 +238,8 @@ fn log_numbers(shown: &ServerShown, leader: &WorkerShown) -> LogNumbers
 }
 
 /// Returns the numbers of a server whose tenants have these names, in their order: of the tables as
-/// the worker shows them that has come furthest. Without a worker no tenant is shown. Requests aren't
-/// counted.
+/// the worker shows them that has come furthest, and of the requests to all workers. Without a worker
+/// no tenant is shown.
 ///
 /// Returns `Memory` if memory runs out.
 pub fn snapshot_of(alloc: Global, names: &[Name], shown: &ServerShown) -> Result<Snapshot, Fault>
@@ -233,7 +256,6 @@ pub fn snapshot_of(alloc: Global, names: &[Name], shown: &ServerShown) -> Result
             workers,
             log,
             resident_bytes,
-            counts_requests: false,
         });
     };
     let log = log_numbers(shown, &leader.worker);
@@ -245,6 +267,5 @@ pub fn snapshot_of(alloc: Global, names: &[Name], shown: &ServerShown) -> Result
         workers,
         log,
         resident_bytes,
-        counts_requests: false,
     })
 }

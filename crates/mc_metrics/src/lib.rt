@@ -10,7 +10,7 @@
 pub use answering::Scrape;
 pub use exposition::write_metrics;
 pub use gathering::{ServerShown, Shown, snapshot_of};
-pub use metric::{METRICS, Metric, ServerMetric, TenantMetric, UNCOUNTED_METRICS, WorkerMetric};
+pub use metric::{METRICS, Metric, ServerMetric, TenantMetric, WorkerMetric};
 pub use snapshot::{LogNumbers, Snapshot, TenantNumbers, WorkerNumbers};
 
 pub mod answering;

@@ -51,7 +51,7 @@ pub enum Metric {
     Build,
 }
 
-/// All metrics, in the order in which they are written where requests are counted.
+/// All metrics, in the order in which they are written.
 pub const METRICS: [Metric; 18] = [
     Metric::OfTenant(TenantMetric::Items),
     Metric::OfTenant(TenantMetric::Bytes),
@@ -61,25 +61,6 @@ pub const METRICS: [Metric; 18] = [
     Metric::OfTenant(TenantMetric::Hits),
     Metric::OfTenant(TenantMetric::Misses),
     Metric::Refusals,
-    Metric::OfTenant(TenantMetric::Connections),
-    Metric::OfWorker(WorkerMetric::Lag),
-    Metric::OfWorker(WorkerMetric::Connections),
-    Metric::OfServer(ServerMetric::Places),
-    Metric::OfServer(ServerMetric::UsedPlaces),
-    Metric::OfServer(ServerMetric::LogBytes),
-    Metric::OfServer(ServerMetric::Generation),
-    Metric::TurnOvers,
-    Metric::OfServer(ServerMetric::ResidentBytes),
-    Metric::Build,
-];
-
-/// The metrics that count no requests, in the order in which they are written where requests aren't
-/// counted.
-pub const UNCOUNTED_METRICS: [Metric; 14] = [
-    Metric::OfTenant(TenantMetric::Items),
-    Metric::OfTenant(TenantMetric::Bytes),
-    Metric::OfTenant(TenantMetric::ItemQuota),
-    Metric::OfTenant(TenantMetric::ByteQuota),
     Metric::OfTenant(TenantMetric::Connections),
     Metric::OfWorker(WorkerMetric::Lag),
     Metric::OfWorker(WorkerMetric::Connections),

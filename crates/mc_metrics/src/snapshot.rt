@@ -13,7 +13,7 @@ pub struct TenantNumbers {
     pub quotas: Limits,
     /// How many connections the tenant has now.
     pub connections: u64,
-    /// How its requests were answered since the server began, if requests are counted.
+    /// How its requests were answered since the server began.
     pub tally: Tally,
 }
 
@@ -51,6 +51,4 @@ pub struct Snapshot {
     pub log: LogNumbers,
     /// How many bytes of memory the process has resident, if the system says so.
     pub resident_bytes: Option<u64>,
-    /// Requests are counted. Where they aren't, no metric is shown that counts them.
-    pub counts_requests: bool,
 }

@@ -10,7 +10,7 @@ ghost use Rattle.uc_worker.specs.declared.worker.Worker.{Worker};
 use crate::ended::Ended;
 use crate::halt::Halt;
 use crate::mailbox::{Mailboxes, Offer, Signal};
-use crate::publishing::publish;
+use crate::publishing::{publish, publish_tallies};
 use mc_conn::PULL_BYTES;
 use mc_connections::{Admission, MOST_CONNECTIONS, PastConnections, ReadyQueue};
 use mc_counters::Publisher;
@@ -227,6 +227,8 @@ impl EventLoop {
         let is_woken = self
             .ready
             .serve_round(until_done, worker, gate, buffer, events)?;
+        let tenants = self.ready.connections.tenants();
+        publish_tallies(&mut self.publisher, tenants, &mut self.ready.tallies);
         self.ready.closing.register_new(self.poll.registry());
         if passes_stride(known, worker.history().len()) {
             mailboxes.wake_others(number);

@@ -2,7 +2,7 @@
 ghost use Rattle.std.specs.Prelude.{◌≡◌, length};
 ghost use Rattle.uc_worker.specs.Worker.{tenants_of};
 
-use mc_connections::Connections;
+use mc_connections::{Connections, Tallies};
 use mc_counters::{Publisher, TenantShown};
 use mc_model::TenantId;
 use uc_worker::Worker;
@@ -35,5 +35,25 @@ pub(crate) fn publish(
             quotas: table.limits(),
         };
         publisher.show_tenant(tenant, &shown);
+    }
+}
+
+/// Shows how the worker has answered the requests of the tenants whose connections were served since
+/// this was last done, if there is a publisher. Takes no lock and makes no call of the system.
+pub(crate) fn publish_tallies(
+    publisher: &mut Option<Publisher>,
+    tenants: usize,
+    tallies: &mut Tallies,
+) {
+    let Some(publisher) = publisher else {
+        return;
+    };
+    for number in 0..tenants {
+        let Some(tenant) = u8::try_from(number).ok().and_then(TenantId::new) else {
+            return;
+        };
+        if let Some(tally) = tallies.take_new(number) {
+            publisher.show_tally(tenant, &tally);
+        }
     }
 }

@@ -98,7 +98,7 @@ fn serve_last<R: Threads + Wait + Sync>(
     Ok(ended)
 }
 
-/// Serves `connections` connections of tenants over two logs of so many places, by as many workers
+/// Serves `connections` connections of tenants over two logs of this many places, by as many workers
 /// as there are gates, which hold them on the first log only. Returns how serving each log ended.
 ///
 /// Returns `BadEvent` if serving a log didn't begin exactly once, or the first log wasn't full.
@@ -155,7 +155,7 @@ struct Outcome {
     ended: Result<(Ended, Ended), Fault>,
 }
 
-/// Serves the clients over two logs of so many places while they act. The first worker is held by
+/// Serves the clients over two logs of this many places while they act. The first worker is held by
 /// the signals if it is to be.
 fn outcome_of<R>(
     rt: &R,

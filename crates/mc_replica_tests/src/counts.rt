@@ -1,28 +1,65 @@
 //! Of requests of every kind each number is counted once, and what is published is shown.
 use mc_counters::{
-    Asked, COMMAND_KINDS, CommandKind, LogShown, REFUSAL_KINDS, Tally, TenantShown, WorkerShown,
-    new_board, new_log_board,
+    Asked, Board, COMMAND_KINDS, CommandKind, LogBoard, LogPublisher, LogShown, Publisher,
+    REFUSAL_KINDS, Tally, TenantShown, WorkerShown, new_board, new_log_board,
 };
 use mc_model::{Command, Key, Limits, Reply, TenantId};
+use std::alloc::{AllocError, Global};
 use std::test::Fail;
 
+/// Counts a request of each kind of command.
+fn count_commands(tally: &mut Tally) {
+    for kind in &COMMAND_KINDS {
+        let asked = Asked {
+            kind: *kind,
+            keys: 0,
+        };
+        tally.count(&Some(asked), &Reply::Ok);
+    }
+}
+
+/// Counts a request for each kind of refusal.
+fn count_refusals(tally: &mut Tally) {
+    for refusal in &REFUSAL_KINDS {
+        tally.count(&None, &Reply::Refused(*refusal));
+    }
+}
+
+/// Returns whether one command of each kind is counted.
+fn has_each_command(tally: &Tally) -> bool {
+    COMMAND_KINDS.iter().all(|kind| tally.of_kind(*kind) == 1)
+}
+
+/// Returns whether one refusal of each kind is counted.
+fn has_each_refusal(tally: &Tally) -> bool {
+    REFUSAL_KINDS
+        .iter()
+        .all(|refusal| tally.of_refusal(*refusal) == 1)
+}
+
+fn has_one_of_each(tally: &Tally) -> bool {
+    has_each_command(tally) && has_each_refusal(tally) && tally.hits == 0 && tally.misses == 0
+}
+
 #[test]
-fn counts_a_request_of_each_kind(rt: HostRuntime) -> Result<(), Fail> {
+fn counts_a_request_of_each_kind(rt: HostRuntime) {
     let mut tally = Tally::new();
-    for kind in COMMAND_KINDS {
-        tally.count(&Some(Asked { kind, keys: 0 }), &Reply::Ok);
-    }
-    for refusal in REFUSAL_KINDS {
-        tally.count(&None, &Reply::Refused(refusal));
-    }
-    for kind in COMMAND_KINDS {
-        assert!(rt; tally.of_kind(kind) == 1);
-    }
-    for refusal in REFUSAL_KINDS {
-        assert!(rt; tally.of_refusal(refusal) == 1);
-    }
-    assert!(rt; tally.hits == 0 && tally.misses == 0);
-    Ok(())
+    count_commands(&mut tally);
+    count_refusals(&mut tally);
+    assert!(rt; has_one_of_each(&tally));
+}
+
+/// Returns what a command asks for.
+fn asked_by(command: Command) -> Asked {
+    let asked = Asked::by(&command);
+    // A local enum that its block drops is proved variant by variant.
+    drop(command);
+    asked
+}
+
+fn is_asked(command: Command, kind: CommandKind) -> bool {
+    let asked = asked_by(command);
+    asked.kind == kind && asked.keys == 0
 }
 
 #[test]
@@ -30,9 +67,8 @@ fn reads_what_a_command_asks_for(rt: HostRuntime) -> Result<(), Fail> {
     let Some(key) = Key::new(rt.alloc(), b"k")? else {
         return Ok(());
     };
-    let asked = Asked::by(&Command::Delete { key });
-    assert!(rt; asked.kind == CommandKind::Delete && asked.keys == 0);
-    assert!(rt; CommandKind::of(&Command::Flush) == CommandKind::Flush);
+    assert!(rt; is_asked(Command::Delete { key }, CommandKind::Delete));
+    assert!(rt; is_asked(Command::Flush, CommandKind::Flush));
     Ok(())
 }
 
@@ -74,37 +110,71 @@ fn are_alike(one: &Tally, other: &Tally) -> bool {
         && one.misses == other.misses
 }
 
-#[test]
-fn shows_what_is_published(rt: HostRuntime) -> Result<(), Fail> {
-    let (mut log_publisher, log_board) = new_log_board(rt.alloc())?;
-    let (mut publisher, board) = new_board(rt.alloc(), 2, &log_board)?;
-    let (Some(first), Some(second)) = (TenantId::new(0), TenantId::new(1)) else {
-        return Ok(());
-    };
-    log_publisher.show_generation(7);
-    log_publisher.count_turn_over(40);
-    log_publisher.count_turn_over(2);
-    for (tenant, number) in [(first, 100), (second, 200)] {
-        publisher.show_tenant(tenant, &shown_of(number));
-        publisher.show_tally(tenant, &tally_of(number));
+/// Shows the generation of the log, and how long two turn overs took.
+fn publish_log(publisher: &mut LogPublisher) {
+    publisher.show_generation(7);
+    publisher.count_turn_over(40);
+    publisher.count_turn_over(2);
+}
+
+/// Two tenants, and the first of the numbers that are shown of each.
+type Tenants = [(TenantId, u64); 2];
+
+fn tenants() -> Option<Tenants> {
+    Some([(TenantId::new(0)?, 100), (TenantId::new(1)?, 200)])
+}
+
+fn publish(publisher: &mut Publisher, tenants: &Tenants) {
+    for (tenant, number) in tenants {
+        publisher.show_tenant(*tenant, &shown_of(*number));
+        publisher.show_tally(*tenant, &tally_of(*number));
     }
     publisher.show_worker(1, 2, 3);
-    for (tenant, number) in [(first, 100), (second, 200)] {
-        assert!(rt; board.tenant(tenant) == shown_of(number));
-        assert!(rt; are_alike(&board.tally(tenant), &tally_of(number)));
-    }
+}
+
+/// Returns whether the numbers of this tenant are shown.
+fn shows_tenant(board: &Board, tenant: TenantId, number: u64) -> bool {
+    board.tenant(tenant) == shown_of(number) && are_alike(&board.tally(tenant), &tally_of(number))
+}
+
+fn shows_worker(board: &Board) -> bool {
     let wanted = WorkerShown {
         generation: 7,
         replayed: 1,
         bytes: 2,
         connections: 3,
     };
-    assert!(rt; board.worker() == wanted);
+    board.worker() == wanted
+}
+
+fn shows_log(board: &LogBoard) -> bool {
     let wanted = LogShown {
         generation: 7,
         turn_overs: 2,
         turn_over_micros: 42,
     };
-    assert!(rt; log_board.logs() == wanted);
-    Ok(())
+    board.logs() == wanted
+}
+
+fn shows_tenants(board: &Board, tenants: &Tenants) -> bool {
+    tenants
+        .iter()
+        .all(|(tenant, number)| shows_tenant(board, *tenant, *number))
+}
+
+/// Returns whether what is published of these tenants is shown.
+fn is_published(alloc: Global, tenants: &Tenants) -> Result<bool, AllocError> {
+    let (mut log_publisher, log_board) = new_log_board(alloc)?;
+    let (mut publisher, board) = new_board(alloc, 2, &log_board)?;
+    publish_log(&mut log_publisher);
+    publish(&mut publisher, tenants);
+    Ok(shows_tenants(&board, tenants) && shows_worker(&board) && shows_log(&log_board))
+}
+
+#[test]
+fn shows_what_is_published(rt: HostRuntime) {
+    let Some(tenants) = tenants() else {
+        return;
+    };
+    assert!(rt; is_published(rt.alloc(), &tenants) == Ok(true));
 }

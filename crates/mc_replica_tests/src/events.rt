@@ -222,10 +222,13 @@ pub(crate) fn stepped(alloc: Global, core: &mut Core, text: &str) -> Result<Vec<
     Ok(said)
 }
 
+/// What a run has given: each reply with its worker and the place of its command in the log.
+pub(crate) type Replies = Vec<(WorkerId, u64, Reply<'static>)>;
+
 /// Returns what a core answers to one run of all these events.
 pub(crate) fn ran(alloc: Global, core: &mut Core, text: &str) -> Result<Vec<u8>, Fault> {
     let events = events_of(alloc, text)?;
-    let mut replies = Vec::new(alloc);
+    let mut replies: Replies = Vec::new(alloc);
     if core.run(&events, &mut replies).is_err() {
         return Err(Fault::BadEvent);
     }

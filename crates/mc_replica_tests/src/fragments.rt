@@ -2,9 +2,9 @@
 ghost use Rattle.std.specs.Io.{StartsWith};
 ghost use Rattle.std.specs.Prelude.{◌≡◌, ◌++◌, OnOk};
 
-use mc_model::{Data, Fault, Fragments, Key, Reply, Sink, Value, ValueList};
+use crate::values::key_of;
+use mc_model::{Data, Fault, Fragments, Reply, Sink, Value, ValueList};
 use std::alloc::{AllocError, Global};
-use std::test::Fail;
 
 /// What a sink has taken, and in how many blocks.
 #[derive(Drop)]
@@ -39,67 +39,140 @@ fn two<'a>(alloc: Global, front: &'a Data, back: &'a Data) -> Result<Fragments<'
     Ok(joined)
 }
 
-#[test]
-fn joins_with_ample_memory(rt: HostRuntime) -> Result<(), Fail> {
-    let one = block_of(rt.alloc(), "ab")?;
-    let two = block_of(rt.alloc(), "c")?;
-    let three = block_of(rt.alloc(), "def")?;
-    let want = block_of(rt.alloc(), "abcdef")?;
-    let mut joined = Fragments::new(&two);
-    if joined.len() + three.as_bytes().len() <= 100 {
-        joined.append(rt.alloc(), &three)?;
+/// Appends a block if the data stay below 100 bytes.
+fn append<'a>(alloc: Global, joined: &mut Fragments<'a>, block: &'a Data) -> Result<(), Fault> {
+    if joined.len() + block.as_bytes().len() <= 100 {
+        joined.append(alloc, block)?;
     }
-    if joined.len() + one.as_bytes().len() <= 100 {
-        joined.prepend(rt.alloc(), &one)?;
-    }
-    assert!(rt; joined.to_data(rt.alloc())? == want);
-    joined.join(rt.alloc())?;
-    assert!(rt; joined.to_data(rt.alloc())? == want);
-    if joined.len() + one.as_bytes().len() <= 100 {
-        joined.append(rt.alloc(), &one)?;
-    }
-    assert!(rt; joined.shared(rt.alloc())? == joined);
-    assert!(rt; joined.len() == 8);
     Ok(())
 }
 
+/// Prepends a block if the data stay below 100 bytes.
+fn prepend<'a>(alloc: Global, joined: &mut Fragments<'a>, block: &'a Data) -> Result<(), Fault> {
+    if joined.len() + block.as_bytes().len() <= 100 {
+        joined.prepend(alloc, block)?;
+    }
+    Ok(())
+}
+
+/// Returns whether the data are those of this block.
+fn are_data(alloc: Global, joined: &Fragments<'_>, want: &Data) -> Result<bool, Fault> {
+    Ok(joined.to_data(alloc)? == *want)
+}
+
+/// Returns whether the data have this length, and are equal to those that share their blocks.
+fn are_shared(alloc: Global, joined: &Fragments<'_>, length: usize) -> Result<bool, Fault> {
+    Ok(joined.shared(alloc)? == *joined && joined.len() == length)
+}
+
+/// Returns whether three blocks are joined, as fragments and as one block, and joined to again.
+fn are_joined<'a>(
+    alloc: Global,
+    blocks: (&'a Data, &'a Data, &'a Data),
+    want: &Data,
+) -> Result<bool, Fault> {
+    let (one, two, three) = blocks;
+    let mut joined = Fragments::new(two);
+    append(alloc, &mut joined, three)?;
+    prepend(alloc, &mut joined, one)?;
+    let are_fragments = are_data(alloc, &joined, want)?;
+    joined.join(alloc)?;
+    let are_one = are_data(alloc, &joined, want)?;
+    append(alloc, &mut joined, one)?;
+    Ok(are_fragments && are_one && are_shared(alloc, &joined, 8)?)
+}
+
+/// Returns the blocks of these texts. A local block is proved variant by variant on each way out;
+/// a vector of them isn't.
+fn blocks_of(alloc: Global, texts: &[&str]) -> Result<Vec<Data>, Fault> {
+    let mut blocks = Vec::new(alloc);
+    for text in texts {
+        blocks.push(block_of(alloc, text)?)?;
+    }
+    Ok(blocks)
+}
+
+fn joins_three(alloc: Global) -> Result<bool, Fault> {
+    let blocks = blocks_of(alloc, &["ab", "c", "def", "abcdef"])?;
+    match blocks.as_slice() {
+        [one, two, three, want] => are_joined(alloc, (one, two, three), want),
+        _ => Err(Fault::BadEvent),
+    }
+}
+
 #[test]
-fn gives_each_block_whole(rt: HostRuntime) -> Result<(), Fail> {
-    let ab = block_of(rt.alloc(), "ab")?;
-    let cde = block_of(rt.alloc(), "cde")?;
+fn joins_with_ample_memory(rt: HostRuntime) {
+    assert!(rt; joins_three(rt.alloc()) == Ok(true));
+}
+
+/// Has the sink take the data of two blocks, and then a number.
+fn give_all(alloc: Global, front: &Data, back: &Data, taken: &mut Taken) -> Result<(), Fault> {
+    two(alloc, front, back)?.give(taken)?;
+    Fragments::from_number(17).give(taken)?;
+    Ok(())
+}
+
+/// Returns whether the sink has taken these bytes, in blocks of these lengths.
+fn has_taken(taken: &Taken, bytes: &[u8], blocks: &[usize]) -> bool {
+    taken.bytes.as_slice() == bytes && taken.blocks.as_slice() == blocks
+}
+
+fn are_given_whole(alloc: Global) -> Result<bool, Fault> {
+    let blocks = blocks_of(alloc, &["ab", "cde"])?;
     let mut taken = Taken {
-        bytes: Vec::new(rt.alloc()),
-        blocks: Vec::new(rt.alloc()),
+        bytes: Vec::new(alloc),
+        blocks: Vec::new(alloc),
     };
-    two(rt.alloc(), &ab, &cde)?.give(&mut taken)?;
-    Fragments::from_number(17).give(&mut taken)?;
-    assert!(rt; taken.bytes.as_slice() == b"abcde17".as_slice());
-    assert!(rt; taken.blocks.as_slice() == [2, 3].as_slice());
-    Ok(())
+    if let [front, back] = blocks.as_slice() {
+        give_all(alloc, front, back, &mut taken)?;
+    }
+    Ok(has_taken(&taken, b"abcde17", &[2, 3]))
 }
 
 #[test]
-fn keeps_a_reply_past_what_it_borrows(rt: HostRuntime) -> Result<(), Fail> {
-    let kept = {
-        let block = block_of(rt.alloc(), "data")?;
-        let Some(key) = Key::new(rt.alloc(), b"key")? else {
-            return Err(Fault::BadEvent.into());
-        };
-        let mut values = Vec::new(rt.alloc());
-        values.push(Value {
-            key,
-            flags: 1,
-            block: Fragments::new(&block),
-            unique: None,
-        })?;
-        Reply::Values(ValueList::new(values)).into_owned(rt.alloc())?
+fn gives_each_block_whole(rt: HostRuntime) {
+    assert!(rt; are_given_whole(rt.alloc()) == Ok(true));
+}
+
+/// Returns the reply that shows a value of this block.
+fn reply_of<'a>(alloc: Global, block: &'a Data) -> Result<Reply<'a>, Fault> {
+    let value = Value {
+        key: key_of(alloc, "key")?,
+        flags: 1,
+        block: Fragments::new(block),
+        unique: None,
     };
-    let Reply::Values(values) = kept else {
-        return Err(Fault::BadEvent.into());
+    Ok(Reply::Values(ValueList::new(vec![in alloc; value]?)))
+}
+
+/// Returns a reply that is kept past the block which it borrowed.
+fn kept_reply(alloc: Global) -> Result<Reply<'static>, Fault> {
+    let block = block_of(alloc, "data")?;
+    let reply = reply_of(alloc, &block)?;
+    let kept = reply.into_owned(alloc)?;
+    Ok(kept)
+}
+
+/// Returns whether the reply shows one value, of these data.
+fn shows_data(alloc: Global, reply: &Reply<'_>, data: &[u8]) -> Result<bool, Fault> {
+    let Reply::Values(values) = reply else {
+        return Ok(false);
     };
     let [value] = values.as_slice() else {
-        return Err(Fault::BadEvent.into());
+        return Ok(false);
     };
-    assert!(rt; value.block.to_data(rt.alloc())?.as_bytes() == b"data".as_slice());
-    Ok(())
+    Ok(value.block.to_data(alloc)?.as_bytes() == data)
+}
+
+fn is_kept(alloc: Global) -> Result<bool, Fault> {
+    let kept = kept_reply(alloc)?;
+    let is_shown = shows_data(alloc, &kept, b"data");
+    // A local enum that its block drops is proved variant by variant, on each way out.
+    drop(kept);
+    is_shown
+}
+
+#[test]
+fn keeps_a_reply_past_what_it_borrows(rt: HostRuntime) {
+    assert!(rt; is_kept(rt.alloc()) == Ok(true));
 }

@@ -1,6 +1,6 @@
 //! Every event in every phase that refuses it, and by which fault; and that a refused event changes
 //! nothing.
-use crate::events::{AMPLE, event_of, events_of, opened, shown_by, shows, stepped};
+use crate::events::{AMPLE, Replies, event_of, events_of, opened, shown_by, shows, stepped};
 use mc_model::Fault;
 use std::alloc::Global;
 use std::process::Abort;
@@ -137,7 +137,7 @@ fn events_out_of_their_phases(rt: HostRuntime) {
 /// leaves what is shown.
 fn ends(alloc: Global, events: &str, fault: RunFault, shown: &str) -> Result<bool, Fault> {
     let events = events_of(alloc, events)?;
-    let mut replies = Vec::new(alloc);
+    let mut replies: Replies = Vec::new(alloc);
     let mut core = after(alloc, 1, "")?;
     let ended = core.run(&events, &mut replies) == Err(fault);
     Ok(ended && replies.len() == 1 && shows(alloc, &core, shown)?)

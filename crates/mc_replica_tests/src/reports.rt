@@ -1,5 +1,5 @@
 //! Reports of runs, byte for byte.
-use crate::events::{AMPLE, events_of, opened};
+use crate::events::{AMPLE, Replies, events_of, opened};
 use mc_model::{Command, Data, Fault, Key, Verb};
 use mc_schedules::Outcome;
 use std::alloc::Global;
@@ -22,7 +22,7 @@ fn outcome_of(
     fault: Option<(u64, Fault)>,
 ) -> Result<Outcome, Fault> {
     let mut core = opened(alloc, size.0, size.1, &[AMPLE])?;
-    let mut replies = Vec::new(alloc);
+    let mut replies: Replies = Vec::new(alloc);
     if core.run(events, &mut replies).is_err() {
         return Err(Fault::BadEvent);
     }

@@ -4,7 +4,7 @@
 //! Two workers share three places. Each move is tried at the end of each path, shorter paths first;
 //! a path that leads to a state that was seen before goes no further. So event lists of any length
 //! are covered.
-use crate::events::{AMPLE, opened, view_of};
+use crate::events::{AMPLE, Replies, opened, view_of};
 use crate::values::{command_of, key_of as key_named, text_of as reply_text};
 use mc_items::Items;
 use mc_model::{Fault, Phase, TenantId, Ticket, WorkerId};
@@ -185,7 +185,7 @@ fn core_after(alloc: Global, moves: &[Move]) -> Result<Core, Fault> {
         let announced = announced_in(&moves[..at], made.worker);
         events.push(event_for(alloc, announced, *made)?)?;
     }
-    let mut replies = Vec::new(alloc);
+    let mut replies: Replies = Vec::new(alloc);
     if core.run(&events, &mut replies).is_err() {
         return Err(Fault::BadEvent);
     }

@@ -102,10 +102,10 @@ fn copied(alloc: Global, hashing: Hashing, commands: &[Command]) -> Result<Owned
 }
 
 /// Returns whether a table over that one answers so.
-fn answers_over(
+fn answers_over<'a>(
     alloc: Global,
-    below: &OwnedItems,
-    command: &Command,
+    below: &'a OwnedItems,
+    command: &'a Command,
     want: &str,
 ) -> Result<bool, Fault> {
     let mut items = CellItems::over(below)?;
@@ -113,7 +113,7 @@ fn answers_over(
 }
 
 /// Returns how many items a table over that one has after the command.
-fn left_over(below: &OwnedItems, command: &Command) -> Result<u64, Fault> {
+fn left_over<'a>(below: &'a OwnedItems, command: &'a Command) -> Result<u64, Fault> {
     let mut items = CellItems::over(below)?;
     advance(&mut items, command)?;
     Ok(items.count())

@@ -79,14 +79,24 @@ fn write(reply: Reply<'_>, out: &mut Vec<u8>) -> Result<(), Fault> {
     written
 }
 
+/// Returns what is there after the reply is written after other bytes.
+fn written_after(alloc: Global, old: &[u8], reply: Reply<'_>) -> Result<Vec<u8>, Fault> {
+    let mut out = Vec::from_slice(alloc, old)?;
+    write(reply, &mut out)?;
+    Ok(out)
+}
+
+/// Returns whether a reply without values is appended.
+fn is_appended(alloc: Global) -> Result<bool, Fault> {
+    let none = Reply::Values(ValueList::new(Vec::new(alloc)));
+    let out = written_after(alloc, b"STORED\r\n", none)?;
+    Ok(out.as_slice() == b"STORED\r\nEND\r\n".as_slice())
+}
+
 /// The reply's text stands after what was there.
 #[test]
-fn appends_to_old_bytes(rt: HostRuntime) -> Result<(), Fail> {
-    let mut out = Vec::from_slice(rt.alloc(), b"STORED\r\n")?;
-    let none = Reply::Values(ValueList::new(Vec::new(rt.alloc())));
-    assert!(rt; write(none, &mut out) == Ok(()));
-    assert!(rt; out.as_slice() == b"STORED\r\nEND\r\n".as_slice());
-    Ok(())
+fn appends_to_old_bytes(rt: HostRuntime) {
+    assert!(rt; is_appended(rt.alloc()) == Ok(true));
 }
 
 /// Returns the reply that shows two items.
@@ -121,13 +131,16 @@ fn out_of_memory_keeps_old_bytes(rt: HostRuntime) -> Result<(), Fail> {
     Ok(())
 }
 
+/// Returns whether the reply is written into as much room as its text needs.
+fn fits_its_room(alloc: Global) -> Result<bool, Fault> {
+    let mut out = Vec::with_capacity(alloc, ONE_VALUE.len())?;
+    write(one_value(alloc)?, &mut out)?;
+    Ok(out.as_slice() == ONE_VALUE.as_bytes() && out.capacity() == ONE_VALUE.len())
+}
+
 /// With as much room as the text needs no more is asked for, so no failing allocation falls in
 /// here.
 #[test]
-fn room_is_enough(rt: HostRuntime) -> Result<(), Fail> {
-    let mut out = Vec::with_capacity(rt.alloc(), ONE_VALUE.len())?;
-    assert!(rt; write(one_value(rt.alloc())?, &mut out) == Ok(()));
-    assert!(rt; out.as_slice() == ONE_VALUE.as_bytes());
-    assert!(rt; out.capacity() == ONE_VALUE.len());
-    Ok(())
+fn room_is_enough(rt: HostRuntime) {
+    assert!(rt; fits_its_room(rt.alloc()) == Ok(true));
 }

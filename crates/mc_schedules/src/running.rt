@@ -117,7 +117,7 @@ pub fn run_items<W: Watch>(
     ensures memory { IsOkUnless result Fault.Memory }
 {
     let mut core = Core::new(alloc, settings)?;
-    let mut replies = Vec::new(alloc);
+    let mut replies: Vec<(WorkerId, u64, Reply<'static>)> = Vec::new(alloc);
     let fault = do_all(&mut core, items, &mut replies, watch);
     Ok(Outcome {
         core,

@@ -82,7 +82,6 @@ fn example(alloc: Global) -> io::Result<Snapshot> {
             turn_over_micros: 1_002_030,
         },
         resident_bytes: Some(u64::MAX),
-        counts_requests: true,
     })
 }
 

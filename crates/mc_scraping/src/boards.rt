@@ -22,15 +22,18 @@ pub struct Boards {
 /// Returns an error if memory runs out.
 fn shown_at(alloc: Global, board: &Board, tenants: usize) -> Result<Shown, AllocError> {
     let mut shown = Vec::with_capacity(alloc, tenants)?;
+    let mut tallies = Vec::with_capacity(alloc, tenants)?;
     for number in 0..tenants {
         let Some(tenant) = u8::try_from(number).ok().and_then(TenantId::new) else {
             break;
         };
         shown.push(board.tenant(tenant))?;
+        tallies.push(board.tally(tenant))?;
     }
     Ok(Shown {
         worker: board.worker(),
         tenants: shown,
+        tallies,
     })
 }
 

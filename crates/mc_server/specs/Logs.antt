@@ -115,7 +115,7 @@ pub record IsAnsweredBy (who : InTurn) (ended : List Connection) : Type 0 where
   pub asked : HaveBeenAsked who.begun who.served ended
 
 -- Tenants were served over at most so many logs with these settings, one after another (0: without
--- an end), and so many places were used in total: all of the earlier logs, and those of the last
+-- an end), and this many places were used in total: all of the earlier logs, and those of the last
 -- one, whose workers have met, and whose run has all that they have done while they served.
 pub record WereServed (settings : Configuration) (most number : ℕ) : Type 0 where
   pub logs : ℕ
@@ -157,7 +157,7 @@ abbrev pub CanBeFollowed : ℕ → Worker → Type 0
 CanBeFollowed places worker = HasReplayedAll worker × HaveRoom (tables_of worker) places
 
 -- the last log was served until no connection was left, one run of it has all that its workers have
--- done, and they have met: so many places of it were used
+-- done, and they have met: this many places of it were used
 pub record EndsThere (settings : Configuration) (logs places last : ℕ) (front : Front) :
     Type 0 where
   pub all : List InTurn

@@ -16,28 +16,32 @@ use std::thread::Threads;
 use uc_log::{Log, Pass};
 use uc_worker::{Base, Hashing, Open, Worker};
 
-/// Opens a worker with this pass of the log: over the tables of the base if there is one, and with
-/// empty tables otherwise.
-///
-/// Returns `Memory` if memory runs out.
-fn open_worker<'a>(
-    alloc: Global,
-    hashing: Hashing,
+/// The log that workers are opened on, and the base that they are opened over, if there is one.
+#[derive(Clone, Copy)]
+struct Below<'a> {
     log: &'a Log,
-    pass: Pass,
     base: &'a Option<Base>,
-) -> Result<Worker<'a>, Fault>
-    requires unused { IsUnusedPass log.now pass }
-    requires base { FitsOver log.now base.now }
-    ensures log { IfOk result (λ worker. worker.log.now ≡ log.now) }
-    ensures seat { IfOk result (λ worker. seat_of worker ≡ seat pass) }
-    ensures history { IfOk result (λ worker. history_of worker ≡ []) }
-    ensures openings { IfOk result (λ worker. openings_of worker ≡ tables_over log.now base.now) }
-    ensures memory { IsOkUnless result faults.Memory }
-{
-    match base {
-        Some(base) => Worker::open_over(alloc, log, pass, base),
-        None => Worker::open(alloc, hashing, log, pass),
+}
+
+impl<'a> Below<'a> {
+    /// Opens a worker with this pass of the log: over the tables of the base if there is one, and with
+    /// empty tables otherwise.
+    ///
+    /// Returns `Memory` if memory runs out.
+    fn open_worker(&self, alloc: Global, hashing: Hashing, pass: Pass) -> Result<Worker<'a>, Fault>
+        requires unused { IsUnusedPass self.now.log.now pass }
+        requires base { FitsOver self.now.log.now self.now.base.now }
+        ensures log { IfOk result (λ worker. worker.log.now ≡ self.now.log.now) }
+        ensures seat { IfOk result (λ worker. seat_of worker ≡ seat pass) }
+        ensures history { IfOk result (λ worker. history_of worker ≡ []) }
+        ensures openings { IfOk result
+            (λ worker. openings_of worker ≡ tables_over self.now.log.now self.now.base.now) }
+        ensures memory { IsOkUnless result faults.Memory }
+    {
+        match self.base {
+            Some(base) => Worker::open_over(alloc, self.log, pass, base),
+            None => Worker::open(alloc, hashing, self.log, pass),
+        }
     }
 }
 
@@ -83,13 +87,15 @@ pub(crate) fn open_workers<'a, R: Threads + Sync>(
         (λ workers. AreOpenedOver log.now.settings log.now (tables_over log.now base.now) workers.items)
         (λ fault. fault ≡ faults.Memory) }
 {
+    let below = Below { log, base };
     let opened = thread::map_vec(
         rt,
         passes,
         &|pass: Pass| -> Result<Worker<'_>, Fault>
-            requires { IsUnusedPass log.now pass × FitsOver log.now base.now }
-            ensures { OpensOver log.entry.now (tables_over log.entry.now base.entry.now) pass result }
-        { open_worker(alloc, hashing, log, pass, base) },
+            requires { IsUnusedPass below.log.now pass × FitsOver below.log.now below.base.now }
+            ensures { OpensOver below.entry.log.now
+                (tables_over below.entry.log.now below.entry.base.now) pass result }
+        { below.open_worker(alloc, hashing, pass) },
     )?;
     all_opened(alloc, opened)
 }

@@ -27,7 +27,7 @@ use uc_worker::{Base, Hashing, Next, Open, Worker, fill_all, turn_over};
 /// What serving a log has come to.
 #[derive(Drop)]
 pub(crate) enum Served {
-    /// Every connection has ended, and so many places of the log were used.
+    /// Every connection has ended, and this many places of the log were used.
     Done(usize),
     /// The log is closed, and this one follows it.
     Full(Next),

@@ -62,7 +62,7 @@ said_known nobody bound workers ticket below known = by_worker (slice_get worker
     by_worker None is = below
     by_worker (Some worker) is = by_put worker is (slice_get (announced_of worker) ticket.number) refl
 
--- the own commands at the first places of a log
+-- a tenant's commands at the first places of a log
 own_first : (f : Ticket → Option Entry) (tenant first : ℕ) (history : List Sighting) (decided : List Ticket) → first ≤ length history →
     ((place : ℕ) (seen : Sighting) → slice_get history place ≡ Some seen →
     (ticket : Ticket) × (slice_get decided place ≡ Some ticket) × (own_command tenant (f ticket) ≡ own_command tenant seen.entry)) →

@@ -118,8 +118,8 @@ HaveReplayed nobody workers log = (number place : ℕ) (worker : Worker) (seen :
     (slice_get log.decided place ≡ Some seen.ticket)
     × (said_in nobody seen.entry ≡ said_under nobody workers seen.ticket)
 
--- of each tenant but this one, the own commands at the first places of the core's log are those at the
--- first places of the history of each of these workers
+-- each tenant's commands, but this one's, at the first places of the core's log are those at the first
+-- places of the history of each of these workers
 abbrev pub HaveItsCommands : ℕ → List Worker → CoreState → Type 0
 HaveItsCommands nobody workers core = (number tenant first : ℕ) (worker : Worker) →
     slice_get workers number ≡ Some worker → tenant ≢ nobody →

@@ -4,10 +4,11 @@ use Rattle.mc_stream.specs.Stream.{both}
 use Rattle.mc_connections.proofs.Servings.{met_fault, once_few, served_later, served_turn, stands_later, stands_turn, state_answered, still_going}
 use Rattle.mc_connections.specs.Serving.{Stands, TakesOrStops}
 use Rattle.mc_conn.specs.Turn.{scene}
+use Rattle.mc_connections.proofs.Tallied.{tallies_self, tallies_trans}
 use Rattle.mc_connections.proofs.connecting.turns.Goals as goal
 
 pub loop-init : goal.loop-init
-loop-init g c = record { going = c.turns_add_up.ensures.none _; stands = inl refl; few = omega arith; role = refl }
+loop-init g c = record { going = c.turns_add_up.ensures.none _; stands = inl refl; few = omega arith; role = refl; tally = tallies_self _ _ }
 
 -- if it was closed, nothing was done
 pub returns-in-Ok : goal.returns-in-Ok
@@ -24,6 +25,7 @@ returns-in-Ok g c =
       stands = stands_later c.args.until_done c.turns_add_up.ensures.through _ _ _ c.in-Ok.state c.loop.invariant.going served stands;
       few = omega (arith, c.loop.invariant.few, c.loop-test.true, once_few _ _ c.turn_once.ensures.pulls);
       role = c.turn_once.ensures.role ∙ c.loop.invariant.role;
+      tally = tallies_trans _ _ _ _ _ _ c.loop.invariant.tally c.turn_once.ensures.tally;
     }
 
 pub returns-in-Err-clause-served : goal.returns-in-Err-clause-served
@@ -47,7 +49,11 @@ loop-preserved g c =
       stands = inr (stands_later c.args.until_done c.turns_add_up.ensures.through _ _ _ Busy c.loop.invariant.going served (subst (Stands c.args.until_done before after) c.in-Ok-Busy.field-0-is stands));
       few = omega (arith, c.loop.invariant.few, once_few _ _ c.turn_once.ensures.pulls);
       role = c.turn_once.ensures.role ∙ c.loop.invariant.role;
+      tally = tallies_trans _ _ _ _ _ _ c.loop.invariant.tally c.turn_once.ensures.tally;
     }
+
+pub returns-in-Err-clause-tally : goal.returns-in-Err-clause-tally
+returns-in-Err-clause-tally g c = tallies_trans _ _ _ _ _ _ c.loop.invariant.tally c.turn_once.ensures.tally
 
 pub returns-clause-stands : goal.returns-clause-stands
 returns-clause-stands g c =

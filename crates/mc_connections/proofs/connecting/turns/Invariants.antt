@@ -1,6 +1,7 @@
 -- The turns so far went well, the last of them may be followed by more, they pulled at most once
 -- each, and kept the connection's role.
 use Rattle.std.proofs.Common.{◌≡◌, ◌⊎◌, ◌+◌, ◌≤◌, length}
+use Rattle.mc_conn.specs.Tallying.{HasCounted}
 use Rattle.mc_conn.specs.Turn.{Takes, scene}
 use Rattle.mc_conn.specs.declared.conn.State.TheVariants.{Busy}
 use Rattle.mc_stream.specs.Stream.{both}
@@ -16,4 +17,5 @@ invariant-loop g l = record {
       (scene l.conn l.worker (both (g.I.Input.tells l.input) (g.O.Output.tells l.output))) Busy;
   few : length (g.I.Input.tells l.input).events ≤ l.counter + length (g.I.Input.tells l.fn.input).events;
   role : l.conn.role ≡ l.fn.conn.role;
+  tally : HasCounted l.fn.conn.past.requests l.conn.past.requests l.fn.tally l.tally;
 }

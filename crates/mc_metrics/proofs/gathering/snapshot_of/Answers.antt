@@ -17,5 +17,4 @@ returns c some =
           ∙ (λ i. c.new-workers.ensures.items i ++ workers_shown (log i).generation (log i).used_places (length (c.new-workers.ensures.items i)) (c.deref-3.ensures.value i));
       log = log;
       memory = refl;
-      counts = refl;
     }

@@ -5,6 +5,7 @@ use Rattle.mc_read.specs.Administering.{lines_spoken}
 use Rattle.mc_conn.proofs.Awaiting.{not_left}
 use Rattle.mc_conn.proofs.Readings.{fewer_taken, read_answered, read_same}
 use Rattle.mc_conn.proofs.Takings.{does_looked, does_responded}
+use Rattle.mc_conn.proofs.Countings.{tallies_self}
 use Rattle.mc_conn.proofs.conn.Conn.answer_waiting.Goals as goal
 
 pub returns-in_ok-respond-in-Some-clause-outcome : goal.returns-in_ok-respond-in-Some-clause-outcome
@@ -13,7 +14,7 @@ returns-in_ok-respond-in-Some-clause-outcome g c until streams room =
     let is = c.in-Some.is in
     let old : c.args.self.now.waiting ≡ Some c.in-Some.request = cc in
     does_responded c.args.self.now _ _ _ streams c.in-Some.request (read_answered (lines_spoken c.args.self.now.reader.speaker) c.args.self.now.waiting c.take.new.self c.args.self.now.reader.held c.in-Some.request old c.take.ensures.after) refl refl refl
-    (ap (λ ends. c.args.self.now.is_over || ends) c.ends_stream-ends.ensures) c.respond.ensures.onward c.in_ok-respond-in-Some.ensures.outcome until
+    (ap (λ ends. c.args.self.now.is_over || ends) c.ends_stream-ends.ensures) c.respond.ensures.onward c.in_ok-respond-in-Some.ensures.outcome c.in_ok-respond-in-Some.ensures.counts until
     (not_left until c.args.self.now c.args.worker.now c.in-Some.request old room)
 
 pub returns-in_ok-respond-in-Some-clause-fewer : goal.returns-in_ok-respond-in-Some-clause-fewer
@@ -31,7 +32,7 @@ returns-in_err-respond-in-Some-clause-outcome g c =
     let out = err_from_is_err_and c.from_residual.result c.from_residual.ensures.1 in
     rw (out.1, out.2) (λ streams.
     breaks_taking c.in_err-respond-in-Some.field-0.0 c.args.self.now _ _ _ streams c.in-Some.request
-    (read_answered (lines_spoken c.args.self.now.reader.speaker) c.args.self.now.waiting c.take.new.self c.args.self.now.reader.held c.in-Some.request old c.take.ensures.after) refl c.respond.ensures.onward
+    (read_answered (lines_spoken c.args.self.now.reader.speaker) c.args.self.now.waiting c.take.new.self c.args.self.now.reader.held c.in-Some.request old c.take.ensures.after) refl c.in_err-respond-in-Some.ensures.counts c.respond.ensures.onward
     c.in_err-respond-in-Some.ensures.outcome)
 
 pub returns-in-None-clause-outcome : goal.returns-in-None-clause-outcome
@@ -41,4 +42,7 @@ returns-in-None-clause-outcome g c until streams room =
     let after = c.take.ensures.after in
     let same : c.take.new.self ≡ c.args.self.now.waiting = cc in
     does_looked until c.args.self.now _ _ streams (read_same (lines_spoken c.args.self.now.reader.speaker) c.args.self.now.waiting c.take.new.self c.args.self.now.reader.held same)
-    (record { role = refl; has_ended = refl; is_closed = refl; queue = refl; over = refl })
+    (record { role = refl; has_ended = refl; is_closed = refl; queue = refl; over = refl; past = refl })
+
+pub returns-in-None-clause-tally : goal.returns-in-None-clause-tally
+returns-in-None-clause-tally g c = tallies_self _ _

@@ -15,7 +15,7 @@ returns-in_err-feed-in-Bytes-clause-outcome g c =
     let out = err_from_is_err_and c.from_residual.result c.from_residual.ensures.1 in
     let said = c.in-Bytes.ensures in
     rw (out.1, out.2, c.in_err-feed-in-Bytes.ensures.memory) (λ worker output.
-    breaks_pulling OutOfMemory c.args.self.now _ worker _ _ output (take c.in-Bytes.count c.pull.new.buffer) refl refl (ap moved said.event) said.rest (ap failures said.event, refl))
+    breaks_pulling OutOfMemory c.args.self.now _ worker _ _ output (take c.in-Bytes.count c.pull.new.buffer) refl refl refl (ap moved said.event) said.rest (ap failures said.event, refl))
 
 pub returns-in_ok-feed-in-Bytes-clause-outcome : goal.returns-in_ok-feed-in-Bytes-clause-outcome
 returns-in_ok-feed-in-Bytes-clause-outcome g c until worker output =
@@ -27,22 +27,22 @@ returns-in_ok-feed-in-Bytes-clause-outcome g c until worker output =
     does_fed c.args.self.now _ worker _ _ output piece
     (read_by old.speaker new.speaker c.feed.ensures.speaker waiting waiting old.held new.held piece []
     (read_fed_at (lines_spoken old.speaker) waiting waiting old.held new.held piece c.requires.waiting refl c.in_ok-feed-in-Bytes.ensures.readings))
-    refl refl refl (ap moved said.event) said.rest (ap failures said.event) (remembers_open c.args.self.now.has_ended _ _ c.requires.going (ap ends said.event)) refl until
+    refl refl refl refl (ap moved said.event) said.rest (ap failures said.event) (remembers_open c.args.self.now.has_ended _ _ c.requires.going (ap ends said.event)) refl until
     (let taken = length-take-le c.in-Bytes.count c.pull.new.buffer said.count.1 in let some = said.count.0 in omega arith)
 
 pub returns-in-Empty-clause-outcome : goal.returns-in-Empty-clause-outcome
 returns-in-Empty-clause-outcome g c until worker output =
     let said = c.in-Empty.ensures in
-    does_waited c.args.self.now _ worker _ _ output [] (read_refl (holding_of c.args.self.now)) refl refl refl (ap moved said.event ∙ sym (append-nil _)) said.rest (ap failures said.event)
+    does_waited c.args.self.now _ worker _ _ output [] (read_refl (holding_of c.args.self.now)) refl refl refl refl (ap moved said.event ∙ sym (append-nil _)) said.rest (ap failures said.event)
     (remembers_open c.args.self.now.has_ended _ _ c.requires.going (ap ends said.event)) refl until refl
 
 pub returns-in-Ended-clause-outcome : goal.returns-in-Ended-clause-outcome
 returns-in-Ended-clause-outcome g c until worker output =
     let said = c.in-Ended.ensures in
-    does_waited c.args.self.now _ worker _ _ output [] (read_refl (holding_of c.args.self.now)) refl refl refl (ap moved said.event ∙ sym (append-nil _)) said.rest (ap failures said.event)
+    does_waited c.args.self.now _ worker _ _ output [] (read_refl (holding_of c.args.self.now)) refl refl refl refl (ap moved said.event ∙ sym (append-nil _)) said.rest (ap failures said.event)
     (inr (ap has_ended said.event, said.no_more refl)) refl until refl
 
 pub returns-in-Failed-clause-outcome : goal.returns-in-Failed-clause-outcome
 returns-in-Failed-clause-outcome g c worker output =
     let said = c.in-Failed.ensures in
-    breaks_pulling InputFailed c.args.self.now _ worker _ _ output [] refl refl (ap moved said.event ∙ sym (append-nil _)) said.rest (ap failures said.event, refl)
+    breaks_pulling InputFailed c.args.self.now _ worker _ _ output [] refl refl refl (ap moved said.event ∙ sym (append-nil _)) said.rest (ap failures said.event, refl)

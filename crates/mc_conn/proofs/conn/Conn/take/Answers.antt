@@ -2,10 +2,10 @@ use Rattle.std.proofs.Common.{refl, ◌∙◌}
 use Rattle.std.proofs.lemmas.Result.{err_from_is_err_and}
 use Rattle.mc_conn.specs.declared.conn.Conn.{Conn}
 use Rattle.mc_conn.specs.Parts.{KeepsStreams}
-use Rattle.mc_conn.specs.Turn.{holding_of}
 use Rattle.uc_worker.specs.declared.worker.Worker.{Worker}
 use Rattle.mc_conn.proofs.Breakings.{breaks_later}
 use Rattle.uc_worker.specs.contracts.laws.WorkerGoesOn.TheImpl.{continues_self-value, continues_through-value}
+use Rattle.mc_conn.proofs.Countings.{tallies_self, tallies_trans}
 use Rattle.mc_conn.proofs.Takings.{did_not, did_then, does_nothing}
 use Rattle.mc_conn.proofs.conn.Conn.take.Goals as goal
 
@@ -21,6 +21,7 @@ pub loop-did-init : goal.loop-did-init
 loop-did-init g c = record {
   does = λ streams. does_nothing _ _;
   keeps = record { role = refl; has_ended = refl; onward = continues_self-value.it _ };
+  tally = tallies_self _ _;
 }
 
 pub returns-in_err-take_one-clause-outcome : goal.returns-in_err-take_one-clause-outcome
@@ -35,6 +36,7 @@ pub loop-did-preserved : goal.loop-did-preserved
 loop-did-preserved g c = record {
   does = λ streams. did_then _ _ _ _ _ _ c.if-branch.true (c.loop-did.invariant.does streams) (c.in_ok-take_one.ensures.outcome streams);
   keeps = keeps_through _ _ _ _ _ _ c.loop-did.invariant.keeps c.take_one.ensures.keeps;
+  tally = tallies_trans _ _ _ _ _ _ c.loop-did.invariant.tally c.take_one.ensures.tally;
 }
 
 pub returns-in_err-take_one-clause-keeps : goal.returns-in_err-take_one-clause-keeps
@@ -45,3 +47,9 @@ returns-clause-keeps g c = keeps_through _ _ _ _ _ _ c.loop-did.invariant.keeps 
 
 pub returns-clause-outcome : goal.returns-clause-outcome
 returns-clause-outcome g c streams = did_not _ _ _ _ _ _ c.if-branch.false (c.loop-did.invariant.does streams) (c.in_ok-take_one.ensures.outcome streams)
+
+pub returns-in_err-take_one-clause-tally : goal.returns-in_err-take_one-clause-tally
+returns-in_err-take_one-clause-tally g c = tallies_trans _ _ _ _ _ _ c.loop-did.invariant.tally c.take_one.ensures.tally
+
+pub returns-clause-tally : goal.returns-clause-tally
+returns-clause-tally g c = tallies_trans _ _ _ _ _ _ c.loop-did.invariant.tally c.take_one.ensures.tally

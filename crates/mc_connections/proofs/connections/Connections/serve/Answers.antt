@@ -8,13 +8,13 @@ use Rattle.mc_connections.proofs.connections.Connections.serve.Goals as goal
 pub returns-in-Some-try_remove-clause-serves : goal.returns-in-Some-try_remove-clause-serves
 returns-in-Some-try_remove-clause-serves g c =
     goes_closed c.args.until_done _ _ c.serve-served.result.state _ _ _ _ c.serve-served.new.self (sym c.in-Some.ensures.value) c.serve-served.ensures.later refl (search rules)
-    c.in-Some-try_remove.connection (search rules) c.in-Some-try_remove.ensures.value c.in-Some-try_remove.ensures.updates (search rules)
+    c.in-Some-try_remove.connection (search (rules, c.eq.ensures, c.if-eq.true)) c.in-Some-try_remove.ensures.value c.in-Some-try_remove.ensures.updates (search rules)
 
 pub returns-in-Some-try_remove-clause-bytes : goal.returns-in-Some-try_remove-clause-bytes
 returns-in-Some-try_remove-clause-bytes g c =
     becomes_closed (λ old new _. c.serve-served.result.bytes ≡ moved_between old new) (c.serve-served.result.bytes ≡ 0) c.serve-served.result.state c.args.self.now.by_key c.try_remove.new.self
     c.args.self.now.ended.connections c.and-self.result.connections c.args.key c.in-Some.connection.now c.serve-served.new.self (sym c.in-Some.ensures.value) c.serve-served.ensures.bytes
-    c.in-Some-try_remove.connection (search rules) c.in-Some-try_remove.ensures.value c.in-Some-try_remove.ensures.updates (search rules)
+    c.in-Some-try_remove.connection (search (rules, c.eq.ensures, c.if-eq.true)) c.in-Some-try_remove.ensures.value c.in-Some-try_remove.ensures.updates (search rules)
 
 pub returns-else-eq-clause-serves : goal.returns-else-eq-clause-serves
 returns-else-eq-clause-serves g c =

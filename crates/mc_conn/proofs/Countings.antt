@@ -1,0 +1,132 @@
+-- Lemmas on what is counted of requests.
+use Rattle.std.proofs.Common.{◌≡◌, ℕ, cond, List, [], ◌∷◌, ◌++◌, Option, Some, None, Bool, sym, refl, ap, ◌∙◌, subst, arith, append-nil, append_assoc, sum_by}
+use Rattle.std.proofs.lemmas.List.Sums.{sum_by-cons, sum_by_push}
+use Rattle.mc_counters.specs.Kinds.{asked_for_by}
+use Rattle.mc_counters.specs.Tallied.{CountedRequest, IsTallyOf, capped, is_of_kind, is_refused, items_found, keys_missed}
+use Rattle.mc_counters.specs.declared.kinds.Asked.{Asked}
+use Rattle.mc_counters.specs.declared.tally.Tally.{Tally}
+use Rattle.mc_model.specs.Name.{tenant_named}
+use Rattle.mc_model.specs.declared.command.Command.{Command}
+use Rattle.mc_model.specs.declared.command.Command.TheVariants as command
+use Rattle.mc_model.specs.declared.reply.Reply.{Reply}
+use Rattle.mc_model.specs.declared.request.Request.{Request}
+use Rattle.mc_model.specs.declared.request.Request.TheVariants.{Limit, Local, Logged, Quit, TooLong}
+use Rattle.mc_model.specs.declared.settings.Limits.{Limits}
+use Rattle.mc_conn.specs.declared.conn.Role.{Role}
+use Rattle.mc_conn.specs.declared.conn.Role.TheVariants.{Admin, Tenant}
+use Rattle.mc_conn.specs.Owed.{answered, setting_of}
+use Rattle.mc_conn.specs.Parts.{Counts, GivesReply}
+use Rattle.mc_conn.specs.Tallying.{AreTallied, CountsFor, HasCounted, asked_for}
+
+-- one request
+pub counted_one : (role : Role) (request : Request) (bytes : List ℕ) (counted : List CountedRequest) → CountsFor role request bytes counted → AreTallied role (request ∷ []) bytes counted
+counted_one role request bytes counted is = (bytes, [], counted, [], sym (append-nil bytes), sym (append-nil counted), is, (refl, refl))
+
+-- one part after another
+pub counted_append : (role : Role) (first second : List Request) (bytes more : List ℕ) (one two : List CountedRequest) → AreTallied role first bytes one →
+    AreTallied role second more two → AreTallied role (first ++ second) (bytes ++ more) (one ++ two)
+counted_append role [] second bytes more one two first later =
+    subst (λ (all : List ℕ). AreTallied role second all (one ++ two)) (ap (λ (none : List ℕ). none ++ more) (sym first.0))
+    (subst (λ (all : List CountedRequest). AreTallied role second more all) (ap (λ (none : List CountedRequest). none ++ two) (sym first.1)) later)
+counted_append role (request ∷ requests) second bytes more one two (said, rest, a, others, bytes_are, counted_are, is, first) later = (
+  said,
+  rest ++ more,
+  a,
+  others ++ two,
+  ap (λ (all : List ℕ). all ++ more) bytes_are ∙ append_assoc said rest more,
+  ap (λ (all : List CountedRequest). all ++ two) counted_are ∙ append_assoc a others two,
+  is,
+  counted_append role requests second rest more others two first later,
+)
+
+-- nothing is counted
+pub tallies_self : (past : List CountedRequest) (tally : Tally) → HasCounted past past tally tally
+tallies_self past tally = record {
+  counted = [];
+  past = sym (append-nil past);
+  counts = λ earlier is. subst (λ (all : List CountedRequest). IsTallyOf all tally) (sym (append-nil earlier)) is;
+}
+
+pub tallies_same : (old new : List CountedRequest) (tally : Tally) → new ≡ old → HasCounted old new tally tally
+tallies_same old new tally same = subst (λ past. HasCounted old past tally tally) (sym same) (tallies_self old tally)
+
+-- one part after another
+pub tallies_trans : (a b c : List CountedRequest) (one two three : Tally) → HasCounted a b one two → HasCounted b c two three → HasCounted a c one three
+tallies_trans a b c one two three first second = record {
+  counted = first.counted ++ second.counted;
+  past = second.past ∙ (ap (λ (all : List CountedRequest). all ++ second.counted) first.past ∙ append_assoc a first.counted second.counted);
+  counts = λ earlier is. subst (λ (all : List CountedRequest). IsTallyOf all three) (append_assoc earlier first.counted second.counted)
+      (second.counts (earlier ++ first.counted) (first.counts earlier is));
+}
+
+-- a part before which and after which nothing is counted
+pub tallies_within : (a b c d : List CountedRequest) (one two : Tally) → b ≡ a → HasCounted b c one two → d ≡ c → HasCounted a d one two
+tallies_within a b c d one two before is after =
+    subst (λ past. HasCounted a past one two) (sym after) (subst (λ past. HasCounted past c one two) before is)
+
+-- a number that counts the latest first counts it last as well
+moved : (f : CountedRequest → ℕ) (one : CountedRequest) (earlier : List CountedRequest) → sum_by f (one ∷ earlier) ≡ sum_by f (earlier ++ one ∷ [])
+moved f one earlier = let first = sum_by-cons f one earlier in let last = sum_by_push f earlier one in omega (arith, first, last)
+
+latest_last : (one : CountedRequest) (earlier : List CountedRequest) (tally : Tally) → IsTallyOf (one ∷ earlier) tally → IsTallyOf (earlier ++ one ∷ []) tally
+latest_last one earlier tally is = record {
+  commands = λ place below. is.commands place below ∙ ap (λ (number : ℕ). capped number) (moved (λ one. cond (is_of_kind place one.asked) 1 0) one earlier);
+  refusals = λ place below. is.refusals place below ∙ ap (λ (number : ℕ). capped number) (moved (λ one. cond (is_refused place one.reply) 1 0) one earlier);
+  hits = is.hits ∙ ap (λ (number : ℕ). capped number) (moved (λ one. items_found one.reply) one earlier);
+  misses = is.misses ∙ ap (λ (number : ℕ). capped number) (moved (λ one. keys_missed one.asked one.reply) one earlier);
+}
+
+-- one request is counted
+pub tallies_one : (one : CountedRequest) (before after : List CountedRequest) (old new : Tally) → after ≡ before ++ one ∷ [] →
+    ((earlier : List CountedRequest) → IsTallyOf earlier old → IsTallyOf (one ∷ earlier) new) → HasCounted before after old new
+tallies_one one before after old new past counts = record {
+  counted = one ∷ [];
+  past = past;
+  counts = λ earlier is. latest_last one earlier new (counts earlier is);
+}
+
+-- a reply was given to a request that is counted by it
+counts_given : (role : Role) (request : Request) (asked : Option Asked) (before after : List ℕ) (old new : List CountedRequest) →
+    ((quiet : Bool) (reply : Reply) → CountsFor role request (answered quiet reply) (record { asked = asked; reply = reply } ∷ [])) → GivesReply asked before after old new →
+    Counts role request before after old new
+counts_given role request asked before after old new fits gives = record {
+  bytes = answered gives.quiet gives.reply;
+  counted = record { asked = asked; reply = gives.reply } ∷ [];
+  queued = gives.queued;
+  past = gives.past;
+  is = fits gives.quiet gives.reply;
+}
+
+module _ (before after : List ℕ) (old new : List CountedRequest) where
+  pub counts_logged : (tenant : ℕ) (asks : Command) (quiet : Bool) → GivesReply (Some (asked_for_by asks)) before after old new →
+      Counts (Tenant tenant) (Logged asks quiet) before after old new
+  counts_logged tenant asks quiet = counts_given (Tenant tenant) (Logged asks quiet) (Some (asked_for_by asks)) before after old new (λ silent reply. (silent, reply, refl, refl))
+
+  pub counts_unknown : (names : List (List ℕ)) (asks : Command) (quiet : Bool) → GivesReply None before after old new → Counts (Admin names) (Logged asks quiet) before after old new
+  counts_unknown names asks quiet = counts_given (Admin names) (Logged asks quiet) None before after old new (λ silent reply. (silent, reply, refl, refl))
+
+  pub counts_tenants_limit : (tenant : ℕ) (name : List ℕ) (limits : Limits) (quiet : Bool) → GivesReply None before after old new →
+      Counts (Tenant tenant) (Limit name limits quiet) before after old new
+  counts_tenants_limit tenant name limits quiet = counts_given (Tenant tenant) (Limit name limits quiet) None before after old new (λ silent reply. (silent, reply, refl, refl))
+
+  pub counts_setting : (names : List (List ℕ)) (name : List ℕ) (limits : Limits) (quiet : Bool) (tenant : ℕ) → tenant_named names name ≡ Some tenant →
+      GivesReply (Some (asked_for_by (command.Limit limits))) before after old new → Counts (Admin names) (Limit name limits quiet) before after old new
+  counts_setting names name limits quiet tenant is = counts_given (Admin names) (Limit name limits quiet) (Some (asked_for_by (command.Limit limits))) before after old new
+      (λ silent reply. (silent, reply, refl, ap (λ named. record { asked = asked_for (setting_of named limits quiet); reply = reply } ∷ []) (sym is)))
+
+  pub counts_unnamed : (names : List (List ℕ)) (name : List ℕ) (limits : Limits) (quiet : Bool) → tenant_named names name ≡ None →
+      GivesReply None before after old new → Counts (Admin names) (Limit name limits quiet) before after old new
+  counts_unnamed names name limits quiet is = counts_given (Admin names) (Limit name limits quiet) None before after old new
+      (λ silent reply. (silent, reply, refl, ap (λ named. record { asked = asked_for (setting_of named limits quiet); reply = reply } ∷ []) (sym is)))
+
+  pub counts_local : (role : Role) (said : Reply) (quiet : Bool) → GivesReply None before after old new → Counts role (Local said quiet) before after old new
+  counts_local (Tenant tenant) said quiet = counts_given (Tenant tenant) (Local said quiet) None before after old new (λ silent reply. (silent, reply, refl, refl))
+  counts_local (Admin names) said quiet = counts_given (Admin names) (Local said quiet) None before after old new (λ silent reply. (silent, reply, refl, refl))
+
+  pub counts_long : (role : Role) → GivesReply None before after old new → Counts role TooLong before after old new
+  counts_long (Tenant tenant) = counts_given (Tenant tenant) TooLong None before after old new (λ silent reply. (silent, reply, refl, refl))
+  counts_long (Admin names) = counts_given (Admin names) TooLong None before after old new (λ silent reply. (silent, reply, refl, refl))
+
+-- nothing is counted for quit
+pub counts_quit : (role : Role) (queue : List ℕ) (past : List CountedRequest) → Counts role Quit queue queue past past
+counts_quit role queue past = record { bytes = []; counted = []; queued = sym (append-nil queue); past = sym (append-nil past); is = (refl, refl) }
