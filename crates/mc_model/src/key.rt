@@ -1,6 +1,7 @@
 //! Keys, and the list of keys of a retrieval.
 ghost use Rattle.std.specs.Cmp.{partial_equiv_from_equiv, partial_order_from_agreeing_total};
-ghost use Rattle.std.specs.Cmp.Lexicographic.{lists_equiv, nat_list_cmp_total, nat_list_eq_equiv, pointwise, slice_cmp, texts_ties};
+ghost use mathlib.Core.Path.{ap};
+ghost use Rattle.std.specs.Cmp.Lexicographic.{bytes_decides, lists_equiv, nat_list_cmp_total, nat_list_eq_equiv, pointwise, slice_cmp, texts_ties};
 ghost use Rattle.std.specs.List.{list_all};
 ghost use Rattle.std.specs.Option.{SomeIff};
 ghost use Rattle.std.specs.Ordering.{nat_cmp};
@@ -12,6 +13,7 @@ use crate::compare::compare;
 use smallvec::SmallVec;
 use std::alloc::Global;
 use std::cmp::Ordering;
+use std::hash::{Hash, Hasher};
 use std::marker::Model;
 use std::slice::from_ref;
 
@@ -106,6 +108,19 @@ impl PartialEq for Key {
 
 impl Eq for Key {
     ghost laws = { nat_list_eq_equiv };
+}
+
+/// A hasher takes in the bytes by one write, where a slice of bytes writes its length and then each
+/// byte. A length keeps apart the parts of what has several: a key is all that is hashed.
+impl Hash for Key {
+    ghost hash_input = { λ key. key ∷ [] };
+
+    ghost respects_eq = { λ key other same. ap (λ bytes. bytes ∷ []) ((bytes_decides key other).0 same) };
+
+    #[inline(always)]
+    fn hash<H: Hasher>(&self, state: &mut H) {
+        state.write(self.as_bytes());
+    }
 }
 
 impl PartialOrd for Key {

@@ -2,14 +2,15 @@
 ghost use Rattle.std.specs.Arc.{arc_value};
 ghost use Rattle.std.specs.Cmp.Lexicographic.{pointwise};
 ghost use Rattle.std.specs.FinMap as map;
+ghost use Rattle.std.specs.Map.{keys_of};
 ghost use Rattle.std.specs.Option.{option_map};
 ghost use Rattle.std.specs.Prelude.{◌≡◌, ◌*◌, ◌<◌, ◌≤◌, ◌^◌, length, nat_eq, position, IfOk, IfSome, OnOk, IsOkUnless};
-ghost use Rattle.mc_tables.specs.Entries.{texts_of, unmarked};
+ghost use Rattle.mc_tables.specs.Entries.{unmarked};
 ghost use Rattle.mc_tables.specs.Maps.{map_table};
 
 use crate::item_map::ItemMap;
 use crate::marks::{is_set, no_marks, set};
-use mc_model::{Fault, Item};
+use mc_model::{Fault, Item, Key};
 use std::alloc::Global;
 use std::sync::Arc;
 
@@ -69,17 +70,17 @@ impl Base {
         self.removed
     }
 
-    /// Returns the place of a key of these bytes, with its item, unless that was removed.
-    pub(crate) fn place(&self, text: &[u8]) -> Option<(usize, &Item)>
+    /// Returns the place of a key, with its item, unless that was removed.
+    pub(crate) fn place(&self, key: &Key) -> Option<(usize, &Item)>
         ensures item { option_map (λ found. found.1.now) result ≡ map.get
-            (unmarked (arc_value self.now.items).held.entries self.now.marks.items) text.now }
-        ensures place { IfSome result (λ found. position (pointwise nat_eq text.now)
-            (texts_of (arc_value self.now.items).held.entries) ≡ Some found.0) }
+            (unmarked (arc_value self.now.items).held.entries self.now.marks.items) key.now }
+        ensures place { IfSome result (λ found. position (pointwise nat_eq key.now)
+            (keys_of (arc_value self.now.items).held.entries) ≡ Some found.0) }
         ensures within { IfSome result
             (λ found. found.0 < length (arc_value self.now.items).held.entries) }
         ensures small { IfSome result (λ found. found.0 < 2 ^ 63) }
     {
-        match self.items.place(text) {
+        match self.items.place(key) {
             None => None,
             Some((place, item)) => {
                 if is_set(&self.marks, place) {
@@ -91,24 +92,24 @@ impl Base {
         }
     }
 
-    /// Returns the bytes of the key at a place, removed or not.
-    pub(crate) fn text(&self, place: usize) -> &[u8]
+    /// Returns the key at a place, removed or not.
+    pub(crate) fn key(&self, place: usize) -> &Key
         requires { place < length (arc_value self.now.items).held.entries }
         ensures { position (pointwise nat_eq result.now)
-            (texts_of (arc_value self.now.items).held.entries) ≡ Some place }
+            (keys_of (arc_value self.now.items).held.entries) ≡ Some place }
     {
-        let (text, _) = self.items.entry(place);
-        text
+        let (key, _) = self.items.entry(place);
+        key
     }
 
-    /// Removes a key of these bytes, if it is held. Allocates nothing.
-    pub(crate) fn remove(&mut self, text: &[u8])
+    /// Removes a key, if it is held. Allocates nothing.
+    pub(crate) fn remove(&mut self, key: &Key)
         ensures items { arc_value self.new.items ≡ arc_value self.old.items }
         ensures table { unmarked (arc_value self.new.items).held.entries self.new.marks.items
             ≡ map.remove (unmarked (arc_value self.old.items).held.entries self.old.marks.items)
-            text.now }
+            key.now }
     {
-        if let Some((place, _)) = self.place(text) {
+        if let Some((place, _)) = self.place(key) {
             set(&mut self.marks, place);
             self.removed = self.removed.saturating_add(1);
         }
@@ -123,9 +124,9 @@ impl Base {
         ensures memory { IsOkUnless result Fault.Memory }
     {
         for place in 0..self.items.len() {
-            let (text, item) = self.items.entry(place);
+            let (key, item) = self.items.entry(place);
             if !is_set(&self.marks, place) {
-                copy.put_copy(text, item)?;
+                copy.put_copy(key, item)?;
             }
         }
         Ok(())
