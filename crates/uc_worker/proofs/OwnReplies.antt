@@ -1,9 +1,8 @@
 -- What a run of the core answers to a worker's own commands follows from the worker's history.
-use Rattle.std.proofs.Common.{◌≡◌, ◌≢◌, ℕ, ◌<◌, ◌≤◌, List, length, map, take, None, Option, Some, slice_get, refl, sym, ap, subst, ◌∙◌, arith}
+use Rattle.std.proofs.Common.{◌≡◌, ◌≢◌, ℕ, ◌<◌, ◌≤◌, List, length, take, None, Option, Some, slice_get, refl, sym, ap, subst, ◌∙◌, arith}
 use Rattle.std.proofs.lemmas.Option.{same_Some, slice_get-map, slice_get_within}
 use Rattle.std.specs.Option.{option_map, option_map_or}
 use Rattle.mc_model.specs.declared.command.Command.{Command}
-use Rattle.mc_model.specs.declared.id.Ticket.{Ticket}
 use Rattle.mc_model.specs.declared.reply.Reply.{Reply}
 use Rattle.mc_model.specs.declared.request.Entry.{Entry}
 use Rattle.mc_model.specs.declared.settings.Limits.{Limits}
@@ -18,13 +17,13 @@ use Rattle.mc_model.specs.State.{TableState}
 use Rattle.model_lemmas.proofs.Waiting.{is_lawful}
 use Rattle.uc_cells.specs.Sighting.{Sighting, entries}
 use Rattle.uc_core.specs.Asked.{IsOfSettings}
-use Rattle.uc_core.specs.Core.{CoreState, ReplayState, core_size, entry_under, log_of}
+use Rattle.uc_core.specs.Core.{ReplayState, core_size, entry_under, log_of}
 use Rattle.uc_core.specs.Headline.{HasReply, OwnAreAnswered}
 use Rattle.uc_core.specs.Run.{Runs, replayed_by}
 use Rattle.uc_laws.specs.Over.{ByEventsOver, EachHasATable, IsAnswerOver, OfEveryRunOver, RepliesAreAnswersOver}
 use Rattle.uc_places.specs.CoreRun.{core_over, entry_by}
 use Rattle.uc_worker.specs.declared.worker.Worker.{Worker}
-use Rattle.uc_worker.specs.AllWorkers.{DoOneCoreRun, OwnHaveTheirReplies, own_part, places_replayed_by, said_in, said_under}
+use Rattle.uc_worker.specs.AllWorkers.{DoOneCoreRun, OwnHaveTheirReplies, own_part, said_in, said_under}
 use Rattle.uc_worker.specs.TurningOver.{HaveOneHistory}
 use Rattle.uc_worker.specs.Worker.{history_of}
 
