@@ -9,7 +9,7 @@ ghost use Rattle.mc_tables.specs.Entries.{unmarked};
 ghost use Rattle.mc_tables.specs.Maps.{map_table};
 
 use crate::item_map::ItemMap;
-use crate::marks::{is_set, no_marks, set};
+use crate::marks::{count_set, is_set, no_marks, set};
 use mc_model::{Fault, Item, Key};
 use std::alloc::Global;
 use std::sync::Arc;
@@ -20,8 +20,6 @@ use std::sync::Arc;
 pub struct Base {
     pub(crate) items: Arc<ItemMap, Global>,
     pub(crate) marks: Vec<u64>,
-    /// How many items are marked.
-    removed: usize,
     ghost marked: { length (arc_value items).held.entries ≤ 64 * length marks.items },
 }
 
@@ -34,11 +32,7 @@ impl Base {
     {
         let marks = no_marks(alloc, items.len())?;
         let items = Arc::new(alloc, items)?;
-        Ok(Base {
-            items,
-            marks,
-            removed: 0,
-        })
+        Ok(Base { items, marks })
     }
 
     /// Returns the same base, which shares the items. Returns `Memory` if the allocation of the marks
@@ -50,11 +44,7 @@ impl Base {
     {
         let marks = Vec::from_slice(alloc, &self.marks)?;
         let items = Arc::try_clone(&self.items)?;
-        Ok(Base {
-            items,
-            marks,
-            removed: self.removed,
-        })
+        Ok(Base { items, marks })
     }
 
     /// Returns the number of items, also of those that were removed.
@@ -67,7 +57,7 @@ impl Base {
 
     /// Returns how many of the items were removed.
     pub(crate) fn removed(&self) -> usize {
-        self.removed
+        count_set(&self.marks)
     }
 
     /// Returns the place of a key, with its item, unless that was removed.
@@ -111,7 +101,6 @@ impl Base {
     {
         if let Some((place, _)) = self.place(key) {
             set(&mut self.marks, place);
-            self.removed = self.removed.saturating_add(1);
         }
     }
 
