@@ -14,6 +14,7 @@ import dataclasses
 import functools
 import re
 import subprocess
+import tempfile
 
 from harness import preload, repository
 from harness.client import Exchange, connect, exchange
@@ -31,8 +32,11 @@ results = Results()
 
 
 def fed(words, stream, environment):
-    """Runs a program over a stream: status, output and standard error."""
-    ended = subprocess.run(words, input=stream, capture_output=True, env=environment, timeout=SECONDS)
+    """Runs a program over a stream, from a file, so that it comes in the same pieces in each run: status, output and standard error."""
+    with tempfile.TemporaryFile() as file:
+        file.write(stream)
+        file.seek(0)
+        ended = subprocess.run(words, stdin=file, capture_output=True, env=environment, timeout=SECONDS)
     return ended.returncode, ended.stdout, ended.stderr
 
 
@@ -476,7 +480,7 @@ WORKERS = Tests(
     crate="crates/uc_worker_tests",
     module="refused",
     reported="the turn over reported that memory ran out, and changed no worker",
-    asks={"refused::a_turn_over_reports_out_of_memory": 19},
+    asks={"refused::a_turn_over_reports_out_of_memory": 21},
     first=52,
 )
 
