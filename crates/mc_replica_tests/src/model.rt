@@ -2,7 +2,8 @@
 use crate::values::{Shown, block_of, copied, copy_of, key_of, limit_of, value_of};
 use bytes::Bytes;
 use mc_model::{
-    Data, Fault, Key, KeyBlock, KeyList, Limits, Settings, TenantId, ValueList, WorkerId, read_number,
+    Data, Fault, Key, KeyBlock, KeyList, Limits, Settings, TenantId, ValueList, WorkerId,
+    read_number,
 };
 use std::alloc::Global;
 use std::process::Abort;
@@ -160,7 +161,9 @@ fn come_back(alloc: Global, first: &str, second: &str) -> Result<bool, Fault> {
 #[test]
 fn keys_there_and_back(rt: HostRuntime) {
     assert!(rt; come_back(rt.alloc(), "a", "b") == Ok(true));
-    assert!(rt; come_back(rt.alloc(), "a key of thirty bytes (of them)", "b") == Err(Fault::BadEvent));
+    assert!(rt;
+        come_back(rt.alloc(), "a key of thirty bytes (of them)", "b") == Err(Fault::BadEvent)
+    );
     assert!(rt; come_back(rt.alloc(), "a_key_of_thirty_bytes_or_so_by", "b") == Ok(true));
 }
 
