@@ -34,8 +34,8 @@ const COMMANDS_OF_A_READ: u64 = 64;
 /// How many bytes a read takes at most where a connection's commands are small, or not known yet.
 const LEAST_READ: usize = 2_048;
 
-/// Returns how many bytes a connection's next reads take at most, after so many have brought this
-/// many commands: all that there is room for if they have brought none, since a block is on its way.
+/// Returns how many bytes a connection's next reads take at most, by the bytes and the commands of its
+/// last serve: all that there is room for if there was no command, since a block may be on its way.
 fn read_bytes(bytes: u64, commands: u64) -> usize {
     match bytes.checked_div(commands) {
         Some(each) => (each.saturating_mul(COMMANDS_OF_A_READ) as usize).clamp(

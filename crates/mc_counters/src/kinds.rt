@@ -52,8 +52,8 @@ pub const COMMAND_KINDS: [CommandKind; TENANT_COMMANDS] = [
     CommandKind::Flush,
 ];
 
-/// The kinds of refusals that requests get, each at its place. `OUT_OF_MEMORY` isn't one: whoever gets
-/// it is told so in place of a reply, and no request is counted then.
+/// The kinds of refusals that requests get, each at its place. `OUT_OF_MEMORY` isn't one: it is
+/// sent in place of a reply, and the request isn't counted then.
 pub const REFUSAL_KINDS: [WireNo; REQUEST_REFUSALS] = [
     WireNo::E1,
     WireNo::E2,
