@@ -4,7 +4,7 @@
 ghost use Rattle.uc_cells.specs.Cells.{HasCell};
 
 use crate::figures::{Decimal, nanoseconds_of, print_figure};
-use mc_model::{Command, Entry, Key, KeyList, TenantId, Ticket, WorkerId};
+use mc_model::{Command, Entry, KeyBlock, KeyList, TenantId, Ticket, WorkerId};
 use std::alloc::{AllocError, Global};
 use std::io;
 use std::rt::Clock;
@@ -22,9 +22,8 @@ const READS: usize = 4;
 
 /// Returns a `get a` of the first tenant under this ticket.
 fn entry_of(alloc: Global, ticket: Ticket) -> Option<Entry> {
-    let key = Key::new(alloc, b"a").ok()??;
-    let mut keys = Vec::new(alloc);
-    keys.push(key).ok()?;
+    let mut keys = KeyBlock::new(alloc);
+    keys.push(b"a").ok()?;
     let keys = KeyList::new(keys)?;
     Some(Entry {
         ticket,

@@ -152,7 +152,7 @@ impl Asked {
         ensures { result ≡ asked_for_by command.now }
     {
         let keys = match command {
-            Command::Get { keys, .. } => keys.as_slice().len(),
+            Command::Get { keys, .. } => keys.len(),
             _ => 0,
         };
         Asked {

@@ -11,7 +11,7 @@ ghost use Rattle.mc_model.specs.declared.item.Data.{Data};
 ghost use Rattle.mc_model.specs.declared.item.Item.{Item};
 ghost use Rattle.mc_model.specs.declared.item.TheConstants.{DATA_BYTES};
 ghost use Rattle.mc_model.specs.declared.key.Key.{Key};
-ghost use Rattle.mc_model.specs.declared.key.KeyList.{KeyList};
+ghost use Rattle.mc_model.specs.declared.key_list.KeyList.{KeyList};
 ghost use Rattle.mc_model.specs.declared.reply.Reply.TheVariants.{Stored, NotStored, Exists, NotFound, Deleted, Ok, Number, Values, Version, Refused};
 ghost use Rattle.mc_model.specs.declared.reply.TheConstants.WireNo.{NOT_A_NUMBER, NO_ROOM, TOO_LARGE};
 ghost use Rattle.mc_model.specs.declared.reply.Value.{Value};

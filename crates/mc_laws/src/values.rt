@@ -5,7 +5,7 @@ ghost use Rattle.mc_model.specs.declared.command.Command.TheVariants.{Delete, Fl
 ghost use Rattle.mc_model.specs.declared.id.TheConstants.{TENANTS, WORKERS};
 ghost use Rattle.mc_model.specs.declared.item.TheConstants.{DATA_BYTES};
 ghost use Rattle.mc_model.specs.declared.key.Key.{Key};
-ghost use Rattle.mc_model.specs.declared.key.KeyList.{KeyList};
+ghost use Rattle.mc_model.specs.declared.key_list.KeyList.{KeyList};
 ghost use Rattle.mc_model.specs.declared.key.TheConstants.{KEY_BYTES};
 ghost use Rattle.mc_model.specs.declared.name.Name.{Name};
 ghost use Rattle.mc_model.specs.declared.name.TheConstants.{NAME_BYTES};

@@ -1,3 +1,4 @@
+mod Blocks
 mod Numerals
 mod Pieces
 mod Places

@@ -5,6 +5,7 @@ pub mod Numerals
 pub mod Settings
 pub mod Octets
 pub mod Joined
+pub mod KeyBlocks
 pub mod Keys
 pub mod Table
 pub mod Use

@@ -5,7 +5,7 @@ ghost use Rattle.std.specs.Prelude.{◌<◌};
 use crate::runs::{Text, columns};
 use bytes::Bytes;
 use itoa::Buffer;
-use mc_model::{Command, Data, Fault, Key, Limits, Name, Reply, Request, Verb};
+use mc_model::{Command, Data, Fault, Key, KeyList, Limits, Name, Reply, Request, Verb};
 use mc_read::{Reader, Speaker};
 use mc_write::refusal_text;
 use std::process::Abort;
@@ -40,10 +40,11 @@ fn after_item<'a>(text: &'a [u8], key: &Key, flags: u32, block: &Data) -> Option
 }
 
 /// Returns what follows keys.
-fn after_keys<'a>(text: &'a [u8], keys: &[Key]) -> Option<&'a [u8]> {
+fn after_keys<'a>(text: &'a [u8], keys: &KeyList) -> Option<&'a [u8]> {
     let mut text = text;
-    for key in keys {
-        text = after_word(text, key.as_bytes())?;
+    let mut texts = keys.texts();
+    for _ in 0..keys.len() {
+        text = after_word(text, texts.next()?)?;
     }
     Some(text)
 }
@@ -92,7 +93,7 @@ fn after_get<'a>(text: &'a [u8], command: &Command) -> Option<&'a [u8]> {
     match command {
         Command::Get { keys, uniques } => {
             let name: &[u8] = if *uniques { b"gets" } else { b"get" };
-            after_keys(after(text, name)?, keys.as_slice())
+            after_keys(after(text, name)?, keys)
         }
         _ => None,
     }

@@ -10,7 +10,7 @@ ghost use Rattle.mc_model.specs.declared.command.Verb.{Verb};
 ghost use Rattle.mc_model.specs.declared.command.Verb.TheVariants.{Append, Prepend};
 ghost use Rattle.mc_model.specs.declared.item.Data.{Data};
 ghost use Rattle.mc_model.specs.declared.key.Key.{Key};
-ghost use Rattle.mc_model.specs.declared.key.KeyList.{KeyList};
+ghost use Rattle.mc_model.specs.declared.key_list.KeyList.{KeyList};
 ghost use Rattle.mc_model.specs.declared.name.Name.{Name};
 ghost use Rattle.mc_model.specs.declared.reply.Reply.TheVariants.{Refused};
 ghost use Rattle.mc_model.specs.declared.reply.TheConstants.WireNo.{BAD_FORMAT, TOO_LARGE};

@@ -13,7 +13,7 @@ ghost use Rattle.mc_read.specs.Word.{is_word};
 
 use crate::line::{Asked, DELTA, malformed, no_command, refused};
 use crate::words::{Words, is_exptime, is_noreply, is_word, is_zero};
-use mc_model::{Command, Fault, Key, KeyList, Reply, Request, WireNo, read_number};
+use mc_model::{Command, Fault, Key, KeyBlock, KeyList, Reply, Request, WireNo, read_number};
 use std::alloc::Global;
 
 /// Wraps the command of a line without a block.
@@ -23,37 +23,35 @@ fn logged(command: Command, quiet: bool) -> Asked
     Asked::LineOnly(Request::Logged { command, quiet })
 }
 
-/// Returns the keys of a retrieval, whose words are valid keys. Returns `Memory` if an allocation
-/// fails.
-fn read_keys(alloc: Global, words: Words<'_>, count: usize) -> Result<Vec<Key>, Fault>
+/// Returns the keys of a retrieval, whose words are valid keys, in a block for which there is room of
+/// this size. Returns `Memory` if an allocation fails.
+fn read_keys(alloc: Global, words: Words<'_>, size: usize) -> Result<KeyBlock, Fault>
     requires { list_all is_lawful_key words ≡ true }
-    ensures keys { IfOk result (λ keys. keys.items ≡ words.entry) }
+    ensures keys { IfOk result (λ keys. keys ≡ words.entry) }
     ensures memory { IsOkUnless result Fault.Memory }
 {
-    let mut keys = Vec::with_capacity(alloc, count)?;
+    let mut keys = KeyBlock::with_capacity(alloc, size)?;
     let mut words = words;
     while let Some(word) = words.next() {
-        match Key::new(alloc, word)? {
-            Some(key) => keys.push(key)?,
-            None => unreachable!(),
-        }
+        keys.push(word)?;
     }
     Ok(keys)
 }
 
-/// Returns how many words there are, or `None` if one isn't a valid key. Allocates nothing.
-fn count_keys(words: Words<'_>) -> Option<usize>
+/// Returns how many bytes a block of the words takes, or `None` if one isn't a valid key. Allocates
+/// nothing.
+fn size_of_keys(words: Words<'_>) -> Option<usize>
     ensures { is_some result ≡ list_all is_lawful_key words.entry }
 {
     let mut words = words;
-    let mut count: usize = 0;
+    let mut size: usize = 0;
     while let Some(word) = words.next() {
         if !Key::is_lawful(word) {
             return None;
         }
-        count = count.saturating_add(1);
+        size = size.saturating_add(1).saturating_add(word.len());
     }
-    Some(count)
+    Some(size)
 }
 
 /// Returns what the retrieval of one key asks for. Returns `Memory` if an allocation fails.
@@ -76,10 +74,10 @@ fn ask_several(alloc: Global, uniques: bool, words: Words<'_>) -> Result<Asked, 
     ensures asked { IfOk result (λ asked. asked ≡ asked_of_retrieval uniques words.entry) }
     ensures memory { IsOkUnless result Fault.Memory }
 {
-    let Some(count) = count_keys(words.again()) else {
+    let Some(size) = size_of_keys(words.again()) else {
         return Ok(malformed());
     };
-    let keys = read_keys(alloc, words, count)?;
+    let keys = read_keys(alloc, words, size)?;
     match KeyList::new(keys) {
         Some(keys) => Ok(logged(Command::Get { keys, uniques }, false)),
         None => Ok(no_command()),

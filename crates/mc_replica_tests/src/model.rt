@@ -2,7 +2,8 @@
 use crate::values::{Shown, block_of, copied, copy_of, key_of, limit_of, value_of};
 use bytes::Bytes;
 use mc_model::{
-    Data, Fault, Key, KeyList, Limits, Settings, TenantId, ValueList, WorkerId, read_number,
+    Data, Fault, Key, KeyBlock, KeyList, Limits, Settings, TenantId, ValueList, WorkerId,
+    read_number,
 };
 use std::alloc::Global;
 use std::process::Abort;
@@ -126,38 +127,67 @@ fn blocks_compared(rt: HostRuntime) {
     }
 }
 
-fn two_keys(alloc: Global, first: &str, second: &str) -> Result<Vec<Key>, Fault> {
-    let (first, second) = (key_of(alloc, first)?, key_of(alloc, second)?);
-    Ok(vec![in alloc; first, second]?)
+/// Returns the list of two keys, for which the block has room from the start.
+fn keys_of(alloc: Global, first: &str, second: &str) -> Result<KeyList, Fault> {
+    let mut keys = KeyBlock::with_capacity(alloc, 2 + first.len() + second.len())?;
+    let (first, second) = (keys.push(first.as_bytes())?, keys.push(second.as_bytes())?);
+    if !first || !second {
+        return Err(Fault::BadEvent);
+    }
+    KeyList::new(keys).ok_or(Fault::BadEvent)
 }
 
-/// Returns the list of two keys.
-fn keys_of(alloc: Global, first: &str, second: &str) -> Result<KeyList, Fault> {
-    KeyList::new(two_keys(alloc, first, second)?).ok_or(Fault::BadEvent)
+/// Returns whether the list shows these keys, one after another.
+fn shows(list: &KeyList, keys: &[&str]) -> bool {
+    let mut texts = list.texts();
+    for key in keys {
+        if texts.next() != Some(key.as_bytes()) {
+            return false;
+        }
+    }
+    texts.next().is_none() && list.len() == keys.len()
 }
 
 /// Returns whether the list and its copy show these keys.
-fn are_keys(list: &KeyList, keys: &[Key]) -> Result<bool, Fault> {
+fn are_keys(list: &KeyList, keys: &[&str]) -> Result<bool, Fault> {
     let copy = list.try_clone()?;
-    Ok(copy == *list && copy.as_slice() == keys && list.as_slice() == keys)
+    Ok(copy == *list && shows(&copy, keys) && shows(list, keys))
 }
 
 fn come_back(alloc: Global, first: &str, second: &str) -> Result<bool, Fault> {
-    let keys = two_keys(alloc, first, second)?;
-    are_keys(&keys_of(alloc, first, second)?, &keys)
+    are_keys(&keys_of(alloc, first, second)?, &[first, second])
 }
 
 #[test]
 fn keys_there_and_back(rt: HostRuntime) {
     assert!(rt; come_back(rt.alloc(), "a", "b") == Ok(true));
+    assert!(rt;
+        come_back(rt.alloc(), "a key of thirty bytes (of them)", "b") == Err(Fault::BadEvent)
+    );
+    assert!(rt; come_back(rt.alloc(), "a_key_of_thirty_bytes_or_so_by", "b") == Ok(true));
 }
 
-/// A list made of one key is the one made of a vector of it.
+/// A list made of one key is the one made of a block of it.
 fn single_comes_back(alloc: Global) -> Result<bool, Fault> {
-    let keys = vec![in alloc; key_of(alloc, "a")?]?;
+    let mut keys = KeyBlock::new(alloc);
+    keys.push(b"a")?;
     let list = KeyList::single(key_of(alloc, "a")?);
-    let is_shown = are_keys(&list, &keys)?;
-    Ok(is_shown && KeyList::new(keys) == Some(list))
+    let in_block = KeyList::new(keys).ok_or(Fault::BadEvent)?;
+    let is_shown = are_keys(&list, &["a"])? && are_keys(&in_block, &["a"])?;
+    Ok(is_shown && in_block == list && list == in_block && list.size() == in_block.size())
+}
+
+/// A block takes no word that isn't a valid key, and is as it was then.
+fn unlawful_is_left_out(alloc: Global) -> Result<bool, Fault> {
+    let mut keys = KeyBlock::new(alloc);
+    let (first, second) = (keys.push(b"a")?, keys.push(b"b c")?);
+    let list = KeyList::new(keys).ok_or(Fault::BadEvent)?;
+    Ok(first && !second && shows(&list, &["a"]) && list.size() == 2)
+}
+
+#[test]
+fn no_unlawful_key_in_a_block(rt: HostRuntime) {
+    assert!(rt; unlawful_is_left_out(rt.alloc()) == Ok(true));
 }
 
 #[test]
@@ -167,7 +197,7 @@ fn one_key_there_and_back(rt: HostRuntime) {
 
 #[test]
 fn no_list_without_keys(rt: HostRuntime) {
-    assert!(rt; KeyList::new(Vec::new(rt.alloc())).is_none());
+    assert!(rt; KeyList::new(KeyBlock::new(rt.alloc())).is_none());
 }
 
 /// Returns whether two keys make a list that is equal to that of `a` and `b`.

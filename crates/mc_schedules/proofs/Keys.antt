@@ -1,14 +1,8 @@
 -- Words that aren't valid keys.
-use Rattle.std.proofs.Common.{◌≡◌, ◌<◌, false, List, ℕ, Bor, length, get_or, map, Some, None, sym, ◌∙◌}
-use Rattle.std.proofs.lemmas.Bool.{cond-true, false_from_ne_true}
+use Rattle.std.proofs.Common.{◌≡◌, ◌<◌, false, List, ℕ, Bor, length, get_or, map, ◌∙◌}
 use Rattle.std.proofs.lemmas.List.Folds.{list_all-map, list_all_at}
 use Rattle.std.specs.List.{list_all}
-use Rattle.mc_model.specs.Key.{is_lawful_key, key_of}
-
--- a key that isn't given isn't valid
-pub unlawful_from_none : (bytes : List ℕ) → key_of bytes ≡ None → is_lawful_key bytes ≡ false
-unlawful_from_none bytes none =
-    false_from_ne_true _ (λ lawful. let given = sym (cond-true _ (Some bytes) None lawful) ∙ none in absurd (cc))
+use Rattle.mc_model.specs.Key.{is_lawful_key}
 
 -- one word that isn't valid refuses them all
 pub unlawful_at : (words : List (Bor (List ℕ))) (i : ℕ) (word : Bor (List ℕ)) → i < length words → is_lawful_key (get_or words i word).now ≡ false

@@ -7,7 +7,7 @@ ghost use Rattle.mc_schedules.specs.Command.{cas_of, change_of, command_of, data
 
 use crate::words::is_word;
 use mc_model::item::DATA_BYTES;
-use mc_model::{Command, Data, Fault, Key, KeyList, Limits, Verb, read_number};
+use mc_model::{Command, Data, Fault, Key, KeyBlock, KeyList, Limits, Verb, read_number};
 use std::alloc::Global;
 
 /// The largest flags.
@@ -94,19 +94,18 @@ fn read_cas(alloc: Global, arguments: &[&[u8]]) -> Result<Option<Command>, Fault
 
 /// Returns the keys of a retrieval, or `None` if a word isn't a valid key. Returns `Memory` if an
 /// allocation fails.
-fn read_keys(alloc: Global, words: &[&[u8]]) -> Result<Option<Vec<Key>>, Fault>
+fn read_keys(alloc: Global, words: &[&[u8]]) -> Result<Option<KeyBlock>, Fault>
     ensures lawful { IfOk result
         (λ keys. is_some keys ≡ list_all is_lawful_key (map (λ word. word.now) words.now)) }
     ensures keys { IfOk result
-        (λ keys. IfSome keys (λ keys. keys.items ≡ map (λ word. word.now) words.now)) }
+        (λ keys. IfSome keys (λ keys. keys ≡ map (λ word. word.now) words.now)) }
     ensures memory { IsOkUnless result Fault.Memory }
 {
-    let mut keys = Vec::with_capacity(alloc, words.len())?;
+    let mut keys = KeyBlock::new(alloc);
     for word in words {
-        let Some(key) = Key::new(alloc, word)? else {
+        if !keys.push(word)? {
             return Ok(None);
-        };
-        keys.push(key)?;
+        }
     }
     Ok(Some(keys))
 }

@@ -1,16 +1,21 @@
 -- The workers of a log are all of it, so that what they have done is one run of the core.
-use Rattle.std.proofs.Common.{◌≡◌, ◌∙◌, ◌<◌, ◌≤◌, ℕ, ◌+◌, zero, suc, List, [], ◌∷◌, ◌++◌, Some, length, length-append, map, slice_get, ap, sym, subst, arith}
+use Rattle.std.proofs.Common.{◌≡◌, ◌∙◌, ◌<◌, ℕ, ◌+◌, zero, suc, List, [], ◌∷◌, ◌++◌, Some, length, length-append, map, slice_get, take, ap, refl, sym, subst, arith}
 use Rattle.std.proofs.lemmas.Option.{get_or_from_slice_get, none-some, same_Some, slice_get_within}
-use Rattle.mc_model.specs.declared.settings.Limits.{Limits}
+use Rattle.std.specs.Option.{option_and_then, option_map}
+use Rattle.mc_model.specs.History.{answer_from}
+use Rattle.mc_model.specs.Log.{own}
 use Rattle.mc_model.specs.Settings.{Configuration}
 use Rattle.mc_model.specs.State.{TableState, empty_table}
 use Rattle.mc_server.proofs.LogRuns.{all_gone_on, workers_back}
 use Rattle.mc_server.proofs.NetworkRuns.{are_workers}
-use Rattle.mc_server.specs.CoreRuns.{ClosedLogsAreCoreRuns, IsOneCoreRun, LastLogsAreCoreRuns, with_tenant}
+use Rattle.mc_server.specs.CoreRuns.{ClosedLogsAnswerOwn, ClosedLogsAreCoreRuns, IsOneCoreRun, LastLogsAreCoreRuns, with_tenant}
 use Rattle.mc_server.specs.Crew.{AreWorkersOf, number_of}
 use Rattle.mc_server.specs.Listeners.{CountsFrom}
+use Rattle.mc_server.specs.Logs.{AreOpenedOver}
 use Rattle.uc_log.specs.declared.log.Log.{Log}
-use Rattle.uc_worker.specs.AllWorkers.{AllDoOneCoreRun, AreAllOf, AreOnOneRun}
+use Rattle.uc_worker.specs.AllWorkers.{AllDoOneCoreRun, AreAllOf, AreOnOneRun, OwnHaveTheirReplies}
+use Rattle.uc_worker.specs.Cited.{entries}
+use Rattle.uc_worker.specs.Worker.{announced_of, history_of, openings_of}
 use Rattle.uc_worker.specs.declared.worker.Worker.{Worker}
 
 numbers_from : (first : ℕ) (workers : List Worker) → CountsFrom first (map number_of workers) → (place : ℕ) (worker : Worker) → slice_get workers place ≡ Some worker →
@@ -45,3 +50,46 @@ closed_logs law settings log tables after begun served some opened onward closes
 pub last_logs : AllDoOneCoreRun → LastLogsAreCoreRuns
 last_logs law settings most number some were = one_core_run law settings were.serves.log were.serves.tables were.served
     (workers_back settings were.logs were.places were.all were.served were.serves) were.run some
+
+-- the first worker, if there is one
+first_of : (workers : List Worker) → 0 < length workers → (worker : Worker) × (slice_get workers 0 ≡ Some worker)
+first_of [] some = absurd (omega (arith, some))
+first_of (worker ∷ workers) some = (worker, refl)
+
+-- a log of at least one worker was opened over a table for each tenant
+table_for_each : (settings : Configuration) (log : Log) (tables : List TableState) (begun : List Worker) → 0 < settings.workers →
+    AreOpenedOver settings log tables begun → length tables ≡ length settings.tenants
+table_for_each settings log tables begun some opened =
+    let first = first_of begun (let many = opened.all.many in omega (arith, some, many)) in
+    let worker = first.0 in
+    let inside = slice_get_within begun 0 worker first.1 in
+    let is = get_or_from_slice_get begun 0 worker worker first.1 in
+    let over : openings_of worker ≡ tables = subst (λ (it : Worker). openings_of it ≡ tables) is (opened.over 0 worker inside) in
+    let of : worker.log.now ≡ log = subst (λ (it : Worker). it.log.now ≡ log) is (opened.all.of 0 worker inside) in
+    ap (λ (list : List TableState). length list) (sym over) ∙ worker.opened.1 ∙ ap (λ (it : Log). length it.settings.tenants) of
+    ∙ ap (λ (known : Configuration). length known.tenants) opened.all.opened
+
+-- what stands in the front of a list
+in_front : {X : Type 0} (list more : List X) (place : ℕ) → place < length list → slice_get (list ++ more) place ≡ slice_get list place
+in_front [] more place inside = absurd (omega (arith, inside))
+in_front (x ∷ list) more zero inside = refl
+in_front (x ∷ list) more (suc place) inside = in_front list more place (omega (arith, inside))
+
+pub own_answers : OwnHaveTheirReplies → ClosedLogsAnswerOwn
+own_answers law settings log tables after begun served some opened onward closes limits one number place worker seen entry at here mine is apart =
+    let closed = closes.closed in
+    let all = are_workers settings log served closed (all_gone_on served closed closes.later) (are_workers settings log begun served onward opened.all) in
+    let each = table_for_each settings log tables begun some opened in
+    let long = length-append settings.tenants (limits ∷ []) in
+    let wide = length-append tables (empty_table limits ∷ []) in
+    let found = law (with_tenant limits settings) (length settings.tenants) (tables ++ empty_table limits ∷ []) closed one (omega (arith, each, long, wide)) closes.same
+    number place worker seen entry at here mine is apart in
+    let of : worker.log.now ≡ log = subst (λ (it : Worker). it.log.now ≡ log) (get_or_from_slice_get closed number worker worker at)
+    (all.of number worker (slice_get_within closed number worker at)) in
+    let put : slice_get (announced_of worker) seen.ticket.number ≡ Some seen =
+    sym (ap (option_and_then (λ (it : Worker). slice_get (announced_of it) seen.ticket.number)) (ap (slice_get closed) mine ∙ at)) ∙ one.as_put number place worker seen at here mine in
+    let known = worker.own.tenant seen.ticket.number seen entry put is in
+    let tenants = ap (λ (it : Log). length it.settings.tenants) of ∙ ap (λ (known : Configuration). length known.tenants) all.opened in
+    let kept = ap (option_map (λ (opening : TableState). answer_from opening (own entry.tenant (entries (take place (history_of worker)))) entry.command))
+    (in_front tables (empty_table limits ∷ []) entry.tenant (omega (arith, known, tenants, each))) in
+    (found.0, found.1, found.2, found.3 ∙ kept)

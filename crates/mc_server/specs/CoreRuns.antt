@@ -8,7 +8,7 @@ use Rattle.mc_model.specs.Settings.{Configuration}
 use Rattle.mc_model.specs.State.{TableState, empty_table}
 use Rattle.mc_server.specs.Logs.{AreOpenedOver, Closes, WereServed}
 use Rattle.uc_log.specs.declared.log.Log.{Log}
-use Rattle.uc_worker.specs.AllWorkers.{DoOneCoreRun}
+use Rattle.uc_worker.specs.AllWorkers.{AnswersOwn, DoOneCoreRun}
 use Rattle.uc_worker.specs.Going.{Continues}
 use Rattle.uc_worker.specs.declared.worker.Worker.{Worker}
 
@@ -35,3 +35,14 @@ abbrev pub LastLogsAreCoreRuns : Type 0
 LastLogsAreCoreRuns = (settings : Configuration) (most number : ℕ) →
     0 < settings.workers → (were : WereServed settings most number) →
     IsOneCoreRun settings were.serves.tables were.served
+
+-- The run of a closed log's workers answers their own commands, with the replies that follow from
+-- their histories over the tables that the log was opened over.
+abbrev pub ClosedLogsAnswerOwn : Type 0
+ClosedLogsAnswerOwn = (settings : Configuration) (log : Log) (tables after : List TableState)
+    (begun served : List Worker) → 0 < settings.workers →
+    AreOpenedOver settings log tables begun → AllZip Continues begun served →
+    (closes : Closes served after) (limits : Limits)
+    (one : DoOneCoreRun (with_tenant limits settings) (length settings.tenants)
+    (tables ++ empty_table limits ∷ []) closes.closed) →
+    AnswersOwn (length settings.tenants) tables closes.closed one.core.given

@@ -1,5 +1,5 @@
 -- Entries that are copied one by one.
-use Rattle.std.proofs.Common.{◌≡◌, ℕ, ◌+◌, ◌<◌, ◌≤◌, Bool, true, false, cond, not, List, [], ◌∷◌, drop, get_or, length, slice_get, Option, Some, None, refl, sym, ap, ◌∙◌, add-one, arith}
+use Rattle.std.proofs.Common.{◌≡◌, ℕ, ◌+◌, ◌<◌, ◌≤◌, Bool, true, false, cond, List, [], drop, get_or, length, slice_get, Option, Some, None, refl, sym, ap, ◌∙◌, add-one, arith}
 use Rattle.std.proofs.Math.Seq.{drop-cons}
 use Rattle.std.proofs.lemmas.Bool.Decides.{nat_tests}
 use Rattle.std.proofs.lemmas.List.Sums.{position_or_len_is}
@@ -12,57 +12,57 @@ use Rattle.std.specs.FinMap.{get-empty, get-insert, get-remove, same_map}
 use Rattle.std.specs.List.{IsDistinct, position_or_len}
 use Rattle.std.specs.Map.{keys_of}
 use Rattle.std.specs.Option.{option_map}
-use Rattle.std.specs.Prelude.{nat_eq, nat_lt, suc, Vec}
+use Rattle.std.specs.Prelude.{nat_eq, nat_lt, suc}
 use Rattle.mc_model.specs.declared.item.Item.{Item}
 use Rattle.mc_model.specs.declared.key.Key.{Key}
 use Rattle.mc_model.specs.Table.{Table, is_tied, key_cmp, key_cmp_exact, key_cmp_total, tied_keys}
 use Rattle.mc_tables.specs.Marks.{is_set}
-use Rattle.mc_tables.specs.Entries.{is_marked, laid_over, text_of_vec, unmarked, without}
+use Rattle.mc_tables.specs.Entries.{is_marked, laid_over, same_key, unmarked, without}
 use Rattle.mc_tables.proofs.Places.{place_within}
-use Rattle.mc_tables.proofs.Layering.{apart_places, entry_at, get-unmarked, get-without, held_under, or_else, place_is, place_of, same, same_itself, same_texts, same_turned}
+use Rattle.mc_tables.proofs.Layering.{apart_places, entry_at, get-unmarked, get-without, held_under, or_else, place_of, same, same_itself, same_texts, same_turned}
 
 -- a look-up in the entries from a place on, where that place is the first
-pub entry_at-from : {Z : Type 0} (held : List (Vec ℕ Z × Item)) (place : ℕ) (entry : Vec ℕ Z × Item) → slice_get held place ≡ Some entry → (q : Key) →
-    entry_at text_of_vec (drop place held) q ≡ cond (same q (text_of_vec entry.0)) (Some entry.1) (entry_at text_of_vec (drop (place + 1) held) q)
-entry_at-from held place entry is q =
+pub entry_at-from : {K V : Type 0} (text : K → Key) (held : List (K × V)) (place : ℕ) (entry : K × V) → slice_get held place ≡ Some entry → (q : Key) →
+    entry_at text (drop place held) q ≡ cond (same q (text entry.0)) (Some entry.1) (entry_at text (drop (place + 1) held) q)
+entry_at-from text held place entry is q =
     let inside = slice_get_within held place entry is in
     let at = get_or_from_slice_get held place entry entry is in
-    ap (λ es. entry_at text_of_vec es q) (drop-cons held place entry inside)
-    ∙ ap (λ (e : _). cond (same q (text_of_vec e.0)) (Some e.1) (entry_at text_of_vec (drop (suc place) held) q)) at
-    ∙ ap (λ n. cond (same q (text_of_vec entry.0)) (Some entry.1) (entry_at text_of_vec (drop n held) q)) (sym (add-one place))
+    ap (λ es. entry_at text es q) (drop-cons held place entry inside)
+    ∙ ap (λ (e : _). cond (same q (text e.0)) (Some e.1) (entry_at text (drop (suc place) held) q)) at
+    ∙ ap (λ n. cond (same q (text entry.0)) (Some entry.1) (entry_at text (drop n held) q)) (sym (add-one place))
 
 -- the place of an entry's own key
-pub own_place : {Z : Type 0} (held : List (Vec ℕ Z × Item)) (place : ℕ) (entry : Vec ℕ Z × Item) → IsDistinct (same_texts text_of_vec) (keys_of held) →
-    slice_get held place ≡ Some entry → place_of held (text_of_vec entry.0) ≡ Some place
+pub own_place : (held : List (Key × Item)) (place : ℕ) (entry : Key × Item) → IsDistinct (same_texts same_key) (keys_of held) →
+    slice_get held place ≡ Some entry → place_of held (same_key entry.0) ≡ Some place
 own_place held place entry apart at =
     let keys = keys_of held in
-    let q = text_of_vec entry.0 in
+    let q = same_key entry.0 in
     let here : slice_get keys place ≡ Some entry.0 = slice_get-map (λ e. e.0) held place ∙ ap (option_map (λ e. e.0)) at in
     let inside : place < length keys = slice_get_within keys place entry.0 here in
     let is : get_or keys place entry.0 ≡ entry.0 = get_or_from_slice_get keys place entry.0 entry.0 here in
-    let first : position_or_len (λ k. same q (text_of_vec k)) keys ≡ place = position_or_len_is (λ k. same q (text_of_vec k)) keys place entry.0 (omega (arith, inside))
-    (λ k before. same_turned q (text_of_vec (get_or keys k entry.0)) ∙ ap (λ x. same (text_of_vec (get_or keys k entry.0)) (text_of_vec x)) (sym is)
-    ∙ apart_from_distinct (same_texts text_of_vec) keys k place entry.0 apart before inside)
-    (λ _. ap (λ x. same q (text_of_vec x)) is ∙ same_itself q) in
+    let first : position_or_len (λ k. same q (same_key k)) keys ≡ place = position_or_len_is (λ k. same q (same_key k)) keys place entry.0 (omega (arith, inside))
+    (λ k before. same_turned q (same_key (get_or keys k entry.0)) ∙ ap (λ x. same (same_key (get_or keys k entry.0)) (same_key x)) (sym is)
+    ∙ apart_from_distinct (same_texts same_key) keys k place entry.0 apart before inside)
+    (λ _. ap (λ x. same q (same_key x)) is ∙ same_itself q) in
     let found : nat_lt place (length keys) ≡ true = grind (arith, nat_tests) in
-    sym (place_is held q) ∙ (λ i. cond (nat_lt (first i) (length keys)) (Some (first i)) None) ∙ ap (λ b. cond b (Some place) None) found
+    (λ i. cond (nat_lt (first i) (length keys)) (Some (first i)) None) ∙ ap (λ b. cond b (Some place) None) found
 
 -- SOME ENTRIES ARE LEFT OUT
 -- what entries hold, but for the keys that are gone
-abbrev pub left_at : {Z : Type 0} → (Key → Bool) → List (Vec ℕ Z × Item) → Key → Option Item
-left_at gone entries q = cond (gone q) None (entry_at text_of_vec entries q)
+abbrev pub left_at : (Key → Bool) → List (Key × Item) → Key → Option Item
+left_at gone entries q = cond (gone q) None (entry_at same_key entries q)
 
 -- what was copied so far, before what is left, is all that isn't gone
-abbrev pub IsCopyingLeft : {Z : Type 0} → (Key → Bool) → Table → List (Vec ℕ Z × Item) → List (Vec ℕ Z × Item) → Type 0
+abbrev pub IsCopyingLeft : (Key → Bool) → Table → List (Key × Item) → List (Key × Item) → Type 0
 IsCopyingLeft gone copy left held = (q : Key) → or_else (map.get copy q) (left_at gone left q) ≡ left_at gone held q
 
-pub none_copied_left : {Z : Type 0} (gone : Key → Bool) (copy : Table) (held : List (Vec ℕ Z × Item)) → copy ≡ map.empty → IsCopyingLeft gone copy held held
+pub none_copied_left : (gone : Key → Bool) (copy : Table) (held : List (Key × Item)) → copy ≡ map.empty → IsCopyingLeft gone copy held held
 none_copied_left gone copy held is = λ q. ap (λ (o : Option Item). or_else o (left_at gone held q)) (ap (λ (t : Table). map.get t q) is ∙ get-empty key_cmp q)
 
-module _ {Z : Type 0} (gone : Key → Bool) (copy : Table) (left next held : List (Vec ℕ Z × Item)) (text : Key) (item : Item) (so_far : IsCopyingLeft gone copy left held)
-    (first : (q : Key) → entry_at text_of_vec left q ≡ cond (same q text) (Some item) (entry_at text_of_vec next q)) where
+module _ (gone : Key → Bool) (copy : Table) (left next held : List (Key × Item)) (text : Key) (item : Item) (so_far : IsCopyingLeft gone copy left held)
+    (first : (q : Key) → entry_at same_key left q ≡ cond (same q text) (Some item) (entry_at same_key next q)) where
   other : (q : Key) → is_tied q text ≡ false → left_at gone left q ≡ left_at gone next q
-  other q apart = ap (cond (gone q) None) (first q ∙ ap (λ b. cond b (Some item) (entry_at text_of_vec next q)) (texts_ties q text ∙ apart))
+  other q apart = ap (cond (gone q) None) (first q ∙ ap (λ b. cond b (Some item) (entry_at same_key next q)) (texts_ties q text ∙ apart))
 
   -- an entry is gone
   pub one_gone : gone text ≡ true → IsCopyingLeft gone copy next held
@@ -71,11 +71,11 @@ module _ {Z : Type 0} (gone : Key → Bool) (copy : Table) (left next held : Lis
       by : (q : Key) (tied : Bool) → is_tied q text ≡ tied → left_at gone next q ≡ left_at gone left q
       by q true is =
           let yes : gone q ≡ true = ap gone (tied_keys q text is) ∙ is_gone in
-          ap (λ b. cond b None (entry_at text_of_vec next q)) yes ∙ sym (ap (λ b. cond b None (entry_at text_of_vec left q)) yes)
+          ap (λ b. cond b None (entry_at same_key next q)) yes ∙ sym (ap (λ b. cond b None (entry_at same_key left q)) yes)
       by q false is = sym (other q is)
 
   -- an entry is copied
-  pub one_copied_left : (new : Table) → gone text ≡ false → entry_at text_of_vec held text ≡ Some item → new ≡ map.insert copy text item → IsCopyingLeft gone new next held
+  pub one_copied_left : (new : Table) → gone text ≡ false → entry_at same_key held text ≡ Some item → new ≡ map.insert copy text item → IsCopyingLeft gone new next held
   one_copied_left new kept there put_in = λ q.
       ap (λ (t : Table). or_else (map.get t q) (left_at gone next q)) put_in
       ∙ ap (λ (o : Option Item). or_else o (left_at gone next q)) (get-insert key_cmp_total copy text item q)
@@ -84,7 +84,7 @@ module _ {Z : Type 0} (gone : Key → Bool) (copy : Table) (left next held : Lis
       by : (q : Key) (tied : Bool) → is_tied q text ≡ tied → or_else (cond tied (Some item) (map.get copy q)) (left_at gone next q) ≡ left_at gone held q
       by q true is =
           let no : gone q ≡ false = ap gone (tied_keys q text is) ∙ kept in
-          sym (ap (λ b. cond b None (entry_at text_of_vec held q)) no ∙ ap (entry_at text_of_vec held) (tied_keys q text is) ∙ there)
+          sym (ap (λ b. cond b None (entry_at same_key held q)) no ∙ ap (entry_at same_key held) (tied_keys q text is) ∙ there)
       by q false is = ap (or_else (map.get copy q)) (sym (other q is)) ∙ so_far q
 
 no_more_left : (gone : Bool) (o : Option Item) → o ≡ or_else o (cond gone None None)
@@ -94,10 +94,10 @@ no_more_left false None = refl
 no_more_left false (Some item) = refl
 
 -- whether a key's place is marked
-abbrev pub is_gone_from : {Z : Type 0} → List (Vec ℕ Z × Item) → List ℕ → Key → Bool
+abbrev pub is_gone_from : List (Key × Item) → List ℕ → Key → Bool
 is_gone_from held marks q = is_marked marks (place_of held q)
 
-pub all_copied_left : {Z : Type 0} (marks : List ℕ) (copy : Table) (left held : List (Vec ℕ Z × Item)) → left ≡ [] →
+pub all_copied_left : (marks : List ℕ) (copy : Table) (left held : List (Key × Item)) → left ≡ [] →
     IsCopyingLeft (is_gone_from held marks) copy left held → copy ≡ unmarked held marks
 all_copied_left marks copy left held none so_far = same_map key_cmp_total key_cmp_exact _ _ (λ q.
     no_more_left (is_gone_from held marks q) (map.get copy q)
@@ -140,7 +140,7 @@ is_marked_before marks end None = false
 is_marked_before marks end (Some place) = cond (nat_lt place end) (is_set marks place) false
 
 -- the copy lacks the keys whose places are marked, of those before an end
-abbrev pub IsRemoving : {Z : Type 0} → Table → List (Vec ℕ Z × Item) → List ℕ → ℕ → Table → Type 0
+abbrev pub IsRemoving : Table → List (Key × Item) → List ℕ → ℕ → Table → Type 0
 IsRemoving table held marks end copy = (q : Key) → map.get copy q ≡ cond (is_marked_before marks end (place_of held q)) None (map.get table q)
 
 none_before : (marks : List ℕ) (there : Option ℕ) → is_marked_before marks 0 there ≡ false
@@ -149,7 +149,7 @@ none_before marks (Some place) =
     let past : nat_lt place 0 ≡ false = grind (arith, nat_tests) in
     ap (λ b. cond b (is_set marks place) false) past
 
-pub none_removed : {Z : Type 0} (table copy : Table) (held : List (Vec ℕ Z × Item)) (marks : List ℕ) → copy ≡ table → IsRemoving table held marks 0 copy
+pub none_removed : (table copy : Table) (held : List (Key × Item)) (marks : List ℕ) → copy ≡ table → IsRemoving table held marks 0 copy
 none_removed table copy held marks is = λ q.
     ap (λ (t : Table). map.get t q) is ∙ sym (ap (λ b. cond b None (map.get table q)) (none_before marks (place_of held q)))
 
@@ -169,12 +169,12 @@ elsewhere marks end (Some place) apart = by (nat_eq place end) refl
         let alike : nat_lt place (end + 1) ≡ nat_lt place end = grind (arith, nat_tests) in
         ap (λ b. cond b (is_set marks place) false) alike
 
-pub one_stays : {Z : Type 0} (table copy : Table) (held : List (Vec ℕ Z × Item)) (marks : List ℕ) (end : ℕ) → IsRemoving table held marks end copy →
+pub one_stays : (table copy : Table) (held : List (Key × Item)) (marks : List ℕ) (end : ℕ) → IsRemoving table held marks end copy →
     ((q : Key) → place_of held q ≡ Some end → is_set marks end ≡ false) → IsRemoving table held marks (end + 1) copy
 one_stays table copy held marks end so_far apart = λ q.
     so_far q ∙ ap (λ b. cond b None (map.get table q)) (sym (elsewhere marks end (place_of held q) (apart q)))
 
-pub one_removed : {Z : Type 0} (table copy new : Table) (held : List (Vec ℕ Z × Item)) (marks : List ℕ) (end : ℕ) (text : Key) → IsRemoving table held marks end copy →
+pub one_removed : (table copy new : Table) (held : List (Key × Item)) (marks : List ℕ) (end : ℕ) (text : Key) → IsRemoving table held marks end copy →
     place_of held text ≡ Some end → is_set marks end ≡ true → new ≡ map.remove copy text → IsRemoving table held marks (end + 1) new
 one_removed table copy new held marks end text so_far at mark gone = λ q.
     ap (λ (t : Table). map.get t q) gone ∙ get-remove key_cmp_total copy text q ∙ by q (is_tied q text) refl
@@ -188,7 +188,7 @@ one_removed table copy new held marks end text so_far at mark gone = λ q.
     by q false is =
         so_far q ∙ ap (λ b. cond b None (map.get table q)) (sym (elsewhere marks end (place_of held q) (λ there. absurd (apart_places held text q end end is at there refl))))
 
-pub all_removed : {Z : Type 0} (table copy : Table) (held : List (Vec ℕ Z × Item)) (marks : List ℕ) (end : ℕ) → length held ≤ end → IsRemoving table held marks end copy →
+pub all_removed : (table copy : Table) (held : List (Key × Item)) (marks : List ℕ) (end : ℕ) → length held ≤ end → IsRemoving table held marks end copy →
     copy ≡ without table held marks
 all_removed table copy held marks end past so_far = same_map key_cmp_total key_cmp_exact _ _ (λ q.
     so_far q ∙ ap (λ b. cond b None (map.get table q)) (by (place_of held q) (λ i at. place_within held q i at)) ∙ sym (get-without table held marks q))

@@ -1,10 +1,9 @@
 -- Entries of hash maps as tables, marks on them, and what lies over them.
-use Rattle.std.proofs.Common.{◌≡◌, ◌≢◌, ℕ, ◌+◌, ◌||◌, Bool, true, false, cond, if◌then◌else◌, not, List, [], ◌∷◌, length, get_or, position, Option, Some, None, Result, Ok, Err, OnOk, OnErr, refl, sym, ap, ◌∙◌, true≢false, arith, Bor}
+use Rattle.std.proofs.Common.{◌≡◌, ◌≢◌, ℕ, ◌+◌, ◌||◌, Bool, true, false, cond, if◌then◌else◌, not, List, [], ◌∷◌, length, get_or, position, Option, Some, None, Result, Ok, Err, OnOk, OnErr, refl, sym, ap, ◌∙◌, true≢false, arith}
 use Rattle.std.proofs.lemmas.Bool.Decides.{nat_tests}
 use Rattle.std.proofs.lemmas.List.Quantifiers.{position-Some}
 use Rattle.std.specs.List.{position_or_len}
-use Rattle.std.specs.Prelude.{nat_eq, nat_lt, suc, Vec}
-use Rattle.indexmap.proofs.MapLemmas.{some_index}
+use Rattle.std.specs.Prelude.{nat_eq, nat_lt, suc}
 use Rattle.std.specs.Cmp.{eq_by_cmp_equiv}
 use Rattle.std.specs.Cmp.Lexicographic.{pointwise, texts_ties}
 use Rattle.std.specs.FinMap as map
@@ -12,13 +11,13 @@ use Rattle.std.specs.FinMap.{get-empty, get-insert, get-remove, get-retain_keys,
 use Rattle.std.specs.HashMap.{HashMap, UpdatesBy}
 use Rattle.std.specs.Map.{KeepsOthers}
 use Rattle.std.specs.Map.{keys_of, lookup}
-use Rattle.std.specs.Option.{is_some, option_map}
+use Rattle.std.specs.Option.{option_map}
 use Rattle.mc_model.specs.declared.item.Item.{Item}
 use Rattle.mc_model.specs.declared.key.Key.{Key}
 use Rattle.mc_model.specs.Table.{Table, is_tied, key_cmp, key_cmp_exact, key_cmp_total, tied_itself, tied_keys}
 use Rattle.mc_tables.specs.declared.cell_item.CellItem.{CellItem}
 use Rattle.mc_tables.specs.Marks.{is_set}
-use Rattle.mc_tables.specs.Entries.{is_marked, item_of_cell, laid_over, owned_entries, same_item, text_of_vec, texts_of, unmarked, without}
+use Rattle.mc_tables.specs.Entries.{is_marked, item_of_cell, laid_over, owned_entries, same_item, same_key, unmarked, without}
 
 -- the two tests of keys
 abbrev pub same : Key → Key → Bool
@@ -117,41 +116,29 @@ alone : (there : Option Item) → or_else (option_map same_item there) None ≡ 
 alone None = refl
 alone (Some item) = refl
 
-pub get-owned : {Z : Type 0} (entries : List (Vec ℕ Z × Item)) (q : Key) → map.get (owned_entries entries) q ≡ entry_at text_of_vec entries q
+pub get-owned : (entries : List (Key × Item)) (q : Key) → map.get (owned_entries entries) q ≡ entry_at same_key entries q
 get-owned entries q =
-    get-laid_over text_of_vec same_item map.empty entries q
-    ∙ ap (or_else (option_map same_item (entry_at text_of_vec entries q))) (get-empty key_cmp q)
-    ∙ alone (entry_at text_of_vec entries q)
+    get-laid_over same_key same_item map.empty entries q
+    ∙ ap (or_else (option_map same_item (entry_at same_key entries q))) (get-empty key_cmp q)
+    ∙ alone (entry_at same_key entries q)
 
 -- MARKS
-abbrev pub place_of : {Z : Type 0} → List (Vec ℕ Z × Item) → Key → Option ℕ
-place_of held q = position (same q) (texts_of held)
+abbrev pub place_of : List (Key × Item) → Key → Option ℕ
+place_of held q = position (same q) (keys_of held)
 
 pub turned : {A : Type 0} (b : Bool) (x y : A) → cond (not b) x y ≡ cond b y x
 turned true x y = refl
 turned false x y = refl
 
-pub get-without : {Z : Type 0} (table : Table) (held : List (Vec ℕ Z × Item)) (marks : List ℕ) (q : Key) →
+pub get-without : (table : Table) (held : List (Key × Item)) (marks : List ℕ) (q : Key) →
     map.get (without table held marks) q ≡ cond (is_marked marks (place_of held q)) None (map.get table q)
 get-without table held marks q =
     get-retain_keys table (λ key. not (is_marked marks (place_of held key))) q (λ x tied. ap (λ key. not (is_marked marks (place_of held key))) (sym (key_cmp_exact q x tied)))
     ∙ turned (is_marked marks (place_of held q)) _ _
 
-pub get-unmarked : {Z : Type 0} (held : List (Vec ℕ Z × Item)) (marks : List ℕ) (q : Key) →
-    map.get (unmarked held marks) q ≡ cond (is_marked marks (place_of held q)) None (entry_at text_of_vec held q)
+pub get-unmarked : (held : List (Key × Item)) (marks : List ℕ) (q : Key) →
+    map.get (unmarked held marks) q ≡ cond (is_marked marks (place_of held q)) None (entry_at same_key held q)
 get-unmarked held marks q = get-without (owned_entries held) held marks q ∙ ap (cond (is_marked marks (place_of held q)) None) (get-owned held q)
-
--- the place of a key by its bytes is that by its entry
-before_it : {Z : Type 0} (held : List (Vec ℕ Z × Item)) (q : Key) → position_or_len (λ k. same q (text_of_vec k)) (keys_of held) ≡ position_or_len (same q) (texts_of held)
-before_it [] q = refl
-before_it (entry ∷ held) q = ap (λ n. cond (not (same q (text_of_vec entry.0))) (1 + n) 0) (before_it held q)
-
-as_many : {Z : Type 0} (held : List (Vec ℕ Z × Item)) → length (keys_of held) ≡ length (texts_of held)
-as_many [] = refl
-as_many (entry ∷ held) = ap suc (as_many held)
-
-pub place_is : {Z : Type 0} (held : List (Vec ℕ Z × Item)) (q : Key) → position (λ k. same q (text_of_vec k)) (keys_of held) ≡ place_of held q
-place_is held q = λ i. cond (nat_lt (before_it held q i) (as_many held i)) (Some (before_it held q i)) None
 
 -- one more mark
 abbrev pub IsOneMore : List ℕ → ℕ → List ℕ → Type 0
@@ -165,16 +152,16 @@ marked_other marks new i (Some j) more apart =
     more j ∙ ap (λ b. b || is_set marks j) no
 
 -- places of two keys that are apart
-pub apart_places : {Z : Type 0} (held : List (Vec ℕ Z × Item)) (key q : Key) (i j : ℕ) → is_tied q key ≡ false → place_of held key ≡ Some i → place_of held q ≡ Some j → j ≢ i
+pub apart_places : (held : List (Key × Item)) (key q : Key) (i j : ℕ) → is_tied q key ≡ false → place_of held key ≡ Some i → place_of held q ≡ Some j → j ≢ i
 apart_places held key q i j apart at there is =
-    let one = (position-Some (same key) (texts_of held) i key at).1 in
-    let other = (position-Some (same q) (texts_of held) j key there).1 in
-    let key_is : key ≡ get_or (texts_of held) i key = is_same key _ one in
-    let q_is : q ≡ get_or (texts_of held) j key = is_same q _ other in
-    let both : q ≡ key = q_is ∙ ap (λ n. get_or (texts_of held) n key) is ∙ sym key_is in
+    let one = (position-Some (same key) (keys_of held) i key at).1 in
+    let other = (position-Some (same q) (keys_of held) j key there).1 in
+    let key_is : key ≡ get_or (keys_of held) i key = is_same key _ one in
+    let q_is : q ≡ get_or (keys_of held) j key = is_same q _ other in
+    let both : q ≡ key = q_is ∙ ap (λ n. get_or (keys_of held) n key) is ∙ sym key_is in
     true≢false (sym (tied_itself key) ∙ ap (λ k. is_tied k key) (sym both) ∙ apart)
 
-pub marked : {Z : Type 0} (table : Table) (held : List (Vec ℕ Z × Item)) (marks new : List ℕ) (key : Key) (i : ℕ) → place_of held key ≡ Some i → IsOneMore marks i new →
+pub marked : (table : Table) (held : List (Key × Item)) (marks new : List ℕ) (key : Key) (i : ℕ) → place_of held key ≡ Some i → IsOneMore marks i new →
     without table held new ≡ map.remove (without table held marks) key
 marked table held marks new key i at more = same_map key_cmp_total key_cmp_exact _ _ (λ q.
     get-without table held new q ∙ by q (is_tied q key) refl
@@ -202,13 +189,13 @@ nothing true there is = refl
 nothing false there is = is
 
 -- a key that isn't there needs no mark
-pub needs_no_mark : {Z : Type 0} (table : Table) (held : List (Vec ℕ Z × Item)) (marks : List ℕ) (key : Key) → map.get table key ≡ None →
+pub needs_no_mark : (table : Table) (held : List (Key × Item)) (marks : List ℕ) (key : Key) → map.get table key ≡ None →
     without table held marks ≡ map.remove (without table held marks) key
 needs_no_mark table held marks key none =
     nothing_there (without table held marks) key (get-without table held marks key ∙ nothing (is_marked marks (place_of held key)) _ none)
 
 -- no mark is set
-pub no_marks : {Z : Type 0} (table : Table) (held : List (Vec ℕ Z × Item)) (marks : List ℕ) → ((place : ℕ) → is_set marks place ≡ false) → without table held marks ≡ table
+pub no_marks : (table : Table) (held : List (Key × Item)) (marks : List ℕ) → ((place : ℕ) → is_set marks place ≡ false) → without table held marks ≡ table
 no_marks table held marks clear = same_map key_cmp_total key_cmp_exact _ _ (λ q.
     get-without table held marks q ∙ ap (λ b. cond b None (map.get table q)) (none (place_of held q)))
   where
@@ -217,13 +204,13 @@ no_marks table held marks clear = same_map key_cmp_total key_cmp_exact _ _ (λ q
     none (Some i) = clear i
 
 -- what is found by its place, and what isn't found
-pub under_some : {Z : Type 0} (table : Table) (held : List (Vec ℕ Z × Item)) (marks : List ℕ) (q : Key) (i : ℕ) (item : Item) (b : Bool) →
+pub under_some : (table : Table) (held : List (Key × Item)) (marks : List ℕ) (q : Key) (i : ℕ) (item : Item) (b : Bool) →
     map.get table q ≡ Some item → place_of held q ≡ Some i → is_set marks i ≡ b → map.get (without table held marks) q ≡ cond b None (Some item)
 under_some table held marks q i item b there at mark =
     get-without table held marks q ∙ ap (λ (o : Option ℕ). cond (is_marked marks o) None (map.get table q)) at
     ∙ ap (λ m. cond m None (map.get table q)) mark ∙ ap (cond b None) there
 
-pub under_none : {Z : Type 0} (table : Table) (held : List (Vec ℕ Z × Item)) (marks : List ℕ) (q : Key) →
+pub under_none : (table : Table) (held : List (Key × Item)) (marks : List ℕ) (q : Key) →
     map.get table q ≡ None → map.get (without table held marks) q ≡ None
 under_none table held marks q none = get-without table held marks q ∙ nothing (is_marked marks (place_of held q)) _ none
 
@@ -232,30 +219,30 @@ mapped : (there : Option Item) → option_map same_item there ≡ there
 mapped None = refl
 mapped (Some item) = refl
 
-abbrev pub items_over : {Z : Type 0} → Table → List (Vec ℕ Z × Item) → Table
-items_over table entries = laid_over text_of_vec same_item table entries
+abbrev pub items_over : Table → List (Key × Item) → Table
+items_over table entries = laid_over same_key same_item table entries
 
-pub get-items_over : {Z : Type 0} (table : Table) (entries : List (Vec ℕ Z × Item)) (q : Key) →
+pub get-items_over : (table : Table) (entries : List (Key × Item)) (q : Key) →
     map.get (items_over table entries) q ≡ or_else (map.get (owned_entries entries) q) (map.get table q)
 get-items_over table entries q =
-    get-laid_over text_of_vec same_item table entries q
-    ∙ ap (λ (o : Option Item). or_else o (map.get table q)) (mapped (entry_at text_of_vec entries q) ∙ sym (get-owned entries q))
+    get-laid_over same_key same_item table entries q
+    ∙ ap (λ (o : Option Item). or_else o (map.get table q)) (mapped (entry_at same_key entries q) ∙ sym (get-owned entries q))
 
-pub item_over : {Z : Type 0} (table : Table) (entries : List (Vec ℕ Z × Item)) (q : Key) (item : Item) →
+pub item_over : (table : Table) (entries : List (Key × Item)) (q : Key) (item : Item) →
     map.get (owned_entries entries) q ≡ Some item → map.get (items_over table entries) q ≡ Some item
 item_over table entries q item is = get-items_over table entries q ∙ ap (λ (o : Option Item). or_else o (map.get table q)) is
 
-pub item_under : {Z : Type 0} (table : Table) (entries : List (Vec ℕ Z × Item)) (q : Key) →
+pub item_under : (table : Table) (entries : List (Key × Item)) (q : Key) →
     map.get (owned_entries entries) q ≡ None → map.get (items_over table entries) q ≡ map.get table q
 item_under table entries q is = get-items_over table entries q ∙ ap (λ (o : Option Item). or_else o (map.get table q)) is
 
-pub items_over-same : {Y Z : Type 0} (table less : Table) (old : List (Vec ℕ Y × Item)) (new : List (Vec ℕ Z × Item)) →
+pub items_over-same : (table less : Table) (old : List (Key × Item)) (new : List (Key × Item)) →
     less ≡ table → owned_entries new ≡ owned_entries old → items_over less new ≡ items_over table old
 items_over-same table less old new below is = same_map key_cmp_total key_cmp_exact _ _ (λ q.
     get-items_over less new q ∙ ap (λ (t : Table). or_else (map.get t q) (map.get less q)) is
     ∙ ap (λ (t : Table). or_else (map.get (owned_entries old) q) (map.get t q)) below ∙ sym (get-items_over table old q))
 
-pub items_over-none : {Z : Type 0} (table : Table) (entries : List (Vec ℕ Z × Item)) → owned_entries entries ≡ map.empty → items_over table entries ≡ table
+pub items_over-none : (table : Table) (entries : List (Key × Item)) → owned_entries entries ≡ map.empty → items_over table entries ≡ table
 items_over-none table entries is = same_map key_cmp_total key_cmp_exact _ _ (λ q.
     get-items_over table entries q ∙ ap (λ (o : Option Item). or_else o (map.get table q)) (ap (λ (t : Table). map.get t q) is ∙ get-empty key_cmp q))
 
@@ -263,7 +250,7 @@ put_over : (b : Bool) (item : Item) (over below : Option Item) → or_else (cond
 put_over true item over below = refl
 put_over false item over below = refl
 
-pub items_over-put : {Z : Type 0} (table : Table) (old new : List (Vec ℕ Z × Item)) (key : Key) (item : Item) →
+pub items_over-put : (table : Table) (old new : List (Key × Item)) (key : Key) (item : Item) →
     owned_entries new ≡ map.insert (owned_entries old) key item → items_over table new ≡ map.insert (items_over table old) key item
 items_over-put table old new key item is = same_map key_cmp_total key_cmp_exact _ _ (λ q.
     get-items_over table new q ∙ ap (λ (t : Table). or_else (map.get t q) (map.get table q)) is
@@ -275,7 +262,7 @@ gone_over : (b : Bool) (over below : Option Item) → or_else (cond b None over)
 gone_over true over below = refl
 gone_over false over below = refl
 
-pub items_over-removed : {Z : Type 0} (table less : Table) (old new : List (Vec ℕ Z × Item)) (key : Key) →
+pub items_over-removed : (table less : Table) (old new : List (Key × Item)) (key : Key) →
     owned_entries new ≡ map.remove (owned_entries old) key → less ≡ map.remove table key → items_over less new ≡ map.remove (items_over table old) key
 items_over-removed table less old new key is below = same_map key_cmp_total key_cmp_exact _ _ (λ q.
     get-items_over less new q ∙ ap (λ (t : Table). or_else (map.get t q) (map.get less q)) is

@@ -5,3 +5,4 @@ mod Layering
 mod Places
 mod Copying
 mod Bytes
+mod Indexing

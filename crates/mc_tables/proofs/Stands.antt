@@ -2,7 +2,7 @@
 use Rattle.std.proofs.Common.{◌≡◌, Bool, Result, Ok, Err, OnOk, sym, subst, ◌∙◌, add-zero}
 use Rattle.mc_model.specs.declared.command.Command.{Command}
 use Rattle.mc_model.specs.declared.command.Command.TheVariants.{Get}
-use Rattle.mc_model.specs.declared.key.KeyList.{KeyList}
+use Rattle.mc_model.specs.declared.key_list.KeyList.{KeyList}
 use Rattle.model_lemmas.proofs.Histories.{StandsFor-push}
 use Rattle.mc_model.specs.History.{StandsForMore}
 use Rattle.mc_model.specs.State.{TableState, next_state}

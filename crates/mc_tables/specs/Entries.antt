@@ -1,8 +1,9 @@
 -- The entries of a hash map, laid over a table.
-use Rattle.std.specs.Prelude.{ℕ, Bool, false, not, List, [], ◌∷◌, nat_eq, position, map as each, Option, Some, None, Vec}
+use Rattle.std.specs.Prelude.{ℕ, Bool, false, not, List, [], ◌∷◌, nat_eq, position, Option, Some, None}
 use Rattle.std.specs.Borrow.{Bor}
 use Rattle.std.specs.Cmp.Lexicographic.{pointwise}
 use Rattle.std.specs.FinMap as map
+use Rattle.std.specs.Map.{keys_of}
 use Rattle.mc_model.specs.declared.item.Item.{Item}
 use Rattle.mc_model.specs.declared.key.Key.{Key}
 use Rattle.mc_model.specs.Table.{Table}
@@ -15,12 +16,12 @@ laid_over text item table [] = table
 laid_over text item table (entry ∷ entries) =
     map.insert (laid_over text item table entries) (text entry.0) (item entry.1)
 
--- the bytes of a key in a vector of its own, and of one that is borrowed
-abbrev pub text_of_vec : {Z : Type 0} → Vec ℕ Z → Key
-text_of_vec key = key.items
+-- a key that is lent, and one that isn't
+abbrev pub lent_key : Bor Key → Key
+lent_key key = key.now
 
-abbrev pub text_of_slice : Bor (List ℕ) → Key
-text_of_slice key = key.now
+abbrev pub same_key : Key → Key
+same_key key = key
 
 -- an item that borrows its data, as an item
 abbrev pub item_of_cell : CellItem → Item
@@ -31,12 +32,8 @@ abbrev pub same_item : Item → Item
 same_item item = item
 
 -- the entries of a map that owns its keys and items
-abbrev pub owned_entries : {Z : Type 0} → List (Vec ℕ Z × Item) → Table
-owned_entries entries = laid_over text_of_vec same_item map.empty entries
-
--- the keys of the entries, as bytes
-abbrev pub texts_of : {Z : Type 0} → List (Vec ℕ Z × Item) → List Key
-texts_of entries = each (λ entry. text_of_vec entry.0) entries
+abbrev pub owned_entries : List (Key × Item) → Table
+owned_entries entries = laid_over same_key same_item map.empty entries
 
 -- whether the place of a key is marked
 abbrev pub is_marked : List ℕ → Option ℕ → Bool
@@ -44,10 +41,10 @@ is_marked marks None = false
 is_marked marks (Some place) = is_set marks place
 
 -- a table without the keys whose places among the entries are marked
-abbrev pub without : {Z : Type 0} → Table → List (Vec ℕ Z × Item) → List ℕ → Table
+abbrev pub without : Table → List (Key × Item) → List ℕ → Table
 without table entries marks =
-    map.retain_keys table (λ key. not (is_marked marks (position (pointwise nat_eq key) (texts_of entries))))
+    map.retain_keys table (λ key. not (is_marked marks (position (pointwise nat_eq key) (keys_of entries))))
 
 -- the entries whose places aren't marked
-abbrev pub unmarked : {Z : Type 0} → List (Vec ℕ Z × Item) → List ℕ → Table
+abbrev pub unmarked : List (Key × Item) → List ℕ → Table
 unmarked entries marks = without (owned_entries entries) entries marks

@@ -2,14 +2,15 @@
 ghost use Rattle.std.specs.Arc.{arc_value};
 ghost use Rattle.std.specs.Cmp.Lexicographic.{pointwise};
 ghost use Rattle.std.specs.FinMap as map;
+ghost use Rattle.std.specs.Map.{keys_of};
 ghost use Rattle.std.specs.Option.{option_map};
 ghost use Rattle.std.specs.Prelude.{◌≡◌, ◌*◌, ◌<◌, ◌≤◌, ◌^◌, length, nat_eq, position, IfOk, IfSome, OnOk, IsOkUnless};
-ghost use Rattle.mc_tables.specs.Entries.{texts_of, unmarked};
+ghost use Rattle.mc_tables.specs.Entries.{unmarked};
 ghost use Rattle.mc_tables.specs.Maps.{map_table};
 
 use crate::item_map::ItemMap;
-use crate::marks::{is_set, no_marks, set};
-use mc_model::{Fault, Item};
+use crate::marks::{count_set, is_set, no_marks, set};
+use mc_model::{Fault, Item, Key};
 use std::alloc::Global;
 use std::sync::Arc;
 
@@ -19,8 +20,6 @@ use std::sync::Arc;
 pub struct Base {
     pub(crate) items: Arc<ItemMap, Global>,
     pub(crate) marks: Vec<u64>,
-    /// How many items are marked.
-    removed: usize,
     ghost marked: { length (arc_value items).held.entries ≤ 64 * length marks.items },
 }
 
@@ -33,11 +32,7 @@ impl Base {
     {
         let marks = no_marks(alloc, items.len())?;
         let items = Arc::new(alloc, items)?;
-        Ok(Base {
-            items,
-            marks,
-            removed: 0,
-        })
+        Ok(Base { items, marks })
     }
 
     /// Returns the same base, which shares the items. Returns `Memory` if the allocation of the marks
@@ -49,11 +44,7 @@ impl Base {
     {
         let marks = Vec::from_slice(alloc, &self.marks)?;
         let items = Arc::try_clone(&self.items)?;
-        Ok(Base {
-            items,
-            marks,
-            removed: self.removed,
-        })
+        Ok(Base { items, marks })
     }
 
     /// Returns the number of items, also of those that were removed.
@@ -66,20 +57,20 @@ impl Base {
 
     /// Returns how many of the items were removed.
     pub(crate) fn removed(&self) -> usize {
-        self.removed
+        count_set(&self.marks)
     }
 
-    /// Returns the place of a key of these bytes, with its item, unless that was removed.
-    pub(crate) fn place(&self, text: &[u8]) -> Option<(usize, &Item)>
+    /// Returns the place of a key, with its item, unless that was removed.
+    pub(crate) fn place(&self, key: &Key) -> Option<(usize, &Item)>
         ensures item { option_map (λ found. found.1.now) result ≡ map.get
-            (unmarked (arc_value self.now.items).held.entries self.now.marks.items) text.now }
-        ensures place { IfSome result (λ found. position (pointwise nat_eq text.now)
-            (texts_of (arc_value self.now.items).held.entries) ≡ Some found.0) }
+            (unmarked (arc_value self.now.items).held.entries self.now.marks.items) key.now }
+        ensures place { IfSome result (λ found. position (pointwise nat_eq key.now)
+            (keys_of (arc_value self.now.items).held.entries) ≡ Some found.0) }
         ensures within { IfSome result
             (λ found. found.0 < length (arc_value self.now.items).held.entries) }
         ensures small { IfSome result (λ found. found.0 < 2 ^ 63) }
     {
-        match self.items.place(text) {
+        match self.items.place(key) {
             None => None,
             Some((place, item)) => {
                 if is_set(&self.marks, place) {
@@ -91,26 +82,25 @@ impl Base {
         }
     }
 
-    /// Returns the bytes of the key at a place, removed or not.
-    pub(crate) fn text(&self, place: usize) -> &[u8]
+    /// Returns the key at a place, removed or not.
+    pub(crate) fn key(&self, place: usize) -> &Key
         requires { place < length (arc_value self.now.items).held.entries }
         ensures { position (pointwise nat_eq result.now)
-            (texts_of (arc_value self.now.items).held.entries) ≡ Some place }
+            (keys_of (arc_value self.now.items).held.entries) ≡ Some place }
     {
-        let (text, _) = self.items.entry(place);
-        text
+        let (key, _) = self.items.entry(place);
+        key
     }
 
-    /// Removes a key of these bytes, if it is held. Allocates nothing.
-    pub(crate) fn remove(&mut self, text: &[u8])
+    /// Removes a key, if it is held. Allocates nothing.
+    pub(crate) fn remove(&mut self, key: &Key)
         ensures items { arc_value self.new.items ≡ arc_value self.old.items }
         ensures table { unmarked (arc_value self.new.items).held.entries self.new.marks.items
             ≡ map.remove (unmarked (arc_value self.old.items).held.entries self.old.marks.items)
-            text.now }
+            key.now }
     {
-        if let Some((place, _)) = self.place(text) {
+        if let Some((place, _)) = self.place(key) {
             set(&mut self.marks, place);
-            self.removed = self.removed.saturating_add(1);
         }
     }
 
@@ -123,9 +113,9 @@ impl Base {
         ensures memory { IsOkUnless result Fault.Memory }
     {
         for place in 0..self.items.len() {
-            let (text, item) = self.items.entry(place);
+            let (key, item) = self.items.entry(place);
             if !is_set(&self.marks, place) {
-                copy.put_copy(text, item)?;
+                copy.put_copy(key, item)?;
             }
         }
         Ok(())

@@ -1,7 +1,10 @@
 //! Copies of tables, in memory of their own, of which much is shared.
+ghost use Rattle.std.specs.Cmp.Lexicographic.{pointwise};
 ghost use Rattle.std.specs.FinMap as map;
-ghost use Rattle.std.specs.Prelude.{◌≡◌, ◌*◌, ◌≤◌, length, IfOk, OnOk, IsOkUnless};
-ghost use Rattle.mc_tables.specs.Entries.{item_of_cell, laid_over, text_of_slice, without};
+ghost use Rattle.std.specs.Map.{lookup};
+ghost use Rattle.std.specs.Prelude.{◌≡◌, ◌+◌, ◌*◌, ◌<◌, ◌≤◌, cond, drop, length, nat_eq, Some, IfOk, OnOk, IsOkUnless};
+ghost use Rattle.mc_model.specs.declared.key.Key.{Key};
+ghost use Rattle.mc_tables.specs.Entries.{item_of_cell, laid_over, lent_key, without};
 ghost use Rattle.mc_tables.specs.Layers.{below, layers, left, owned_table, placed};
 ghost use Rattle.mc_tables.specs.Maps.{map_table};
 
@@ -12,9 +15,9 @@ use crate::item_map::ItemMap;
 use crate::layered::Layered;
 use crate::marks::is_set;
 use crate::owned::Owned;
-use mc_model::{Fault, Item};
+use indexmap::IndexMap;
+use mc_model::{Fault, Item, Key};
 use std::alloc::Global;
-use std::collections::HashMap;
 
 /// A base is shared until one in this many of its items was changed: then it is merged with them.
 const SHARED_PARTS: usize = 8;
@@ -58,8 +61,8 @@ fn copy_unmarked(base: &Owned, marks: &[u64], more: usize) -> Result<Owned, Faul
     let mut copy = base.shared(more)?;
     for place in 0..base.places() {
         if is_set(marks, place) {
-            if let Some(text) = base.key_at(place) {
-                copy.take_out(text);
+            if let Some(key) = base.key_at(place) {
+                copy.take_out(key);
             }
         }
     }
@@ -69,17 +72,38 @@ fn copy_unmarked(base: &Owned, marks: &[u64], more: usize) -> Result<Owned, Faul
 /// Puts copies of all entries into a copy. Returns `Memory` if an allocation fails.
 fn copy_over<'a>(
     alloc: Global,
-    over: &HashMap<&'a [u8], CellItem<'a>, Hashing>,
+    over: &IndexMap<&'a Key, CellItem<'a>, Hashing>,
     copy: &mut Owned,
 ) -> Result<(), Fault>
     ensures over { OnOk result (owned_table copy.new
-        ≡ laid_over text_of_slice item_of_cell (owned_table copy.old) over.now.entries) }
+        ≡ laid_over lent_key item_of_cell (owned_table copy.old) over.now.entries) }
     ensures memory { IsOkUnless result Fault.Memory }
 {
-    for (text, kept) in over {
-        copy.put_new(*text, item_of(alloc, kept)?)?;
+    for place in 0..over.len() {
+        let (key, kept) = entry_over(over, place);
+        copy.put_new(key, item_of(alloc, kept)?)?;
     }
     Ok(())
+}
+
+/// Returns the key at a place, and what is kept under it.
+fn entry_over<'s, 'a>(
+    over: &'s IndexMap<&'a Key, CellItem<'a>, Hashing>,
+    place: usize,
+) -> (&'s Key, &'s CellItem<'a>)
+    requires { place < length over.now.entries }
+    ensures kept { lookup (λ held. pointwise nat_eq result.0.now (lent_key held))
+        over.now.entries ≡ Some result.1.now }
+    ensures first { (key : Key) →
+        lookup (λ held. pointwise nat_eq key (lent_key held)) (drop place over.now.entries)
+        ≡ cond (pointwise nat_eq key result.0.now) (Some result.1.now)
+        (lookup (λ held. pointwise nat_eq key (lent_key held))
+        (drop (place + 1) over.now.entries)) }
+{
+    match over.get_index(place) {
+        Some((key, kept)) => (*key, kept),
+        None => unreachable!(),
+    }
 }
 
 /// Returns an item with a copy of the data. Returns `Memory` if the allocation fails.

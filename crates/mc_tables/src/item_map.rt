@@ -2,10 +2,11 @@
 ghost use Rattle.std.specs.Cmp.Lexicographic.{pointwise};
 ghost use Rattle.std.specs.FinMap as map;
 ghost use Rattle.std.specs.Option.{option_map};
-ghost use Rattle.std.specs.Prelude.{◌≡◌, ◌+◌, ◌<◌, ◌^◌, cond, drop, length, nat_eq, position, IfOk, IfSome, OnOk, OnErr, IsOkUnless};
-ghost use Rattle.std.specs.Map.{lookup};
+ghost use Rattle.std.specs.Prelude.{◌≡◌, ◌+◌, ◌<◌, ◌^◌, cond, drop, length, nat_eq, None, position, slice_get, IfNone, IfOk, IfSome, OnOk, OnErr, IsOkUnless};
+ghost use Rattle.std.specs.Map.{keys_of, lookup};
+ghost use Rattle.indexmap.specs.IndexMap.{values};
 ghost use Rattle.mc_model.specs.declared.key.Key.{Key};
-ghost use Rattle.mc_tables.specs.Entries.{laid_over, same_item, text_of_vec, texts_of};
+ghost use Rattle.mc_tables.specs.Entries.{laid_over, same_item, same_key};
 ghost use Rattle.mc_tables.specs.Maps.{map_table};
 
 use crate::hashing::Hashing;
@@ -16,8 +17,7 @@ use std::alloc::Global;
 /// Items in memory of their own, each with a place among them, in a hash map with a keyed hash.
 #[derive(Debug, Drop)]
 pub struct ItemMap {
-    alloc: Global,
-    pub(crate) held: IndexMap<Vec<u8>, Item, Hashing>,
+    pub(crate) held: IndexMap<Key, Item, Hashing>,
 }
 
 impl ItemMap {
@@ -26,7 +26,6 @@ impl ItemMap {
         ensures { map_table result ≡ map.empty }
     {
         ItemMap {
-            alloc,
             held: IndexMap::with_hasher(alloc, hashing),
         }
     }
@@ -41,7 +40,7 @@ impl ItemMap {
         ensures memory { IsOkUnless result Fault.Memory }
     {
         let held = IndexMap::with_capacity_and_hasher(alloc, capacity, hashing)?;
-        Ok(ItemMap { alloc, held })
+        Ok(ItemMap { held })
     }
 
     /// Returns how keys are hashed.
@@ -57,40 +56,52 @@ impl ItemMap {
         self.held.len()
     }
 
-    /// Returns the place among the items of a key of these bytes, with its item.
-    pub(crate) fn place(&self, text: &[u8]) -> Option<(usize, &Item)>
+    /// Returns the place among the items of a key, with its item.
+    pub(crate) fn place(&self, key: &Key) -> Option<(usize, &Item)>
         ensures place { option_map (λ found. found.0) result
-            ≡ position (pointwise nat_eq text.now) (texts_of self.now.held.entries) }
+            ≡ position (pointwise nat_eq key.now) (keys_of self.now.held.entries) }
         ensures item { option_map (λ found. found.1.now) result
-            ≡ map.get (map_table self.now) text.now }
+            ≡ map.get (map_table self.now) key.now }
         ensures within { IfSome result (λ found. found.0 < length self.now.held.entries) }
         ensures small { IfSome result (λ found. found.0 < 2 ^ 63) }
     {
-        // There are fewer than 2^63 items.
-        let _ = self.held.len();
-        match self.held.get_full(text) {
-            Some((place, _, item)) => Some((place, item)),
-            None => None,
+        let Some(place) = self.place_of(key) else {
+            return None;
+        };
+        Some((place, &self.held[place]))
+    }
+
+    /// Returns the place among the items of a key, which isn't hashed if there are no items.
+    fn place_of(&self, key: &Key) -> Option<usize>
+        ensures place { result ≡ position (pointwise nat_eq key.now) (keys_of self.now.held.entries) }
+        ensures item { IfSome result (λ place. slice_get (values self.now.held) place
+            ≡ map.get (map_table self.now) key.now) }
+        ensures none { IfNone result (map.get (map_table self.now) key.now ≡ None) }
+        ensures within { IfSome result (λ place. place < length self.now.held.entries) }
+        ensures small { IfSome result (λ place. place < 2 ^ 63) }
+    {
+        if self.held.len() == 0 {
+            return None;
         }
+        self.held.get_index_of(key)
     }
 
     /// Returns the key and the item at a place.
-    pub(crate) fn entry(&self, place: usize) -> (&[u8], &Item)
+    pub(crate) fn entry(&self, place: usize) -> (&Key, &Item)
         requires { place < length self.now.held.entries }
-        ensures place { position (pointwise nat_eq result.0.now) (texts_of self.now.held.entries)
+        ensures place { position (pointwise nat_eq result.0.now) (keys_of self.now.held.entries)
             ≡ Some place }
-        ensures item { lookup (λ held. pointwise nat_eq result.0.now (text_of_vec held))
-            self.now.held.entries ≡ Some result.1.now }
+        ensures item { lookup (pointwise nat_eq result.0.now) self.now.held.entries
+            ≡ Some result.1.now }
         ensures first { (key : Key) →
-            lookup (λ held. pointwise nat_eq key (text_of_vec held)) (drop place self.now.held.entries)
+            lookup (pointwise nat_eq key) (drop place self.now.held.entries)
             ≡ cond (pointwise nat_eq key result.0.now) (Some result.1.now)
-            (lookup (λ held. pointwise nat_eq key (text_of_vec held))
-            (drop (place + 1) self.now.held.entries)) }
+            (lookup (pointwise nat_eq key) (drop (place + 1) self.now.held.entries)) }
     {
         // No two of the keys are equal.
         let _ = self.held.len();
         match self.held.get_index(place) {
-            Some((text, item)) => (text.as_slice(), item),
+            Some(entry) => entry,
             None => unreachable!(),
         }
     }
@@ -103,32 +114,32 @@ impl ItemMap {
         ensures memory { IsOkUnless result Fault.Memory }
         ensures unchanged { OnErr result (map_table self.new ≡ map_table self.old) }
     {
-        if let Some(place) = self.held.get_mut(key.as_bytes()) {
-            *place = item;
+        if let Some(place) = self.place_of(key) {
+            let Some(held) = self.held.get_index_mut(place) else {
+                unreachable!()
+            };
+            *held = item;
             return Ok(());
         }
-        let text = Vec::from_slice(self.alloc, key.as_bytes())?;
-        self.held.insert(text, item)?;
-        Ok(())
+        self.put_new(key, item)
     }
 
-    /// Puts an item under a key that is made of these bytes. Returns `Memory` if an allocation
-    /// fails.
-    pub(crate) fn put_new(&mut self, text: &[u8], item: Item) -> Result<(), Fault>
+    /// Puts an item under a copy of a key, over what it held. Returns `Memory` if an allocation
+    /// fails; nothing changes then.
+    pub(crate) fn put_new(&mut self, key: &Key, item: Item) -> Result<(), Fault>
         ensures table { OnOk result
-            (map_table self.new ≡ map.insert (map_table self.old) text.now item) }
+            (map_table self.new ≡ map.insert (map_table self.old) key.now item) }
         ensures memory { IsOkUnless result Fault.Memory }
+        ensures unchanged { OnErr result (map_table self.new ≡ map_table self.old) }
     {
-        let text = Vec::from_slice(self.alloc, text)?;
-        self.held.insert(text, item)?;
+        self.held.insert(key.try_clone()?, item)?;
         Ok(())
     }
 
-    /// Puts a copy of an item under a key that is made of these bytes. Returns `Memory` if an
-    /// allocation fails.
-    pub(crate) fn put_copy(&mut self, text: &[u8], original: &Item) -> Result<(), Fault>
+    /// Puts a copy of an item under a copy of a key. Returns `Memory` if an allocation fails.
+    pub(crate) fn put_copy(&mut self, key: &Key, original: &Item) -> Result<(), Fault>
         ensures table { OnOk result
-            (map_table self.new ≡ map.insert (map_table self.old) text.now original.now) }
+            (map_table self.new ≡ map.insert (map_table self.old) key.now original.now) }
         ensures memory { IsOkUnless result Fault.Memory }
     {
         let item = Item {
@@ -136,27 +147,29 @@ impl ItemMap {
             block: original.block.try_clone()?,
             unique: original.unique,
         };
-        self.put_new(text, item)
+        self.put_new(key, item)
     }
 
     /// Puts copies of all items into another map. Returns `Memory` if an allocation fails.
     pub(crate) fn copy_into(&self, copy: &mut ItemMap) -> Result<(), Fault>
         ensures over { OnOk result (map_table copy.new
-            ≡ laid_over text_of_vec same_item (map_table copy.old) self.now.held.entries) }
+            ≡ laid_over same_key same_item (map_table copy.old) self.now.held.entries) }
         ensures memory { IsOkUnless result Fault.Memory }
     {
         for place in 0..self.len() {
-            let (text, item) = self.entry(place);
-            copy.put_copy(text, item)?;
+            let (key, item) = self.entry(place);
+            copy.put_copy(key, item)?;
         }
         Ok(())
     }
 
-    /// Removes a key of these bytes, if it is held. Allocates nothing.
-    pub(crate) fn remove(&mut self, text: &[u8])
-        ensures { map_table self.new ≡ map.remove (map_table self.old) text.now }
+    /// Removes a key, if it is held. Allocates nothing.
+    pub(crate) fn remove(&mut self, key: &Key)
+        ensures { map_table self.new ≡ map.remove (map_table self.old) key.now }
     {
-        self.held.swap_remove(text);
+        if let Some(place) = self.place_of(key) {
+            self.held.swap_remove_index(place);
+        }
     }
 
     /// Removes all keys. Allocates nothing.

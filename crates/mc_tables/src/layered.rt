@@ -1,7 +1,10 @@
 //! Items that borrow from commands, over a table that was there before.
+ghost use Rattle.std.specs.Cmp.Lexicographic.{pointwise};
 ghost use Rattle.std.specs.FinMap as map;
+ghost use Rattle.std.specs.Map.{lookup};
 ghost use Rattle.std.specs.Option.{is_some, option_copied, option_map};
-ghost use Rattle.std.specs.Prelude.{◌≡◌, [], ◌+◌, ◌≤◌, ◌++◌, length, IfOk, OnOk, OnErr, IsOkUnless, Some, if◌then◌else◌};
+ghost use Rattle.std.specs.Prelude.{◌≡◌, [], ◌+◌, ◌<◌, ◌≤◌, ◌++◌, length, nat_eq, position, slice_get, IfNone, IfOk, IfSome, OnOk, OnErr, IsOkUnless, None, Some, if◌then◌else◌};
+ghost use Rattle.indexmap.specs.IndexMap.{keys, values};
 ghost use Rattle.mc_model.specs.declared.item.TheConstants.{DATA_BYTES};
 ghost use Rattle.mc_model.specs.Effect.{shown_item};
 ghost use Rattle.mc_model.specs.History.{StandsFor};
@@ -9,11 +12,11 @@ ghost use Rattle.mc_model.specs.State.{empty_table};
 ghost use Rattle.mc_model.specs.Table.{Table};
 ghost use Rattle.mc_tables.specs.Changes.{block_under, data_after, flags_under, with_change};
 ghost use Rattle.mc_tables.specs.declared.storage.Change.TheVariants.{Append, Prepend};
-ghost use Rattle.mc_tables.specs.Entries.{item_of_cell};
+ghost use Rattle.mc_tables.specs.Entries.{item_of_cell, lent_key};
 ghost use Rattle.mc_tables.specs.Found.{found_of};
+ghost use Rattle.mc_tables.specs.Layers.{AreMarked, below, layers, owned_table};
 ghost use Rattle.mc_tables.specs.Meters.{IsMeterIf, IsMeterOf};
 ghost use Rattle.mc_tables.specs.Views.{item_in_view};
-ghost use Rattle.mc_tables.specs.Layers.{AreMarked, below, layers, owned_table};
 
 use crate::cell_item::CellItem;
 use crate::hashing::Hashing;
@@ -23,9 +26,9 @@ use crate::metered::Metered;
 use crate::owned::{Owned, OwnedItems};
 use crate::storage::{Change, Counter, Found, Storage, StorageFor};
 use crate::view::View;
+use indexmap::IndexMap;
 use mc_model::{Data, Fault, Fragments, Item, Key, Limits, Value};
 use std::alloc::Global;
-use std::collections::HashMap;
 
 /// Items that borrow from commands, in a hash map with a keyed hash, over a base. A mark for each
 /// item of the base says that it was removed, so a removal allocates nothing.
@@ -35,7 +38,7 @@ pub struct Layered<'a> {
     pub(crate) hashing: Hashing,
     pub(crate) base: Option<&'a Owned>,
     pub(crate) marks: Vec<u64>,
-    pub(crate) over: HashMap<&'a [u8], CellItem<'a>, Hashing>,
+    pub(crate) over: IndexMap<&'a Key, CellItem<'a>, Hashing>,
     ghost marked: { AreMarked base marks.items },
 }
 
@@ -90,7 +93,7 @@ impl<'a> Layered<'a> {
             hashing,
             base: None,
             marks: Vec::new(alloc),
-            over: HashMap::with_hasher(alloc, hashing),
+            over: IndexMap::with_hasher(alloc, hashing),
         }
     }
 
@@ -108,7 +111,7 @@ impl<'a> Layered<'a> {
             hashing,
             base: Some(base),
             marks,
-            over: HashMap::with_hasher(alloc, hashing),
+            over: IndexMap::with_hasher(alloc, hashing),
         })
     }
 
@@ -117,7 +120,7 @@ impl<'a> Layered<'a> {
         ensures { option_map item_in_view result
             ≡ map.get (layers self.now.base self.now.marks.items self.now.over) key.now }
     {
-        if let Some(kept) = self.over.get(key.as_bytes()) {
+        if let Some(kept) = self.kept(key) {
             return Some(View::Over(kept));
         }
         match self.under(key) {
@@ -126,13 +129,40 @@ impl<'a> Layered<'a> {
         }
     }
 
+    /// Returns what was put under a key over the base, if anything was.
+    fn kept(&self, key: &Key) -> Option<&CellItem<'a>>
+        ensures { option_copied result
+            ≡ lookup (λ held. pointwise nat_eq key.now (lent_key held)) self.now.over.entries }
+    {
+        let Some(place) = self.over_place(key) else {
+            return None;
+        };
+        Some(&self.over[place])
+    }
+
+    /// Returns the place among what was put over the base of a key. Hashes none if nothing was put.
+    fn over_place(&self, key: &Key) -> Option<usize>
+        ensures place { result
+            ≡ position (λ held. pointwise nat_eq key.now (lent_key held)) (keys self.now.over) }
+        ensures kept { IfSome result (λ place. slice_get (values self.now.over) place
+            ≡ lookup (λ held. pointwise nat_eq key.now (lent_key held)) self.now.over.entries) }
+        ensures none { IfNone result
+            (lookup (λ held. pointwise nat_eq key.now (lent_key held)) self.now.over.entries ≡ None) }
+        ensures within { IfSome result (λ place. place < length self.now.over.entries) }
+    {
+        if self.over.len() == 0 {
+            return None;
+        }
+        self.over.get_index_of(&key)
+    }
+
     /// Returns what is left of the base under a key.
     fn under(&self, key: &Key) -> Option<&'a Item>
         ensures { option_copied result ≡ map.get (below self.now.base self.now.marks.items) key.now }
     {
         match self.base {
             None => None,
-            Some(base) => match base.place(key.as_bytes()) {
+            Some(base) => match base.place(key) {
                 None => None,
                 Some((place, item)) => {
                     if is_set(&self.marks, place) {
@@ -155,7 +185,7 @@ impl<'a> Layered<'a> {
         ensures unchanged { OnErr result (layers self.new.base self.new.marks.items self.new.over
             ≡ layers self.old.base self.old.marks.items self.old.over) }
     {
-        self.over.insert(key.as_bytes(), kept)?;
+        self.over.insert(key, kept)?;
         Ok(())
     }
 
@@ -167,7 +197,7 @@ impl<'a> Layered<'a> {
             ≡ map.remove (below self.old.base self.old.marks.items) key.now }
     {
         if let Some(base) = self.base {
-            if let Some((place, _)) = base.place(key.as_bytes()) {
+            if let Some((place, _)) = base.place(key) {
                 set(&mut self.marks, place);
             }
         }
@@ -197,7 +227,7 @@ impl<'a> Layered<'a> {
             ≡ layers self.old.base self.old.marks.items self.old.over) }
     {
         let alloc = self.alloc;
-        if let Some(kept) = self.over.get_mut(key.as_bytes()) {
+        if let Some(kept) = self.over.get_mut(&key) {
             return push_back(alloc, kept, block, unique);
         }
         let mut kept = self.borrowed(key, unique);
@@ -218,7 +248,7 @@ impl<'a> Layered<'a> {
             ≡ layers self.old.base self.old.marks.items self.old.over) }
     {
         let alloc = self.alloc;
-        if let Some(kept) = self.over.get_mut(key.as_bytes()) {
+        if let Some(kept) = self.over.get_mut(&key) {
             return push_front(alloc, kept, block, unique);
         }
         let mut kept = self.borrowed(key, unique);
@@ -254,14 +284,14 @@ impl<'a> Storage for Layered<'a> {
     ghost table = { λ items. layers items.base items.marks.items items.over };
 
     fn find(&self, key: &Key) -> Option<Found> {
-        if let Some(kept) = self.over.get(key.as_bytes()) {
+        if let Some(kept) = self.kept(key) {
             return Some(found_in(kept));
         }
         self.find_under(key)
     }
 
     fn counter(&self, key: &Key) -> Option<Counter> {
-        if let Some(kept) = self.over.get(key.as_bytes()) {
+        if let Some(kept) = self.kept(key) {
             return Some(Counter {
                 found: found_in(kept),
                 number: kept.block.number(),
@@ -274,8 +304,10 @@ impl<'a> Storage for Layered<'a> {
     }
 
     fn remove(&mut self, key: &Key) {
-        self.over.remove(key.as_bytes());
         self.mark(key);
+        if let Some(place) = self.over_place(key) {
+            self.over.swap_remove_index(place);
+        }
     }
 
     fn clear(&mut self) {
@@ -287,7 +319,10 @@ impl<'a> Storage for Layered<'a> {
 impl<'a> StorageFor<'a> for Layered<'a> {
     fn show(&mut self, key: &Key, uniques: bool) -> Result<Option<Value<'a>>, Fault> {
         let alloc = self.alloc;
-        if let Some(kept) = self.over.get_mut(key.as_bytes()) {
+        if let Some(place) = self.over_place(key) {
+            let Some(kept) = self.over.get_index_mut(place) else {
+                unreachable!()
+            };
             return Ok(Some(show_kept(alloc, key, kept, uniques)?));
         }
         match self.under(key) {
@@ -333,7 +368,7 @@ impl<'a> StorageFor<'a> for Layered<'a> {
             unique,
             block: Fragments::new(block),
         };
-        if let Some(kept) = self.over.get_mut(key.as_bytes()) {
+        if let Some(kept) = self.over.get_mut(&key) {
             return Ok(overwrite(kept, item, key, meter));
         }
         let old = self.find_under(key);

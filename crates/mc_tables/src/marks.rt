@@ -37,3 +37,12 @@ pub(crate) fn set(marks: &mut Vec<u64>, place: usize)
     let word = marks[place / BITS];
     marks[place / BITS] = word | (1u64 << bit);
 }
+
+/// Returns how many places are marked.
+pub(crate) fn count_set(marks: &[u64]) -> usize {
+    let mut count = 0usize;
+    for word in marks {
+        count = count.saturating_add(word.count_ones() as usize);
+    }
+    count
+}

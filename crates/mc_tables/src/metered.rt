@@ -2,7 +2,7 @@
 ghost use Rattle.std.specs.FinMap as map;
 ghost use Rattle.std.specs.List.{filter_map};
 ghost use Rattle.std.specs.Option.{option_map};
-ghost use Rattle.std.specs.Prelude.{◌≡◌, ℕ, ◌+◌, ◌-◌, ◌^◌, ◌<◌, ◌≤◌, true, false, [], length, IfOk, OnOk, OnErr, IsOk, IsOkUnless, if◌then◌else◌};
+ghost use Rattle.std.specs.Prelude.{◌≡◌, ℕ, ◌+◌, ◌-◌, ◌^◌, ◌<◌, ◌≤◌, true, false, [], ◌∷◌, length, IfOk, OnOk, OnErr, IsOk, IsOkUnless, if◌then◌else◌};
 ghost use Rattle.mc_model.specs.declared.command.Command.TheVariants.{Store, Cas, Get, Delete, Incr, Decr, Flush, Limit};
 ghost use Rattle.mc_model.specs.declared.command.Verb.TheVariants.{Set};
 ghost use Rattle.mc_model.specs.declared.item.TheConstants.{DATA_BYTES};
@@ -20,7 +20,9 @@ use crate::meter::Meter;
 use crate::storage::{Change, Counter, Found, Storage, StorageFor};
 use crate::weights::{count_of_digits, weight_found};
 use mc_model::item::DATA_BYTES;
-use mc_model::{Data, Fault, Key, KeyList, Limits, Reply, Value, ValueList, Verb, WireNo};
+use mc_model::{
+    Data, Fault, Key, KeyList, KeyTexts, Limits, Reply, Value, ValueList, Verb, WireNo,
+};
 use std::alloc::Global;
 use std::marker::Model;
 
@@ -194,7 +196,10 @@ impl<S: Storage> Metered<S> {
         ensures memory { IsOkUnless result Fault.Memory }
         ensures unchanged { self.new ≡ self.old }
     {
-        let values = shown(self.alloc, &mut self.storage, keys.as_slice(), uniques)?;
+        let values = match keys.only() {
+            Some(key) => shown_under(self.alloc, &mut self.storage, key, uniques)?,
+            None => shown(self.alloc, &mut self.storage, keys.texts(), uniques)?,
+        };
         Ok(Reply::Values(ValueList::new(values)))
     }
 
@@ -352,19 +357,43 @@ impl<S: Storage> Metered<S> {
 fn shown<'a, S: StorageFor<'a>>(
     alloc: Global,
     storage: &mut S,
-    keys: &[Key],
+    keys: KeyTexts<'_>,
     uniques: bool,
 ) -> Result<Vec<Value<'a>>, Fault>
     ensures values { IfOk result (λ values.
-        values.items ≡ filter_map (shown_at (S.Storage.table storage.old) uniques) keys.now) }
+        values.items ≡ filter_map (shown_at (S.Storage.table storage.old) uniques) keys.entry) }
     ensures memory { IsOkUnless result Fault.Memory }
     ensures unchanged { S.Storage.table storage.new ≡ S.Storage.table storage.old }
 {
     let mut values = Vec::new(alloc);
-    for key in keys {
-        if let Some(value) = storage.show(key, uniques)? {
+    let mut keys = keys;
+    while let Some(text) = keys.next() {
+        let Some(key) = Key::new(alloc, text)? else {
+            unreachable!()
+        };
+        if let Some(value) = storage.show(&key, uniques)? {
             values.push(value)?;
         }
+    }
+    Ok(values)
+}
+
+/// Returns what a retrieval shows of the item under a key, if it is held. Returns `Memory` if an
+/// allocation fails.
+fn shown_under<'a, S: StorageFor<'a>>(
+    alloc: Global,
+    storage: &mut S,
+    key: &Key,
+    uniques: bool,
+) -> Result<Vec<Value<'a>>, Fault>
+    ensures values { IfOk result (λ values. values.items
+        ≡ filter_map (shown_at (S.Storage.table storage.old) uniques) (key.now ∷ [])) }
+    ensures memory { IsOkUnless result Fault.Memory }
+    ensures unchanged { S.Storage.table storage.new ≡ S.Storage.table storage.old }
+{
+    let mut values = Vec::new(alloc);
+    if let Some(value) = storage.show(key, uniques)? {
+        values.push(value)?;
     }
     Ok(values)
 }

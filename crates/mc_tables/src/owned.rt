@@ -1,6 +1,7 @@
 //! Items in memory of their own, in layers.
 ghost use Rattle.std.specs.Cmp.Lexicographic.{pointwise};
 ghost use Rattle.std.specs.FinMap as map;
+ghost use Rattle.std.specs.Map.{keys_of};
 ghost use Rattle.std.specs.Option.{option_copied, option_map};
 ghost use Rattle.std.specs.Prelude.{◌≡◌, ◌≢◌, [], ◌+◌, ◌<◌, ◌≤◌, ◌++◌, decimal, length, nat_eq, position, IfNone, IfOk, IfSome, OnOk, OnErr, IsOkUnless};
 ghost use Rattle.mc_model.specs.declared.item.TheConstants.{DATA_BYTES};
@@ -8,7 +9,6 @@ ghost use Rattle.mc_model.specs.declared.key.Key.{Key};
 ghost use Rattle.mc_model.specs.History.{StandsFor};
 ghost use Rattle.mc_model.specs.State.{empty_table};
 ghost use Rattle.mc_tables.specs.Changes.{block_under, flags_under};
-ghost use Rattle.mc_tables.specs.Entries.{texts_of};
 ghost use Rattle.mc_tables.specs.Layers.{owned_table, placed};
 
 use crate::base::Base;
@@ -94,47 +94,47 @@ impl Owned {
         }
     }
 
-    /// Returns the place of a key of these bytes, with its item, if it is held.
-    pub(crate) fn place(&self, text: &[u8]) -> Option<(usize, &Item)>
+    /// Returns the place of a key, with its item, if it is held.
+    pub(crate) fn place(&self, key: &Key) -> Option<(usize, &Item)>
         ensures item { option_map (λ found. found.1.now) result
-            ≡ map.get (owned_table self.now) text.now }
+            ≡ map.get (owned_table self.now) key.now }
         ensures place { IfSome result (λ found.
-            position (pointwise nat_eq text.now) (texts_of (placed self.now)) ≡ Some found.0) }
+            position (pointwise nat_eq key.now) (keys_of (placed self.now)) ≡ Some found.0) }
         ensures within { IfSome result (λ found. found.0 < length (placed self.now)) }
     {
-        if let Some((place, item)) = self.changes.place(text) {
+        if let Some((place, item)) = self.changes.place(key) {
             return Some((place, item));
         }
         let Some(base) = &self.base else {
             return None;
         };
-        match base.place(text) {
+        match base.place(key) {
             Some((place, item)) => Some((self.changes.len() + place, item)),
             None => None,
         }
     }
 
-    /// Returns the bytes of the key at a place, or `None` if that isn't the key's place, since it
+    /// Returns the key at a place, or `None` if that isn't the key's place, since it
     /// was changed after the base.
-    pub(crate) fn key_at(&self, place: usize) -> Option<&[u8]>
+    pub(crate) fn key_at(&self, place: usize) -> Option<&Key>
         requires { place < length (placed self.now) }
-        ensures own { IfSome result (λ text.
-            position (pointwise nat_eq text.now) (texts_of (placed self.now)) ≡ Some place) }
+        ensures own { IfSome result (λ key.
+            position (pointwise nat_eq key.now) (keys_of (placed self.now)) ≡ Some place) }
         ensures none { IfNone result ((key : Key) →
-            position (pointwise nat_eq key) (texts_of (placed self.now)) ≢ Some place) }
+            position (pointwise nat_eq key) (keys_of (placed self.now)) ≢ Some place) }
     {
         let changed = self.changes.len();
         if place < changed {
-            let (text, _) = self.changes.entry(place);
-            return Some(text);
+            let (key, _) = self.changes.entry(place);
+            return Some(key);
         }
         let Some(base) = &self.base else {
             unreachable!()
         };
-        let text = base.text(place - changed);
-        match self.changes.place(text) {
+        let key = base.key(place - changed);
+        match self.changes.place(key) {
             Some(_) => None,
-            None => Some(text),
+            None => Some(key),
         }
     }
 
@@ -142,7 +142,7 @@ impl Owned {
     fn item(&self, key: &Key) -> Option<&Item>
         ensures { option_copied result ≡ map.get (owned_table self.now) key.now }
     {
-        match self.place(key.as_bytes()) {
+        match self.place(key) {
             Some((_, item)) => Some(item),
             None => None,
         }
@@ -159,23 +159,23 @@ impl Owned {
         self.changes.put(key, item)
     }
 
-    /// Puts an item under a key that is made of these bytes. Returns `Memory` if an allocation
+    /// Puts an item under a copy of a key, over what it held. Returns `Memory` if an allocation
     /// fails.
-    pub(crate) fn put_new(&mut self, text: &[u8], item: Item) -> Result<(), Fault>
+    pub(crate) fn put_new(&mut self, key: &Key, item: Item) -> Result<(), Fault>
         ensures table { OnOk result
-            (owned_table self.new ≡ map.insert (owned_table self.old) text.now item) }
+            (owned_table self.new ≡ map.insert (owned_table self.old) key.now item) }
         ensures memory { IsOkUnless result Fault.Memory }
     {
-        self.changes.put_new(text, item)
+        self.changes.put_new(key, item)
     }
 
-    /// Removes a key of these bytes, if it is held. Allocates nothing.
-    pub(crate) fn take_out(&mut self, text: &[u8])
-        ensures { owned_table self.new ≡ map.remove (owned_table self.old) text.now }
+    /// Removes a key, if it is held. Allocates nothing.
+    pub(crate) fn take_out(&mut self, key: &Key)
+        ensures { owned_table self.new ≡ map.remove (owned_table self.old) key.now }
     {
-        self.changes.remove(text);
+        self.changes.remove(key);
         if let Some(base) = &mut self.base {
-            base.remove(text);
+            base.remove(key);
         }
     }
 
@@ -259,7 +259,7 @@ impl Storage for Owned {
     }
 
     fn remove(&mut self, key: &Key) {
-        self.take_out(key.as_bytes());
+        self.take_out(key);
     }
 
     fn clear(&mut self) {

@@ -24,13 +24,12 @@ use Rattle.uc_cells.specs.Sighting.{Sighting, entries}
 use Rattle.uc_core.specs.Core.{entry_under}
 use Rattle.uc_log.specs.declared.log.Log.{Log}
 use Rattle.uc_log.specs.Passes.{size_of}
-use Rattle.uc_places.specs.declared.view.Part.{Part}
 use Rattle.uc_places.specs.CoreRun.{CanReplay, IsCoreRun, RunsAsCore, entry_by, log_size}
 use Rattle.uc_places.specs.Run.{HasMade}
 use Rattle.uc_worker.specs.declared.worker.Worker.{Worker}
 use Rattle.uc_worker.specs.AllWorkers.{AllDoOneCoreRun, AreAllOf, AreOnOneRun, HaveItsCommands, HaveReplayed, own_part, put_under, places_replayed_by, said_under, said_in}
 use Rattle.uc_worker.specs.TurningOver.{HaveOneHistory}
-use Rattle.uc_worker.specs.Worker.{announced_of, history_of, seat_of}
+use Rattle.uc_worker.specs.Worker.{announced_of, history_of}
 
 abbrev sized_as : ℕ → ℕ → LogSize
 sized_as wide long = record { workers = wide; places = long }

@@ -1,51 +1,51 @@
 -- What a run of the core answers to a worker's own commands follows from the worker's history.
-use Rattle.std.proofs.Common.{◌≡◌, ◌≢◌, ℕ, ◌<◌, ◌≤◌, List, length, map, take, None, Option, Some, slice_get, refl, sym, ap, subst, ◌∙◌, arith}
+use Rattle.std.proofs.Common.{◌≡◌, ◌≢◌, ℕ, ◌<◌, ◌≤◌, List, length, take, None, Option, Some, slice_get, refl, sym, ap, subst, ◌∙◌, arith}
 use Rattle.std.proofs.lemmas.Option.{same_Some, slice_get-map, slice_get_within}
 use Rattle.std.specs.Option.{option_map, option_map_or}
 use Rattle.mc_model.specs.declared.command.Command.{Command}
-use Rattle.mc_model.specs.declared.id.Ticket.{Ticket}
 use Rattle.mc_model.specs.declared.reply.Reply.{Reply}
 use Rattle.mc_model.specs.declared.request.Entry.{Entry}
 use Rattle.mc_model.specs.declared.settings.Limits.{Limits}
 use Rattle.mc_model.specs.declared.shown.ShownState.{ShownState}
 use Rattle.mc_model.specs.Helping.{LogLaw}
-use Rattle.mc_model.specs.History.{answer, answer_from}
+use Rattle.mc_model.specs.History.{answer_from}
 use Rattle.mc_model.specs.Lawful.{IsReached, IsWorker, announced_by}
 use Rattle.mc_model.specs.Log.{own}
-use Rattle.mc_model.specs.Replay.{empty_tables, reply_to}
+use Rattle.mc_model.specs.Replay.{reply_to}
 use Rattle.mc_model.specs.Settings.{Configuration}
-use Rattle.mc_model.specs.State.{TableState, empty_table}
+use Rattle.mc_model.specs.State.{TableState}
 use Rattle.model_lemmas.proofs.Waiting.{is_lawful}
 use Rattle.uc_cells.specs.Sighting.{Sighting, entries}
-use Rattle.uc_core.specs.Asked.{ByEvents, IsOfSettings}
-use Rattle.uc_core.specs.Core.{CoreState, ReplayState, core_size, entry_under, log_of}
-use Rattle.uc_core.specs.Headline.{HasReply, IsAnswer, OfEveryRun, OwnAreAnswered, RepliesAreAnswers}
-use Rattle.uc_core.specs.Run.{IsRun, replayed_by}
-use Rattle.uc_places.specs.CoreRun.{entry_by}
+use Rattle.uc_core.specs.Asked.{IsOfSettings}
+use Rattle.uc_core.specs.Core.{ReplayState, core_size, entry_under, log_of}
+use Rattle.uc_core.specs.Headline.{HasReply, OwnAreAnswered}
+use Rattle.uc_core.specs.Run.{Runs, replayed_by}
+use Rattle.uc_laws.specs.Over.{ByEventsOver, EachHasATable, IsAnswerOver, OfEveryRunOver, RepliesAreAnswersOver}
+use Rattle.uc_places.specs.CoreRun.{core_over, entry_by}
 use Rattle.uc_worker.specs.declared.worker.Worker.{Worker}
-use Rattle.uc_worker.specs.AllWorkers.{DoOneCoreRun, OwnHaveTheirReplies, own_part, places_replayed_by, said_in, said_under}
+use Rattle.uc_worker.specs.AllWorkers.{DoOneCoreRun, OwnHaveTheirReplies, own_part, said_in, said_under}
 use Rattle.uc_worker.specs.TurningOver.{HaveOneHistory}
 use Rattle.uc_worker.specs.Worker.{history_of}
 
 -- the laws of every run
 pub record Laws : Type 0 where
-  pub answered : OfEveryRun (λ core given. OwnAreAnswered core given)
-  pub replies : OfEveryRun (λ core given. RepliesAreAnswers core given)
-  pub shown : OfEveryRun (λ core given. IsReached (core_size core) core.shown)
-  pub settings : ByEvents (λ settings events core. IsOfSettings settings core)
+  pub answered : OfEveryRunOver (λ tables core given. EachHasATable tables core → OwnAreAnswered core given)
+  pub replies : OfEveryRunOver (λ tables core given. RepliesAreAnswersOver tables core given)
+  pub shown : OfEveryRunOver (λ tables core given. IsReached (core_size core) core.shown)
+  pub settings : ByEventsOver (λ settings events core. IsOfSettings settings core)
 
-module _ (laws : Laws) (settings : Configuration) (nobody : ℕ) (workers : List Worker)
-    (one : DoOneCoreRun settings nobody (empty_tables settings.tenants) workers) (same : HaveOneHistory workers)
+module _ (laws : Laws) (settings : Configuration) (nobody : ℕ) (tables : List TableState) (workers : List Worker)
+    (one : DoOneCoreRun settings nobody tables workers) (enough : length settings.tenants ≤ length tables) (same : HaveOneHistory workers)
     (number place : ℕ) (worker : Worker) (seen : Sighting) (entry : Entry) (at : slice_get workers number ≡ Some worker)
     (here : slice_get (history_of worker) place ≡ Some seen) (mine : seen.ticket.worker ≡ number) (is : seen.entry ≡ Some entry) (apart : entry.tenant ≢ nobody) where
-  run : IsRun settings one.core.events one.core.core one.core.given
+  run : Runs (core_over settings tables) one.core.events one.core.core one.core.given
   run = one.core.runs
 
   of_settings : IsOfSettings settings one.core.core
-  of_settings = laws.settings settings one.core.events one.core.core one.core.given run
+  of_settings = laws.settings settings tables one.core.events one.core.core one.core.given run
 
   lawful : LogLaw (core_size one.core.core) one.core.core.shown
-  lawful = is_lawful (core_size one.core.core) one.core.core.shown (laws.shown settings one.core.events one.core.core one.core.given run)
+  lawful = is_lawful (core_size one.core.core) one.core.core.shown (laws.shown settings tables one.core.events one.core.core one.core.given run)
 
   shows : IsWorker one.core.core.shown number (own_part worker).state
   shows = subst (λ (log : ShownState). IsWorker log number (own_part worker).state) (sym one.core.shown) (one.shown number worker at)
@@ -83,11 +83,12 @@ module _ (laws : Laws) (settings : Configuration) (nobody : ℕ) (workers : List
           absurd (omega (arith, zero_so_far, count, inside))
       by_replay (Some replay) some =
           let long : replayed_by one.core.core number ≡ replay.replayed = ap (λ (o : Option ReplayState). option_map_or (λ (r : ReplayState). r.replayed) o 0) some in
-          laws.answered settings one.core.events one.core.core one.core.given run number place (own_part worker).state replay seen.ticket (shows, some)
+          laws.answered settings tables one.core.events one.core.core one.core.given run
+          (subst (λ (limits : List Limits). length limits ≤ length tables) (sym of_settings.tenants) enough) number place (own_part worker).state replay seen.ticket (shows, some)
           (omega (arith, long, count, inside)) decided mine
 
   -- and its reply is the answer
-  module _ (reply : Reply) (answers : IsAnswer one.core.core number place reply) where
+  module _ (reply : Reply) (answers : IsAnswerOver tables one.core.core number place reply) where
     its : answers.entry ≡ entry_by (said_under nobody workers) seen.ticket
     its = same_Some _ _ (same_Some _ _ (sym answers.found ∙ in_log))
 
@@ -97,22 +98,21 @@ module _ (laws : Laws) (settings : Configuration) (nobody : ℕ) (workers : List
     command : answers.entry.command ≡ entry.command
     command = ap (λ (e : Entry). e.command) its ∙ ap (λ (s : ℕ × Command). s.1) said
 
-    opens : slice_get settings.tenants entry.tenant ≡ Some answers.opening
-    opens = (λ i. slice_get (sym of_settings.tenants i) (sym tenant i)) ∙ answers.limits
+    opens : slice_get tables entry.tenant ≡ Some answers.opening
+    opens = ap (slice_get tables) (sym tenant) ∙ answers.began
 
     before : own entry.tenant (take place (log_of one.core.core)) ≡ own entry.tenant (entries (take place (history_of worker)))
     before = one.commands same number entry.tenant place worker at apart (let within = inside in omega (arith, within))
 
-    given_so : Some reply ≡ reply_to (empty_tables settings.tenants) (entries (take place (history_of worker))) (Some entry)
+    given_so : Some reply ≡ reply_to tables (entries (take place (history_of worker))) (Some entry)
     given_so =
-        ap (λ (r : Reply). Some r) (answers.replied ∙ (λ i. answer answers.opening (own (tenant i) (take place (log_of one.core.core))) (command i))
-        ∙ ap (λ (list : List Command). answer answers.opening list entry.command) before)
-        ∙ sym (ap (option_map (λ (opening : TableState). answer_from opening (own entry.tenant (entries (take place (history_of worker)))) entry.command))
-        (slice_get-map empty_table settings.tenants entry.tenant ∙ ap (option_map empty_table) opens))
+        ap (λ (r : Reply). Some r) (answers.replied ∙ (λ i. answer_from answers.opening (own (tenant i) (take place (log_of one.core.core))) (command i))
+        ∙ ap (λ (list : List Command). answer_from answers.opening list entry.command) before)
+        ∙ sym (ap (option_map (λ (opening : TableState). answer_from opening (own entry.tenant (entries (take place (history_of worker)))) entry.command)) opens)
 
 pub own_have_their_replies : Laws → OwnHaveTheirReplies
-own_have_their_replies laws settings nobody workers one same number place worker seen entry at here mine is apart =
-    let found = has_reply laws settings nobody workers one same number place worker seen entry at here mine is apart in
-    let answers = laws.replies settings one.core.events one.core.core one.core.given
-    (run laws settings nobody workers one same number place worker seen entry at here mine is apart) found.0 number place found.1 found.2 in
-    (found.0, found.1, found.2, given_so laws settings nobody workers one same number place worker seen entry at here mine is apart found.1 answers)
+own_have_their_replies laws settings nobody tables workers one enough same number place worker seen entry at here mine is apart =
+    let found = has_reply laws settings nobody tables workers one enough same number place worker seen entry at here mine is apart in
+    let answers = laws.replies settings tables one.core.events one.core.core one.core.given
+    (run laws settings nobody tables workers one enough same number place worker seen entry at here mine is apart) found.0 number place found.1 found.2 in
+    (found.0, found.1, found.2, given_so laws settings nobody tables workers one enough same number place worker seen entry at here mine is apart found.1 answers)

@@ -12,12 +12,13 @@ use Rattle.mc_model.specs.declared.shown.LogSize.{LogSize}
 use Rattle.mc_model.specs.declared.shown.ShownState.{ShownState}
 use Rattle.mc_model.specs.Lawful.{IsWorker, LeadOn, ShownEvent}
 use Rattle.mc_model.specs.Log.{own}
-use Rattle.mc_model.specs.Replay.{empty_tables, reply_to}
+use Rattle.mc_model.specs.Replay.{reply_to}
 use Rattle.mc_model.specs.Settings.{Configuration}
 use Rattle.mc_model.specs.Shown.{new_log}
 use Rattle.mc_model.specs.State.{TableState}
 use Rattle.uc_cells.specs.Sighting.{Sighting, entries}
 use Rattle.uc_core.specs.Core.{CoreState, log_of}
+use Rattle.uc_core.specs.Run.{Given}
 use Rattle.uc_log.specs.declared.log.Log.{Log}
 use Rattle.uc_places.specs.declared.view.Part.{Part}
 use Rattle.uc_places.specs.CoreRun.{IsCoreRun, log_size}
@@ -153,15 +154,20 @@ AllDoOneCoreRun = (settings : Configuration) (nobody : ℕ) (tables : List Table
     length log.settings.tenants ≤ length settings.tenants → nobody < length settings.tenants →
     0 < length workers → DoOneCoreRun settings nobody tables workers
 
--- In such a run over empty tables, of workers that have one history, each own command of a worker is
--- answered at the place where it has replayed it, with the reply that follows from its history.
-abbrev pub OwnHaveTheirReplies : Type 0
-OwnHaveTheirReplies = (settings : Configuration) (nobody : ℕ) (workers : List Worker)
-    (one : DoOneCoreRun settings nobody (empty_tables settings.tenants) workers) →
-    HaveOneHistory workers →
+-- Each own command of these workers is answered, at the place where its worker has replayed it, with
+-- the reply that follows from that worker's history over these tables. No-ops belong to nobody.
+abbrev pub AnswersOwn : ℕ → List TableState → List Worker → List Given → Type 0
+AnswersOwn nobody tables workers given =
     (number place : ℕ) (worker : Worker) (seen : Sighting) (entry : Entry) →
     slice_get workers number ≡ Some worker → slice_get (history_of worker) place ≡ Some seen →
     seen.ticket.worker ≡ number → seen.entry ≡ Some entry → entry.tenant ≢ nobody →
-    (at : ℕ) × (reply : Reply) × (slice_get one.core.given at ≡ Some (number, place, reply))
-    × (Some reply ≡ reply_to (empty_tables settings.tenants)
-    (entries (take place (history_of worker))) (Some entry))
+    (at : ℕ) × (reply : Reply) × (slice_get given at ≡ Some (number, place, reply))
+    × (Some reply ≡ reply_to tables (entries (take place (history_of worker))) (Some entry))
+
+-- A run of workers that have one history answers so over the tables that their log was opened over,
+-- if each tenant has one.
+abbrev pub OwnHaveTheirReplies : Type 0
+OwnHaveTheirReplies = (settings : Configuration) (nobody : ℕ) (tables : List TableState)
+    (workers : List Worker) (one : DoOneCoreRun settings nobody tables workers) →
+    length settings.tenants ≤ length tables → HaveOneHistory workers →
+    AnswersOwn nobody tables workers one.core.given

@@ -139,10 +139,11 @@ pub fn all_workers_run_the_core()
     // Over empty tables, those of a first log, the core opens as it does in the headline's runs,
     ensures opening { (settings : Configuration) →
         core_over settings (empty_tables settings.tenants) ≡ new_core settings }
-    // and answers each worker's own commands with the replies that `Worker::submit` gives.
+    // and over any tables it answers each worker's own commands with the replies that
+    // `Worker::submit` gives.
     ensures replies { OwnHaveTheirReplies }
 {
     a_run_of_the_log_is_one_of_the_core();
-    uc_core::laws();
-    uc_core::runs_do_what_is_asked();
+    uc_laws::laws_over_tables();
+    uc_laws::runs_over_tables_do_what_is_asked();
 }

@@ -3,7 +3,7 @@
 use crate::worker::Worker;
 use mc_model::{Command, Key};
 
-/// How many bytes a key takes besides its own.
+/// How many bytes a key, or a block of keys, takes besides its own.
 const KEY_BYTES: u64 = 64;
 
 /// Returns how many bytes a key takes.
@@ -17,13 +17,7 @@ fn bytes_of(command: &Command) -> u64 {
         Command::Store { key, block, .. } | Command::Cas { key, block, .. } => {
             bytes_of_key(key).saturating_add(block.as_bytes().len() as u64)
         }
-        Command::Get { keys, .. } => {
-            let mut bytes = 0u64;
-            for key in keys.as_slice() {
-                bytes = bytes.saturating_add(bytes_of_key(key));
-            }
-            bytes
-        }
+        Command::Get { keys, .. } => (keys.size() as u64).saturating_add(KEY_BYTES),
         Command::Delete { key } | Command::Incr { key, .. } | Command::Decr { key, .. } => {
             bytes_of_key(key)
         }

@@ -6,7 +6,7 @@ use Rattle.mc_read.proofs.without_block.read_keys.Given as goal
 -- the keys so far and the words that are left, which are valid, are all words
 abbrev pub invariant-loop-word : goal.invariant-loop-word
 invariant-loop-word l = record {
-  keys : l.keys.items ++ l.words ≡ l.fn.words;
+  keys : l.keys ++ l.words ≡ l.fn.words;
   lawful : list_all is_lawful_key l.words ≡ true;
 }
 

@@ -1,4 +1,4 @@
-use Rattle.std.proofs.Common.{◌≡◌, ◌≤◌, true, false, length, Some, arith, rules}
+use Rattle.std.proofs.Common.{◌≡◌, ◌≤◌, true, false, length, Some, rules}
 use Rattle.mc_model.specs.declared.key.Key.{Key}
 use Rattle.mc_tables.specs.Layers.{owned_table, placed}
 use Rattle.mc_tables.proofs.Copying.{all_removed, none_removed, one_removed, one_stays}
@@ -26,7 +26,7 @@ loop-place-preserved c =
     elim c.if-is_set.branch [
       | then-is_set+in-Some w ↦
           let yes : is_set marks place ≡ true = search rules in
-          let removed = one_removed table copy (owned_table w.take_out.new.self) held marks place w.in-Some.text.now c.loop-place.invariant w.in-Some.ensures.own yes w.take_out.ensures in
+          let removed = one_removed table copy (owned_table w.take_out.new.self) held marks place w.in-Some.key.now c.loop-place.invariant w.in-Some.ensures.own yes w.take_out.ensures in
           rw w.copy-is removed
       | then-is_set+in_default w ↦
           let nowhere : (key : Key) → place_of held key ≡ Some place → ⊥ = search rules in

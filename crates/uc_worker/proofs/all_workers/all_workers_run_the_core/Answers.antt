@@ -16,8 +16,8 @@ returns-clause-opening c = λ settings. refl
 
 pub returns-clause-replies : goal.returns-clause-replies
 returns-clause-replies c = own_have_their_replies (record {
-  answered = c.laws.ensures.answered;
-  replies = c.laws.ensures.replies;
-  shown = c.laws.ensures.shown;
-  settings = c.runs_do_what_is_asked.ensures.settings;
+  answered = c.laws_over_tables.ensures.answered;
+  replies = c.laws_over_tables.ensures.replies;
+  shown = c.laws_over_tables.ensures.shown;
+  settings = c.runs_over_tables_do_what_is_asked.ensures.settings;
 })

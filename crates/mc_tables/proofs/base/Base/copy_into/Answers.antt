@@ -1,8 +1,8 @@
-use Rattle.std.proofs.Common.{◌≡◌, ◌+◌, ◌<◌, ◌≤◌, true, false, cond, drop, get_or, length, Some, ap, sym, ◌∙◌, arith, rules}
+use Rattle.std.proofs.Common.{◌≡◌, ◌+◌, ◌≤◌, true, false, cond, drop, length, Some, ap, ◌∙◌, rules}
 use Rattle.std.proofs.lemmas.List.{drop_all}
 use Rattle.std.specs.Arc.{arc_value}
 use Rattle.mc_model.specs.declared.key.Key.{Key}
-use Rattle.mc_tables.specs.Entries.{is_marked, text_of_vec}
+use Rattle.mc_tables.specs.Entries.{is_marked, same_key}
 use Rattle.mc_tables.specs.Maps.{map_table}
 use Rattle.mc_tables.specs.Marks.{is_set}
 use Rattle.mc_tables.proofs.Layering.{entry_at, place_of, same}
@@ -29,9 +29,9 @@ loop-place-preserved c =
     let text = c.entry.result.0.now in
     let item = c.entry.result.1.now in
     let gone = is_gone_from held marks in
-    let first : (q : Key) → entry_at text_of_vec (drop place held) q ≡ cond (same q text) (Some item) (entry_at text_of_vec (drop (place + 1) held) q) = rw c.deref-in-loop-place.ensures at c.entry.ensures.first in
+    let first : (q : Key) → entry_at same_key (drop place held) q ≡ cond (same q text) (Some item) (entry_at same_key (drop (place + 1) held) q) = rw c.deref-in-loop-place.ensures at c.entry.ensures.first in
     let at : place_of held text ≡ Some place = rw c.deref-in-loop-place.ensures at c.entry.ensures.place in
-    let there : entry_at text_of_vec held text ≡ Some item = rw c.deref-in-loop-place.ensures at c.entry.ensures.item in
+    let there : entry_at same_key held text ≡ Some item = rw c.deref-in-loop-place.ensures at c.entry.ensures.item in
     let read : is_set marks place ≡ c.is_set.result = search rules in
     let is : gone text ≡ c.is_set.result = ap (is_marked marks) at ∙ read in
     elim c.if-not-is_set.branch [

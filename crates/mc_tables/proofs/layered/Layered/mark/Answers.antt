@@ -1,4 +1,4 @@
-use Rattle.std.proofs.Common.{◌≡◌, ℕ, List, Option, Some, None, Bor, sym, ap, subst, ◌∙◌, rules}
+use Rattle.std.proofs.Common.{◌≡◌, ℕ, Option, Some, None, Bor, sym, ap, subst, ◌∙◌}
 use Rattle.std.specs.FinMap as map
 use Rattle.std.specs.FinMap.{get-empty}
 use Rattle.mc_model.specs.Table.{key_cmp}
@@ -14,7 +14,7 @@ returns-in-Some-place-clause-marked c =
     let marks = c.args.self.now.marks.items in
     let key = c.args.key.now in
     let base = c.in-Some.base.now in
-    let at : place_of (placed base) key ≡ Some c.in-Some-place.place = rw c.as_bytes.ensures.value at c.in-Some-place.ensures.place in
+    let at : place_of (placed base) key ≡ Some c.in-Some-place.place = c.in-Some-place.ensures.place in
     subst (λ (b : Option (Bor Owned)). below b c.set.new.marks.items ≡ map.remove (below b marks) key) (sym c.in-Some.is)
     (marked (owned_table base) (placed base) marks c.set.new.marks.items key c.in-Some-place.place at c.set.ensures.set)
 
@@ -24,7 +24,7 @@ returns-in_default-place-clause-marked c =
     let key = c.args.key.now in
     let base = c.in-Some.base.now in
     let none : map.get (owned_table base) key ≡ None =
-    ap (map.get (owned_table base)) (sym c.as_bytes.ensures.value) ∙ sym c.place.ensures.item ∙ ap (option_map (λ (p : ℕ × Bor Item). p.1.now)) c.in_default-place.is in
+    sym c.place.ensures.item ∙ ap (option_map (λ (p : ℕ × Bor Item). p.1.now)) c.in_default-place.is in
     subst (λ (b : Option (Bor Owned)). below b marks ≡ map.remove (below b marks) key) (sym c.in-Some.is) (needs_no_mark (owned_table base) (placed base) marks key none)
 
 pub returns-in_default-clause-marked : goal.returns-in_default-clause-marked

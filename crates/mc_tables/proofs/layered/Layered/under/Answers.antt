@@ -1,4 +1,4 @@
-use Rattle.std.proofs.Common.{◌≡◌, ℕ, List, true, false, Option, Some, None, Bor, sym, ap, ◌∙◌, rules}
+use Rattle.std.proofs.Common.{◌≡◌, ℕ, true, false, Option, Some, None, Bor, sym, ap, ◌∙◌, rules}
 use Rattle.std.specs.FinMap as map
 use Rattle.std.specs.FinMap.{get-empty}
 use Rattle.mc_model.specs.Table.{key_cmp}
@@ -22,7 +22,7 @@ returns-in-None-place c =
     let key = c.args.key.now in
     let base = c.in-Some.base.now in
     let none : map.get (owned_table base) key ≡ None =
-    ap (map.get (owned_table base)) (sym c.as_bytes.ensures.value) ∙ sym c.place.ensures.item ∙ ap (option_map (λ (p : ℕ × Bor Item). p.1.now)) c.in-None-place.is in
+    sym c.place.ensures.item ∙ ap (option_map (λ (p : ℕ × Bor Item). p.1.now)) c.in-None-place.is in
     sym (ap (λ (b : Option (Bor Owned)). map.get (below b marks) key) c.in-Some.is ∙ under_none (owned_table base) (placed base) marks key none)
 
 pub returns-then-is_set : goal.returns-then-is_set
@@ -33,8 +33,8 @@ returns-then-is_set c =
     let place = c.in-Some-place.place in
     let item = c.in-Some-place.item.now in
     let there : map.get (owned_table base) key ≡ Some item =
-    ap (map.get (owned_table base)) (sym c.as_bytes.ensures.value) ∙ sym c.place.ensures.item ∙ ap (option_map (λ (p : ℕ × Bor Item). p.1.now)) c.in-Some-place.is in
-    let at : place_of (placed base) key ≡ Some place = rw c.as_bytes.ensures.value at c.in-Some-place.ensures.place in
+    sym c.place.ensures.item ∙ ap (option_map (λ (p : ℕ × Bor Item). p.1.now)) c.in-Some-place.is in
+    let at : place_of (placed base) key ≡ Some place = c.in-Some-place.ensures.place in
     let yes : is_set marks place ≡ true = search rules in
     sym (ap (λ (b : Option (Bor Owned)). map.get (below b marks) key) c.in-Some.is ∙ under_some (owned_table base) (placed base) marks key place item true there at yes)
 
@@ -46,7 +46,7 @@ returns-else-is_set c =
     let place = c.in-Some-place.place in
     let item = c.in-Some-place.item.now in
     let there : map.get (owned_table base) key ≡ Some item =
-    ap (map.get (owned_table base)) (sym c.as_bytes.ensures.value) ∙ sym c.place.ensures.item ∙ ap (option_map (λ (p : ℕ × Bor Item). p.1.now)) c.in-Some-place.is in
-    let at : place_of (placed base) key ≡ Some place = rw c.as_bytes.ensures.value at c.in-Some-place.ensures.place in
+    sym c.place.ensures.item ∙ ap (option_map (λ (p : ℕ × Bor Item). p.1.now)) c.in-Some-place.is in
+    let at : place_of (placed base) key ≡ Some place = c.in-Some-place.ensures.place in
     let no : is_set marks place ≡ false = search rules in
     sym (ap (λ (b : Option (Bor Owned)). map.get (below b marks) key) c.in-Some.is ∙ under_some (owned_table base) (placed base) marks key place item false there at no)

@@ -1,6 +1,6 @@
-use Rattle.std.proofs.Common.{◌≡◌, ℕ, List, None, sym, ap, ◌∙◌}
+use Rattle.std.proofs.Common.{◌≡◌, None, Some, sym, ap, ◌∙◌}
 use Rattle.std.specs.Option.{option_copied}
-use Rattle.mc_tables.specs.Entries.{item_of_cell, text_of_slice}
+use Rattle.mc_tables.specs.Entries.{item_of_cell, lent_key}
 use Rattle.mc_tables.specs.Layers.{below}
 use Rattle.mc_tables.proofs.Layering.{held_over, held_under, entry_at}
 use Rattle.mc_tables.proofs.layered.Layered.view.Goals as goal
@@ -10,21 +10,21 @@ returns-in-Some c =
     let table = below c.args.self.now.base c.args.self.now.marks.items in
     let over = c.args.self.now.over.entries in
     let key = c.args.key.now in
-    let here = ap (λ (q : List ℕ). entry_at text_of_slice over q) (sym c.as_bytes.ensures.value) ∙ sym c.get.ensures.value ∙ ap option_copied c.in-Some.is in
-    sym (held_over text_of_slice item_of_cell table over key c.in-Some.kept.now here)
+    let here : entry_at lent_key over key ≡ Some c.in-Some.kept.now = sym c.kept.ensures ∙ ap option_copied c.in-Some.is in
+    sym (held_over lent_key item_of_cell table over key c.in-Some.kept.now here)
 
 pub returns-in-Some-under : goal.returns-in-Some-under
 returns-in-Some-under c =
     let table = below c.args.self.now.base c.args.self.now.marks.items in
     let over = c.args.self.now.over.entries in
     let key = c.args.key.now in
-    let absent : entry_at text_of_slice over key ≡ None = ap (λ (q : List ℕ). entry_at text_of_slice over q) (sym c.as_bytes.ensures.value) ∙ sym c.get.ensures.value ∙ ap option_copied c.in_default.is in
-    sym (held_under text_of_slice item_of_cell table over key absent ∙ sym c.under.ensures ∙ ap option_copied c.in-Some-under.is)
+    let absent : entry_at lent_key over key ≡ None = sym c.kept.ensures ∙ ap option_copied c.in_default.is in
+    sym (held_under lent_key item_of_cell table over key absent ∙ sym c.under.ensures ∙ ap option_copied c.in-Some-under.is)
 
 pub returns-in-None : goal.returns-in-None
 returns-in-None c =
     let table = below c.args.self.now.base c.args.self.now.marks.items in
     let over = c.args.self.now.over.entries in
     let key = c.args.key.now in
-    let absent : entry_at text_of_slice over key ≡ None = ap (λ (q : List ℕ). entry_at text_of_slice over q) (sym c.as_bytes.ensures.value) ∙ sym c.get.ensures.value ∙ ap option_copied c.in_default.is in
-    sym (held_under text_of_slice item_of_cell table over key absent ∙ sym c.under.ensures ∙ ap option_copied c.in-None.is)
+    let absent : entry_at lent_key over key ≡ None = sym c.kept.ensures ∙ ap option_copied c.in_default.is in
+    sym (held_under lent_key item_of_cell table over key absent ∙ sym c.under.ensures ∙ ap option_copied c.in-None.is)

@@ -1,7 +1,7 @@
-use Rattle.std.proofs.Common.{◌≡◌, ℕ, List, Some, None, sym, ap, ◌∙◌, rules}
+use Rattle.std.proofs.Common.{◌≡◌, Some, None, sym, ap, ◌∙◌, rules}
 use Rattle.std.specs.FinMap as map
 use Rattle.std.specs.Option.{option_copied}
-use Rattle.mc_tables.specs.Entries.{item_of_cell, laid_over, text_of_slice}
+use Rattle.mc_tables.specs.Entries.{item_of_cell, laid_over, lent_key}
 use Rattle.mc_tables.specs.Layers.{below}
 use Rattle.mc_tables.proofs.Layering.{held_over, held_under, entry_at}
 use Rattle.mc_tables.proofs.layered.LayeredStorage.find.Goals as goal
@@ -11,8 +11,8 @@ returns-in-Some c =
     let table = below c.args.self.now.base c.args.self.now.marks.items in
     let over = c.args.self.now.over.entries in
     let key = c.args.key.now in
-    let here = ap (λ (q : List ℕ). entry_at text_of_slice over q) (sym c.as_bytes.ensures.value) ∙ sym c.get.ensures.value ∙ ap option_copied c.in-Some.is in
-    let there : map.get (laid_over text_of_slice item_of_cell table over) key ≡ Some (item_of_cell c.in-Some.kept.now) = held_over text_of_slice item_of_cell table over key c.in-Some.kept.now here in
+    let here : entry_at lent_key over key ≡ Some c.in-Some.kept.now = sym c.kept.ensures ∙ ap option_copied c.in-Some.is in
+    let there : map.get (laid_over lent_key item_of_cell table over) key ≡ Some (item_of_cell c.in-Some.kept.now) = held_over lent_key item_of_cell table over key c.in-Some.kept.now here in
     record { found = rw there (search rules) }
 
 pub returns : goal.returns
@@ -20,6 +20,6 @@ returns c =
     let table = below c.args.self.now.base c.args.self.now.marks.items in
     let over = c.args.self.now.over.entries in
     let key = c.args.key.now in
-    let absent : entry_at text_of_slice over key ≡ None = ap (λ (q : List ℕ). entry_at text_of_slice over q) (sym c.as_bytes.ensures.value) ∙ sym c.get.ensures.value ∙ ap option_copied c.in_default.is in
-    let there : map.get (laid_over text_of_slice item_of_cell table over) key ≡ map.get table key = held_under text_of_slice item_of_cell table over key absent in
+    let absent : entry_at lent_key over key ≡ None = sym c.kept.ensures ∙ ap option_copied c.in_default.is in
+    let there : map.get (laid_over lent_key item_of_cell table over) key ≡ map.get table key = held_under lent_key item_of_cell table over key absent in
     record { found = rw there (search rules) }

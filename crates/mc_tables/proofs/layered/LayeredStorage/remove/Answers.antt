@@ -1,16 +1,26 @@
-use Rattle.std.proofs.Common.{sym, ap, ◌∙◌}
+use Rattle.std.proofs.Common.{◌≡◌, Some, sym, ap, ◌∙◌}
 use Rattle.std.specs.FinMap as map
-use Rattle.mc_tables.specs.Entries.{item_of_cell, laid_over, text_of_slice}
+use Rattle.mc_tables.specs.Entries.{item_of_cell, laid_over, lent_key}
 use Rattle.mc_tables.specs.Layers.{below}
-use Rattle.mc_tables.proofs.Layering.{laid-removed}
+use Rattle.mc_tables.proofs.Indexing.{index_at, laid-absent, laid-removed_at}
 use Rattle.mc_tables.proofs.layered.LayeredStorage.remove.Goals as goal
 
-pub returns : goal.returns
-returns c =
+pub returns-in-Some : goal.returns-in-Some
+returns-in-Some c =
     let table = below c.args.self.now.base c.args.self.now.marks.items in
-    let over = c.args.self.now.over.entries in
+    let less = below c.mark.new.self.base c.mark.new.self.marks.items in
+    let over = c.mark.new.self.over in
     let key = c.args.key.now in
-    let gone = laid-removed text_of_slice item_of_cell table (below c.mark.new.self.base c.mark.new.self.marks.items) c.args.self.now.over c.remove.new.self c.as_bytes.result.now c.remove.ensures.updates
-    (c.mark.ensures.marked ∙ ap (map.remove table) (sym c.as_bytes.ensures.value)) in
-    ap (λ (over : _). laid_over text_of_slice item_of_cell (below c.mark.new.self.base c.mark.new.self.marks.items) over.entries) c.mark.ensures.over
-    ∙ gone ∙ ap (map.remove (laid_over text_of_slice item_of_cell table over)) c.as_bytes.ensures.value
+    let at : index_at lent_key over.entries key ≡ Some c.in-Some.place = sym c.over_place.ensures.place ∙ c.in-Some.is in
+    laid-removed_at lent_key item_of_cell table less over c.swap_remove_index.new.self key c.in-Some.place c.swap_remove_index.result at
+    c.swap_remove_index.ensures.entry c.swap_remove_index.ensures.updates c.mark.ensures.marked
+    ∙ ap (λ (over : _). map.remove (laid_over lent_key item_of_cell table over.entries) key) c.mark.ensures.over
+
+pub returns-in_default : goal.returns-in_default
+returns-in_default c =
+    let table = below c.args.self.now.base c.args.self.now.marks.items in
+    let less = below c.mark.new.self.base c.mark.new.self.marks.items in
+    let over = c.mark.new.self.over in
+    let key = c.args.key.now in
+    laid-absent lent_key item_of_cell table less over.entries key c.in_default.ensures.none c.mark.ensures.marked
+    ∙ ap (λ (over : _). map.remove (laid_over lent_key item_of_cell table over.entries) key) c.mark.ensures.over

@@ -5,7 +5,7 @@ use Rattle.mc_tables.specs.declared.cell_item.CellItem.{CellItem}
 use Rattle.mc_tables.specs.declared.meter.Meter.{Meter}
 use Rattle.mc_tables.specs.declared.storage.Change.TheVariants.{Put}
 use Rattle.mc_tables.specs.Changes.{changed_item}
-use Rattle.mc_tables.specs.Entries.{item_of_cell, laid_over, text_of_slice}
+use Rattle.mc_tables.specs.Entries.{item_of_cell, laid_over, lent_key}
 use Rattle.mc_tables.specs.Found.{found_of}
 use Rattle.mc_tables.specs.Layers.{below}
 use Rattle.mc_tables.specs.Meters.{IsMeterIf}
@@ -16,10 +16,10 @@ pub returns-in-Some-clause-meter : goal.returns-in-Some-clause-meter
 returns-in-Some-clause-meter c =
     let below_it = below c.args.self.now.base c.args.self.now.marks.items in
     let over = c.args.self.now.over.entries in
-    let table = laid_over text_of_slice item_of_cell below_it over in
+    let table = laid_over lent_key item_of_cell below_it over in
     let key = c.args.key.now in
-    let here : entry_at text_of_slice over key ≡ Some c.in-Some.kept.now = ap (λ (q : List ℕ). entry_at text_of_slice over q) (sym c.as_bytes.ensures.value) ∙ sym c.get_mut.ensures.value ∙ ap option_copied_mut c.in-Some.is in
-    let there = held_over text_of_slice item_of_cell below_it over key c.in-Some.kept.now here in
+    let here : entry_at lent_key over key ≡ Some c.in-Some.kept.now = sym c.get_mut.ensures.value ∙ ap option_copied_mut c.in-Some.is in
+    let there = held_over lent_key item_of_cell below_it over key c.in-Some.kept.now here in
     subst (λ (block : List ℕ). IsMeterIf c.overwrite.result c.args.meter.now.limits (map.insert table key (record { flags = c.args.flags; block = block; unique = c.args.unique })))
     c.new.ensures (c.overwrite.ensures.meter table c.requires there)
 
@@ -27,27 +27,26 @@ pub returns-in-Some-clause-put : goal.returns-in-Some-clause-put
 returns-in-Some-clause-put c =
     let below_it = below c.args.self.now.base c.args.self.now.marks.items in
     let over = c.args.self.now.over.entries in
-    let table = laid_over text_of_slice item_of_cell below_it over in
+    let table = laid_over lent_key item_of_cell below_it over in
     let key = c.args.key.now in
-    let here : entry_at text_of_slice over key ≡ Some c.in-Some.kept.now = ap (λ (q : List ℕ). entry_at text_of_slice over q) (sym c.as_bytes.ensures.value) ∙ sym c.get_mut.ensures.value ∙ ap option_copied_mut c.in-Some.is in
-    let there = held_over text_of_slice item_of_cell below_it over key c.in-Some.kept.now here in
+    let here : entry_at lent_key over key ≡ Some c.in-Some.kept.now = sym c.get_mut.ensures.value ∙ ap option_copied_mut c.in-Some.is in
+    let there = held_over lent_key item_of_cell below_it over key c.in-Some.kept.now here in
     let new = c.get_mut.follows.lender c.overwrite.new.kept in
     let writes = c.get_mut.follows.holds c.overwrite.new.kept in
     let updates = writes.3 (subst IsSome c.in-Some.ensures.value refl) in
-    let put = laid-put text_of_slice item_of_cell below_it c.args.self.now.over new c.as_bytes.result.now c.overwrite.new.kept updates
-    ∙ ap (λ (k : List ℕ). map.insert table k (item_of_cell c.overwrite.new.kept)) c.as_bytes.ensures.value in
+    let put = laid-put lent_key item_of_cell below_it c.args.self.now.over new key c.overwrite.new.kept updates in
     let item : CellItem = record { flags = c.args.flags; unique = c.args.unique; block = c.new.result } in
     let same = ap (λ (block : List ℕ). item_of_cell (record { flags = c.args.flags; unique = c.args.unique; block = block })) c.new.ensures in
-    overwritten (is_some c.overwrite.result) table (laid_over text_of_slice item_of_cell below_it new.entries) key _ c.overwrite.new.kept item c.in-Some.kept.now put c.overwrite.ensures.put same there
+    overwritten (is_some c.overwrite.result) table (laid_over lent_key item_of_cell below_it new.entries) key _ c.overwrite.new.kept item c.in-Some.kept.now put c.overwrite.ensures.put same there
 
 pub returns-in_default-with-clause-meter : goal.returns-in_default-with-clause-meter
 returns-in_default-with-clause-meter c =
     let below_it = below c.args.self.now.base c.args.self.now.marks.items in
     let over = c.args.self.now.over.entries in
-    let table = laid_over text_of_slice item_of_cell below_it over in
+    let table = laid_over lent_key item_of_cell below_it over in
     let key = c.args.key.now in
-    let absent : entry_at text_of_slice over key ≡ None = ap (λ (q : List ℕ). entry_at text_of_slice over q) (sym c.as_bytes.ensures.value) ∙ sym c.get_mut.ensures.value ∙ ap option_copied_mut c.in_default.is in
-    let there = held_under text_of_slice item_of_cell below_it over key absent in
+    let absent : entry_at lent_key over key ≡ None = sym c.get_mut.ensures.value ∙ ap option_copied_mut c.in_default.is in
+    let there = held_under lent_key item_of_cell below_it over key absent in
     let found = c.find_under-old.ensures ∙ ap (option_map found_of) (sym there) in
     let item = changed_item (map.get table key) (Put c.args.flags c.args.block) c.args.unique in
     let long = ap (λ (bytes : List ℕ). length bytes) (sym c.new.ensures) ∙ sym c.len.ensures.len in
@@ -58,10 +57,10 @@ pub returns-in_err-put-clause-granted : goal.returns-in_err-put-clause-granted
 returns-in_err-put-clause-granted c =
     let below_it = below c.args.self.now.base c.args.self.now.marks.items in
     let over = c.args.self.now.over.entries in
-    let table = laid_over text_of_slice item_of_cell below_it over in
+    let table = laid_over lent_key item_of_cell below_it over in
     let key = c.args.key.now in
-    let absent : entry_at text_of_slice over key ≡ None = ap (λ (q : List ℕ). entry_at text_of_slice over q) (sym c.as_bytes.ensures.value) ∙ sym c.get_mut.ensures.value ∙ ap option_copied_mut c.in_default.is in
-    let there = held_under text_of_slice item_of_cell below_it over key absent in
+    let absent : entry_at lent_key over key ≡ None = sym c.get_mut.ensures.value ∙ ap option_copied_mut c.in_default.is in
+    let there = held_under lent_key item_of_cell below_it over key absent in
     let found = c.find_under-old.ensures ∙ ap (option_map found_of) (sym there) in
     let item = changed_item (map.get table key) (Put c.args.flags c.args.block) c.args.unique in
     let long = ap (λ (bytes : List ℕ). length bytes) (sym c.new.ensures) ∙ sym c.len.ensures.len in
@@ -73,10 +72,10 @@ pub returns-clause-meter : goal.returns-clause-meter
 returns-clause-meter c =
     let below_it = below c.args.self.now.base c.args.self.now.marks.items in
     let over = c.args.self.now.over.entries in
-    let table = laid_over text_of_slice item_of_cell below_it over in
+    let table = laid_over lent_key item_of_cell below_it over in
     let key = c.args.key.now in
-    let absent : entry_at text_of_slice over key ≡ None = ap (λ (q : List ℕ). entry_at text_of_slice over q) (sym c.as_bytes.ensures.value) ∙ sym c.get_mut.ensures.value ∙ ap option_copied_mut c.in_default.is in
-    let there = held_under text_of_slice item_of_cell below_it over key absent in
+    let absent : entry_at lent_key over key ≡ None = sym c.get_mut.ensures.value ∙ ap option_copied_mut c.in_default.is in
+    let there = held_under lent_key item_of_cell below_it over key absent in
     let found = c.find_under-old.ensures ∙ ap (option_map found_of) (sym there) in
     let item = changed_item (map.get table key) (Put c.args.flags c.args.block) c.args.unique in
     let long = ap (λ (bytes : List ℕ). length bytes) (sym c.new.ensures) ∙ sym c.len.ensures.len in

@@ -1,12 +1,13 @@
-use Rattle.std.proofs.Common.{◌≡◌, ℕ, List, Option, Some, None, refl, sym, ap, subst, ◌∙◌}
+use Rattle.std.proofs.Common.{◌≡◌, Option, Some, None, sym, ap, ◌∙◌}
 use Rattle.std.specs.FinMap as map
-use Rattle.std.specs.Option.{IsSome, option_copied, option_copied_mut, option_map}
+use Rattle.std.specs.Option.{option_copied, option_copied_mut, option_map}
 use Rattle.mc_model.specs.Effect.{shown_item}
 use Rattle.mc_model.specs.declared.item.Item.{Item}
 use Rattle.mc_tables.specs.declared.cell_item.CellItem.{CellItem}
-use Rattle.mc_tables.specs.Entries.{item_of_cell, laid_over, text_of_slice}
+use Rattle.mc_tables.specs.Entries.{item_of_cell, laid_over, lent_key}
 use Rattle.mc_tables.specs.Layers.{below}
-use Rattle.mc_tables.proofs.Layering.{held_over, held_under, insert_same, laid-put, entry_at}
+use Rattle.mc_tables.proofs.Indexing.{index_at, laid-put_at}
+use Rattle.mc_tables.proofs.Layering.{held_over, held_under, insert_same, entry_at}
 use Rattle.mc_tables.proofs.layered.LayeredStorageFor.show.Goals as goal
 
 pub returns-in_err-show_kept-clause-unchanged : goal.returns-in_err-show_kept-clause-unchanged
@@ -14,36 +15,32 @@ returns-in_err-show_kept-clause-unchanged c =
     let table = below c.args.self.now.base c.args.self.now.marks.items in
     let over = c.args.self.now.over.entries in
     let key = c.args.key.now in
-    let here : entry_at text_of_slice over key ≡ Some c.in-Some.kept.now = ap (λ (q : List ℕ). entry_at text_of_slice over q) (sym c.as_bytes.ensures.value) ∙ sym c.get_mut.ensures.value ∙ ap option_copied_mut c.in-Some.is in
-    let there = held_over text_of_slice item_of_cell table over key c.in-Some.kept.now here in
-    let writes = c.get_mut.follows.holds c.show_kept.new.kept in
-    let updates = writes.3 (subst IsSome c.in-Some.ensures.value refl) in
-    laid-put text_of_slice item_of_cell table c.args.self.now.over (c.get_mut.follows.lender c.show_kept.new.kept) c.as_bytes.result.now c.show_kept.new.kept updates
-    ∙ ap (λ (k : List ℕ). map.insert (laid_over text_of_slice item_of_cell table over) k (item_of_cell c.show_kept.new.kept)) c.as_bytes.ensures.value
-    ∙ ap (λ (kept : CellItem). map.insert (laid_over text_of_slice item_of_cell table over) key (item_of_cell kept)) c.show_kept.ensures.unchanged
-    ∙ insert_same (laid_over text_of_slice item_of_cell table over) key (item_of_cell c.in-Some.kept.now) there
+    let here : entry_at lent_key over key ≡ Some c.in-Some-get_index_mut.kept.now = sym c.in-Some.ensures.kept ∙ sym c.get_index_mut.ensures.value ∙ ap option_copied_mut c.in-Some-get_index_mut.is in
+    let there = held_over lent_key item_of_cell table over key c.in-Some-get_index_mut.kept.now here in
+    let at : index_at lent_key over key ≡ Some c.in-Some.place = sym c.over_place.ensures.place ∙ c.in-Some.is in
+    laid-put_at lent_key item_of_cell table c.args.self.now.over key c.in-Some.place c.show_kept.new.kept c.get_index_mut.ensures.unique at
+    ∙ ap (λ (kept : CellItem). map.insert (laid_over lent_key item_of_cell table over) key (item_of_cell kept)) c.show_kept.ensures.unchanged
+    ∙ insert_same (laid_over lent_key item_of_cell table over) key (item_of_cell c.in-Some-get_index_mut.kept.now) there
 
 pub returns-in-Some-clause-unchanged : goal.returns-in-Some-clause-unchanged
 returns-in-Some-clause-unchanged c =
     let table = below c.args.self.now.base c.args.self.now.marks.items in
     let over = c.args.self.now.over.entries in
     let key = c.args.key.now in
-    let here : entry_at text_of_slice over key ≡ Some c.in-Some.kept.now = ap (λ (q : List ℕ). entry_at text_of_slice over q) (sym c.as_bytes.ensures.value) ∙ sym c.get_mut.ensures.value ∙ ap option_copied_mut c.in-Some.is in
-    let there = held_over text_of_slice item_of_cell table over key c.in-Some.kept.now here in
-    let writes = c.get_mut.follows.holds c.show_kept.new.kept in
-    let updates = writes.3 (subst IsSome c.in-Some.ensures.value refl) in
-    laid-put text_of_slice item_of_cell table c.args.self.now.over (c.get_mut.follows.lender c.show_kept.new.kept) c.as_bytes.result.now c.show_kept.new.kept updates
-    ∙ ap (λ (k : List ℕ). map.insert (laid_over text_of_slice item_of_cell table over) k (item_of_cell c.show_kept.new.kept)) c.as_bytes.ensures.value
-    ∙ ap (λ (kept : CellItem). map.insert (laid_over text_of_slice item_of_cell table over) key (item_of_cell kept)) c.show_kept.ensures.unchanged
-    ∙ insert_same (laid_over text_of_slice item_of_cell table over) key (item_of_cell c.in-Some.kept.now) there
+    let here : entry_at lent_key over key ≡ Some c.in-Some-get_index_mut.kept.now = sym c.in-Some.ensures.kept ∙ sym c.get_index_mut.ensures.value ∙ ap option_copied_mut c.in-Some-get_index_mut.is in
+    let there = held_over lent_key item_of_cell table over key c.in-Some-get_index_mut.kept.now here in
+    let at : index_at lent_key over key ≡ Some c.in-Some.place = sym c.over_place.ensures.place ∙ c.in-Some.is in
+    laid-put_at lent_key item_of_cell table c.args.self.now.over key c.in-Some.place c.show_kept.new.kept c.get_index_mut.ensures.unique at
+    ∙ ap (λ (kept : CellItem). map.insert (laid_over lent_key item_of_cell table over) key (item_of_cell kept)) c.show_kept.ensures.unchanged
+    ∙ insert_same (laid_over lent_key item_of_cell table over) key (item_of_cell c.in-Some-get_index_mut.kept.now) there
 
 pub returns-in-Some-clause-shown : goal.returns-in-Some-clause-shown
 returns-in-Some-clause-shown c =
     let table = below c.args.self.now.base c.args.self.now.marks.items in
     let over = c.args.self.now.over.entries in
     let key = c.args.key.now in
-    let here : entry_at text_of_slice over key ≡ Some c.in-Some.kept.now = ap (λ (q : List ℕ). entry_at text_of_slice over q) (sym c.as_bytes.ensures.value) ∙ sym c.get_mut.ensures.value ∙ ap option_copied_mut c.in-Some.is in
-    let there = held_over text_of_slice item_of_cell table over key c.in-Some.kept.now here in
+    let here : entry_at lent_key over key ≡ Some c.in-Some-get_index_mut.kept.now = sym c.in-Some.ensures.kept ∙ sym c.get_index_mut.ensures.value ∙ ap option_copied_mut c.in-Some-get_index_mut.is in
+    let there = held_over lent_key item_of_cell table over key c.in-Some-get_index_mut.kept.now here in
     ap Some c.in_ok-show_kept.ensures.shown ∙ sym (ap (λ (o : Option Item). option_map (shown_item c.args.uniques key) o) there)
 
 pub returns-in-None-clause-shown : goal.returns-in-None-clause-shown
@@ -51,8 +48,8 @@ returns-in-None-clause-shown c =
     let table = below c.args.self.now.base c.args.self.now.marks.items in
     let over = c.args.self.now.over.entries in
     let key = c.args.key.now in
-    let absent : entry_at text_of_slice over key ≡ None = ap (λ (q : List ℕ). entry_at text_of_slice over q) (sym c.as_bytes.ensures.value) ∙ sym c.get_mut.ensures.value ∙ ap option_copied_mut c.in_default.is in
-    let there : map.get (laid_over text_of_slice item_of_cell table over) key ≡ None = held_under text_of_slice item_of_cell table over key absent ∙ sym c.under.ensures ∙ ap option_copied c.in-None.is in
+    let absent : entry_at lent_key over key ≡ None = c.in_default.ensures.none in
+    let there : map.get (laid_over lent_key item_of_cell table over) key ≡ None = held_under lent_key item_of_cell table over key absent ∙ sym c.under.ensures ∙ ap option_copied c.in-None.is in
     sym (ap (λ (o : Option Item). option_map (shown_item c.args.uniques key) o) there)
 
 pub returns-in_ok-show_item-in-Some-under-clause-shown : goal.returns-in_ok-show_item-in-Some-under-clause-shown
@@ -60,6 +57,6 @@ returns-in_ok-show_item-in-Some-under-clause-shown c =
     let table = below c.args.self.now.base c.args.self.now.marks.items in
     let over = c.args.self.now.over.entries in
     let key = c.args.key.now in
-    let absent : entry_at text_of_slice over key ≡ None = ap (λ (q : List ℕ). entry_at text_of_slice over q) (sym c.as_bytes.ensures.value) ∙ sym c.get_mut.ensures.value ∙ ap option_copied_mut c.in_default.is in
-    let there : map.get (laid_over text_of_slice item_of_cell table over) key ≡ Some c.in-Some-under.item.now = held_under text_of_slice item_of_cell table over key absent ∙ sym c.under.ensures ∙ ap option_copied c.in-Some-under.is in
+    let absent : entry_at lent_key over key ≡ None = c.in_default.ensures.none in
+    let there : map.get (laid_over lent_key item_of_cell table over) key ≡ Some c.in-Some-under.item.now = held_under lent_key item_of_cell table over key absent ∙ sym c.under.ensures ∙ ap option_copied c.in-Some-under.is in
     ap Some c.in_ok-show_item-in-Some-under.ensures.shown ∙ sym (ap (λ (o : Option Item). option_map (shown_item c.args.uniques key) o) there)

@@ -16,10 +16,10 @@ pub returns-in-None-clause-own : goal.returns-in-None-clause-own
 returns-in-None-clause-own c =
     let self = c.args.self.now in
     let front = self.changes.held.entries in
-    let text = c.text-text.result.now in
+    let text = c.key-key.result.now in
     let below = c.args.place - c.len-changed.result in
     let none : place_of front text ≡ None = sym c.place.ensures.place ∙ ap (option_map (λ (p : ℕ × Bor Item). p.0)) c.in-None.is in
-    let last : place_of (base_entries self.base) text ≡ Some below = subst (λ (b : Option Base). place_of (base_entries b) text ≡ Some below) (sym c.in-Some.is) c.text-text.ensures in
+    let last : place_of (base_entries self.base) text ≡ Some below = subst (λ (b : Option Base). place_of (base_entries b) text ≡ Some below) (sym c.in-Some.is) c.key-key.ensures in
     let total : length front + below ≡ c.args.place = omega (arith, c.if-place-changed.false, c.len-changed.ensures.len) in
     place_later front (base_entries self.base) text below none last ∙ ap Some total
 
@@ -27,9 +27,9 @@ pub returns-in-Some-place-clause-none : goal.returns-in-Some-place-clause-none
 returns-in-Some-place-clause-none c = λ key at.
     let self = c.args.self.now in
     let front = self.changes.held.entries in
-    let text = c.text-text.result.now in
+    let text = c.key-key.result.now in
     let below = c.args.place - c.len-changed.result in
     let first : place_of front text ≡ Some c.in-Some-place.field-0.0 = sym c.place.ensures.place ∙ ap (option_map (λ (p : ℕ × Bor Item). p.0)) c.in-Some-place.is in
-    let last : place_of (base_entries self.base) text ≡ Some below = subst (λ (b : Option Base). place_of (base_entries b) text ≡ Some below) (sym c.in-Some.is) c.text-text.ensures in
+    let last : place_of (base_entries self.base) text ≡ Some below = subst (λ (b : Option Base). place_of (base_entries b) text ≡ Some below) (sym c.in-Some.is) c.key-key.ensures in
     let total : length front + below ≡ c.args.place = omega (arith, c.if-place-changed.false, c.len-changed.ensures.len) in
     no_place front (base_entries self.base) text key c.in-Some-place.field-0.0 below first last (at ∙ ap Some (sym total))

@@ -13,18 +13,18 @@ pub returns-in-Some-clause-item : goal.returns-in-Some-clause-item
 returns-in-Some-clause-item c =
     let self = c.args.self.now in
     let there = sym c.place.ensures.item ∙ ap (option_map (λ (p : ℕ × Bor Item). p.1.now)) c.in-Some.is in
-    sym (item_over (left self.base) self.changes.held.entries c.args.text.now c.in-Some.item.now there)
+    sym (item_over (left self.base) self.changes.held.entries c.args.key.now c.in-Some.item.now there)
 
 pub returns-in-Some-clause-place : goal.returns-in-Some-clause-place
 returns-in-Some-clause-place c =
     let self = c.args.self.now in
     let at = sym c.place.ensures.place ∙ ap (option_map (λ (p : ℕ × Bor Item). p.0)) c.in-Some.is in
-    place_first self.changes.held.entries (base_entries self.base) c.args.text.now c.in-Some.place at
+    place_first self.changes.held.entries (base_entries self.base) c.args.key.now c.in-Some.place at
 
 pub returns-in-Some-place-clause-item : goal.returns-in-Some-place-clause-item
 returns-in-Some-place-clause-item c =
     let self = c.args.self.now in
-    let text = c.args.text.now in
+    let text = c.args.key.now in
     let absent : map.get (map_table self.changes) text ≡ None = sym c.place.ensures.item ∙ ap (option_map (λ (p : ℕ × Bor Item). p.1.now)) c.in_default.is in
     sym (item_under (left self.base) self.changes.held.entries text absent ∙ ap (λ (b : Option Base). map.get (left b) text) c.in-Some-base.is
     ∙ sym c.place-2.ensures.item ∙ ap (option_map (λ (p : ℕ × Bor Item). p.1.now)) c.in-Some-place.is)
@@ -32,7 +32,7 @@ returns-in-Some-place-clause-item c =
 pub returns-in-Some-place-clause-place : goal.returns-in-Some-place-clause-place
 returns-in-Some-place-clause-place c =
     let self = c.args.self.now in
-    let text = c.args.text.now in
+    let text = c.args.key.now in
     let place = c.in-Some-place.place in
     let none : place_of self.changes.held.entries text ≡ None = sym c.place.ensures.place ∙ ap (option_map (λ (p : ℕ × Bor Item). p.0)) c.in_default.is in
     let last : place_of (base_entries self.base) text ≡ Some place = subst (λ (b : Option Base). place_of (base_entries b) text ≡ Some place) (sym c.in-Some-base.is) c.in-Some-place.ensures.place in
@@ -41,7 +41,7 @@ returns-in-Some-place-clause-place c =
 pub returns-in-None-clause-item : goal.returns-in-None-clause-item
 returns-in-None-clause-item c =
     let self = c.args.self.now in
-    let text = c.args.text.now in
+    let text = c.args.key.now in
     let absent : map.get (map_table self.changes) text ≡ None = sym c.place.ensures.item ∙ ap (option_map (λ (p : ℕ × Bor Item). p.1.now)) c.in_default.is in
     sym (item_under (left self.base) self.changes.held.entries text absent ∙ ap (λ (b : Option Base). map.get (left b) text) c.in-Some-base.is
     ∙ sym c.place-2.ensures.item ∙ ap (option_map (λ (p : ℕ × Bor Item). p.1.now)) c.in-None.is)
