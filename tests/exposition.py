@@ -17,7 +17,7 @@ ROOT = os.path.dirname(os.path.dirname(os.path.abspath(__file__)))
 CRATE = f"{ROOT}/crates/mc_scrape"
 COMMANDS = "get gets set add replace append prepend cas delete incr decr flush_all".split()
 REFUSALS = ("unknown_command bad_format bad_block no_expiry line_too_long too_large no_room "
-            "not_a_number bad_delta log_full").split()
+            "not_a_number bad_delta log_full out_of_memory").split()
 TENANTS = [("shop", 1), ("b-2_x", 2)]
 WORKERS = [(0, 0, 13), (1, 42, 14)]
 LARGEST = 2 ** 64 - 1

@@ -11,6 +11,7 @@ Prints a line for each failure; the last line is 'N passed, M failed'.
 
 import os
 import re
+import resource
 import shutil
 import socket
 import subprocess
@@ -22,6 +23,7 @@ from harness import repository
 from harness.client import connect
 from harness.results import Results
 from harness.servers import ADMIN, LARGE, Server
+from oracle import protocol
 
 PROGRAM = sys.argv[1] if len(sys.argv) > 1 else repository.program("wfmc")
 PROMTOOL = os.environ.get("PROMTOOL") or shutil.which("promtool")
@@ -149,7 +151,7 @@ def check_numbers():
         scraper.send(b"POST /metrics HTTP/1.1\r\nHost: wfmc\r\nContent-Length: 0\r\n\r\n")
         check("another method", scraper.reply()[0] == "HTTP/1.1 405 Method Not Allowed")
         text = scraper.get()[2]
-        check("each kind of commands and refusals", text.count("wfmc_tenant_commands_total{") == 2 * 12 and text.count("wfmc_tenant_refusals_total{") == 2 * 10)
+        check("each kind of commands and refusals", text.count("wfmc_tenant_commands_total{") == 2 * 12 and text.count("wfmc_tenant_refusals_total{") == 2 * 11)
         check_by_promtool(text)
 
 
@@ -192,7 +194,7 @@ COUNTED = [
     ("flush_all\r\n", "OK\r\n", "flush_all", 0, None),
 ]
 KINDS = "get gets set add replace append prepend cas delete incr decr flush_all".split()
-REFUSALS = "unknown_command bad_format bad_block no_expiry line_too_long too_large no_room not_a_number bad_delta log_full".split()
+REFUSALS = "unknown_command bad_format bad_block no_expiry line_too_long too_large no_room not_a_number bad_delta log_full out_of_memory".split()
 
 
 def tallies(tenant, rounds):
@@ -224,6 +226,25 @@ def check_tallies():
         with server.client("b", 1) as client:
             check("another client's replies", client.ask(sent, wanted[-30:]) == wanted)
         awaits(server, "tallies after connections have ended", {**tallies("a", 12), **tallies("b", 7), of("connections", "a"): 0})
+
+
+def check_starved():
+    """A request for which memory runs out: its client is told so in place of a reply, and that is counted."""
+    def starved(tenant, count):
+        return {f'wfmc_tenant_refusals_total{{tenant="{tenant}",refusal="out_of_memory"}}': count, f'wfmc_tenant_commands_total{{tenant="{tenant}",command="set"}}': 1}
+
+    with Server(PROGRAM, METRICS, {"a": LARGE, "b": LARGE}) as server:
+        clients = [server.client(tenant) for tenant in ("a", "b")]
+        for client in clients:
+            check("a set while there is memory", client.line(b"set k 0 0 1\r\nx\r\n") == "STORED")
+        awaits(server, "nobody was refused memory", {**starved("a", 0), **starved("b", 0)})
+        limits = resource.prlimit(server.process.pid, resource.RLIMIT_DATA)
+        resource.prlimit(server.process.pid, resource.RLIMIT_DATA, (0, limits[1]))
+        told = clients[0].ask(b"set k 0 0 1000000\r\n", protocol.STARVED)
+        resource.prlimit(server.process.pid, resource.RLIMIT_DATA, limits)
+        check("what the client is told", told == protocol.STARVED, told)
+        awaits(server, "a request that was refused memory", {**starved("a", 1), **starved("b", 0), of("connections", "a"): 0})
+        check("another tenant's client", clients[1].ask(b"get k\r\n", b"END\r\n") == b"VALUE k 0 1\r\nx\r\nEND\r\n")
 
 
 def works(server, tenant, stop, wrong, served):
@@ -358,6 +379,7 @@ def check_words():
 check_words()
 check_numbers()
 check_tallies()
+check_starved()
 check_full_speed()
 check_strangers()
 results.finish()

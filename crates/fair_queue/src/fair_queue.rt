@@ -1,6 +1,6 @@
 //! A queue of keys in flows, each of which is served in its turn.
 ghost use Rattle.std.specs.Prelude.{◌≡◌, ◌<◌, ◌↔◌, ℕ, [], IfOk, IsTrue, MatchOption, OnErr, OnOk, length};
-ghost use Rattle.fair_queue.specs.Turns.{Charges, ComesAfter, GivesFirst, IsFirstReady, IsIdle, IsNextTurn, IsPushed, QueueState, flow_at};
+ghost use Rattle.fair_queue.specs.Turns.{Charges, ComesAfter, GivesFirst, IsFirstReady, IsIdle, IsNextTurn, IsPushed, QueueState, TurnGoesOn, flow_at};
 
 use crate::flow::Flow;
 use std::alloc::{AllocError, Global};
@@ -94,6 +94,14 @@ impl FairQueue {
         ensures { IsTrue result ↔ IsIdle self.now }
     {
         self.first_ready().is_none()
+    }
+
+    /// Returns whether the turn of the flow that has it ends: nothing more waits there, or its quantum is
+    /// used up once `spent` is charged to it, what serving the last key has cost.
+    pub fn turn_ends(&self, spent: u64) -> bool
+        ensures { IsTrue result ↔ ¬ (TurnGoesOn spent (flow_at self.now self.now.turn)) }
+    {
+        !self.flows[self.turn].goes_on(spent)
     }
 
     /// Puts a key behind those that wait in its flow.

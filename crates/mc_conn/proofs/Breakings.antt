@@ -3,7 +3,6 @@ use Rattle.std.proofs.Common.{◌≡◌, ℕ, ◌+◌, List, [], ◌∷◌, ◌+
 use Rattle.std.proofs.lemmas.List.{take-append-drop}
 use Rattle.std.specs.Io.KnownBytes.{Consumes}
 use Rattle.std.proofs.KnownBytes.{Consumes-nil}
-use Rattle.mc_counters.specs.declared.past_requests.PastRequests.{PastRequests}
 use Rattle.mc_model.specs.declared.fault.Fault.{Fault}
 use Rattle.mc_model.specs.declared.fault.Fault.TheVariants.{Memory, Output}
 use Rattle.mc_model.specs.declared.request.Request.{Request}
@@ -134,7 +133,7 @@ breaks_taking fault old new worker later streams request read role past on refus
         waited = omega arith;
         counted = [];
         counts = (refl, refl);
-        past = ap (λ (past : PastRequests). past.requests) past ∙ sym (append-nil old.past.requests);
+        past = past ∙ sym (append-nil old.past);
       };
       met = request ∷ [];
       reads = λ more all reads. let follows = (read more all).0 reads in (follows.0, follows.1);

@@ -1,5 +1,5 @@
 -- Lemmas on what is counted of requests.
-use Rattle.std.proofs.Common.{◌≡◌, ℕ, cond, List, [], ◌∷◌, ◌++◌, Option, Some, None, Bool, sym, refl, ap, ◌∙◌, subst, arith, append-nil, append_assoc, sum_by}
+use Rattle.std.proofs.Common.{◌≡◌, ◌≢◌, ℕ, cond, List, [], ◌∷◌, ◌++◌, Option, Some, None, Bool, sym, refl, ap, ◌∙◌, subst, arith, append-nil, append_assoc, sum_by}
 use Rattle.std.proofs.lemmas.List.Sums.{sum_by-cons, sum_by_push}
 use Rattle.mc_counters.specs.Kinds.{asked_for_by}
 use Rattle.mc_counters.specs.Tallied.{CountedRequest, IsTallyOf, capped, is_of_kind, is_refused, items_found, keys_missed}
@@ -8,6 +8,8 @@ use Rattle.mc_counters.specs.declared.tally.Tally.{Tally}
 use Rattle.mc_model.specs.Name.{tenant_named}
 use Rattle.mc_model.specs.declared.command.Command.{Command}
 use Rattle.mc_model.specs.declared.command.Command.TheVariants as command
+use Rattle.mc_model.specs.declared.fault.Fault.{Fault}
+use Rattle.mc_model.specs.declared.fault.Fault.TheVariants.{BadEvent, BadSettings, Input, LogFull, Memory, Output, Taken}
 use Rattle.mc_model.specs.declared.reply.Reply.{Reply}
 use Rattle.mc_model.specs.declared.request.Request.{Request}
 use Rattle.mc_model.specs.declared.request.Request.TheVariants.{Limit, Local, Logged, Quit, TooLong}
@@ -16,7 +18,7 @@ use Rattle.mc_conn.specs.declared.conn.Role.{Role}
 use Rattle.mc_conn.specs.declared.conn.Role.TheVariants.{Admin, Tenant}
 use Rattle.mc_conn.specs.Owed.{answered, setting_of}
 use Rattle.mc_conn.specs.Parts.{Counts, GivesReply}
-use Rattle.mc_conn.specs.Tallying.{AreTallied, CountsFor, HasCounted, asked_for}
+use Rattle.mc_conn.specs.Tallying.{AreTallied, CountsFor, HasCounted, HasCountedTo, asked_for, counted_at}
 
 -- one request
 pub counted_one : (role : Role) (request : Request) (bytes : List ℕ) (counted : List CountedRequest) → CountsFor role request bytes counted → AreTallied role (request ∷ []) bytes counted
@@ -68,8 +70,9 @@ tallies_within a b c d one two before is after =
 moved : (f : CountedRequest → ℕ) (one : CountedRequest) (earlier : List CountedRequest) → sum_by f (one ∷ earlier) ≡ sum_by f (earlier ++ one ∷ [])
 moved f one earlier = let first = sum_by-cons f one earlier in let last = sum_by_push f earlier one in omega (arith, first, last)
 
-latest_last : (one : CountedRequest) (earlier : List CountedRequest) (tally : Tally) → IsTallyOf (one ∷ earlier) tally → IsTallyOf (earlier ++ one ∷ []) tally
+pub latest_last : (one : CountedRequest) (earlier : List CountedRequest) (tally : Tally) → IsTallyOf (one ∷ earlier) tally → IsTallyOf (earlier ++ one ∷ []) tally
 latest_last one earlier tally is = record {
+  places = is.places;
   commands = λ place below. is.commands place below ∙ ap (λ (number : ℕ). capped number) (moved (λ one. cond (is_of_kind place one.asked) 1 0) one earlier);
   refusals = λ place below. is.refusals place below ∙ ap (λ (number : ℕ). capped number) (moved (λ one. cond (is_refused place one.reply) 1 0) one earlier);
   hits = is.hits ∙ ap (λ (number : ℕ). capped number) (moved (λ one. items_found one.reply) one earlier);
@@ -130,3 +133,23 @@ module _ (before after : List ℕ) (old new : List CountedRequest) where
 -- nothing is counted for quit
 pub counts_quit : (role : Role) (queue : List ℕ) (past : List CountedRequest) → Counts role Quit queue queue past past
 counts_quit role queue past = record { bytes = []; counted = []; queued = sym (append-nil queue); past = sym (append-nil past); is = (refl, refl) }
+
+-- nothing is counted for another fault than that memory ran out
+pub counts_no_other : (fault : Fault) → fault ≢ Memory → counted_at fault ≡ []
+counts_no_other Memory isnt = absurd (isnt refl)
+counts_no_other LogFull isnt = refl
+counts_no_other Taken isnt = refl
+counts_no_other Input isnt = refl
+counts_no_other Output isnt = refl
+counts_no_other BadEvent isnt = refl
+counts_no_other BadSettings isnt = refl
+
+-- what is counted before a fault, and for it
+pub tallies_to : (a b : List CountedRequest) (one two three : Tally) (fault : Fault) → HasCounted a b one two →
+    ((earlier : List CountedRequest) → IsTallyOf earlier two → IsTallyOf (earlier ++ counted_at fault) three) → HasCountedTo a b one three fault
+tallies_to a b one two three fault first later = record {
+  counted = first.counted;
+  past = first.past;
+  counts = λ earlier is. subst (λ (all : List CountedRequest). IsTallyOf all three) (append_assoc earlier first.counted (counted_at fault))
+      (later (earlier ++ first.counted) (first.counts earlier is));
+}

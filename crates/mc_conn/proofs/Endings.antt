@@ -3,7 +3,6 @@ use Rattle.std.proofs.Common.{◌≡◌, ◌≢◌, ◌⊎◌, ℕ, ◌+◌, ◌
 use Rattle.std.proofs.lemmas.Bool.{ltb-false}
 use Rattle.std.specs.Bool.{MatchBool, ◌==◌}
 use Rattle.std.specs.Prelude.{MatchResult, nat_lt}
-use Rattle.mc_counters.specs.declared.past_requests.PastRequests.{PastRequests}
 use Rattle.mc_model.specs.declared.fault.Fault.{Fault}
 use Rattle.mc_model.specs.declared.fault.Fault.TheVariants.{Memory, Taken, Input, Output}
 use Rattle.mc_model.specs.declared.request.Request.{Request}
@@ -400,7 +399,7 @@ module _ (before : Scene) (old new : Conn) (worker : Worker) (input : Inflow) (b
       waited = breaks.taken.waited;
       counted = breaks.taken.counted;
       counts = breaks.taken.counts;
-      past = ap (λ (past : PastRequests). past.requests) past ∙ breaks.taken.past;
+      past = past ∙ breaks.taken.past;
     };
     met = breaks.met;
     reads = breaks.reads;

@@ -8,7 +8,6 @@ use Rattle.std.proofs.lemmas.List.Folds.{list_any-append}
 use Rattle.mc_read.specs.Reading.{ends_stream}
 use Rattle.std.specs.Io.KnownBytes.{Consumes, IsAtEnd}
 use Rattle.std.proofs.KnownBytes.{Consumes-nil, Consumes-trans}
-use Rattle.mc_counters.specs.declared.past_requests.PastRequests.{PastRequests}
 use Rattle.mc_model.specs.declared.request.Request.{Request}
 use Rattle.mc_stream.specs.Event.{ends, failures, has_ended, moved, waits}
 use Rattle.mc_stream.specs.Pushing.{IsUnfailed, Pushes}
@@ -103,7 +102,7 @@ taken_none old new worker before after came sent pulled consumed pushed role pas
   waited = waited;
   counted = [];
   counts = (refl, refl);
-  past = ap (λ (past : PastRequests). past.requests) past ∙ sym (append-nil old.past.requests);
+  past = past ∙ sym (append-nil old.past);
 }
 
 -- and if nothing came or was sent
@@ -281,7 +280,7 @@ does_looked until old new worker streams read looks = record {
 module _ (old new : Conn) (worker later : Worker) (streams : Streams) (request : Request) (read : IsRead (holding_of old) [] (request ∷ []) (holding_of new)) (role : new.role ≡ old.role)
     (ended : new.has_ended ≡ old.has_ended) (shut : new.is_closed ≡ old.is_closed) (over : new.is_over ≡ (old.is_over || ends_stream request)) (on : Continues worker later)
     (responds : Responds worker later old.role request (queue_of old) (queue_of new))
-    (counts : Counts old.role request (queue_of old) (queue_of new) old.past.requests new.past.requests) where
+    (counts : Counts old.role request (queue_of old) (queue_of new) old.past new.past) where
   takes_responded : Takes (scene old worker streams) (scene new later streams)
   takes_responded = record {
     taken = record {

@@ -5,7 +5,11 @@ use Rattle.mc_counters.specs.Kinds.{asked_for_by}
 use Rattle.mc_counters.specs.Tallied.{CountedRequest, IsTallyOf}
 use Rattle.mc_counters.specs.declared.kinds.Asked.{Asked}
 use Rattle.mc_counters.specs.declared.tally.Tally.{Tally}
+use Rattle.mc_model.specs.declared.fault.Fault.{Fault}
+use Rattle.mc_model.specs.declared.fault.Fault.TheVariants.{Memory}
 use Rattle.mc_model.specs.declared.reply.Reply.{Reply}
+use Rattle.mc_model.specs.declared.reply.Reply.TheVariants.{Refused}
+use Rattle.mc_model.specs.declared.reply.TheConstants.WireNo.{OUT_OF_MEMORY}
 use Rattle.mc_model.specs.declared.request.Request.{Request}
 use Rattle.mc_model.specs.declared.request.Request.TheVariants.{Quit}
 use Rattle.mc_conn.specs.declared.conn.Role.{Role}
@@ -39,3 +43,18 @@ pub record HasCounted (before after : List CountedRequest) (old new : Tally) : T
   pub past : after ≡ before ++ counted
   pub counts : (earlier : List CountedRequest) → IsTallyOf earlier old →
       IsTallyOf (earlier ++ counted) new
+
+-- what is counted for a fault that ends a connection: where memory ran out the refusal that the
+-- client gets in place of a reply, and nothing for any other
+abbrev pub counted_at : Fault → List CountedRequest
+counted_at Memory = record { asked = None; reply = Refused OUT_OF_MEMORY } ∷ []
+counted_at fault = []
+
+-- A fault has ended a connection: the tally counts the requests that got a reply before it, what is
+-- counted for it, and what was counted before.
+pub record HasCountedTo (before after : List CountedRequest) (old new : Tally)
+    (fault : Fault) : Type 0 where
+  pub counted : List CountedRequest
+  pub past : after ≡ before ++ counted
+  pub counts : (earlier : List CountedRequest) → IsTallyOf earlier old →
+      IsTallyOf (earlier ++ (counted ++ counted_at fault)) new

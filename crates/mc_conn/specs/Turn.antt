@@ -74,7 +74,7 @@ pub record Taken (before after : Scene) (to : Mark) : Type 0 where
   pub waited : waits before.streams.output.events ≤ waits after.streams.output.events
   pub counted : List CountedRequest
   pub counts : AreTallied before.conn.role requests owed counted
-  pub past : after.conn.past.requests ≡ before.conn.past.requests ++ counted
+  pub past : after.conn.past ≡ before.conn.past ++ counted
 
 -- No fault: what was taken goes up to the worker's mark afterwards, and is what the bytes that came
 -- read as. The end of the input is remembered, and so is a request that ends the stream.

@@ -1,5 +1,6 @@
 //! A connection.
-ghost use Rattle.std.specs.Prelude.{◌≡◌, [], false, IfOk, IsOkUnless};
+ghost use Rattle.std.specs.Prelude.{◌≡◌, [], false, length, IfOk, IsOkUnless};
+ghost use Rattle.mc_counters.specs.Tallied.{capped};
 ghost use Rattle.mc_model.specs.declared.fault.Fault.TheVariants as Fault;
 ghost use Rattle.mc_read.specs.Reading.{Kept};
 ghost use Rattle.mc_conn.specs.declared.conn.Role.TheVariants as Role;
@@ -7,7 +8,7 @@ ghost use Rattle.mc_conn.specs.Held.{nothing_held, speaker_of};
 ghost use Rattle.mc_conn.specs.Turn.{holding_of, queue_of};
 
 use crate::queue::Queue;
-use mc_counters::PastRequests;
+use mc_counters::AnsweredRequests;
 use mc_model::{Fault, Names, Request, TenantId};
 use mc_read::Reader;
 use std::alloc::Global;
@@ -67,8 +68,8 @@ pub struct Conn {
     pub(crate) is_over: bool,
     /// Whether a fault has closed the connection.
     pub(crate) is_closed: bool,
-    /// The requests that got a reply; for contracts only.
-    pub(crate) past: PastRequests,
+    /// The requests that got a reply.
+    pub(crate) past: AnsweredRequests,
 }
 
 /// How a turn ended.
@@ -94,7 +95,7 @@ impl Conn {
         ensures queue { queue_of result ≡ [] }
         ensures open { (result.has_ended ≡ false) × (result.is_over ≡ false)
             × (result.is_closed ≡ false) }
-        ensures past { result.past.requests ≡ [] }
+        ensures past { result.past ≡ [] }
     {
         Conn::of(alloc, Role::Tenant(tenant))
     }
@@ -107,7 +108,7 @@ impl Conn {
         ensures queue { queue_of result ≡ [] }
         ensures open { (result.has_ended ≡ false) × (result.is_over ≡ false)
             × (result.is_closed ≡ false) }
-        ensures past { result.past.requests ≡ [] }
+        ensures past { result.past ≡ [] }
     {
         Conn::of(alloc, Role::Admin(names))
     }
@@ -119,7 +120,7 @@ impl Conn {
         ensures queue { queue_of result ≡ [] }
         ensures open { (result.has_ended ≡ false) × (result.is_over ≡ false)
             × (result.is_closed ≡ false) }
-        ensures past { result.past.requests ≡ [] }
+        ensures past { result.past ≡ [] }
     {
         let reader = role.reader(alloc);
         Conn {
@@ -130,8 +131,15 @@ impl Conn {
             has_ended: false,
             is_over: false,
             is_closed: false,
-            past: PastRequests::new(),
+            past: AnsweredRequests::new(),
         }
+    }
+
+    /// Returns how many of the connection's requests got a reply, quiet or not.
+    pub fn answered(&self) -> u64
+        ensures { result ≡ capped (length self.now.past) }
+    {
+        self.past.count()
     }
 
     /// Returns the connection's role.

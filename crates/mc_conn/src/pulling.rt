@@ -90,8 +90,7 @@ impl Conn {
         ensures pulls { Pulls
             (scene self.old worker.old (both (I.tells input.old) (O.tells output.old)))
             (scene self.new worker.new (both (I.tells input.new) (O.tells output.new))) }
-        ensures tally { HasCounted self.old.past.requests self.new.past.requests tally.old
-            tally.new }
+        ensures tally { HasCounted self.old.past self.new.past tally.old tally.new }
     {
         if self.waiting.is_some() | (self.queue.len() > QUEUE_BYTES) | self.has_ended {
             return Ok(false);

@@ -13,7 +13,7 @@ ghost use Rattle.mc_conn.specs.Tallying.{HasCounted};
 
 use crate::conn::Role;
 use crate::queue::Queue;
-use mc_counters::{Asked, PastRequests, Tally};
+use mc_counters::{AnsweredRequests, Asked, Tally};
 use mc_model::{Command, Fault, Reply, Request, TenantId, WireNo};
 use uc_worker::{Gate, Worker};
 
@@ -63,19 +63,19 @@ fn reply_and_count(
     reply: &Reply<'_>,
     quiet: bool,
     queue: &mut Queue,
-    past: &mut PastRequests,
+    past: &mut AnsweredRequests,
     tally: &mut Tally,
 ) -> Result<(), Fault>
     ensures queued { MatchResult result (λ _. queue.new ≡ queue.old ++ answered quiet reply.now)
         (λ fault. (fault ≡ faults.Memory) × (queue.new ≡ queue.old)) }
     ensures counts { MatchResult result
-        (λ _. GivesReply asked.now queue.old queue.new past.old.requests past.new.requests)
+        (λ _. GivesReply asked.now queue.old queue.new past.old past.new)
         (λ _. past.new ≡ past.old) }
-    ensures tally { HasCounted past.old.requests past.new.requests tally.old tally.new }
+    ensures tally { HasCounted past.old past.new tally.old tally.new }
 {
     queue_reply(reply, quiet, queue)?;
     tally.count(asked, reply);
-    *past = past.and(asked, reply);
+    past.add(asked, reply);
     Ok(())
 }
 
@@ -86,16 +86,16 @@ fn refuse(
     refusal: WireNo,
     quiet: bool,
     queue: &mut Queue,
-    past: &mut PastRequests,
+    past: &mut AnsweredRequests,
     tally: &mut Tally,
 ) -> Result<(), Fault>
     ensures queued { MatchResult result
         (λ _. queue.new ≡ queue.old ++ answered quiet (Reply.Refused refusal))
         (λ fault. (fault ≡ faults.Memory) × (queue.new ≡ queue.old)) }
     ensures counts { MatchResult result
-        (λ _. GivesReply None queue.old queue.new past.old.requests past.new.requests)
+        (λ _. GivesReply None queue.old queue.new past.old past.new)
         (λ _. past.new ≡ past.old) }
-    ensures tally { HasCounted past.old.requests past.new.requests tally.old tally.new }
+    ensures tally { HasCounted past.old past.new tally.old tally.new }
 {
     reply_and_count(&None, &Reply::Refused(refusal), quiet, queue, past, tally)
 }
@@ -111,7 +111,7 @@ fn respond_by_log<G: Gate>(
     queue: &mut Queue,
     worker: &mut Worker<'_>,
     gate: &mut G,
-    past: &mut PastRequests,
+    past: &mut AnsweredRequests,
     tally: &mut Tally,
 ) -> Result<(), Fault>
     requires tenant { tenant < length (tenants_of worker.old) }
@@ -121,9 +121,9 @@ fn respond_by_log<G: Gate>(
         (λ _. Responds worker.old worker.new role request queue.old queue.new)
         (Refuses worker.old worker.new role request queue.old queue.new) }
     ensures counts { MatchResult result
-        (λ _. GivesReply (Some (asked_for_by command)) queue.old queue.new past.old.requests
-        past.new.requests) (λ _. past.new ≡ past.old) }
-    ensures tally { HasCounted past.old.requests past.new.requests tally.old tally.new }
+        (λ _. GivesReply (Some (asked_for_by command)) queue.old queue.new past.old
+        past.new) (λ _. past.new ≡ past.old) }
+    ensures tally { HasCounted past.old past.new tally.old tally.new }
 {
     let asked = Some(Asked::by(&command));
     let reply = answer(tenant, command, worker, gate)?;
@@ -140,7 +140,7 @@ pub(crate) fn respond<G: Gate>(
     queue: &mut Queue,
     worker: &mut Worker<'_>,
     gate: &mut G,
-    past: &mut PastRequests,
+    past: &mut AnsweredRequests,
     tally: &mut Tally,
 ) -> Result<(), Fault>
     requires role { FitsLog role.now worker.old }
@@ -149,9 +149,9 @@ pub(crate) fn respond<G: Gate>(
         (λ _. Responds worker.old worker.new role.now request queue.old queue.new)
         (Refuses worker.old worker.new role.now request queue.old queue.new) }
     ensures counts { MatchResult result
-        (λ _. Counts role.now request queue.old queue.new past.old.requests past.new.requests)
+        (λ _. Counts role.now request queue.old queue.new past.old past.new)
         (λ _. past.new ≡ past.old) }
-    ensures tally { HasCounted past.old.requests past.new.requests tally.old tally.new }
+    ensures tally { HasCounted past.old past.new tally.old tally.new }
 {
     match request {
         Request::Logged { command, quiet } => match role {

@@ -83,8 +83,7 @@ impl Conn {
             (most_held (holding_of self.new) < most_held (holding_of self.old))
             ((self.old.waiting ≡ None) × (self.new ≡ self.old))) }
         ensures keeps { KeepsStreams self.old self.new worker.old worker.new }
-        ensures tally { HasCounted self.old.past.requests self.new.past.requests tally.old
-            tally.new }
+        ensures tally { HasCounted self.old.past self.new.past tally.old tally.new }
     {
         match self.waiting.take() {
             Some(request) => {
@@ -120,8 +119,7 @@ impl Conn {
         ensures held { IfOk result
             (λ did. did ≡ false → IsHeldBehind until_done self.new worker.new) }
         ensures keeps { KeepsStreams self.old self.new worker.old worker.new }
-        ensures tally { HasCounted self.old.past.requests self.new.past.requests tally.old
-            tally.new }
+        ensures tally { HasCounted self.old.past self.new.past tally.old tally.new }
     {
         self.look()?;
         if self.queue.len() > QUEUE_BYTES {
@@ -151,8 +149,7 @@ impl Conn {
             Breaks (scene self.old worker.old streams) (scene self.new worker.new streams) fault) }
         ensures held { OnOk result (IsHeldBehind until_done self.new worker.new) }
         ensures keeps { KeepsStreams self.old self.new worker.old worker.new }
-        ensures tally { HasCounted self.old.past.requests self.new.past.requests tally.old
-            tally.new }
+        ensures tally { HasCounted self.old.past self.new.past tally.old tally.new }
     {
         let mut did = false;
         while self.take_one(until_done, worker, gate, tally)? {

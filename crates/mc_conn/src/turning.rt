@@ -1,17 +1,18 @@
 //! A turn of a connection.
-ghost use Rattle.std.specs.Prelude.{◌≡◌, ◌≢◌, true, false, IfOk, Ok, MatchResult};
+ghost use Rattle.std.specs.Prelude.{◌≡◌, ◌≢◌, ◌++◌, List, true, false, IfOk, Ok, MatchResult};
+ghost use Rattle.mc_counters.specs.Tallied.{CountedRequest, IsTallyOf};
 ghost use Rattle.mc_stream.specs.Stream.{both};
 ghost use Rattle.mc_conn.specs.ConnFault.{TellsStarved};
 ghost use Rattle.mc_conn.specs.Ending.{Breaks, Pulls, Stops, Turns, TurnsUntil};
 ghost use Rattle.mc_conn.specs.Parts.{GoesRound, StateIs, TellsOf};
 ghost use Rattle.mc_conn.specs.Owed.{FitsLog};
-ghost use Rattle.mc_conn.specs.Tallying.{HasCounted};
+ghost use Rattle.mc_conn.specs.Tallying.{HasCounted, HasCountedTo, counted_at};
 ghost use Rattle.mc_conn.specs.Turn.{queue_of, scene};
 
 use crate::conn::{Conn, PULL_BYTES, State};
 use crate::queue::Queue;
 use mc_counters::Tally;
-use mc_model::{Fault, WireNo};
+use mc_model::{Fault, Reply, WireNo};
 use mc_stream::{Input, Output, push_while_taken};
 use mc_write::refusal_text;
 use uc_worker::{Gate, Worker};
@@ -23,6 +24,16 @@ fn tell_starved<O: Output>(queue: &Queue, output: &mut O)
 {
     if queue.push_while_taken(output) {
         push_while_taken(refusal_text(WireNo::OUT_OF_MEMORY), output);
+    }
+}
+
+/// Counts the refusal that memory ran out, if that is the fault.
+fn count_fault(fault: Fault, tally: &mut Tally)
+    ensures { (earlier : List CountedRequest) → IsTallyOf earlier tally.old →
+        IsTallyOf (earlier ++ counted_at fault) tally.new }
+{
+    if fault == Fault::Memory {
+        tally.count(&None, &Reply::Refused(WireNo::OUT_OF_MEMORY));
     }
 }
 
@@ -66,8 +77,7 @@ impl Conn {
         ensures pulls { Pulls
             (scene self.old worker.old (both (I.tells input.old) (O.tells output.old)))
             (scene self.new worker.new (both (I.tells input.new) (O.tells output.new))) }
-        ensures tally { HasCounted self.old.past.requests self.new.past.requests tally.old
-            tally.new }
+        ensures tally { HasCounted self.old.past self.new.past tally.old tally.new }
     {
         let first = self.push(output)?;
         let taken = self.take(until_done, worker, gate, tally)?;
@@ -113,8 +123,9 @@ impl Conn {
             (scene self.old worker.old (both (I.tells input.old) (O.tells output.old)))
             (scene self.new worker.new (both (I.tells input.new) (O.tells output.new))) }
         ensures same { (self.new.role ≡ self.old.role) × (worker.new.log ≡ worker.old.log) }
-        ensures tally { HasCounted self.old.past.requests self.new.past.requests tally.old
-            tally.new }
+        ensures tally { MatchResult result
+            (λ _. HasCounted self.old.past self.new.past tally.old tally.new)
+            (HasCountedTo self.old.past self.new.past tally.old tally.new) }
         ensures closed { self.old.is_closed ≡ true → (result ≡ Ok State.Closed)
             × (self.new ≡ self.old) × (worker.new ≡ worker.old)
             × (input.new ≡ input.old) × (output.new ≡ output.old) }
@@ -126,6 +137,7 @@ impl Conn {
             Ok(state) => Ok(state),
             Err(fault) => {
                 self.close(fault, output);
+                count_fault(fault, tally);
                 Err(fault)
             }
         }
@@ -136,8 +148,8 @@ impl Conn {
     ///
     /// Requests are taken, and bytes pulled, while no more than `QUEUE_BYTES` are queued. Bytes are
     /// pulled only if no whole request is held then, and into the buffer, which the caller may use
-    /// again afterwards. The tally counts the requests that get a reply, quiet or not.
-    /// A full log is a reply, not an error.
+    /// again afterwards. The tally counts the requests that get a reply, quiet or not, and the refusal
+    /// of one that memory ran out for. A full log is a reply, not an error.
     ///
     /// Each error closes the connection for good; later turns return `Closed` and do nothing.
     /// Returns `Memory` if memory runs out, which is reported to the client as far as the output
@@ -169,9 +181,11 @@ impl Conn {
         ensures takes_all { IfOk result (λ state. state ≢ State.Full) }
         // It is still the same client's, on the same log.
         ensures same { (self.new.role ≡ self.old.role) × (worker.new.log ≡ worker.old.log) }
-        // The tally counts the requests that got a reply, besides what it counted before.
-        ensures tally { HasCounted self.old.past.requests self.new.past.requests tally.old
-            tally.new }
+        // The tally counts the requests that got a reply, besides what it counted before; and where
+        // memory ran out the refusal that was sent about it.
+        ensures tally { MatchResult result
+            (λ _. HasCounted self.old.past self.new.past tally.old tally.new)
+            (HasCountedTo self.old.past self.new.past tally.old tally.new) }
         ensures closed { self.old.is_closed ≡ true → (result ≡ Ok State.Closed)
             × (self.new ≡ self.old) × (worker.new ≡ worker.old)
             × (input.new ≡ input.old) × (output.new ≡ output.old) }
@@ -204,8 +218,9 @@ impl Conn {
             (scene self.old worker.old (both (I.tells input.old) (O.tells output.old)))
             (scene self.new worker.new (both (I.tells input.new) (O.tells output.new))) }
         ensures same { (self.new.role ≡ self.old.role) × (worker.new.log ≡ worker.old.log) }
-        ensures tally { HasCounted self.old.past.requests self.new.past.requests tally.old
-            tally.new }
+        ensures tally { MatchResult result
+            (λ _. HasCounted self.old.past self.new.past tally.old tally.new)
+            (HasCountedTo self.old.past self.new.past tally.old tally.new) }
         ensures closed { self.old.is_closed ≡ true → (result ≡ Ok State.Closed)
             × (self.new ≡ self.old) × (worker.new ≡ worker.old)
             × (input.new ≡ input.old) × (output.new ≡ output.old) }

@@ -33,6 +33,8 @@ pub(crate) enum Act<'a> {
     PushedBytes(usize),
     /// The worker has replayed this many entries.
     Replayed(usize),
+    /// This many requests got a reply, quiet or not.
+    Answered(u64),
     /// Retrievals found this many items, and this many keys had none.
     Found(u64, u64),
     /// This many commands of this kind were answered.
@@ -107,6 +109,7 @@ impl Line<'_> {
             Act::PushedOf(want) => Ok(want.as_bytes().starts_with(self.pushed())),
             Act::PushedBytes(count) => Ok(self.pushed().len() == count),
             Act::Replayed(count) => Ok(self.replayed() == count),
+            Act::Answered(count) => Ok(self.answered() == count),
             Act::Found(hits, misses) => Ok(self.found(hits, misses)),
             Act::Commands(kind, count) => Ok(self.tally().of_kind(kind) == count),
             Act::Refused(refusal, count) => Ok(self.tally().of_refusal(refusal) == count),

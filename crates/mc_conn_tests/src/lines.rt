@@ -164,6 +164,11 @@ impl<'a> Line<'a> {
         self.wire.close(fault);
     }
 
+    /// Returns how many requests of the connection got a reply.
+    pub(crate) fn answered(&self) -> u64 {
+        self.wire.conn.answered()
+    }
+
     /// Returns how the requests of the connection were answered.
     pub(crate) fn tally(&self) -> Tally {
         self.wire.tally

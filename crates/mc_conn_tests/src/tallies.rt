@@ -13,8 +13,9 @@ const SENT: &str = "set a 0 0 1\r\n1\r\nset b 0 0 1 noreply\r\n2\r\nget a x b\r\
     get a\r\n";
 
 /// What is counted of these requests.
-const COUNTED: [Act; 9] = [
+const COUNTED: [Act; 10] = [
     Act::Turns(State::Closed),
+    Act::Answered(8),
     Act::Found(2, 2),
     Act::Commands(CommandKind::Set, 2),
     Act::Commands(CommandKind::Get, 1),
@@ -26,8 +27,9 @@ const COUNTED: [Act; 9] = [
 ];
 
 /// What is counted in a log of one place: the command that found it full was refused.
-const FULL: [Act; 4] = [
+const FULL: [Act; 5] = [
     Act::Turns(State::Closed),
+    Act::Answered(8),
     Act::Commands(CommandKind::Set, 2),
     Act::Commands(CommandKind::Get, 1),
     Act::Refused(WireNo::LOG_FULL, 4),

@@ -81,11 +81,11 @@ module _ (until : Bool) (takes_self : TakesNothing) (a : Scene) (conn : Conn) (w
     (once : PullsOnce a.streams.input streams.input)
     (opened : a.conn.is_closed ≡ false → TurnsOnce until a (scene conn worker streams) state)
     (closed : a.conn.is_closed ≡ true → (state ≡ Closed) × (conn ≡ a.conn) × (worker ≡ a.worker) × (streams ≡ a.streams)) where
-  pub served_turn : TakesOrStops a (scene conn worker streams)
-  served_turn =
+  pub taken_turn : Takes a (scene conn worker streams)
+  taken_turn =
       ⊎_elim
-      (λ (is : a.conn.is_closed ≡ true). let same = closed is in inl (takes_same takes_self a conn worker streams same.1 same.2 same.3))
-      (λ (is : a.conn.is_closed ≡ false). inl (taken_by until a (scene conn worker streams) state (opened is)))
+      (λ (is : a.conn.is_closed ≡ true). let same = closed is in takes_same takes_self a conn worker streams same.1 same.2 same.3)
+      (λ (is : a.conn.is_closed ≡ false). taken_by until a (scene conn worker streams) state (opened is))
       (true_or_false a.conn.is_closed)
 
   pub stands_turn : Stands until a (scene conn worker streams) state
@@ -95,15 +95,6 @@ module _ (until : Bool) (takes_self : TakesNothing) (a : Scene) (conn : Conn) (w
       subst (Stands until a (scene conn worker streams)) (sym (closed is).0) (inl (ap (λ (conn : Conn). conn.is_closed) (closed is).1 ∙ is)))
       (λ (is : a.conn.is_closed ≡ false). stands_going until takes_self a (scene conn worker streams) state full ((taken_by until a (scene conn worker streams) state (opened is)).shut ∙ is) once (opened is))
       (true_or_false a.conn.is_closed)
-
--- a connection that may have more to do met no fault
-pub still_going : (until : Bool) (a b : Scene) (state : State) → state ≡ Busy → Stands until a b state → TakesOrStops a b → Takes a b
-still_going until a b state busy stands served =
-    let going : ¬ (HasEnded b.conn) = (subst (Stands until a b) busy stands).going in
-    ⊎_elim
-    (λ (takes : Takes a b). takes)
-    (λ (stopped : (fault : Fault) × Stops a b fault). absurd (going (inl stopped.1.shut)))
-    served
 
 pub served_onward : (a b : Scene) → TakesOrStops a b → Continues a.worker b.worker
 served_onward a b =

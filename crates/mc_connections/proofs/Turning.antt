@@ -1,12 +1,12 @@
 -- Whose turn it is among the connections that wait.
-use Rattle.std.proofs.Common.{◌≡◌, ◌⊎◌, ◌∙◌, ◌≤◌, ℕ, ◌-◌, Bool, Err, Ok, OnOk, Option, Result, Some, ap, inl, inr, length, subst, sym, ⊎_elim}
+use Rattle.std.proofs.Common.{◌≡◌, ◌⊎◌, ◌∙◌, ◌≤◌, ℕ, Bool, Err, Ok, OnOk, Option, Result, Some, ap, inl, inr, length, subst, sym, ⊎_elim}
 use Rattle.std.specs.Prelude.{slice_get}
 use Rattle.fair_queue.specs.Turns.{Charges, GivesFirst, IsIdle, IsPushed, QueueState}
 use Rattle.mc_conn.specs.declared.conn.State.{State}
 use Rattle.mc_conn.specs.declared.conn.State.TheVariants.{Busy, Closed, Full, Idle}
 use Rattle.mc_connections.specs.declared.waiting.Waiting.{Waiting}
 use Rattle.mc_connections.specs.InQueue.{WaitsOn}
-use Rattle.mc_connections.specs.Waiting.{ComesToWait, EndsRound, TakesTurn, WaitsInLine, cost_of, flow_of}
+use Rattle.mc_connections.specs.Waiting.{ComesToWait, EndsRound, TakesTurn, WaitsInLine, flow_of}
 
 pub gave : {taken : QueueState} (spent key flow : ℕ) (old new : Waiting) → spent ≡ old.spent → new.queue ≡ taken →
     ((between : QueueState) × Charges spent old.queue between × GivesFirst flow key between taken) → ¬ (WaitsInLine new key) → TakesTurn key old new
@@ -25,11 +25,6 @@ idled spent old new is (between, charged, ended) =
       subst (λ n. Charges n old.queue new.queue) is (subst (Charges spent old.queue) (sym ended.1) charged),
       subst IsIdle (sym ended.1) ended.0,
     )
-
-pub charged_for : (waiting : Waiting) (commands before after was now bytes : ℕ) → commands ≡ after - before → before ≡ was → after ≡ now →
-    waiting.spent ≡ cost_of commands bytes → waiting.spent ≡ cost_of (now - was) bytes
-charged_for waiting commands before after was now bytes is first then spent =
-    spent ∙ ap (λ n. cost_of n bytes) (is ∙ ap (λ n. n - before) then ∙ ap (λ n. now - n) first)
 
 -- what a connection has cost doesn't matter to where it waits
 pub waits_the_same : (tenant : Option ℕ) (key : ℕ) (old charged new : Waiting) → charged.queue ≡ old.queue → charged.waits.items ≡ old.waits.items → ComesToWait tenant key charged new → ComesToWait tenant key old new

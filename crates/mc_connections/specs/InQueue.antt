@@ -1,27 +1,21 @@
 -- What a worker's queue does with a connection whose turn it is; this project's profile.
-use Rattle.std.specs.Prelude.{◌≡◌, ℕ, ◌-◌, Bool, Option}
+use Rattle.std.specs.Prelude.{◌≡◌, ℕ, Bool, Option}
 use Rattle.mc_conn.specs.declared.conn.State.{State}
 use Rattle.mc_conn.specs.declared.conn.State.TheVariants.{Busy, Closed, Full, Idle}
-use Rattle.mc_connections.specs.Serving.{MovesAt, tenant_at}
+use Rattle.mc_connections.specs.Serving.{SpendsAt, tenant_at}
 use Rattle.mc_connections.specs.Waiting.{ComesToWait, cost_of}
 use Rattle.mc_connections.specs.Working.{ServesAt, Standing}
 use Rattle.mc_connections.specs.declared.waiting.Waiting.{Waiting}
-use Rattle.uc_worker.specs.declared.worker.Worker.{Worker}
-use Rattle.uc_worker.specs.Worker.{seat_of}
 
--- how many commands the worker has announced from one state to the other
-abbrev pub announced_between : Worker → Worker → ℕ
-announced_between before after =
-    (seat_of after).state.announced - (seat_of before).state.announced
-
--- The connection under this key was served, and it is noted that this has cost what the commands that
--- the worker announced for it cost, and the bytes that its stream gave and took.
+-- The connection under this key was served, and it is noted that this has cost what its requests
+-- cost that got a reply, and the bytes that its stream gave and took.
 pub record HasServedNext (until : Bool) (key : ℕ) (before after : Standing) (now : Waiting) : Type 0 where
   pub state : State
   pub serves : ServesAt until key state before after
+  pub requests : ℕ
   pub bytes : ℕ
-  pub moves : MovesAt bytes key state before.connections after.connections
-  pub spent : now.spent ≡ cost_of (announced_between before.worker after.worker) bytes
+  pub spends : SpendsAt requests bytes key state before.connections after.connections
+  pub spent : now.spent ≡ cost_of requests bytes
 
 -- a connection in this state comes to wait behind those of its tenant if it has more to do, or a
 -- command that was left to the next log; and otherwise the queue is as it was

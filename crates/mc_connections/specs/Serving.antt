@@ -2,6 +2,8 @@
 use Rattle.std.specs.Prelude.{◌≡◌, ◌≢◌, ◌⊎◌, ℕ, ◌+◌, ◌-◌, ◌^◌, ◌≤◌, Bool, true, false, List, [], ◌∷◌, length, min, option_and_then, Option, Some, None}
 use Rattle.mio.specs.declared.net.stream.TcpStream.{TcpStream}
 use Rattle.slab.specs.Slab.{Updates, get}
+use Rattle.mc_counters.specs.Tallied.{capped}
+use Rattle.mc_counters.specs.declared.tally.Tally.{Tally}
 use Rattle.mc_conn.specs.declared.conn.Conn.{Conn}
 use Rattle.mc_conn.specs.declared.conn.Role.{Role}
 use Rattle.mc_conn.specs.declared.conn.Role.TheVariants.{Admin, Tenant}
@@ -10,6 +12,7 @@ use Rattle.mc_conn.specs.declared.conn.State.TheVariants.{Closed, Idle, Busy, Fu
 use Rattle.mc_conn.specs.Ending.{IsDone, PullsOnce, Stops, Turns, TurnsUntil}
 use Rattle.mc_conn.specs.Held.{nothing_held}
 use Rattle.mc_conn.specs.Owed.{IsAmong}
+use Rattle.mc_conn.specs.Tallying.{HasCounted, HasCountedTo}
 use Rattle.mc_conn.specs.Turn.{Scene, Takes, holding_of, queue_of, scene}
 use Rattle.mc_model.specs.declared.fault.Fault.{Fault}
 use Rattle.mc_connections.specs.declared.connecting.TheConstants.{TURNS}
@@ -126,6 +129,18 @@ pub record IsServedLater (until : Bool) (before after : Worker) (old new : Conne
   pub stands : Stands until (scene_of old before) (scene_of new after) state
   pub few : HasAtMost TURNS old.received.events new.received.events
 
+-- The connection was served, and is counted: its requests that got a reply, and the refusal if
+-- memory ran out.
+abbrev pub IsTallied : Scene → Scene → Tally → Tally → Type 0
+IsTallied before after old new =
+    Takes before after × HasCounted before.conn.past after.conn.past old new
+    ⊎ (fault : Fault) × Stops before after fault
+    × HasCountedTo before.conn.past after.conn.past old new fault
+
+-- how many of the connection's requests got a reply from one state of it to the other
+abbrev pub answered_between : Connection → Connection → ℕ
+answered_between old new = capped (length new.conn.past) - capped (length old.conn.past)
+
 -- how many bytes the connection's stream has given and taken from one state of it to the other
 abbrev pub moved_between : Connection → Connection → ℕ
 moved_between old new =
@@ -152,9 +167,14 @@ pub record ChangesAt (Step : Option Connection → Option Connection → Type 0)
   pub tenants : after.tenants ≡ before.tenants
   pub reserve : after.places.tenants.reserve ≡ before.places.tenants.reserve
 
--- the connection under this key, if there was one, has moved this many bytes while it was served
-abbrev pub MovesAt : ℕ → ℕ → State → Connections → Connections → Type 0
-MovesAt bytes key state before after =
-    Becomes (λ old new _. bytes ≡ moved_between old new) (bytes ≡ 0) state
+-- what serving this connection has taken: requests that got a reply, and bytes that were moved
+abbrev pub Spends : ℕ → ℕ → Connection → Connection → State → Type 0
+Spends requests bytes old new state =
+    (requests ≡ answered_between old new) × (bytes ≡ moved_between old new)
+
+-- what serving the connection under this key has taken, if there was one
+abbrev pub SpendsAt : ℕ → ℕ → ℕ → State → Connections → Connections → Type 0
+SpendsAt requests bytes key state before after =
+    Becomes (Spends requests bytes) ((requests ≡ 0) × (bytes ≡ 0)) state
     before.ended.connections after.ended.connections
     (connection_at before key) (connection_at after key)

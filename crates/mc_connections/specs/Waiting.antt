@@ -1,13 +1,14 @@
 -- Which connections wait, whose turn it is, and what a turn costs; this project's profile.
 use Rattle.std.specs.Prelude.{◌≡◌, ◌⊎◌, ℕ, ◌+◌, ◌-◌, ◌*◌, ◌^◌, ◌≤◌, Bool, Option, Some, length, min, slice_get, unwrap_or}
-use Rattle.fair_queue.specs.Turns.{Charges, GivesFirst, IsIdle, IsPushed, QueueState}
-use Rattle.mc_connections.specs.declared.waiting.TheConstants.{BYTES_OF_A_COMMAND, BYTES_OF_A_SERVE, QUANTUM}
+use Rattle.fair_queue.specs.Turns.{Charges, GivesFirst, IsIdle, IsPushed, QueueState, TurnGoesOn, flow_at}
+use Rattle.mc_connections.specs.declared.waiting.TheConstants.{BYTES_OF_A_REQUEST, BYTES_OF_A_SERVE, ROUND}
 use Rattle.mc_connections.specs.declared.waiting.Waiting.{Waiting}
 
--- what it costs to serve a connection that gave this many commands and moved this many bytes
+-- what it costs to serve a connection of which this many requests got a reply, and whose stream moved
+-- this many bytes
 abbrev pub cost_of : ℕ → ℕ → ℕ
-cost_of commands bytes =
-    min (BYTES_OF_A_SERVE + commands * BYTES_OF_A_COMMAND + bytes) (2 ^ 64 - 1)
+cost_of requests bytes =
+    min (BYTES_OF_A_SERVE + requests * BYTES_OF_A_REQUEST + bytes) (2 ^ 64 - 1)
 
 -- of this many flows that of a tenant, or the last one, which is the administrators'
 abbrev pub flow_of : ℕ → Option ℕ → ℕ
@@ -32,7 +33,10 @@ pub record TakesTurn (key : ℕ) (old new : Waiting) : Type 0 where
   pub given : GivesFirst flow key between new.queue
   pub taken : ¬ (WaitsInLine new key)
 
--- the round's quantum is spent, or nobody waits
+-- what is spent at least in a round is spent, and the turn ends once the last one is charged; or nobody
+-- waits
 abbrev pub EndsRound : Waiting → Waiting → Type 0
-EndsRound old new = (QUANTUM ≤ old.spent_in_round) × (new ≡ old)
+EndsRound old new =
+    (ROUND ≤ old.spent_in_round)
+    × ¬ (TurnGoesOn old.spent (flow_at old.queue old.queue.turn)) × (new ≡ old)
     ⊎ Charges old.spent old.queue new.queue × IsIdle new.queue

@@ -2,9 +2,10 @@
 ghost use Rattle.std.specs.Prelude.{◌≡◌, ◌<◌, true, false, length, IfOk, MatchResult, Ok};
 ghost use Rattle.mc_conn.specs.Ending.{PullsOnce, Stops};
 ghost use Rattle.mc_conn.specs.Owed.{FitsLog};
-ghost use Rattle.mc_conn.specs.Tallying.{HasCounted};
+ghost use Rattle.mc_conn.specs.Tallying.{HasCounted, HasCountedTo};
 ghost use Rattle.mc_conn.specs.Turn.{scene};
-ghost use Rattle.mc_connections.specs.Serving.{HasAtMost, HasComeTo, MovesAt, moved_between, tenant_at, IsServedLater, TakesOrStops, Stands, TurnsOnce};
+ghost use Rattle.mc_connections.specs.Serving.{HasAtMost, HasComeTo, IsServedLater, IsTallied, SpendsAt, Stands, TakesOrStops, TurnsOnce, answered_between, moved_between, scene_of, tenant_at};
+ghost use Rattle.mc_connections.specs.Tallying.{TalliesAt};
 ghost use Rattle.mc_connections.specs.Working.{ServesAt, standing};
 ghost use Rattle.mc_stream.specs.Stream.{both};
 ghost use Rattle.uc_worker.specs.Worker.{tenants_of};
@@ -24,21 +25,22 @@ use std::alloc::Global;
 use std::mem;
 use uc_worker::{Gate, Worker};
 
-/// How many turns a connection gets for one event at most, so that the others get theirs soon: a
-/// turn takes at most a buffer of bytes.
+/// How many turns a connection gets at most each time that it is served, so that the others get theirs
+/// soon: a turn takes at most a buffer of bytes.
 const TURNS: u32 = 2;
 
-/// How many commands a read is to bring at most, so that a turn is short where they are small.
-const COMMANDS_OF_A_READ: u64 = 64;
+/// How many requests a read is to bring at most, so that a turn is short where they are small; once as
+/// many were answered there is no further turn.
+const REQUESTS_OF_A_READ: u64 = 64;
 
-/// How many bytes a read takes at most where a connection's commands are small, or not known yet.
+/// How many bytes a read takes at most where a connection's requests are small, or not known yet.
 const LEAST_READ: usize = 2_048;
 
-/// Returns how many bytes a connection's next reads take at most, by the bytes and the commands of its
-/// last serve: all that there is room for if there was no command, since a block may be on its way.
-fn read_bytes(bytes: u64, commands: u64) -> usize {
-    match bytes.checked_div(commands) {
-        Some(each) => (each.saturating_mul(COMMANDS_OF_A_READ) as usize).clamp(
+/// Returns how many bytes a connection's next reads take at most, by the bytes and the requests of its
+/// last serve: all that there is room for if there was no request, since a block may be on its way.
+fn read_bytes(bytes: u64, requests: u64) -> usize {
+    match bytes.checked_div(requests) {
+        Some(each) => (each.saturating_mul(REQUESTS_OF_A_READ) as usize).clamp(
             LEAST_READ, PULL_BYTES,
         ),
         None => PULL_BYTES,
@@ -50,6 +52,8 @@ fn read_bytes(bytes: u64, commands: u64) -> usize {
 pub(crate) struct Served {
     /// The connection's state afterwards.
     pub state: State,
+    /// How many of its requests got a reply meanwhile, quiet or not.
+    pub requests: u64,
     /// How many bytes its stream gave and took meanwhile.
     pub bytes: u64,
 }
@@ -75,7 +79,9 @@ fn turn_once<I: Input, O: Output, G: Gate>(
         (Stops (scene conn.old worker.old (both (I.tells input.old) (O.tells output.old)))
         (scene conn.new worker.new (both (I.tells input.new) (O.tells output.new)))) }
     ensures pulls { PullsOnce (I.tells input.old) (I.tells input.new) }
-    ensures tally { HasCounted conn.old.past.requests conn.new.past.requests tally.old tally.new }
+    ensures tally { MatchResult result
+        (λ _. HasCounted conn.old.past conn.new.past tally.old tally.new)
+        (HasCountedTo conn.old.past conn.new.past tally.old tally.new) }
     ensures full { IfOk result (λ state. state ≡ State.Full → until_done ≡ true) }
     ensures role { conn.new.role ≡ conn.old.role }
     ensures closed { conn.old.is_closed ≡ true → (result ≡ Ok State.Closed)
@@ -89,8 +95,8 @@ fn turn_once<I: Input, O: Output, G: Gate>(
     }
 }
 
-/// Makes turns until nothing is left to do, `TURNS` were made, a command is left to the next log, or
-/// a fault has ended the connection. Returns the connection's state afterwards.
+/// Makes turns until nothing is left to do, `TURNS` were made, `REQUESTS_OF_A_READ` were answered, a
+/// command is left to the next log, or a fault has ended the connection. Returns the connection's state afterwards.
 fn turns<I: Input, O: Output, G: Gate>(
     until_done: bool,
     conn: &mut Conn,
@@ -110,13 +116,21 @@ fn turns<I: Input, O: Output, G: Gate>(
         (scene conn.new worker.new (both (I.tells input.new) (O.tells output.new))) result }
     ensures few { HasAtMost TURNS (I.tells input.old).events (I.tells input.new).events }
     ensures role { conn.new.role ≡ conn.old.role }
-    ensures tally { HasCounted conn.old.past.requests conn.new.past.requests tally.old tally.new }
+    ensures tally { IsTallied
+        (scene conn.old worker.old (both (I.tells input.old) (O.tells output.old)))
+        (scene conn.new worker.new (both (I.tells input.new) (O.tells output.new)))
+        tally.old tally.new }
 {
     // The law from which the clauses on all turns follow.
     mc_conn::laws::turns_add_up();
+    let last = conn.answered().saturating_add(REQUESTS_OF_A_READ);
     for _ in 0..TURNS {
         match turn_once(until_done, conn, worker, input, output, gate, buffer, tally) {
-            Ok(State::Busy) => {}
+            Ok(State::Busy) => {
+                if conn.answered() >= last {
+                    return State::Busy;
+                }
+            }
             Ok(state) => return state,
             Err(_) => return State::Closed,
         }
@@ -125,7 +139,7 @@ fn turns<I: Input, O: Output, G: Gate>(
 }
 
 impl Connection {
-    /// Makes turns over the connection's stream. The tally counts the requests that get a reply.
+    /// Makes turns over the connection's stream. The tally counts the requests.
     fn serve<G: Gate>(
         &mut self,
         until_done: bool,
@@ -138,9 +152,10 @@ impl Connection {
         requires { FitsLog self.old.conn.role worker.old }
         ensures later { IsServedLater until_done worker.old worker.new self.old self.new
             result.state }
+        ensures requests { result.requests ≡ answered_between self.old self.new }
         ensures bytes { result.bytes ≡ moved_between self.old self.new }
-        ensures tally { HasCounted self.old.conn.past.requests self.new.conn.past.requests tally.old
-            tally.new }
+        ensures tally { IsTallied (scene_of self.old worker.old) (scene_of self.new worker.new)
+            tally.old tally.new }
     {
         let (came, went) = (self.bytes_received, self.bytes_sent);
         let Connection {
@@ -154,7 +169,7 @@ impl Connection {
             is_served,
         } = self;
         *is_served = true;
-        let announced = worker.announced();
+        let answered = conn.answered();
         let tape = mem::replace(received, Tape::new());
         let mut input = SocketInput::resume(stream, *most_read, stops_short, tape, came);
         let tape = mem::replace(sent, Tape::new());
@@ -172,10 +187,14 @@ impl Connection {
         (*received, *bytes_received) = input.into_parts();
         (*sent, *bytes_sent) = output.into_parts();
         let given = bytes_received.saturating_sub(came);
-        let commands = worker.announced().saturating_sub(announced);
-        *most_read = read_bytes(given, commands);
+        let requests = conn.answered().saturating_sub(answered);
+        *most_read = read_bytes(given, requests);
         let bytes = given.saturating_add(bytes_sent.saturating_sub(went));
-        Served { state, bytes }
+        Served {
+            state,
+            requests,
+            bytes,
+        }
     }
 }
 
@@ -246,11 +265,14 @@ impl Connections {
         requires { self.old.tenants ≡ length (tenants_of worker.old) }
         ensures serves { ServesAt until_done key result.state (standing worker.old self.old)
             (standing worker.new self.new) }
-        ensures bytes { MovesAt result.bytes key result.state self.old self.new }
+        ensures spends { SpendsAt result.requests result.bytes key result.state self.old self.new }
+        ensures tally { TalliesAt key result.state (standing worker.old self.old)
+            (standing worker.new self.new) tally.old tally.new }
     {
         let Some(connection) = self.by_key.get_mut(key) else {
             return Served {
                 state: State::Idle,
+                requests: 0,
                 bytes: 0,
             };
         };

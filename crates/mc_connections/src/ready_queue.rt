@@ -2,6 +2,7 @@
 ghost use Rattle.std.specs.Prelude.{◌≡◌, ◌*◌, ◌≤◌, length, IfOk, OnOk};
 ghost use Rattle.mc_connections.specs.InQueue.{HasLetWait, HasServedNext};
 ghost use Rattle.mc_connections.specs.Serving.{tenant_at};
+ghost use Rattle.mc_connections.specs.Tallying.{CountsForTenant};
 ghost use Rattle.mc_connections.specs.Waiting.{ComesToWait};
 ghost use Rattle.mc_connections.specs.Working.{IsNewFor, KeepsPlaces, Works, standing};
 ghost use Rattle.mc_connections.specs.declared.places.TheConstants.{MOST_CONNECTIONS};
@@ -76,6 +77,7 @@ impl ReadyQueue {
             self.old.waiting self.new.waiting) }
         ensures spent { self.new.waiting.spent ≡ self.old.waiting.spent }
         ensures same { self.new.connections ≡ self.old.connections }
+        ensures tallies { self.new.tallies ≡ self.old.tallies }
     {
         let tenant = self.connections.tenant_of(next.key);
         self.waiting.push(tenant, next)
@@ -98,9 +100,11 @@ impl ReadyQueue {
         ensures waits { OnOk result (HasLetWait until_done next.key
             (standing worker.old self.old.connections) (standing worker.new self.new.connections)
             self.old.waiting self.new.waiting) }
+        ensures tallies { CountsForTenant next.key (standing worker.old self.old.connections)
+            (standing worker.new self.new.connections) self.old.tallies.all.items
+            self.new.tallies.all.items }
     {
         let Next { key, stops_short } = next;
-        let announced = worker.announced();
         let closing = &mut self.closing;
         let place = self.tallies.place_of(self.connections.tenant_of(key));
         let one = &mut self.tallies.all[place];
@@ -115,8 +119,7 @@ impl ReadyQueue {
             closing,
             &mut one.tally,
         );
-        let commands = worker.announced().saturating_sub(announced);
-        self.waiting.charge(commands, served.bytes);
+        self.waiting.charge(served.requests, served.bytes);
         match served.state {
             State::Busy | State::Full => self.let_wait(Next {
                 key,
@@ -155,7 +158,7 @@ impl ReadyQueue {
     }
 
     /// Makes a round: lets the connections wait for which there is an event, and serves connections,
-    /// each tenant's in its turn, until a quantum is spent or nobody waits. If `until_done` is set,
+    /// each tenant's in its turn, until a turn ends once half a quantum is spent, or nobody waits. If `until_done` is set,
     /// commands are left to the next log once this one is closing, and whose they are wait on.
     /// Returns whether the worker was woken.
     ///

@@ -1,6 +1,6 @@
 //! How a worker has answered the requests of each tenant.
-ghost use Rattle.mc_connections.specs.Tallying.{IsTallyAt, tally_place};
-ghost use Rattle.std.specs.Prelude.{◌≡◌, ◌-◌, ◌<◌, ◌+◌, ◌^◌, IfOk, IfSome, length, min};
+ghost use Rattle.mc_connections.specs.Tallying.{HasNoNewTally, IsTallyAt, tally_place};
+ghost use Rattle.std.specs.Prelude.{◌≡◌, ◌-◌, ◌<◌, ◌+◌, ◌^◌, IfOk, MatchOption, length, map, min};
 
 use mc_counters::Tally;
 use std::alloc::{AllocError, Global};
@@ -51,7 +51,11 @@ impl Tallies {
     /// Returns the tally of a tenant, if a connection of that tenant was served since this was last
     /// asked for.
     pub fn take_new(&mut self, tenant: usize) -> Option<Tally>
-        ensures { IfSome result (λ tally. IsTallyAt tenant self.old.all.items tally) }
+        ensures taken { MatchOption result (HasNoNewTally tenant self.old.all.items)
+            (λ tally. IsTallyAt tenant self.old.all.items tally) }
+        ensures old { HasNoNewTally tenant self.new.all.items }
+        ensures kept { map (λ one. one.tally) self.new.all.items
+            ≡ map (λ one. one.tally) self.old.all.items }
     {
         let one = self.all.get_mut(tenant)?;
         if !one.is_new {

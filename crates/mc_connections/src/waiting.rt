@@ -9,14 +9,17 @@ use std::alloc::{AllocError, Global};
 use std::mem;
 
 /// What a tenant's connections may spend in their turn, in bytes that their streams give and take;
-/// serving one of them, and each of its commands, counts as some.
+/// serving one of them, and each of its requests, counts as some.
 const QUANTUM: u64 = 65_536;
+
+/// How much is spent in a round at least before it ends with a turn, while anybody waits.
+const ROUND: u64 = 32_768;
 
 /// As how many bytes it counts to serve a connection: what the system's calls cost.
 const BYTES_OF_A_SERVE: u64 = 4_096;
 
-/// As how many bytes a command counts.
-const BYTES_OF_A_COMMAND: u64 = 1_024;
+/// As how many bytes a request counts that gets a reply, quiet or not.
+const BYTES_OF_A_REQUEST: u64 = 1_024;
 
 /// A connection that is to be served.
 #[derive(Clone, Copy)]
@@ -83,7 +86,7 @@ impl Waiting {
         self.queue.push(tenant.unwrap_or(last).min(last), next.key)
     }
 
-    /// Begins a round, in which a quantum may be spent in total.
+    /// Begins a round, of which nothing is spent yet.
     pub(crate) fn begin_round(&mut self) {
         self.spent_in_round = 0;
     }
@@ -100,13 +103,13 @@ impl Waiting {
         }
     }
 
-    /// Takes out the connection that is to be served next, or `None` if nobody waits or the round's
-    /// quantum is spent.
+    /// Takes out the connection that is to be served next, or `None` if nobody waits or the round ends:
+    /// `ROUND` is spent in it, and the turn of the one that was served last ends.
     pub(crate) fn pop(&mut self) -> Option<Next>
         ensures { MatchOption result (EndsRound self.old self.new)
             (λ next. TakesTurn next.key self.old self.new) }
     {
-        if self.spent_in_round >= QUANTUM {
+        if self.spent_in_round >= ROUND && self.queue.turn_ends(self.spent) {
             return None;
         }
         let spent = mem::replace(&mut self.spent, 0);
@@ -119,15 +122,15 @@ impl Waiting {
         }
     }
 
-    /// Notes what the connection that was taken out last has cost: this many commands, and bytes that
-    /// its stream gave and took.
-    pub(crate) fn charge(&mut self, commands: u64, bytes: u64)
+    /// Notes what the connection that was taken out last has cost: this many requests that got a reply,
+    /// and bytes that its stream gave and took.
+    pub(crate) fn charge(&mut self, requests: u64, bytes: u64)
         ensures queue { self.new.queue ≡ self.old.queue }
         ensures waits { self.new.waits.items ≡ self.old.waits.items }
-        ensures spent { self.new.spent ≡ cost_of commands bytes }
+        ensures spent { self.new.spent ≡ cost_of requests bytes }
     {
         self.spent = BYTES_OF_A_SERVE
-            .saturating_add(commands.saturating_mul(BYTES_OF_A_COMMAND))
+            .saturating_add(requests.saturating_mul(BYTES_OF_A_REQUEST))
             .saturating_add(bytes);
         self.spent_in_round = self.spent_in_round.saturating_add(self.spent);
     }

@@ -26,6 +26,15 @@ adds_more place ones others inside long =
     let next : suc place ≡ place + 1 = omega arith in
     adds_next place ones others inside long ∙ ap (λ more. counts_of_both (take more ones) (take more others) ++ drop more ones) next
 
+-- there are as many counts of both as of each
+length-counts_of_both : (ones others : List ℕ) → length ones ≡ length others → length (counts_of_both ones others) ≡ length ones
+length-counts_of_both [] others long = refl
+length-counts_of_both (one ∷ ones) [] long = absurd (omega (arith, long))
+length-counts_of_both (one ∷ ones) (other ∷ others) long = ap suc (length-counts_of_both ones others (omega (arith, long)))
+
+long-counts_of_both : (ones others : List ℕ) (count : ℕ) → length ones ≡ count → length others ≡ count → length (counts_of_both ones others) ≡ count
+long-counts_of_both ones others count one other = length-counts_of_both ones others (one ∙ sym other) ∙ one
+
 -- the counts of both at a place
 index-counts_of_both : (ones others : List ℕ) (place : ℕ) → length ones ≡ length others → place < length ones
     → slice_index (counts_of_both ones others) place ≡ capped (slice_index ones place + slice_index others place)
@@ -61,12 +70,15 @@ capped-both f first second m n one two =
     ∙ min-both (2 ^ 64 - 1) (sum_by f first) (sum_by f second) ∙ ap (λ (number : ℕ). capped number) (sym (sum_by-append f first second))
 
 -- two tallies together count both lists
-pub both_counted : (one other : Tally) → length one.commands ≡ COMMANDS → length other.commands ≡ COMMANDS → length one.refusals ≡ REFUSALS → length other.refusals ≡ REFUSALS
-    → (first second : List CountedRequest) → IsTallyOf first one → IsTallyOf second other → IsTallyOf (first ++ second) (tally_of_both one other)
-both_counted one other commands others refusals more first second is also = record {
-  commands = λ place below. index-counts_of_both one.commands other.commands place (omega (arith, commands, others)) (omega (arith, below, commands))
+pub both_counted : (one other : Tally) (first second : List CountedRequest) → IsTallyOf first one → IsTallyOf second other → IsTallyOf (first ++ second) (tally_of_both one other)
+both_counted one other first second is also = record {
+  places = (
+    long-counts_of_both one.commands other.commands COMMANDS is.places.0 also.places.0,
+    long-counts_of_both one.refusals other.refusals REFUSALS is.places.1 also.places.1,
+  );
+  commands = λ place below. index-counts_of_both one.commands other.commands place (omega (arith, is.places.0, also.places.0)) (omega (arith, below, is.places.0))
       ∙ capped-both (λ one. cond (is_of_kind place one.asked) 1 0) first second _ _ (is.commands place below) (also.commands place below);
-  refusals = λ place below. index-counts_of_both one.refusals other.refusals place (omega (arith, refusals, more)) (omega (arith, below, refusals))
+  refusals = λ place below. index-counts_of_both one.refusals other.refusals place (omega (arith, is.places.1, also.places.1)) (omega (arith, below, is.places.1))
       ∙ capped-both (λ one. cond (is_refused place one.reply) 1 0) first second _ _ (is.refusals place below) (also.refusals place below);
   hits = capped-both (λ one. items_found one.reply) first second _ _ is.hits also.hits;
   misses = capped-both (λ one. keys_missed one.asked one.reply) first second _ _ is.misses also.misses;

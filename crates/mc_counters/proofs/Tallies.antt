@@ -78,8 +78,8 @@ index-counts_with_reply Version counts place n long below is = unrefused counts 
 
 -- the tally after one more request
 pub tally-more : (past : List CountedRequest) (asked : Option Asked) (reply : Reply) (old middle late : Tally) (hits misses : ℕ)
-    → middle ≡ record old { commands = counts_with_command asked old.commands } → length old.commands ≡ COMMANDS
-    → late ≡ record middle { refusals = counts_with_reply reply middle.refusals } → length middle.refusals ≡ REFUSALS
+    → middle ≡ record old { commands = counts_with_command asked old.commands } → (length old.commands ≡ COMMANDS) × (length middle.commands ≡ COMMANDS)
+    → late ≡ record middle { refusals = counts_with_reply reply middle.refusals } → (length middle.refusals ≡ REFUSALS) × (length late.refusals ≡ REFUSALS)
     → hits ≡ min (late.hits + items_found reply) (2 ^ 64 - 1) → misses ≡ min (late.misses + keys_missed asked reply) (2 ^ 64 - 1)
     → IsTallyOf past old
     → IsTallyOf (record { asked = asked; reply = reply } ∷ past) (record { commands = late.commands; hits = hits; misses = misses; refusals = late.refusals })
@@ -93,12 +93,13 @@ tally-more past asked reply old middle late hits misses middle_is commands_long 
     let refusals_were : middle.refusals ≡ old.refusals = ap (λ (tally : Tally). tally.refusals) middle_is in
     let refusals_are : late.refusals ≡ counts_with_reply reply old.refusals =
     ap (λ (tally : Tally). tally.refusals) late_is ∙ ap (λ (counts : List ℕ). counts_with_reply reply counts) refusals_were in
-    let long : length old.refusals ≡ REFUSALS = sym (ap (λ (counts : List ℕ). length counts) refusals_were) ∙ refusals_long in
+    let long : length old.refusals ≡ REFUSALS = sym (ap (λ (counts : List ℕ). length counts) refusals_were) ∙ refusals_long.0 in
     let hits_were : late.hits ≡ old.hits = ap (λ (tally : Tally). tally.hits) late_is ∙ ap (λ (tally : Tally). tally.hits) middle_is in
     let misses_were : late.misses ≡ old.misses = ap (λ (tally : Tally). tally.misses) late_is ∙ ap (λ (tally : Tally). tally.misses) middle_is in
     record {
+      places = (ap (λ (tally : Tally). length tally.commands) late_is ∙ commands_long.1, refusals_long.1);
       commands = λ place below. ap (λ (counts : List ℕ). slice_index counts place) commands_are
-          ∙ index-counts_with_command asked old.commands place (count_by (λ one. is_of_kind place one.asked) past) commands_long kinds_have_places (is.commands place below)
+          ∙ index-counts_with_command asked old.commands place (count_by (λ one. is_of_kind place one.asked) past) commands_long.0 kinds_have_places (is.commands place below)
           ∙ more (λ one. cond (is_of_kind place one.asked) 1 0);
       refusals = λ place below. ap (λ (counts : List ℕ). slice_index counts place) refusals_are
           ∙ index-counts_with_reply reply old.refusals place (count_by (λ one. is_refused place one.reply) past) long refusals_have_places (is.refusals place below)

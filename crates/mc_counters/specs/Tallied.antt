@@ -45,6 +45,7 @@ capped number = min number (2 ^ 64 - 1)
 
 -- the tally counts these requests, and no others
 pub record IsTallyOf (answered : List CountedRequest) (tally : Tally) : Type 0 where
+  pub places : (length tally.commands ≡ COMMANDS) × (length tally.refusals ≡ REFUSALS)
   pub commands : (place : ℕ) → place < COMMANDS → slice_index tally.commands place
       ≡ capped (count_by (λ one. is_of_kind place one.asked) answered)
   pub refusals : (place : ℕ) → place < REFUSALS → slice_index tally.refusals place

@@ -14,9 +14,6 @@ pub const TENANT_COMMANDS: usize = 12;
 /// How many kinds of refusals there are.
 pub const REFUSALS: usize = 11;
 
-/// How many of them requests get.
-pub const REQUEST_REFUSALS: usize = 10;
-
 /// The kind of a command: the name of its line.
 #[derive(Clone, Copy, Debug, PartialEq, Eq)]
 pub enum CommandKind {
@@ -52,9 +49,9 @@ pub const COMMAND_KINDS: [CommandKind; TENANT_COMMANDS] = [
     CommandKind::Flush,
 ];
 
-/// The kinds of refusals that requests get, each at its place. `OUT_OF_MEMORY` isn't one: it is
-/// sent in place of a reply, and the request isn't counted then.
-pub const REFUSAL_KINDS: [WireNo; REQUEST_REFUSALS] = [
+/// The kinds of refusals, each at its place. `OUT_OF_MEMORY` is what a client gets in place of a reply
+/// where memory ran out, before its connection ends.
+pub const REFUSAL_KINDS: [WireNo; REFUSALS] = [
     WireNo::E1,
     WireNo::E2,
     WireNo::E3,
@@ -65,6 +62,7 @@ pub const REFUSAL_KINDS: [WireNo; REQUEST_REFUSALS] = [
     WireNo::E8,
     WireNo::E9,
     WireNo::E10,
+    WireNo::E11,
 ];
 
 impl CommandKind {

@@ -69,23 +69,27 @@ fn missed_in(asked: &Option<Asked>, reply: &Reply<'_>) -> u64
 }
 
 impl Tally {
+    /// The tally of no request.
+    pub const NONE: Tally = Tally {
+        commands: [0; COMMANDS],
+        hits: 0,
+        misses: 0,
+        refusals: [0; REFUSALS],
+    };
+
     /// Returns the tally of no request.
     pub fn new() -> Tally
         ensures { IsTallyOf [] result }
     {
-        Tally {
-            commands: [0; COMMANDS],
-            hits: 0,
-            misses: 0,
-            refusals: [0; REFUSALS],
-        }
+        Tally::NONE
     }
 
     /// Counts the kind of a command, if there is one.
     fn count_command(&mut self, asked: &Option<Asked>)
         ensures counts { self.new ≡ record self.old
             { commands = counts_with_command asked.now self.old.commands } }
-        ensures long { length self.old.commands ≡ COMMANDS }
+        ensures long { (length self.old.commands ≡ COMMANDS)
+            × (length self.new.commands ≡ COMMANDS) }
     {
         if let Some(asked) = asked {
             count_at(&mut self.commands, asked.kind.place());
@@ -96,7 +100,8 @@ impl Tally {
     fn count_refusal(&mut self, reply: &Reply<'_>)
         ensures counts { self.new ≡ record self.old
             { refusals = counts_with_reply reply.now self.old.refusals } }
-        ensures long { length self.old.refusals ≡ REFUSALS }
+        ensures long { (length self.old.refusals ≡ REFUSALS)
+            × (length self.new.refusals ≡ REFUSALS) }
     {
         if let Reply::Refused(refusal) = reply {
             count_at(&mut self.refusals, refusal_place(*refusal));

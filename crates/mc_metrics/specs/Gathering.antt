@@ -5,9 +5,10 @@ use Rattle.mc_counters.specs.Tallied.{tally_of_both}
 use Rattle.mc_counters.specs.declared.board.TenantShown.{TenantShown}
 use Rattle.mc_counters.specs.declared.board.WorkerShown.{WorkerShown}
 use Rattle.mc_counters.specs.declared.tally.Tally.{Tally}
+use Rattle.mc_counters.specs.declared.tally.TheConstants.Tally.{NONE}
 use Rattle.mc_metrics.specs.declared.gathering.ServerShown.{ServerShown}
 use Rattle.mc_metrics.specs.declared.gathering.Shown.{Shown}
-use Rattle.mc_metrics.specs.declared.gathering.TheConstants.{NOTHING, NO_TALLY}
+use Rattle.mc_metrics.specs.declared.gathering.TheConstants.{NOTHING}
 use Rattle.mc_metrics.specs.declared.snapshot.LogNumbers.{LogNumbers}
 use Rattle.mc_metrics.specs.declared.snapshot.Snapshot.{Snapshot}
 use Rattle.mc_metrics.specs.declared.snapshot.TenantNumbers.{TenantNumbers}
@@ -46,11 +47,11 @@ connections_shown number (first ∷ rest) =
 
 -- how a worker shows that it has answered the requests of the tenant of this number
 abbrev pub tally_at : ℕ → Shown → Tally
-tally_at number shown = unwrap_or (slice_get shown.tallies.items number) NO_TALLY
+tally_at number shown = unwrap_or (slice_get shown.tallies.items number) NONE
 
 -- how these workers together have answered the requests of the tenant
 abbrev pub tally_shown : ℕ → List Shown → Tally
-tally_shown number [] = NO_TALLY
+tally_shown number [] = NONE
 tally_shown number (first ∷ rest) =
     tally_of_both (tally_at number first) (tally_shown number rest)
 

@@ -36,14 +36,6 @@ pub(crate) const NOTHING: TenantShown = TenantShown {
     quotas: Limits { items: 0, bytes: 0 },
 };
 
-/// The tally of a tenant that a worker doesn't know.
-pub(crate) const NO_TALLY: Tally = Tally {
-    commands: [0; 13],
-    hits: 0,
-    misses: 0,
-    refusals: [0; 11],
-};
-
 /// What a worker shows that has done nothing yet.
 const NO_WORKER: WorkerShown = WorkerShown {
     generation: 0,
@@ -113,7 +105,7 @@ impl Shown {
     fn tally(&self, number: usize) -> Tally
         ensures { result ≡ tally_at number self.now }
     {
-        self.tallies.get(number).copied().unwrap_or(NO_TALLY)
+        self.tallies.get(number).copied().unwrap_or(Tally::NONE)
     }
 }
 
@@ -135,7 +127,7 @@ fn tally_of(number: usize, workers: &[Shown]) -> Tally
     ensures { result ≡ tally_shown number workers.now }
 {
     match workers {
-        [] => NO_TALLY,
+        [] => Tally::NONE,
         [first, rest @ ..] => {
             let mut tally = first.tally(number);
             tally.add(&tally_of(number, rest));

@@ -16,6 +16,7 @@ pub use snapshot::{LogNumbers, Snapshot, TenantNumbers, WorkerNumbers};
 pub mod answering;
 pub mod exposition;
 pub mod gathering;
+pub mod laws;
 pub mod metric;
 mod page;
 pub mod snapshot;

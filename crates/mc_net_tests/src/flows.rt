@@ -34,3 +34,20 @@ fn a_turn_ends_once_its_quantum_is_spent(rt: HostRuntime) {
     let given = are_given(rt.alloc(), &[10, 1, 1], &[(0, 1), (2, 3), (0, 2)]);
     assert!(rt; given == Ok(true));
 }
+
+/// Returns whether the turn of a flow with two keys ends where its quantum of ten is spent, or its last
+/// key was given.
+fn ends_where_it_is_to(alloc: Global) -> Result<bool, AllocError> {
+    let mut queue = FairQueue::new(alloc, 2, 10, 4)?;
+    queue.push(1, 1)?;
+    queue.push(1, 2)?;
+    queue.next(0);
+    let is_within = !queue.turn_ends(9) && queue.turn_ends(10);
+    queue.next(1);
+    Ok(is_within && queue.turn_ends(1))
+}
+
+#[test]
+fn a_turn_ends_where_it_is_said_to(rt: HostRuntime) {
+    assert!(rt; ends_where_it_is_to(rt.alloc()) == Ok(true));
+}

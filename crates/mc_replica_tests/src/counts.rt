@@ -1,7 +1,8 @@
-//! Of requests of every kind each number is counted once, and what is published is shown.
+//! Of requests of every kind each number is counted once, what is published is shown, and the resident
+//! memory is found.
 use mc_counters::{
     Asked, Board, COMMAND_KINDS, CommandKind, LogBoard, LogPublisher, LogShown, Publisher,
-    REFUSAL_KINDS, Tally, TenantShown, WorkerShown, new_board, new_log_board,
+    REFUSAL_KINDS, Tally, TenantShown, WorkerShown, new_board, new_log_board, resident_in,
 };
 use mc_model::{Command, Key, Limits, Reply, TenantId};
 use std::alloc::{AllocError, Global};
@@ -177,4 +178,12 @@ fn shows_what_is_published(rt: HostRuntime) {
         return;
     };
     assert!(rt; is_published(rt.alloc(), &tenants) == Ok(true));
+}
+
+#[test]
+fn finds_how_much_memory_is_resident(rt: HostRuntime) {
+    let lines = b"Name:\twfmc\nVmHWM:\t  999 kB\nVmRSS:\t   1234 kB\nThreads:\t3\n";
+    assert!(rt; resident_in(lines) == Some(1_263_616));
+    assert!(rt; resident_in(b"Name:\twfmc\nVmRSS:\t kB\n").is_none());
+    assert!(rt; resident_in(b"").is_none());
 }

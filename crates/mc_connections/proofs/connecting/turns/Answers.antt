@@ -1,10 +1,10 @@
 use Rattle.std.proofs.Common.{◌≡◌, ap, arith, inl, inr, refl, subst, sym, true, ⊎_elim, ◌∙◌}
 use Rattle.mc_conn.specs.declared.conn.State.TheVariants.{Busy, Closed}
 use Rattle.mc_stream.specs.Stream.{both}
-use Rattle.mc_connections.proofs.Servings.{met_fault, once_few, served_later, served_turn, stands_later, stands_turn, state_answered, still_going}
-use Rattle.mc_connections.specs.Serving.{Stands, TakesOrStops}
-use Rattle.mc_conn.specs.Turn.{scene}
-use Rattle.mc_connections.proofs.Tallied.{tallies_self, tallies_trans}
+use Rattle.mc_connections.proofs.Servings.{met_fault, once_few, served_later, stands_later, stands_turn, state_answered, taken_turn}
+use Rattle.mc_connections.specs.Serving.{Stands}
+use Rattle.mc_conn.specs.Turn.{Takes, scene}
+use Rattle.mc_connections.proofs.Tallied.{tallied, tallied_to, tallies_self, tallies_trans}
 use Rattle.mc_connections.proofs.connecting.turns.Goals as goal
 
 pub loop-init : goal.loop-init
@@ -18,20 +18,39 @@ returns-in-Ok g c =
     let same : c.loop.conn.is_closed ≡ true → (c.in-Ok.state ≡ Closed) × (after.conn ≡ before.conn) × (after.worker ≡ before.worker) × (after.streams ≡ before.streams) = λ is.
     let all = c.turn_once.ensures.closed is in
     (sym (ap state_answered c.in-Ok.is) ∙ ap state_answered all.0, all.1, all.2, λ i. both (g.I.Input.tells (all.3 i)) (g.O.Output.tells (all.4 i))) in
-    let served : TakesOrStops before after = served_turn c.args.until_done c.turns_add_up.ensures.none _ _ _ _ c.in-Ok.state c.in-Ok.ensures.full c.turn_once.ensures.pulls c.in-Ok.ensures.outcome same in
+    let takes : Takes before after = taken_turn c.args.until_done c.turns_add_up.ensures.none _ _ _ _ c.in-Ok.state c.in-Ok.ensures.full c.turn_once.ensures.pulls c.in-Ok.ensures.outcome same in
     let stands : Stands c.args.until_done before after c.in-Ok.state = stands_turn c.args.until_done c.turns_add_up.ensures.none _ _ _ _ c.in-Ok.state c.in-Ok.ensures.full c.turn_once.ensures.pulls c.in-Ok.ensures.outcome same in
     record {
-      served = served_later c.turns_add_up.ensures.through c.turns_add_up.ensures.stops _ _ _ c.loop.invariant.going served;
-      stands = stands_later c.args.until_done c.turns_add_up.ensures.through _ _ _ c.in-Ok.state c.loop.invariant.going served stands;
+      served = inl (c.turns_add_up.ensures.through _ _ _ c.loop.invariant.going takes);
+      stands = stands_later c.args.until_done c.turns_add_up.ensures.through _ _ _ c.in-Ok.state c.loop.invariant.going (inl takes) stands;
       few = omega (arith, c.loop.invariant.few, c.loop-test.true, once_few _ _ c.turn_once.ensures.pulls);
       role = c.turn_once.ensures.role ∙ c.loop.invariant.role;
-      tally = tallies_trans _ _ _ _ _ _ c.loop.invariant.tally c.turn_once.ensures.tally;
+      tally = tallied _ _ _ _ _ _ c.loop.invariant.going c.loop.invariant.tally c.turns_add_up.ensures.through takes c.in-Ok.ensures.tally;
     }
 
 pub returns-in-Err-clause-served : goal.returns-in-Err-clause-served
 returns-in-Err-clause-served g c =
     served_later c.turns_add_up.ensures.through c.turns_add_up.ensures.stops _ _ _ c.loop.invariant.going
     (inr (c.in-Err.field-0, c.in-Err.ensures.outcome (met_fault _ c.turn_once.result c.in-Err.field-0 c.in-Err.is (λ is. (c.turn_once.ensures.closed is).0))))
+
+-- as many requests were answered as there may be, and the turn ended as busy
+pub returns-then-answered-last : goal.returns-then-answered-last
+returns-then-answered-last g c =
+    let before = scene c.loop.conn c.loop.worker (both (g.I.Input.tells c.loop.input) (g.O.Output.tells c.loop.output)) in
+    let after = scene c.turn_once.new.conn c.turn_once.new.worker (both (g.I.Input.tells c.turn_once.new.input) (g.O.Output.tells c.turn_once.new.output)) in
+    let state = c.in-Ok-Busy.field-0 in
+    let same : c.loop.conn.is_closed ≡ true → (state ≡ Closed) × (after.conn ≡ before.conn) × (after.worker ≡ before.worker) × (after.streams ≡ before.streams) = λ is.
+    let all = c.turn_once.ensures.closed is in
+    (sym (ap state_answered c.in-Ok-Busy.is) ∙ ap state_answered all.0, all.1, all.2, λ i. both (g.I.Input.tells (all.3 i)) (g.O.Output.tells (all.4 i))) in
+    let takes : Takes before after = taken_turn c.args.until_done c.turns_add_up.ensures.none _ _ _ _ state c.in-Ok-Busy.ensures.full c.turn_once.ensures.pulls c.in-Ok-Busy.ensures.outcome same in
+    let stands : Stands c.args.until_done before after state = stands_turn c.args.until_done c.turns_add_up.ensures.none _ _ _ _ state c.in-Ok-Busy.ensures.full c.turn_once.ensures.pulls c.in-Ok-Busy.ensures.outcome same in
+    record {
+      served = inl (c.turns_add_up.ensures.through _ _ _ c.loop.invariant.going takes);
+      stands = stands_later c.args.until_done c.turns_add_up.ensures.through _ _ _ Busy c.loop.invariant.going (inl takes) (subst (Stands c.args.until_done before after) c.in-Ok-Busy.field-0-is stands);
+      few = omega (arith, c.loop.invariant.few, c.loop-test.true, once_few _ _ c.turn_once.ensures.pulls);
+      role = c.turn_once.ensures.role ∙ c.loop.invariant.role;
+      tally = tallied _ _ _ _ _ _ c.loop.invariant.going c.loop.invariant.tally c.turns_add_up.ensures.through takes c.in-Ok-Busy.ensures.tally;
+    }
 
 -- the turn of this round ended as busy, so that it met no fault
 pub loop-preserved : goal.loop-preserved
@@ -42,18 +61,23 @@ loop-preserved g c =
     let same : c.loop.conn.is_closed ≡ true → (state ≡ Closed) × (after.conn ≡ before.conn) × (after.worker ≡ before.worker) × (after.streams ≡ before.streams) = λ is.
     let all = c.turn_once.ensures.closed is in
     (sym (ap state_answered c.in-Ok-Busy.is) ∙ ap state_answered all.0, all.1, all.2, λ i. both (g.I.Input.tells (all.3 i)) (g.O.Output.tells (all.4 i))) in
-    let served : TakesOrStops before after = served_turn c.args.until_done c.turns_add_up.ensures.none _ _ _ _ state c.in-Ok-Busy.ensures.full c.turn_once.ensures.pulls c.in-Ok-Busy.ensures.outcome same in
+    let takes : Takes before after = taken_turn c.args.until_done c.turns_add_up.ensures.none _ _ _ _ state c.in-Ok-Busy.ensures.full c.turn_once.ensures.pulls c.in-Ok-Busy.ensures.outcome same in
     let stands : Stands c.args.until_done before after state = stands_turn c.args.until_done c.turns_add_up.ensures.none _ _ _ _ state c.in-Ok-Busy.ensures.full c.turn_once.ensures.pulls c.in-Ok-Busy.ensures.outcome same in
     record {
-      going = c.turns_add_up.ensures.through _ _ _ c.loop.invariant.going (still_going c.args.until_done _ _ state c.in-Ok-Busy.field-0-is stands served);
-      stands = inr (stands_later c.args.until_done c.turns_add_up.ensures.through _ _ _ Busy c.loop.invariant.going served (subst (Stands c.args.until_done before after) c.in-Ok-Busy.field-0-is stands));
+      going = c.turns_add_up.ensures.through _ _ _ c.loop.invariant.going takes;
+      stands = inr (stands_later c.args.until_done c.turns_add_up.ensures.through _ _ _ Busy c.loop.invariant.going (inl takes) (subst (Stands c.args.until_done before after) c.in-Ok-Busy.field-0-is stands));
       few = omega (arith, c.loop.invariant.few, once_few _ _ c.turn_once.ensures.pulls);
       role = c.turn_once.ensures.role ∙ c.loop.invariant.role;
-      tally = tallies_trans _ _ _ _ _ _ c.loop.invariant.tally c.turn_once.ensures.tally;
+      tally = tallies_trans _ _ _ _ _ _ c.loop.invariant.tally c.in-Ok-Busy.ensures.tally;
     }
 
 pub returns-in-Err-clause-tally : goal.returns-in-Err-clause-tally
-returns-in-Err-clause-tally g c = tallies_trans _ _ _ _ _ _ c.loop.invariant.tally c.turn_once.ensures.tally
+returns-in-Err-clause-tally g c =
+    tallied_to _ _ _ _ _ _ c.loop.invariant.going c.loop.invariant.tally c.turns_add_up.ensures.stops c.in-Err.field-0
+    (c.in-Err.ensures.outcome (met_fault _ c.turn_once.result c.in-Err.field-0 c.in-Err.is (λ is. (c.turn_once.ensures.closed is).0))) c.in-Err.ensures.tally
+
+pub returns-clause-tally : goal.returns-clause-tally
+returns-clause-tally g c = inl (c.loop.invariant.going, c.loop.invariant.tally)
 
 pub returns-clause-stands : goal.returns-clause-stands
 returns-clause-stands g c =

@@ -17,5 +17,5 @@ invariant-loop g l = record {
       (scene l.conn l.worker (both (g.I.Input.tells l.input) (g.O.Output.tells l.output))) Busy;
   few : length (g.I.Input.tells l.input).events ≤ l.counter + length (g.I.Input.tells l.fn.input).events;
   role : l.conn.role ≡ l.fn.conn.role;
-  tally : HasCounted l.fn.conn.past.requests l.conn.past.requests l.fn.tally l.tally;
+  tally : HasCounted l.fn.conn.past l.conn.past l.fn.tally l.tally;
 }

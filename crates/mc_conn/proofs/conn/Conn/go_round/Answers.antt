@@ -1,11 +1,10 @@
-use Rattle.std.proofs.Common.{[], refl, sym, inl, append-nil, arith, ap}
+use Rattle.std.proofs.Common.{[], refl, sym, inl, append-nil, arith}
 use Rattle.std.proofs.lemmas.Result.{err_from_is_err_and}
 use Rattle.mc_stream.specs.Stream.{both}
 use Rattle.mc_conn.specs.Turn.{scene}
 use Rattle.mc_conn.proofs.Breakings.{breaks_later}
 use Rattle.mc_conn.proofs.Endings.{goes_round, pulls_within}
 use Rattle.mc_conn.proofs.Takings.{does_trans}
-use Rattle.mc_counters.specs.declared.past_requests.PastRequests.{PastRequests}
 use Rattle.mc_conn.proofs.Countings.{tallies_same, tallies_trans, tallies_within}
 use Rattle.mc_conn.proofs.conn.Conn.go_round.Goals as goal
 
@@ -62,21 +61,21 @@ returns-clause-pulls g c =
     (does_trans _ _ _ _ _ _ (c.in_ok-first.ensures.outcome c.args.until_done _ _) (c.in_ok-taken.ensures.outcome _)).takes refl c.pull_and_take.ensures.pulls refl last.sent last.pushed last.waited
 
 pub returns-in_err-first-clause-tally : goal.returns-in_err-first-clause-tally
-returns-in_err-first-clause-tally g c = tallies_same _ _ _ (ap (λ (past : PastRequests). past.requests) c.in_err-first.ensures.same.past)
+returns-in_err-first-clause-tally g c = tallies_same _ _ _ c.in_err-first.ensures.same.past
 
 pub returns-in_err-taken-clause-tally : goal.returns-in_err-taken-clause-tally
-returns-in_err-taken-clause-tally g c = tallies_within _ _ _ _ _ _ (ap (λ (past : PastRequests). past.requests) c.in_ok-first.ensures.same.past) c.in_err-taken.ensures.tally refl
+returns-in_err-taken-clause-tally g c = tallies_within _ _ _ _ _ _ c.in_ok-first.ensures.same.past c.in_err-taken.ensures.tally refl
 
 pub returns-in_err-pulled-clause-tally : goal.returns-in_err-pulled-clause-tally
 returns-in_err-pulled-clause-tally g c =
-    tallies_within _ _ _ _ _ _ (ap (λ (past : PastRequests). past.requests) c.in_ok-first.ensures.same.past) (tallies_trans _ _ _ _ _ _ c.in_ok-taken.ensures.tally c.in_err-pulled.ensures.tally) refl
+    tallies_within _ _ _ _ _ _ c.in_ok-first.ensures.same.past (tallies_trans _ _ _ _ _ _ c.in_ok-taken.ensures.tally c.in_err-pulled.ensures.tally) refl
 
 pub returns-in_err-last-clause-tally : goal.returns-in_err-last-clause-tally
 returns-in_err-last-clause-tally g c =
-    tallies_within _ _ _ _ _ _ (ap (λ (past : PastRequests). past.requests) c.in_ok-first.ensures.same.past) (tallies_trans _ _ _ _ _ _ c.in_ok-taken.ensures.tally c.in_ok-pulled.ensures.tally)
-    (ap (λ (past : PastRequests). past.requests) c.in_err-last.ensures.same.past)
+    tallies_within _ _ _ _ _ _ c.in_ok-first.ensures.same.past (tallies_trans _ _ _ _ _ _ c.in_ok-taken.ensures.tally c.in_ok-pulled.ensures.tally)
+    c.in_err-last.ensures.same.past
 
 pub returns-clause-tally : goal.returns-clause-tally
 returns-clause-tally g c =
-    tallies_within _ _ _ _ _ _ (ap (λ (past : PastRequests). past.requests) c.in_ok-first.ensures.same.past) (tallies_trans _ _ _ _ _ _ c.in_ok-taken.ensures.tally c.in_ok-pulled.ensures.tally)
-    (ap (λ (past : PastRequests). past.requests) c.in_ok-last.ensures.same.past)
+    tallies_within _ _ _ _ _ _ c.in_ok-first.ensures.same.past (tallies_trans _ _ _ _ _ _ c.in_ok-taken.ensures.tally c.in_ok-pulled.ensures.tally)
+    c.in_ok-last.ensures.same.past

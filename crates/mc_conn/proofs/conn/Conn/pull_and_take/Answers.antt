@@ -1,11 +1,10 @@
-use Rattle.std.proofs.Common.{refl, ap, ◌∙◌}
+use Rattle.std.proofs.Common.{refl, ◌∙◌}
 use Rattle.std.proofs.lemmas.Result.{err_from_is_err_and}
 use Rattle.mc_stream.specs.Stream.{both}
 use Rattle.mc_conn.specs.Turn.{queue_of, scene}
 use Rattle.mc_conn.proofs.Breakings.{breaks_later}
 use Rattle.mc_conn.proofs.Endings.{none_held, pulls_once, still_on, within_bound}
 use Rattle.mc_conn.proofs.Takings.{does_nothing, does_trans}
-use Rattle.mc_counters.specs.declared.past_requests.PastRequests.{PastRequests}
 use Rattle.mc_conn.proofs.Countings.{tallies_same, tallies_self, tallies_within}
 use Rattle.mc_conn.proofs.conn.Conn.pull_and_take.Goals as goal
 
@@ -69,17 +68,17 @@ pub returns-then-is_some-len-clause-tally : goal.returns-then-is_some-len-clause
 returns-then-is_some-len-clause-tally g c = tallies_self _ _
 
 pub returns-in_err-pushed-clause-tally : goal.returns-in_err-pushed-clause-tally
-returns-in_err-pushed-clause-tally g c = tallies_same _ _ _ (ap (λ (past : PastRequests). past.requests) c.in_err-pushed.ensures.same.past)
+returns-in_err-pushed-clause-tally g c = tallies_same _ _ _ c.in_err-pushed.ensures.same.past
 
 pub returns-then-self-is_empty-clause-tally : goal.returns-then-self-is_empty-clause-tally
-returns-then-self-is_empty-clause-tally g c = tallies_same _ _ _ (ap (λ (past : PastRequests). past.requests) c.in_ok-pushed.ensures.same.past)
+returns-then-self-is_empty-clause-tally g c = tallies_same _ _ _ c.in_ok-pushed.ensures.same.past
 
 pub returns-in_err-pulled-clause-tally : goal.returns-in_err-pulled-clause-tally
-returns-in_err-pulled-clause-tally g c = tallies_same _ _ _ (ap (λ (past : PastRequests). past.requests) (c.in_err-pulled.ensures.past ∙ c.in_ok-pushed.ensures.same.past))
+returns-in_err-pulled-clause-tally g c = tallies_same _ _ _ (c.in_err-pulled.ensures.past ∙ c.in_ok-pushed.ensures.same.past)
 
 pub returns-in_err-taken-clause-tally : goal.returns-in_err-taken-clause-tally
 returns-in_err-taken-clause-tally g c =
-    tallies_within _ _ _ _ _ _ (ap (λ (past : PastRequests). past.requests) (c.in_ok-pulled.ensures.past ∙ c.in_ok-pushed.ensures.same.past)) c.in_err-taken.ensures.tally refl
+    tallies_within _ _ _ _ _ _ (c.in_ok-pulled.ensures.past ∙ c.in_ok-pushed.ensures.same.past) c.in_err-taken.ensures.tally refl
 
 pub returns-clause-tally : goal.returns-clause-tally
-returns-clause-tally g c = tallies_within _ _ _ _ _ _ (ap (λ (past : PastRequests). past.requests) (c.in_ok-pulled.ensures.past ∙ c.in_ok-pushed.ensures.same.past)) c.in_ok-taken.ensures.tally refl
+returns-clause-tally g c = tallies_within _ _ _ _ _ _ (c.in_ok-pulled.ensures.past ∙ c.in_ok-pushed.ensures.same.past) c.in_ok-taken.ensures.tally refl

@@ -10,7 +10,7 @@ abbrev pub invariant-loop-did : goal.invariant-loop-did
 invariant-loop-did g l = record {
   does : (streams : Streams) → Does l.fn.until_done (scene l.fn.self l.fn.worker streams) (scene l.self l.worker streams) l.did;
   keeps : KeepsStreams l.fn.self l.self l.fn.worker l.worker;
-  tally : HasCounted l.fn.self.past.requests l.self.past.requests l.fn.tally l.tally;
+  tally : HasCounted l.fn.self.past l.self.past l.fn.tally l.tally;
 }
 
 abbrev pub decreases-loop-did : goal.decreases-loop-did

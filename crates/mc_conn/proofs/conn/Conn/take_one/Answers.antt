@@ -1,4 +1,4 @@
-use Rattle.std.proofs.Common.{◌≡◌, ◌∙◌, true, false, sym, ap, refl}
+use Rattle.std.proofs.Common.{◌≡◌, ◌∙◌, true, false, sym, refl}
 use Rattle.std.proofs.lemmas.Result.{err_from_is_err_and}
 use Rattle.mc_stream.specs.Stream.{Streams}
 use Rattle.mc_conn.specs.Held.{most_held}
@@ -8,7 +8,6 @@ use Rattle.mc_conn.proofs.Breakings.{breaks_later, breaks_looking}
 use Rattle.mc_conn.proofs.Outcomes.{if_ok_map, match_map}
 use Rattle.mc_conn.proofs.Readings.{fewer_after}
 use Rattle.mc_conn.proofs.Takings.{does_looked, does_trans}
-use Rattle.mc_counters.specs.declared.past_requests.PastRequests.{PastRequests}
 use Rattle.mc_conn.proofs.Countings.{tallies_same, tallies_within}
 use Rattle.mc_conn.proofs.conn.Conn.take_one.Goals as goal
 
@@ -38,13 +37,13 @@ returns-then-is_left-clause-outcome g c streams =
     does_looked c.args.until_done c.args.self.now c.look.new.self _ streams c.in_ok-look.ensures.read c.look.ensures.looks
 
 pub returns-in_err-look-clause-tally : goal.returns-in_err-look-clause-tally
-returns-in_err-look-clause-tally g c = tallies_same _ _ _ (ap (λ (past : PastRequests). past.requests) c.look.ensures.looks.past)
+returns-in_err-look-clause-tally g c = tallies_same _ _ _ c.look.ensures.looks.past
 
 pub returns-then-len-gt-QUEUE_BYTES-clause-tally : goal.returns-then-len-gt-QUEUE_BYTES-clause-tally
-returns-then-len-gt-QUEUE_BYTES-clause-tally g c = tallies_same _ _ _ (ap (λ (past : PastRequests). past.requests) c.look.ensures.looks.past)
+returns-then-len-gt-QUEUE_BYTES-clause-tally g c = tallies_same _ _ _ c.look.ensures.looks.past
 
 pub returns-then-is_left-clause-tally : goal.returns-then-is_left-clause-tally
-returns-then-is_left-clause-tally g c = tallies_same _ _ _ (ap (λ (past : PastRequests). past.requests) c.look.ensures.looks.past)
+returns-then-is_left-clause-tally g c = tallies_same _ _ _ c.look.ensures.looks.past
 
 pub returns-clause-tally : goal.returns-clause-tally
-returns-clause-tally g c = tallies_within _ _ _ _ _ _ (ap (λ (past : PastRequests). past.requests) c.look.ensures.looks.past) c.answer_waiting.ensures.tally refl
+returns-clause-tally g c = tallies_within _ _ _ _ _ _ c.look.ensures.looks.past c.answer_waiting.ensures.tally refl

@@ -1,7 +1,6 @@
 use Rattle.mc_conn.proofs.Endings.{pulls_told, stops}
-use Rattle.mc_conn.proofs.Countings.{tallies_self, tallies_within}
-use Rattle.std.proofs.Common.{ap, refl}
-use Rattle.mc_counters.specs.declared.past_requests.PastRequests.{PastRequests}
+use Rattle.mc_conn.proofs.Countings.{tallies_self, tallies_to, tallies_within}
+use Rattle.std.proofs.Common.{refl}
 use Rattle.mc_conn.proofs.conn.Conn.turn_or_close.Goals as goal
 
 pub returns-in-Err-clause-outcome : goal.returns-in-Err-clause-outcome
@@ -16,4 +15,4 @@ pub returns-then-self-clause-tally : goal.returns-then-self-clause-tally
 returns-then-self-clause-tally g c = tallies_self _ _
 
 pub returns-in-Err-clause-tally : goal.returns-in-Err-clause-tally
-returns-in-Err-clause-tally g c = tallies_within _ _ _ _ _ _ refl c.go_round.ensures.tally (ap (λ (past : PastRequests). past.requests) c.close.ensures.past)
+returns-in-Err-clause-tally g c = tallies_to _ _ _ _ _ c.in-Err.fault (tallies_within _ _ _ _ _ _ refl c.go_round.ensures.tally c.close.ensures.past) c.count_fault.ensures

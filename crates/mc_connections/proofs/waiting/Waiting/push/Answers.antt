@@ -1,7 +1,7 @@
-use Rattle.std.proofs.Common.{true, ◌<◌, ◌⊎◌, ◌≡◌, ◌≤◌, OnOk, Some, arith, inl, length, rules}
+use Rattle.std.proofs.Common.{true, ◌<◌, OnOk, Some, arith, inl, length, rules}
 use Rattle.fair_queue.specs.Turns.{IsPushed}
 use Rattle.lists.proofs.Public.{set_here}
-use Rattle.mc_connections.specs.Waiting.{WaitsInLine, flow_of}
+use Rattle.mc_connections.specs.Waiting.{flow_of}
 use Rattle.mc_connections.proofs.Turning.{on_ok}
 use Rattle.mc_connections.proofs.waiting.Waiting.push.Goals as goal
 

@@ -1,4 +1,4 @@
-use Rattle.std.proofs.Common.{◌∙◌, ◌++◌, ap, length, sym, subst}
+use Rattle.std.proofs.Common.{◌++◌, sym, subst}
 use Rattle.mc_counters.specs.Tallied.{IsTallyOf}
 use Rattle.mc_counters.specs.declared.tally.Tally.{Tally}
 use Rattle.mc_counters.proofs.Sums.{added, both_counted}
@@ -10,5 +10,4 @@ returns-clause-counts c = λ first second is also.
     let other = c.args.other.now in
     subst (λ (tally : Tally). IsTallyOf (first ++ second) tally)
     (sym (added old c.add_commands.new.self c.add_refusals.new.self other _ _ c.add_commands.ensures.counts c.add_refusals.ensures.counts c.saturating_add-self.ensures c.saturating_add-self-2.ensures))
-    (both_counted old other c.add_commands.ensures.long.0 c.add_commands.ensures.long.1
-    (ap (λ (tally : Tally). length tally.refusals) (sym c.add_commands.ensures.counts) ∙ c.add_refusals.ensures.long.0) c.add_refusals.ensures.long.1 first second is also)
+    (both_counted old other first second is also)
