@@ -2,14 +2,18 @@
 -- construction (Wait-Free Synchronization, TOPLAS 1991) knows no no-ops: that they belong to a tenant
 -- of their own is this project's profile.
 use Rattle.std.specs.List.{AllZip}
-use Rattle.std.specs.Prelude.{◌<◌, ℕ, List, [], ◌∷◌, ◌++◌, length}
+use Rattle.std.specs.Prelude.{◌≡◌, ◌<◌, ◌≤◌, ℕ, Bool, List, [], ◌∷◌, ◌++◌, Some, length, slice_get}
+use Rattle.mc_connections.specs.Working.{Standing, Works}
+use Rattle.mc_model.specs.declared.id.Ticket.{Ticket}
 use Rattle.mc_model.specs.declared.settings.Limits.{Limits}
+use Rattle.mc_model.specs.Legal.{ticket_of}
 use Rattle.mc_model.specs.Settings.{Configuration}
 use Rattle.mc_model.specs.State.{TableState, empty_table}
 use Rattle.mc_server.specs.Logs.{AreOpenedOver, Closes, WereServed}
 use Rattle.uc_log.specs.declared.log.Log.{Log}
 use Rattle.uc_worker.specs.AllWorkers.{AnswersOwn, DoOneCoreRun}
 use Rattle.uc_worker.specs.Going.{Continues}
+use Rattle.uc_worker.specs.Worker.{announced_of}
 use Rattle.uc_worker.specs.declared.worker.Worker.{Worker}
 
 -- these settings with one tenant more, of these quotas
@@ -46,3 +50,23 @@ ClosedLogsAnswerOwn = (settings : Configuration) (log : Log) (tables after : Lis
     (one : DoOneCoreRun (with_tenant limits settings) (length settings.tenants)
     (tables ++ empty_table limits ∷ []) closes.closed) →
     AnswersOwn (length settings.tenants) tables closes.closed one.core.given
+
+-- Of two commands that a worker announced the one that it announced first stands first in the log, if
+-- both stand there.
+abbrev pub KeepsOwnOrder : List Ticket → Type 0
+KeepsOwnOrder log = (number first second place later : ℕ) → first < second →
+    slice_get log place ≡ Some (ticket_of number first) →
+    slice_get log later ≡ Some (ticket_of number second) → place < later
+
+-- It is so in each run of the core that the workers of a log have done.
+abbrev pub RunsKeepOwnOrder : Type 0
+RunsKeepOwnOrder = (settings : Configuration) (nobody : ℕ) (tables : List TableState)
+    (workers : List Worker) (one : DoOneCoreRun settings nobody tables workers) →
+    KeepsOwnOrder one.log.decided
+
+-- What a worker announces while its connections are served has lower numbers than what it announces
+-- while the same or others are served later.
+abbrev pub AnnouncesInServedOrder : Type 0
+AnnouncesInServedOrder = (until : Bool) (early late : Standing) (first second : ℕ) →
+    Works until early late → first < length (announced_of early.worker) →
+    length (announced_of late.worker) ≤ second → first < second

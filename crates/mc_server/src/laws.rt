@@ -1,6 +1,6 @@
 //! What follows of the logs that tenants were served on. A law is the contract of a function with an
 //! empty body, or with calls of the laws from which it follows.
-ghost use Rattle.mc_server.specs.CoreRuns.{ClosedLogsAnswerOwn, ClosedLogsAreCoreRuns, LastLogsAreCoreRuns};
+ghost use Rattle.mc_server.specs.CoreRuns.{AnnouncesInServedOrder, ClosedLogsAnswerOwn, ClosedLogsAreCoreRuns, LastLogsAreCoreRuns, RunsKeepOwnOrder};
 
 /// What the workers of a log have done, of all logs of a run of `wfmc` that ends, is one run of the
 /// core, the machine of the headline: each log that another has followed, and the last one. A no-op
@@ -14,4 +14,15 @@ pub fn each_log_is_one_run_of_the_core()
     ensures replies { ClosedLogsAnswerOwn }
 {
     uc_worker::all_workers::all_workers_run_the_core();
+}
+
+/// A worker's commands stand in its log's run in the order in which it announced them, whichever
+/// connections they came by, and it announces them in the order in which it serves these. So what a
+/// client of two connections of one worker saw in order stands in that order.
+pub fn commands_of_a_worker_keep_their_order()
+    ensures run { RunsKeepOwnOrder }
+    ensures served { AnnouncesInServedOrder }
+{
+    uc_laws::over::laws_over_tables();
+    mc_connections::laws::work_adds_up();
 }
