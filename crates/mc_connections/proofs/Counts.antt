@@ -10,7 +10,7 @@ use Rattle.mc_conn.specs.Owed.{IsAmong}
 use Rattle.fair_places.specs.Places.{held_by}
 use Rattle.mc_conn.specs.declared.conn.Role.{Role}
 use Rattle.mc_conn.specs.declared.conn.Role.TheVariants.{Admin, Tenant}
-use Rattle.mc_connections.specs.Counting.{AreCounted, admins_among, has_admin, has_tenant, held_as, is_admin, is_of_tenant, tenants_among, with_held_as}
+use Rattle.mc_connections.specs.Counting.{AreCounted, has_admin, has_tenant, held_as, is_admin, is_of_tenant, with_held_as}
 use Rattle.mc_connections.specs.Holding.{WorkerPlaces}
 use Rattle.mc_connections.specs.declared.connection.Connection.{Connection}
 

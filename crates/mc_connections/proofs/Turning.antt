@@ -1,9 +1,9 @@
 -- Whose turn it is among the connections that wait.
-use Rattle.std.proofs.Common.{◌≡◌, ◌⊎◌, ◌∙◌, ◌≤◌, ℕ, Bool, Err, Ok, OnOk, Option, Result, Some, ap, inl, inr, length, subst, sym, ⊎_elim}
+use Rattle.std.proofs.Common.{◌≡◌, ◌⊎◌, ◌∙◌, ◌≤◌, ℕ, Err, Ok, OnOk, Option, Result, Some, inl, inr, length, subst, sym, ⊎_elim}
 use Rattle.std.specs.Prelude.{slice_get}
 use Rattle.fair_queue.specs.Turns.{Charges, GivesFirst, IsIdle, IsPushed, QueueState}
 use Rattle.mc_conn.specs.declared.conn.State.{State}
-use Rattle.mc_conn.specs.declared.conn.State.TheVariants.{Busy, Closed, Full, Idle}
+use Rattle.mc_conn.specs.declared.conn.State.TheVariants.{Busy, Full}
 use Rattle.mc_connections.specs.declared.waiting.Waiting.{Waiting}
 use Rattle.mc_connections.specs.InQueue.{WaitsOn}
 use Rattle.mc_connections.specs.Waiting.{ComesToWait, EndsRound, TakesTurn, WaitsInLine, flow_of}

@@ -33,10 +33,12 @@ pub record TakesTurn (key : ℕ) (old new : Waiting) : Type 0 where
   pub given : GivesFirst flow key between new.queue
   pub taken : ¬ (WaitsInLine new key)
 
--- what is spent at least in a round is spent, and the turn ends once the last one is charged; or nobody
--- waits
+-- what is spent in a round at least is spent, and the turn ends once the last one is charged
+abbrev pub IsRoundOver : Waiting → Type 0
+IsRoundOver waiting = (ROUND ≤ waiting.spent_in_round)
+    × ¬ (TurnGoesOn waiting.spent (flow_at waiting.queue waiting.queue.turn))
+
+-- the round is over, or nobody waits
 abbrev pub EndsRound : Waiting → Waiting → Type 0
-EndsRound old new =
-    (ROUND ≤ old.spent_in_round)
-    × ¬ (TurnGoesOn old.spent (flow_at old.queue old.queue.turn)) × (new ≡ old)
+EndsRound old new = IsRoundOver old × (new ≡ old)
     ⊎ Charges old.spent old.queue new.queue × IsIdle new.queue

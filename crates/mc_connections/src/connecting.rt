@@ -188,7 +188,10 @@ impl Connection {
         (*sent, *bytes_sent) = output.into_parts();
         let given = bytes_received.saturating_sub(came);
         let requests = conn.answered().saturating_sub(answered);
-        *most_read = read_bytes(given, requests);
+        // Where nothing came, the requests that come next are likely as long as the last ones.
+        if given > 0 {
+            *most_read = read_bytes(given, requests);
+        }
         let bytes = given.saturating_add(bytes_sent.saturating_sub(went));
         Served {
             state,

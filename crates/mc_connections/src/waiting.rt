@@ -1,7 +1,7 @@
 //! Which connections wait to be served, and whose turn it is.
 ghost use Rattle.std.specs.Prelude.{◌≡◌, ◌+◌, ◌-◌, ◌^◌, ◌↔◌, IfOk, IsTrue, MatchOption, OnOk, length, min};
 ghost use Rattle.fair_queue.specs.Turns.{IsIdle};
-ghost use Rattle.mc_connections.specs.Waiting.{ComesToWait, EndsRound, TakesTurn, WaitsInLine, cost_of};
+ghost use Rattle.mc_connections.specs.Waiting.{ComesToWait, EndsRound, IsRoundOver, TakesTurn, WaitsInLine, cost_of};
 
 use crate::connections::MOST_OF_ALL;
 use fair_queue::FairQueue;
@@ -87,7 +87,9 @@ impl Waiting {
     }
 
     /// Begins a round, of which nothing is spent yet.
-    pub(crate) fn begin_round(&mut self) {
+    pub(crate) fn begin_round(&mut self)
+        ensures { self.new ≡ record self.old { spent_in_round = 0 } }
+    {
         self.spent_in_round = 0;
     }
 
@@ -103,13 +105,20 @@ impl Waiting {
         }
     }
 
-    /// Takes out the connection that is to be served next, or `None` if nobody waits or the round ends:
-    /// `ROUND` is spent in it, and the turn of the one that was served last ends.
+    /// Returns whether the round is over: `ROUND` is spent in it, and the turn of the one that was served
+    /// last ends.
+    fn is_round_over(&self) -> bool
+        ensures { IsTrue result ↔ IsRoundOver self.now }
+    {
+        self.spent_in_round >= ROUND && self.queue.turn_ends(self.spent)
+    }
+
+    /// Takes out the connection that is to be served next, or `None` if nobody waits or the round is over.
     pub(crate) fn pop(&mut self) -> Option<Next>
         ensures { MatchOption result (EndsRound self.old self.new)
-            (λ next. TakesTurn next.key self.old self.new) }
+            (λ next. ¬ (IsRoundOver self.old) × TakesTurn next.key self.old self.new) }
     {
-        if self.spent_in_round >= ROUND && self.queue.turn_ends(self.spent) {
+        if self.is_round_over() {
             return None;
         }
         let spent = mem::replace(&mut self.spent, 0);
@@ -128,6 +137,8 @@ impl Waiting {
         ensures queue { self.new.queue ≡ self.old.queue }
         ensures waits { self.new.waits.items ≡ self.old.waits.items }
         ensures spent { self.new.spent ≡ cost_of requests bytes }
+        ensures round { self.new.spent_in_round
+            ≡ min (self.old.spent_in_round + self.new.spent) (2 ^ 64 - 1) }
     {
         self.spent = BYTES_OF_A_SERVE
             .saturating_add(requests.saturating_mul(BYTES_OF_A_REQUEST))

@@ -129,7 +129,8 @@ fn blocks_compared(rt: HostRuntime) {
 
 /// Returns the list of two keys, for which the block has room from the start.
 fn keys_of(alloc: Global, first: &str, second: &str) -> Result<KeyList, Fault> {
-    let mut keys = KeyBlock::with_capacity(alloc, 2 + first.len() + second.len())?;
+    let size = first.len().saturating_add(second.len()).saturating_add(2);
+    let mut keys = KeyBlock::with_capacity(alloc, size)?;
     let (first, second) = (keys.push(first.as_bytes())?, keys.push(second.as_bytes())?);
     if !first || !second {
         return Err(Fault::BadEvent);
