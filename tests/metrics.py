@@ -12,6 +12,7 @@ Prints a line for each failure; the last line is 'N passed, M failed'.
 import os
 import re
 import resource
+import select
 import shutil
 import socket
 import subprocess
@@ -228,6 +229,16 @@ def check_tallies():
         awaits(server, "tallies after connections have ended", {**tallies("a", 12), **tallies("b", 7), of("connections", "a"): 0})
 
 
+def starve(client):
+    """What a client reads once its block has come up to where no memory is left for more of it."""
+    client.socket.sendall(b"set k 0 0 1000000\r\n")
+    for _ in range(99):
+        client.socket.sendall(10_000 * b"x")
+        if select.select([client.socket], [], [], 0.02)[0]:
+            break
+    return client.ask(b"", protocol.STARVED)
+
+
 def check_starved():
     """A request for which memory runs out: its client is told so in place of a reply, and that is counted."""
     def starved(tenant, count):
@@ -239,8 +250,9 @@ def check_starved():
             check("a set while there is memory", client.line(b"set k 0 0 1\r\nx\r\n") == "STORED")
         awaits(server, "nobody was refused memory", {**starved("a", 0), **starved("b", 0)})
         limits = resource.prlimit(server.process.pid, resource.RLIMIT_DATA)
-        resource.prlimit(server.process.pid, resource.RLIMIT_DATA, (0, limits[1]))
-        told = clients[0].ask(b"set k 0 0 1000000\r\n", protocol.STARVED)
+        # Linux takes a limit of 0 for none.
+        resource.prlimit(server.process.pid, resource.RLIMIT_DATA, (4096, limits[1]))
+        told = starve(clients[0])
         resource.prlimit(server.process.pid, resource.RLIMIT_DATA, limits)
         check("what the client is told", told == protocol.STARVED, told)
         awaits(server, "a request that was refused memory", {**starved("a", 1), **starved("b", 0), of("connections", "a"): 0})
