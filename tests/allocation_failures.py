@@ -480,8 +480,8 @@ WORKERS = Tests(
     crate="crates/uc_worker_tests",
     module="refused",
     reported="the turn over reported that memory ran out, and changed no worker",
-    asks={"refused::a_turn_over_reports_out_of_memory": 19},
-    first=52,
+    asks={"refused::a_turn_over_reports_out_of_memory": 20},
+    first=46,
 )
 
 
