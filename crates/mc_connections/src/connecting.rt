@@ -96,7 +96,8 @@ fn turn_once<I: Input, O: Output, G: Gate>(
 }
 
 /// Makes turns until nothing is left to do, `TURNS` were made, `REQUESTS_OF_A_READ` were answered, a
-/// command is left to the next log, or a fault has ended the connection. Returns the connection's state afterwards.
+/// command is left to the next log, or a fault has ended the connection. Returns the connection's
+/// state afterwards.
 fn turns<I: Input, O: Output, G: Gate>(
     until_done: bool,
     conn: &mut Conn,
