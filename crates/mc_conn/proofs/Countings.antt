@@ -153,3 +153,13 @@ tallies_to a b one two three fault first later = record {
   counts = λ earlier is. subst (λ (all : List CountedRequest). IsTallyOf all three) (append_assoc earlier first.counted (counted_at fault))
       (later (earlier ++ first.counted) (first.counts earlier is));
 }
+
+-- a part without a fault, and then one that met it
+pub tallies_later : (fault : Fault) (a b c : List CountedRequest) (one two three : Tally) → HasCounted a b one two → HasCountedTo b c two three fault → HasCountedTo a c one three fault
+tallies_later fault a b c one two three first second = record {
+  counted = first.counted ++ second.counted;
+  past = second.past ∙ (ap (λ (all : List CountedRequest). all ++ second.counted) first.past ∙ append_assoc a first.counted second.counted);
+  counts = λ earlier is. subst (λ (all : List CountedRequest). IsTallyOf all three)
+      (append_assoc earlier first.counted (second.counted ++ counted_at fault) ∙ ap (λ (all : List CountedRequest). earlier ++ all) (sym (append_assoc first.counted second.counted (counted_at fault))))
+      (second.counts (earlier ++ first.counted) (first.counts earlier is));
+}

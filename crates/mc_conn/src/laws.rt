@@ -1,5 +1,7 @@
 //! What follows from the definitions. A law is the contract of a function with an empty body.
 ghost use Rattle.std.specs.Prelude.{◌≡◌, ℕ, ◌+◌, ◌≤◌, List, [], ◌++◌, length};
+ghost use Rattle.mc_counters.specs.Tallied.{CountedRequest};
+ghost use Rattle.mc_counters.specs.declared.tally.Tally.{Tally};
 ghost use Rattle.mc_model.specs.declared.command.Command.{Command};
 ghost use Rattle.mc_model.specs.declared.fault.Fault.{Fault};
 ghost use Rattle.mc_model.specs.declared.reply.Reply.{Reply};
@@ -19,6 +21,7 @@ ghost use Rattle.mc_conn.specs.Alone.{IsAlone, IsAloneOver, commands_of, first_m
 ghost use Rattle.mc_conn.specs.Ending.{LogsInTime, PullsLate, Stops};
 ghost use Rattle.mc_conn.specs.Held.{Holding, IsRead};
 ghost use Rattle.mc_conn.specs.Owed.{IsPlaced, IsTurnedAway, Mark, Owes, mark_of};
+ghost use Rattle.mc_conn.specs.Tallying.{HasCounted, HasCountedTo};
 ghost use Rattle.mc_conn.specs.Turn.{Scene, Takes};
 
 /// The bounds of a connection: how many bytes may be queued while requests are taken and bytes are
@@ -114,4 +117,15 @@ pub fn parts_add_up()
     ensures stays { (old new : Worker) → Continues old new → (role : Role) (from : Mark)
         (requests : List Request) (bytes : List ℕ) (to : Mark) →
         Owes old role from requests bytes to → Owes new role from requests bytes to }
+{}
+
+/// What was counted in one part and in the next was counted in both; so it was if a fault ended the
+/// second.
+pub fn counts_add_up()
+    ensures none { (past : List CountedRequest) (tally : Tally) → HasCounted past past tally tally }
+    ensures through { (a b c : List CountedRequest) (old between new : Tally) →
+        HasCounted a b old between → HasCounted b c between new → HasCounted a c old new }
+    ensures fault { (fault : Fault) (a b c : List CountedRequest) (old between new : Tally) →
+        HasCounted a b old between → HasCountedTo b c between new fault →
+        HasCountedTo a c old new fault }
 {}

@@ -122,8 +122,9 @@ fn turns<I: Input, O: Output, G: Gate>(
         (scene conn.new worker.new (both (I.tells input.new) (O.tells output.new)))
         tally.old tally.new }
 {
-    // The law from which the clauses on all turns follow.
+    // The laws from which the clauses on all turns follow.
     mc_conn::laws::turns_add_up();
+    mc_conn::laws::counts_add_up();
     let last = conn.answered().saturating_add(REQUESTS_OF_A_READ);
     for _ in 0..TURNS {
         match turn_once(until_done, conn, worker, input, output, gate, buffer, tally) {

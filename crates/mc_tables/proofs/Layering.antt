@@ -1,9 +1,8 @@
 -- Entries of hash maps as tables, marks on them, and what lies over them.
-use Rattle.std.proofs.Common.{◌≡◌, ◌≢◌, ℕ, ◌+◌, ◌||◌, Bool, true, false, cond, if◌then◌else◌, not, List, [], ◌∷◌, length, get_or, position, Option, Some, None, Result, Ok, Err, OnOk, OnErr, refl, sym, ap, ◌∙◌, true≢false, arith}
+use Rattle.std.proofs.Common.{◌≡◌, ◌≢◌, ℕ, ◌||◌, Bool, true, false, cond, if◌then◌else◌, not, List, [], ◌∷◌, get_or, position, Option, Some, None, Result, Ok, Err, OnOk, OnErr, refl, sym, ap, ◌∙◌, true≢false, arith}
 use Rattle.std.proofs.lemmas.Bool.Decides.{nat_tests}
 use Rattle.std.proofs.lemmas.List.Quantifiers.{position-Some}
-use Rattle.std.specs.List.{position_or_len}
-use Rattle.std.specs.Prelude.{nat_eq, nat_lt, suc}
+use Rattle.std.specs.Prelude.{nat_eq}
 use Rattle.std.specs.Cmp.{eq_by_cmp_equiv}
 use Rattle.std.specs.Cmp.Lexicographic.{pointwise, texts_ties}
 use Rattle.std.specs.FinMap as map

@@ -1,3 +1,4 @@
+mod Renumbering
 mod Stands
 mod Totals
 mod Bits

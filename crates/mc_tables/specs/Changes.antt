@@ -1,12 +1,12 @@
 -- How a command changes what a key holds.
-use Rattle.std.specs.Prelude.{ℕ, ◌+◌, Bool, if◌then◌else◌, ◌++◌, decimal, List, [], Option, Some, None}
+use Rattle.std.specs.Prelude.{ℕ, ◌+◌, Bool, if◌then◌else◌, ◌++◌, List, [], Option, Some, None}
 use Rattle.std.specs.FinMap as map
 use Rattle.mc_model.specs.declared.item.Item.{Item}
 use Rattle.mc_model.specs.declared.key.Key.{Key}
 use Rattle.mc_model.specs.State.{TableState}
 use Rattle.mc_model.specs.Table.{Table}
 use Rattle.mc_tables.specs.declared.storage.Change.{Change}
-use Rattle.mc_tables.specs.declared.storage.Change.TheVariants.{Put, Number, Append, Prepend}
+use Rattle.mc_tables.specs.declared.storage.Change.TheVariants.{Put, Append, Prepend}
 
 -- the data of what is held
 abbrev pub block_under : Option Item → List ℕ
@@ -21,14 +21,12 @@ flags_under (Some old) = old.flags
 -- the data after a change
 abbrev pub data_after : Option Item → Change → List ℕ
 data_after old (Put flags block) = block.now
-data_after old (Number flags number) = decimal number
 data_after old (Append block) = block_under old ++ block.now
 data_after old (Prepend block) = block.now ++ block_under old
 
--- the flags after a change: those of what is held, except for a put and a number
+-- the flags after a change: those of what is held, except for a put
 abbrev pub flags_after : Option Item → Change → ℕ
 flags_after old (Put flags block) = flags
-flags_after old (Number flags number) = flags
 flags_after old (Append block) = flags_under old
 flags_after old (Prepend block) = flags_under old
 

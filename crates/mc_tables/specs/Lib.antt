@@ -1,4 +1,5 @@
 pub mod Changes
+pub mod Deltas
 pub mod Entries
 pub mod Found
 pub mod Hashing

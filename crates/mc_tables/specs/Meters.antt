@@ -1,7 +1,8 @@
 -- What a table counts for in total.
-use Rattle.std.specs.Prelude.{◌≡◌, Option, IfSome}
+use Rattle.std.specs.Prelude.{◌≡◌, Option, IfNone, IfSome}
 use Rattle.std.specs.Option.{is_some}
 use Rattle.mc_model.specs.declared.settings.Limits.{Limits}
+use Rattle.mc_model.specs.Effect.{Effect, is_acceptance}
 use Rattle.mc_model.specs.Table.{Table, count_of, is_within, use_of}
 use Rattle.mc_tables.specs.declared.meter.Meter.{Meter}
 
@@ -14,3 +15,11 @@ abbrev pub IsMeterIf : Option Meter → Limits → Table → Type 0
 IsMeterIf meter limits table =
     (is_some meter ≡ is_within limits table)
     × IfSome meter (λ after. (after.limits ≡ limits) × IsMeterOf after table)
+
+-- the totals of the table that an effect leaves, with the quotas, if the effect is a change; if not,
+-- it leaves the table as it was
+abbrev pub IsMeterBy : Option Meter → Limits → Table → Effect → Type 0
+IsMeterBy meter limits table effect =
+    (is_some meter ≡ is_acceptance effect.reply)
+    × IfSome meter (λ after. (after.limits ≡ limits) × IsMeterOf after effect.table)
+    × IfNone meter (effect.table ≡ table)

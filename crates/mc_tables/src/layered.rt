@@ -15,7 +15,8 @@ ghost use Rattle.mc_tables.specs.declared.storage.Change.TheVariants.{Append, Pr
 ghost use Rattle.mc_tables.specs.Entries.{item_of_cell, lent_key};
 ghost use Rattle.mc_tables.specs.Found.{found_of};
 ghost use Rattle.mc_tables.specs.Layers.{AreMarked, below, layers, owned_table};
-ghost use Rattle.mc_tables.specs.Meters.{IsMeterIf, IsMeterOf};
+ghost use Rattle.mc_tables.specs.Deltas.{renumbered_at};
+ghost use Rattle.mc_tables.specs.Meters.{IsMeterBy, IsMeterIf, IsMeterOf};
 ghost use Rattle.mc_tables.specs.Views.{item_in_view};
 
 use crate::cell_item::CellItem;
@@ -24,10 +25,10 @@ use crate::marks::{is_set, no_marks, set};
 use crate::meter::Meter;
 use crate::metered::Metered;
 use crate::owned::{Owned, OwnedItems};
-use crate::storage::{Change, Counter, Found, Storage, StorageFor};
+use crate::storage::{Change, Delta, Found, Storage, StorageFor};
 use crate::view::View;
 use indexmap::IndexMap;
-use mc_model::{Data, Fault, Fragments, Item, Key, Limits, Value};
+use mc_model::{Data, Fault, Fragments, Item, Key, Limits, Reply, Value, WireNo};
 use std::alloc::Global;
 
 /// Items that borrow from commands, in a hash map with a keyed hash, over a base. A mark for each
@@ -290,19 +291,6 @@ impl<'a> Storage for Layered<'a> {
         self.find_under(key)
     }
 
-    fn counter(&self, key: &Key) -> Option<Counter> {
-        if let Some(kept) = self.kept(key) {
-            return Some(Counter {
-                found: found_in(kept),
-                number: kept.block.number(),
-            });
-        }
-        match self.under(key) {
-            Some(item) => Some(Counter::of(item)),
-            None => None,
-        }
-    }
-
     fn remove(&mut self, key: &Key) {
         self.mark(key);
         if let Some(place) = self.over_place(key) {
@@ -341,14 +329,6 @@ impl<'a> StorageFor<'a> for Layered<'a> {
                     block: Fragments::new(*block),
                 },
             ),
-            Change::Number(flags, number) => self.put(
-                key,
-                CellItem {
-                    flags: *flags,
-                    unique,
-                    block: Fragments::from_number(*number),
-                },
-            ),
             Change::Append(block) => self.append(key, *block, unique),
             Change::Prepend(block) => self.prepend(key, *block, unique),
         }
@@ -377,6 +357,29 @@ impl<'a> StorageFor<'a> for Layered<'a> {
         };
         self.put(key, item)?;
         Ok(Some(after))
+    }
+
+    // So is a number.
+    fn renumber(
+        &mut self,
+        key: &'a Key,
+        delta: Delta,
+        unique: u64,
+        meter: &Meter,
+    ) -> Result<(Reply<'a>, Option<Meter>), Fault> {
+        if let Some(kept) = self.over.get_mut(&key) {
+            return Ok(renumber_kept(kept, key, delta, unique, meter));
+        }
+        let Some(item) = self.under(key) else {
+            return Ok((Reply::NotFound, None));
+        };
+        let mut kept = lent(item);
+        let (reply, after) = renumber_kept(&mut kept, key, delta, unique, meter);
+        if after.is_none() {
+            return Ok((reply, None));
+        }
+        self.put(key, kept)?;
+        Ok((reply, after))
     }
 }
 
@@ -408,6 +411,51 @@ fn overwrite<'a>(
     let after = meter.with(key, Some(found_in(kept)), item.block.len())?;
     *kept = item;
     Some(after)
+}
+
+/// Returns an item of the base, which is borrowed.
+fn lent<'a>(item: &'a Item) -> CellItem<'a>
+    ensures { item_of_cell result ≡ item.now }
+{
+    CellItem {
+        flags: item.flags,
+        unique: item.unique,
+        block: Fragments::new(&item.block),
+    }
+}
+
+/// Changes the number that is kept under a key, and gives it this unique, if the quotas of `meter`
+/// allow it. Returns the reply, with the totals then if it is the number; else nothing changes.
+fn renumber_kept<'a>(
+    kept: &mut CellItem<'a>,
+    key: &Key,
+    delta: Delta,
+    unique: u64,
+    meter: &Meter,
+) -> (Reply<'a>, Option<Meter>)
+    ensures reply { (table : Table) → IsMeterOf meter.now table →
+        map.get table key.now ≡ Some (item_of_cell kept.old) →
+        result.0 ≡ (renumbered_at meter.now.limits table unique key.now delta).reply }
+    ensures kept { (table : Table) → IsMeterOf meter.now table →
+        map.get table key.now ≡ Some (item_of_cell kept.old) →
+        map.insert table key.now (item_of_cell kept.new)
+        ≡ (renumbered_at meter.now.limits table unique key.now delta).table }
+    ensures meter { (table : Table) → IsMeterOf meter.now table →
+        map.get table key.now ≡ Some (item_of_cell kept.old) →
+        IsMeterBy result.1 meter.now.limits table
+        (renumbered_at meter.now.limits table unique key.now delta) }
+{
+    let Some(number) = kept.block.number() else {
+        return (Reply::Refused(WireNo::NOT_A_NUMBER), None);
+    };
+    let next = delta.after(number);
+    let block = Fragments::from_number(next);
+    let Some(after) = meter.with(key, Some(found_in(kept)), block.len()) else {
+        return (Reply::Refused(WireNo::NO_ROOM), None);
+    };
+    kept.unique = unique;
+    kept.block = block;
+    (Reply::Number(next), Some(after))
 }
 
 /// Appends a block to what is kept. Returns `Memory` if an allocation fails; nothing changes then.

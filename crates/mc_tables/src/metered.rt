@@ -6,19 +6,20 @@ ghost use Rattle.std.specs.Prelude.{◌≡◌, ℕ, ◌+◌, ◌-◌, ◌^◌, �
 ghost use Rattle.mc_model.specs.declared.command.Command.TheVariants.{Store, Cas, Get, Delete, Incr, Decr, Flush, Limit};
 ghost use Rattle.mc_model.specs.declared.command.Verb.TheVariants.{Set};
 ghost use Rattle.mc_model.specs.declared.item.TheConstants.{DATA_BYTES};
-ghost use Rattle.mc_model.specs.declared.reply.Reply.TheVariants.{Number, Refused, Stored};
+ghost use Rattle.mc_model.specs.declared.reply.Reply.TheVariants.{Refused, Stored};
 ghost use Rattle.mc_model.specs.declared.reply.TheConstants.WireNo.{NO_ROOM};
 ghost use Rattle.mc_model.specs.Effect.{is_refusal, shown_at};
 ghost use Rattle.mc_model.specs.History.{StandsFor};
-ghost use Rattle.mc_model.specs.State.{empty_table, next_reply, next_state};
+ghost use Rattle.mc_model.specs.State.{empty_table, left_by, next_reply, next_state};
 ghost use Rattle.mc_model.specs.Table.{count_of, is_within, use_of};
 ghost use Rattle.mc_tables.specs.Changes.{changed_if, data_after, with_change};
+ghost use Rattle.mc_tables.specs.Deltas.{renumbered_at};
 ghost use Rattle.mc_tables.specs.Found.{found_of};
 ghost use Rattle.mc_tables.specs.Meters.{IsMeterOf};
 
 use crate::meter::Meter;
-use crate::storage::{Change, Counter, Found, Storage, StorageFor};
-use crate::weights::{count_of_digits, weight_found};
+use crate::storage::{Change, Delta, Found, Storage, StorageFor};
+use crate::weights::weight_found;
 use mc_model::item::DATA_BYTES;
 use mc_model::{
     Data, Fault, Key, KeyList, KeyTexts, Limits, Reply, Value, ValueList, Verb, WireNo,
@@ -215,16 +216,7 @@ impl<S: Storage> Metered<S> {
         ensures memory { IsOkUnless result Fault.Memory }
         ensures unchanged { OnErr result (self.new ≡ self.old) }
     {
-        let Some(Counter { found, number }) = self.storage.counter(key) else {
-            return Ok(Reply::NotFound);
-        };
-        let Some(number) = number else {
-            return Ok(Reply::Refused(WireNo::NOT_A_NUMBER));
-        };
-        let next = number.wrapping_add(by);
-        let change = Change::Number(found.flags, next);
-        let fits = self.make(key, Some(found), &change, count_of_digits(next))?;
-        Ok(number_if(fits, next))
+        self.renumber(key, Delta::Up(by))
     }
 
     /// Subtracts from the number under a key, stopping at 0.
@@ -239,16 +231,7 @@ impl<S: Storage> Metered<S> {
         ensures memory { IsOkUnless result Fault.Memory }
         ensures unchanged { OnErr result (self.new ≡ self.old) }
     {
-        let Some(Counter { found, number }) = self.storage.counter(key) else {
-            return Ok(Reply::NotFound);
-        };
-        let Some(number) = number else {
-            return Ok(Reply::Refused(WireNo::NOT_A_NUMBER));
-        };
-        let next = number.saturating_sub(by);
-        let change = Change::Number(found.flags, next);
-        let fits = self.make(key, Some(found), &change, count_of_digits(next))?;
-        Ok(number_if(fits, next))
+        self.renumber(key, Delta::Down(by))
     }
 
     /// Removes a key. Allocates nothing.
@@ -315,6 +298,29 @@ impl<S: Storage> Metered<S> {
     {
         let Metered { meter, .. } = self;
         meter.limits
+    }
+
+    /// Changes the number under a key.
+    fn renumber<'a>(&mut self, key: &'a Key, delta: Delta) -> Result<Reply<'a>, Fault>
+    where
+        S: StorageFor<'a>,
+        requires { self.old.last_unique < 2 ^ 64 - 1 }
+        ensures reply { IfOk result (λ reply. reply ≡ (renumbered_at self.old.limits self.old.table
+            (self.old.last_unique + 1) key.now delta).reply) }
+        ensures state { OnOk result (self.new ≡ left_by self.old (renumbered_at self.old.limits
+            self.old.table (self.old.last_unique + 1) key.now delta)) }
+        ensures granted { OnErr result (is_refusal (renumbered_at self.old.limits self.old.table
+            (self.old.last_unique + 1) key.now delta).reply ≡ false) }
+        ensures memory { IsOkUnless result Fault.Memory }
+        ensures unchanged { OnErr result (self.new ≡ self.old) }
+    {
+        let unique = self.last_unique + 1;
+        let (reply, after) = self.storage.renumber(key, delta, unique, &self.meter)?;
+        if let Some(meter) = after {
+            self.meter = meter;
+            self.last_unique = unique;
+        }
+        Ok(reply)
     }
 
     /// Makes a change that gets the next unique, if the quotas allow it, and returns whether they
@@ -404,17 +410,6 @@ fn stored_if<'a>(fits: bool) -> Reply<'a>
 {
     if fits {
         Reply::Stored
-    } else {
-        Reply::Refused(WireNo::NO_ROOM)
-    }
-}
-
-/// Returns the reply to an arithmetic command, by whether the quotas allow it.
-fn number_if<'a>(fits: bool, number: u64) -> Reply<'a>
-    ensures { result ≡ (if fits then Number number else Refused NO_ROOM) }
-{
-    if fits {
-        Reply::Number(number)
     } else {
         Reply::Refused(WireNo::NO_ROOM)
     }

@@ -16,9 +16,10 @@ use crate::hashing::Hashing;
 use crate::item_map::ItemMap;
 use crate::meter::Meter;
 use crate::metered::Metered;
-use crate::storage::{Change, Counter, Found, Storage, StorageFor};
+use crate::storage::{Change, Delta, Found, Storage, StorageFor};
+use crate::weights::count_of_digits;
 use itoa::Buffer;
-use mc_model::{Data, Fault, Fragments, Item, Key, Limits, Value};
+use mc_model::{Data, Fault, Fragments, Item, Key, Limits, Reply, Value, WireNo};
 use std::alloc::Global;
 
 /// Items in memory of their own, in two layers: a base that several generations share, and over it
@@ -251,13 +252,6 @@ impl Storage for Owned {
         }
     }
 
-    fn counter(&self, key: &Key) -> Option<Counter> {
-        match self.item(key) {
-            Some(item) => Some(Counter::of(item)),
-            None => None,
-        }
-    }
-
     fn remove(&mut self, key: &Key) {
         self.take_out(key);
     }
@@ -291,17 +285,6 @@ impl<'a> StorageFor<'a> for Owned {
                     unique,
                 };
                 self.put(key, item)
-            }
-            Change::Number(flags, number) => {
-                let block = digits_of(self.alloc, *number)?;
-                self.put(
-                    key,
-                    Item {
-                        flags: *flags,
-                        block,
-                        unique,
-                    },
-                )
             }
             Change::Append(block) => {
                 let flags = self.flags(key);
@@ -349,5 +332,36 @@ impl<'a> StorageFor<'a> for Owned {
         };
         self.put(key, item)?;
         Ok(Some(after))
+    }
+
+    fn renumber(
+        &mut self,
+        key: &'a Key,
+        delta: Delta,
+        unique: u64,
+        meter: &Meter,
+    ) -> Result<(Reply<'a>, Option<Meter>), Fault> {
+        let Some(item) = self.item(key) else {
+            return Ok((Reply::NotFound, None));
+        };
+        let Some(number) = Fragments::new(&item.block).number() else {
+            return Ok((Reply::Refused(WireNo::NOT_A_NUMBER), None));
+        };
+        let old = Found::of(item);
+        let next = delta.after(number);
+        let Some(after) = meter.with(key, Some(old), count_of_digits(next)) else {
+            return Ok((Reply::Refused(WireNo::NO_ROOM), None));
+        };
+        let block = digits_of(self.alloc, next)?;
+        let flags = old.flags;
+        self.put(
+            key,
+            Item {
+                flags,
+                block,
+                unique,
+            },
+        )?;
+        Ok((Reply::Number(next), Some(after)))
     }
 }

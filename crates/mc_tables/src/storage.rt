@@ -2,17 +2,18 @@
 //! a key holds.
 ghost use Rattle.std.specs.FinMap as map;
 ghost use Rattle.std.specs.Option.{is_some, option_map};
-ghost use Rattle.std.specs.Prelude.{◌≡◌, ◌≤◌, true, length, IfOk, OnOk, OnErr, IsOkUnless, if◌then◌else◌};
+ghost use Rattle.std.specs.Prelude.{◌≡◌, ◌≤◌, true, false, length, IfOk, OnOk, OnErr, IsOkUnless, if◌then◌else◌};
 ghost use Rattle.mc_model.specs.declared.item.TheConstants.{DATA_BYTES};
-ghost use Rattle.mc_model.specs.Effect.{shown_at};
+ghost use Rattle.mc_model.specs.Effect.{is_refusal, shown_at};
 ghost use Rattle.mc_model.specs.Table.{Table, is_within};
 ghost use Rattle.mc_tables.specs.Changes.{data_after, with_change};
 ghost use Rattle.mc_tables.specs.declared.storage.Change.TheVariants.{Put};
-ghost use Rattle.mc_tables.specs.Found.{counter_of, found_of};
-ghost use Rattle.mc_tables.specs.Meters.{IsMeterIf, IsMeterOf};
+ghost use Rattle.mc_tables.specs.Deltas.{number_after, renumbered_at};
+ghost use Rattle.mc_tables.specs.Found.{found_of};
+ghost use Rattle.mc_tables.specs.Meters.{IsMeterBy, IsMeterIf, IsMeterOf};
 
 use crate::meter::Meter;
-use mc_model::{Data, Fault, Fragments, Item, Key, Value};
+use mc_model::{Data, Fault, Item, Key, Reply, Value};
 
 /// What a look-up tells of an item: `len` is the number of its data's bytes.
 #[derive(Clone, Copy, Debug)]
@@ -35,37 +36,36 @@ impl Found {
     }
 }
 
-/// What a look-up tells of an item as a number: `number` is what its data spell, if they are
-/// numeric.
-#[derive(Clone, Copy, Debug)]
-pub struct Counter {
-    pub found: Found,
-    pub number: Option<u64>,
-}
-
-impl Counter {
-    /// Returns what a look-up tells of an item that owns its data, as a number.
-    pub(crate) fn of(item: &Item) -> Counter
-        ensures { result ≡ counter_of item.now }
-    {
-        Counter {
-            found: Found::of(item),
-            number: Fragments::new(&item.block).number(),
-        }
-    }
-}
-
 /// How a command changes what a key holds.
 #[derive(Debug, Drop)]
 pub enum Change<'a> {
     /// New flags and data.
     Put(u32, &'a Data),
-    /// New flags, and a number's digits.
-    Number(u32, u64),
     /// These data at the end; the flags stay.
     Append(&'a Data),
     /// These data in front; the flags stay.
     Prepend(&'a Data),
+}
+
+/// How an arithmetic command changes a number.
+#[derive(Clone, Copy, Debug)]
+pub enum Delta {
+    /// Adds, modulo 2^64.
+    Up(u64),
+    /// Subtracts, stopping at 0.
+    Down(u64),
+}
+
+impl Delta {
+    /// Returns a number after the change.
+    pub(crate) fn after(self, number: u64) -> u64
+        ensures { result ≡ number_after self number }
+    {
+        match self {
+            Delta::Up(by) => number.wrapping_add(by),
+            Delta::Down(by) => number.saturating_sub(by),
+        }
+    }
 }
 
 /// What keeps a table's items.
@@ -75,10 +75,6 @@ pub trait Storage: Drop {
     /// Returns what is held under a key, if it is held.
     fn find(&self, key: &Key) -> Option<Found>
         ensures found { result ≡ option_map found_of (map.get (table self.now) key.now) };
-
-    /// Returns what is held under a key as a number, if it is held.
-    fn counter(&self, key: &Key) -> Option<Counter>
-        ensures { result ≡ option_map counter_of (map.get (table self.now) key.now) };
 
     /// Removes a key, if it is held. Allocates nothing.
     fn remove(&mut self, key: &Key)
@@ -128,6 +124,28 @@ pub trait StorageFor<'a>: Storage {
             else Self.table self.old)) }
         ensures granted { OnErr result (is_within meter.now.limits
             (with_change (Self.table self.old) key.now (Put flags block.entry) unique) ≡ true) }
+        ensures memory { IsOkUnless result Fault.Memory }
+        ensures unchanged { OnErr result (Self.table self.new ≡ Self.table self.old) };
+
+    /// Changes the number under a key, and gives it this unique, if the quotas of `meter` allow it.
+    /// Returns the reply, with the totals then if it is the number. Returns `Memory` if an
+    /// allocation fails; nothing changes then.
+    fn renumber(
+        &mut self,
+        key: &'a Key,
+        delta: Delta,
+        unique: u64,
+        meter: &Meter,
+    ) -> Result<(Reply<'a>, Option<Meter>), Fault>
+        requires { IsMeterOf meter.now (Self.table self.old) }
+        ensures reply { IfOk result (λ answer. answer.0
+            ≡ (renumbered_at meter.now.limits (Self.table self.old) unique key.now delta).reply) }
+        ensures table { OnOk result (Self.table self.new
+            ≡ (renumbered_at meter.now.limits (Self.table self.old) unique key.now delta).table) }
+        ensures meter { IfOk result (λ answer. IsMeterBy answer.1 meter.now.limits (Self.table self.old)
+            (renumbered_at meter.now.limits (Self.table self.old) unique key.now delta)) }
+        ensures granted { OnErr result (is_refusal
+            (renumbered_at meter.now.limits (Self.table self.old) unique key.now delta).reply ≡ false) }
         ensures memory { IsOkUnless result Fault.Memory }
         ensures unchanged { OnErr result (Self.table self.new ≡ Self.table self.old) };
 }

@@ -4,11 +4,11 @@ use Rattle.mc_stream.specs.Stream.{both}
 use Rattle.mc_connections.proofs.Servings.{met_fault, once_few, served_later, stands_later, stands_turn, state_answered, taken_turn}
 use Rattle.mc_connections.specs.Serving.{Stands}
 use Rattle.mc_conn.specs.Turn.{Takes, scene}
-use Rattle.mc_connections.proofs.Tallied.{tallied, tallied_to, tallies_self, tallies_trans}
+use Rattle.mc_connections.proofs.Tallied.{tallied, tallied_to}
 use Rattle.mc_connections.proofs.connecting.turns.Goals as goal
 
 pub loop-init : goal.loop-init
-loop-init g c = record { going = c.turns_add_up.ensures.none _; stands = inl refl; few = omega arith; role = refl; tally = tallies_self _ _ }
+loop-init g c = record { going = c.turns_add_up.ensures.none _; stands = inl refl; few = omega arith; role = refl; tally = c.counts_add_up.ensures.none _ _ }
 
 -- if it was closed, nothing was done
 pub returns-in-Ok : goal.returns-in-Ok
@@ -25,7 +25,7 @@ returns-in-Ok g c =
       stands = stands_later c.args.until_done c.turns_add_up.ensures.through _ _ _ c.in-Ok.state c.loop.invariant.going (inl takes) stands;
       few = omega (arith, c.loop.invariant.few, c.loop-test.true, once_few _ _ c.turn_once.ensures.pulls);
       role = c.turn_once.ensures.role ∙ c.loop.invariant.role;
-      tally = tallied _ _ _ _ _ _ c.loop.invariant.going c.loop.invariant.tally c.turns_add_up.ensures.through takes c.in-Ok.ensures.tally;
+      tally = tallied _ _ _ _ _ _ c.loop.invariant.going c.loop.invariant.tally c.turns_add_up.ensures.through c.counts_add_up.ensures.through takes c.in-Ok.ensures.tally;
     }
 
 pub returns-in-Err-clause-served : goal.returns-in-Err-clause-served
@@ -49,7 +49,7 @@ returns-then-answered-last g c =
       stands = stands_later c.args.until_done c.turns_add_up.ensures.through _ _ _ Busy c.loop.invariant.going (inl takes) (subst (Stands c.args.until_done before after) c.in-Ok-Busy.field-0-is stands);
       few = omega (arith, c.loop.invariant.few, c.loop-test.true, once_few _ _ c.turn_once.ensures.pulls);
       role = c.turn_once.ensures.role ∙ c.loop.invariant.role;
-      tally = tallied _ _ _ _ _ _ c.loop.invariant.going c.loop.invariant.tally c.turns_add_up.ensures.through takes c.in-Ok-Busy.ensures.tally;
+      tally = tallied _ _ _ _ _ _ c.loop.invariant.going c.loop.invariant.tally c.turns_add_up.ensures.through c.counts_add_up.ensures.through takes c.in-Ok-Busy.ensures.tally;
     }
 
 -- the turn of this round ended as busy, so that it met no fault
@@ -68,12 +68,12 @@ loop-preserved g c =
       stands = inr (stands_later c.args.until_done c.turns_add_up.ensures.through _ _ _ Busy c.loop.invariant.going (inl takes) (subst (Stands c.args.until_done before after) c.in-Ok-Busy.field-0-is stands));
       few = omega (arith, c.loop.invariant.few, once_few _ _ c.turn_once.ensures.pulls);
       role = c.turn_once.ensures.role ∙ c.loop.invariant.role;
-      tally = tallies_trans _ _ _ _ _ _ c.loop.invariant.tally c.in-Ok-Busy.ensures.tally;
+      tally = c.counts_add_up.ensures.through _ _ _ _ _ _ c.loop.invariant.tally c.in-Ok-Busy.ensures.tally;
     }
 
 pub returns-in-Err-clause-tally : goal.returns-in-Err-clause-tally
 returns-in-Err-clause-tally g c =
-    tallied_to _ _ _ _ _ _ c.loop.invariant.going c.loop.invariant.tally c.turns_add_up.ensures.stops c.in-Err.field-0
+    tallied_to _ _ _ _ _ _ c.loop.invariant.going c.loop.invariant.tally c.turns_add_up.ensures.stops c.counts_add_up.ensures.fault c.in-Err.field-0
     (c.in-Err.ensures.outcome (met_fault _ c.turn_once.result c.in-Err.field-0 c.in-Err.is (λ is. (c.turn_once.ensures.closed is).0))) c.in-Err.ensures.tally
 
 pub returns-clause-tally : goal.returns-clause-tally
