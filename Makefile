@@ -7,7 +7,7 @@ help: ## prints this list
 
 # The first tenant's port for try; the second's is the next one.
 PORT = 11211
-try: kit ## compiles wfmc without a proof and runs it with two tenants on loopback, until it is interrupted; PORT=11211
+try: kit ## compiles wfmc without a proof and runs it with two tenants on loopback, until it is interrupted or an hour has passed; PORT=11211
 	@tools/try.sh wfmc $(PORT)
 
 try-stdin: kit ## compiles mc_stdin without a proof and runs it on its first run
@@ -91,7 +91,7 @@ linearizability: kit ## tests for three times MINUTES (2) that the histories of 
 	@python3 tests/linearizability.py $$(($(MINUTES) * 60)) --generations
 	@python3 tests/linearizability.py $$(($(MINUTES) * 60)) --generations --log-bytes $(LOG_BYTES)
 
-allocation-failures: kit ## runs the programs, calls of workers, and the tests of the cells and of a turn over, with each allocation refused in turn, and mc_stdin with less and less memory
+allocation-failures: kit ## runs the programs, calls of workers, and the tests of the cells and of a turn over, with each allocation refused in turn, mc_stdin with less and less memory, and wfmc within its number of bytes
 	@tools/prove.sh wfmc mc_stdin mc_schedule refusals >&2
 	@python3 tests/memory_limits.py
 	@python3 tests/memory_bound.py

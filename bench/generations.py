@@ -19,7 +19,7 @@ Prints a line `GROUP: CASE: WHAT<TAB>VALUE<TAB>UNIT` for each measurement. GROUP
 
 Usage: bench/generations.py [BINARY [GROUP...]] [--logs N] [--seconds N] [--places N] [--generations G]. Without words it measures all groups of
 crates/wfmc/out/wfmc, in some 30 minutes, with up to 4 GB of memory. With --generations 1 the option isn't given to wfmc, and it is one log of
-1,048,576 places: the same without turn overs, as far as that log goes. Needs gcc, and memcached for the last group.
+1,048,576 places: the same without turn overs, as far as that log goes. Needs gcc, and memcached for the last two groups.
 """
 
 import argparse

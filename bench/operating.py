@@ -252,9 +252,9 @@ def show_limits():
             probes, hog = others_and_hog(server)
             gets = []
             for _ in range(3):
-                hog.send(many_names(3000))
+                hog.send(many_names(3000) + b"quit\r\n")
                 size, last = hog.drain()
-                gets.append("SERVER_ERROR out of memory, closed" if last.endswith(b"SERVER_ERROR out of memory\r\n") else f"closed after {size:,} bytes")
+                gets.append("all of it" if last.endswith(b"b\r\nEND\r\n") else f"{size:,} bytes, the last {last[-30:]!r}")
                 hog = server.client(worker=0)
             waits = [probe.stop() for probe in probes]
             wrong = [it for wait in waits for it in wait[2]]

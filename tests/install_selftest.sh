@@ -34,7 +34,9 @@ expected() {
         echo "644 etc/wfmc.default $sysconf/default/wfmc"
         echo "644 etc/wfmc.default $prefix/share/doc/wfmc/wfmc.default"
         echo "644 - $prefix/share/doc/wfmc/installed"
-        for it in README.md LICENSE $(find docs -type f); do echo "644 $it $prefix/share/doc/wfmc/$it"; done
+        for it in README.md LICENSE $(find docs examples -type f) etc/grafana-wfmc.json etc/prometheus-wfmc.rules.yml tools/move_tenant.py tools/proxy.yml; do
+            echo "644 $it $prefix/share/doc/wfmc/$it"
+        done
     } | sed 's/ /\t/; s/ /\t/'
 }
 

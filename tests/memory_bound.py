@@ -4,7 +4,7 @@
 wfmc gets that many bytes of address space (RLIMIT_AS), and clients do what takes most: two tenants fill their quotas, and each alone fills
 logs that are closed by their bytes, while other connections hold a block of a mebibyte up to its last byte, or ask for replies of several
 and don't read them. Nobody may be refused for want of memory. Then it gets less than the replies to two lines have bytes: one of 500 items
-of a mebibyte, and one of many of 4,000 bytes; both come whole. Then wfmc gets much less, and the same connections come: those whose own
+of a mebibyte, and one of many of 4,000 bytes; both come whole. Then wfmc gets much less, and more connections hold such a block than there is memory for: those whose own
 allocation is refused are told so and closed, and no other. Prints what was used; the last line is 'N passed, M failed'.
 """
 

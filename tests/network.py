@@ -2,7 +2,7 @@
 """Tests wfmc, as built, over sockets on loopback: network.py [BINARY].
 
 Every golden test of mc_stdin that a server can answer (tests/rows/mc_stdin): its input over one connection, whole and, where it is short, a
-byte at a time, by 1 and by 4 workers; the bytes that come back must be the same. Then clients that others must not notice: one that closes
+byte at a time, by 1 and by 4 workers (over several logs by 1); the bytes that come back must be the same. Then clients that others must not notice: one that closes
 in the middle of a block, one that resets, one that never reads, more connections than a worker takes, two tenants with the same key, 500
 commands of 8 clients at once, all places of the longest log, and logs that follow one another once their places are taken, or their bytes,
 while clients are cut off around each turn over.

@@ -26,7 +26,10 @@ expected() {
     local it
     for it in "${programs[@]}"; do echo "/usr/bin/$it"; done
     for it in man1/mc_stdin.1 man1/mc_schedule.1 man8/wfmc.8; do echo "/usr/share/man/$it.gz"; done
-    for it in README.md built-from changelog.Debian.gz copyright sources.sha256.gz $(find docs -type f); do echo "/usr/share/doc/wfmc/$it"; done
+    for it in README.md built-from changelog.Debian.gz copyright sources.sha256.gz $(find docs examples -type f) etc/grafana-wfmc.json \
+        etc/prometheus-wfmc.rules.yml tools/move_tenant.py tools/proxy.yml; do
+        echo "/usr/share/doc/wfmc/$it"
+    done
     echo /usr/share/lintian/overrides/wfmc
     echo /usr/lib/systemd/system/wfmc.service
     echo /etc/default/wfmc
