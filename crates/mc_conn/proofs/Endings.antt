@@ -337,6 +337,7 @@ module _ (until : Bool) (a m n z : Scene) (before pulled last : Bool) (one : Doe
     only = left_of_full state is;
     held = ⊎_elim inr (λ left. inl (full_of_left state is left)) held_behind;
     in_time = all.in_time;
+    within = all.within;
     left = ⊎_elim inl (λ full. inr (omega (arith, full, waits_so_far))) left;
   }
 
@@ -348,6 +349,7 @@ turns a z state round =
         takes = round.takes;
         state_is = round.state_is;
         held = ⊎_elim (λ (full : state ≡ Full). absurd (unfull full)) (λ held. held) round.held;
+        within = round.within;
         left = round.left;
       },
       unfull,
@@ -366,6 +368,7 @@ turns_until a z state round = record {
   full = λ awaits. round.full (refl, awaits);
   held = round.held;
   in_time = round.in_time refl;
+  within = round.within;
   left = round.left;
 }
 

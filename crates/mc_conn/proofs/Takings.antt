@@ -1,5 +1,5 @@
 -- The parts of a turn, one after another.
-use Rattle.std.proofs.Common.{◌≡◌, ◌⊎◌, ℕ, ◌+◌, ◌≤◌, ◌<◌, ◌||◌, Bool, true, false, cond, zero, suc, List, [], ◌∷◌, ◌++◌, length, take, drop, sym, refl, ap, ◌∙◌, subst, inl, inr, ⊎_elim, arith, append-nil, length-append}
+use Rattle.std.proofs.Common.{◌≡◌, ◌⊎◌, ℕ, ◌+◌, ◌≤◌, ◌<◌, ◌||◌, Bool, true, false, cond, zero, suc, List, [], ◌∷◌, ◌++◌, length, take, drop, sym, refl, ap, ◌∙◌, subst, inl, inr, ⊎_elim, arith, append-nil, append_assoc, length-append}
 use Rattle.std.specs.Bool.{MatchBool, nat_lt}
 use Rattle.std.proofs.lemmas.Bool.{lt-ltb}
 use Rattle.std.proofs.lemmas.List.{append_cancel_left, length-take-le, take-append-drop}
@@ -18,7 +18,8 @@ use Rattle.mc_conn.specs.declared.conn.Conn.{Conn}
 use Rattle.mc_conn.specs.Held.{IsRead}
 use Rattle.uc_worker.specs.Going.{Continues}
 use Rattle.mc_conn.specs.declared.conn.Role.{Role}
-use Rattle.mc_conn.specs.Ending.{LogsInTime, LogsLast}
+use Rattle.mc_conn.specs.Ending.{LogsInTime, LogsLast, TakesLast, TakesWithin}
+use Rattle.mc_conn.specs.declared.conn.TheConstants.{QUEUE_BYTES}
 use Rattle.mc_conn.specs.Owed.{Mark, Owes, count_logged, demand_of, is_logged, mark_of}
 use Rattle.mc_conn.specs.Parts.{Counts, Does, LooksForNext, Responds}
 use Rattle.mc_conn.specs.Tallying.{AreTallied, CountsFor}
@@ -198,6 +199,35 @@ in_time_trans a b c one two first second =
     ))
     second
 
+-- the last request was taken while no more was queued than may be, through two parts
+within_trans : (a b c : Scene) (one : Takes a b) (two : Takes b c) → TakesWithin one → TakesWithin two → TakesWithin (takes_trans a b c one two)
+unfolding takes_trans taken_trans
+within_trans a b c one two first second = ⊎_elim
+    (λ (none : two.taken.requests ≡ []). ⊎_elim
+    (λ (nothing : one.taken.requests ≡ []). inl (λ i. nothing i ++ none i))
+    (λ (last : (between : Scene) × TakesLast a between b one). inr (
+      last.0,
+      record {
+        first = last.1.first;
+        within = last.1.within;
+        rest = takes_trans last.0 b c last.1.rest two;
+        one = omega (arith, length-append last.1.rest.taken.requests two.taken.requests, ap (λ (all : List Request). length all) none, last.1.one);
+        all = ap (λ (all : List Request). all ++ two.taken.requests) last.1.all ∙ append_assoc last.1.first.taken.requests last.1.rest.taken.requests two.taken.requests;
+      },
+    ))
+    first)
+    (λ (last : (between : Scene) × TakesLast b between c two). inr (
+      last.0,
+      record {
+        first = takes_trans a b last.0 one last.1.first;
+        within = last.1.within;
+        rest = last.1.rest;
+        one = last.1.one;
+        all = ap (λ (all : List Request). one.taken.requests ++ all) last.1.all ∙ sym (append_assoc one.taken.requests last.1.first.taken.requests last.1.rest.taken.requests);
+      },
+    ))
+    second
+
 did_or : (x y : Bool) (m n k : ℕ) → k ≡ m + n → MatchBool x (0 < m) (m ≡ 0) → MatchBool y (0 < n) (n ≡ 0) → MatchBool (x || y) (0 < k) (k ≡ 0)
 did_or true y m n k sum p q = omega (arith, sum, p)
 did_or false true m n k sum p q = omega (arith, sum, q)
@@ -206,13 +236,14 @@ did_or false false m n k sum p q = omega (arith, sum, p, q)
 pub does_trans : (until : Bool) (a b c : Scene) (x y : Bool) → Does until a b x → Does until b c y → Does until a c (x || y)
 does_trans until a b c x y one two = record {
   in_time = λ is. in_time_trans a b c one.takes two.takes (one.in_time is) (two.in_time is);
+  within = within_trans a b c one.takes two.takes one.within two.within;
   takes = takes_trans a b c one.takes two.takes;
   did_is = did_or x y (amount one.takes) (amount two.takes) (amount (takes_trans a b c one.takes two.takes)) (amount_trans a b c one.takes two.takes) one.did_is two.did_is;
 }
 
 pub does_nothing : (until : Bool) (a : Scene) → Does until a a false
 unfolding takes_self taken_still taken_none
-does_nothing until a = record { takes = takes_self a; did_is = refl; in_time = λ is. inl refl }
+does_nothing until a = record { takes = takes_self a; did_is = refl; in_time = λ is. inl refl; within = inl refl }
 
 -- a part of which it is known whether it did something
 or_true : (x : Bool) → (x || true) ≡ true
@@ -257,7 +288,7 @@ module _ (old new : Conn) (worker : Worker) (input : Inflow) (before after : Out
   unfolding takes_pushed taken_none
   does_pushed until =
       let taken = length-take-le count (queue_of old) few in
-      record { takes = takes_pushed; did_is = did_some count (amount takes_pushed) (omega (arith, taken)); in_time = λ is. inl refl }
+      record { takes = takes_pushed; did_is = did_some count (amount takes_pushed) (omega (arith, taken)); in_time = λ is. inl refl; within = inl refl }
 
 -- the reader looks for a request
 pub does_looked : (until : Bool) (old new : Conn) (worker : Worker) (streams : Streams) → IsRead (holding_of old) [] [] (holding_of new) → LooksForNext old new →
@@ -265,6 +296,7 @@ pub does_looked : (until : Bool) (old new : Conn) (worker : Worker) (streams : S
 unfolding taken_still taken_none
 does_looked until old new worker streams read looks = record {
   in_time = λ is. inl refl;
+  within = inl refl;
   takes = record {
     taken = taken_still old new worker streams looks.role looks.past looks.queue;
     reads = read;
@@ -317,10 +349,18 @@ module _ (old new : Conn) (worker later : Worker) (streams : Streams) (request :
   )
   responded_in_time false is room = inl (ap (λ logged. cond logged 1 0 + 0) is)
 
-  pub does_responded : (until : Bool) → (until ≡ true → is_logged (demand_of old.role request) ≡ true → ¬ (IsClosing worker)) →
+  responded_within : length (queue_of old) ≤ QUEUE_BYTES → TakesWithin takes_responded
+  unfolding takes_responded takes_self taken_still taken_none
+  responded_within few = inr (
+    scene old worker streams,
+    record { first = takes_self (scene old worker streams); within = few; rest = takes_responded; one = refl; all = refl },
+  )
+
+  pub does_responded : (until : Bool) → (until ≡ true → is_logged (demand_of old.role request) ≡ true → ¬ (IsClosing worker)) → length (queue_of old) ≤ QUEUE_BYTES →
       Does until (scene old worker streams) (scene new later streams) true
   unfolding takes_responded
-  does_responded until room = record {
+  does_responded until room few = record {
+    within = responded_within few;
     takes = takes_responded;
     did_is = omega arith;
     in_time = λ is. responded_in_time (is_logged (demand_of old.role request)) refl (room is);
@@ -344,8 +384,8 @@ module _ (old new : Conn) (worker : Worker) (before after : Inflow) (output : Ou
 
   pub does_fed : (until : Bool) → 0 < length piece → Does until (scene old worker (both before output)) (scene new worker (both after output)) true
   unfolding takes_fed taken_none
-  does_fed until some = record { takes = takes_fed; did_is = omega (arith, some); in_time = λ is. inl refl }
+  does_fed until some = record { takes = takes_fed; did_is = omega (arith, some); in_time = λ is. inl refl; within = inl refl }
 
   pub does_waited : (until : Bool) → piece ≡ [] → Does until (scene old worker (both before output)) (scene new worker (both after output)) false
   unfolding takes_fed taken_none
-  does_waited until none = record { takes = takes_fed; did_is = omega (arith, ap length none); in_time = λ is. inl refl }
+  does_waited until none = record { takes = takes_fed; did_is = omega (arith, ap length none); in_time = λ is. inl refl; within = inl refl }

@@ -95,11 +95,26 @@ pub record Pulls (before after : Scene) : Type 0 where
   pub once : PullsOnce before.streams.input after.streams.input
   pub late : PullsLate before after
 
+-- the last request was taken at a moment at which no more was queued than may be
+pub record TakesLast (before between after : Scene) (takes : Takes before after) : Type 0 where
+  pub first : Takes before between
+  pub within : length (queue_of between.conn) ≤ QUEUE_BYTES
+  pub rest : Takes between after
+  pub one : length rest.taken.requests ≡ 1
+  pub all : takes.taken.requests ≡ first.taken.requests ++ rest.taken.requests
+
+-- Requests wait while more is queued than may be: none was taken, or the last one while it wasn't. So
+-- what is queued afterwards is at most that and the reply to the last one.
+abbrev pub TakesWithin : {before after : Scene} → Takes before after → Type 0
+TakesWithin {before} {after} takes =
+    (takes.taken.requests ≡ []) ⊎ (between : Scene) × TakesLast before between after takes
+
 -- a turn without a fault: what is queued then is what the output didn't take in it
 pub record Turns (before after : Scene) (state : State) : Type 0 where
   pub takes : Takes before after
   pub state_is : IsState takes state
   pub held : HoldsOnlyBehind takes
+  pub within : TakesWithin takes
   pub left : (queue_of after.conn ≡ [])
       ⊎ (waits before.streams.output.events < waits after.streams.output.events)
 
@@ -125,6 +140,7 @@ pub record TurnsUntil (before after : Scene) (state : State) : Type 0 where
   pub full : AwaitsLog after.conn after.worker → state ≡ Full
   pub held : (state ≡ Full) ⊎ HoldsOnlyBehind takes
   pub in_time : LogsInTime takes
+  pub within : TakesWithin takes
   pub left : (queue_of after.conn ≡ [])
       ⊎ (waits before.streams.output.events < waits after.streams.output.events)
 

@@ -18,7 +18,7 @@ use Rattle.mc_conn.specs.declared.conn.State.{State}
 use Rattle.mc_conn.specs.declared.conn.State.TheVariants.{Closed, Idle, Busy, Full}
 use Rattle.mc_conn.specs.declared.conn.TheConstants.{QUEUE_BYTES}
 use Rattle.mc_conn.specs.ConnFault.{TellsStarved}
-use Rattle.mc_conn.specs.Ending.{AwaitsLog, HoldsOnlyBehind, IsState, LogsInTime}
+use Rattle.mc_conn.specs.Ending.{AwaitsLog, HoldsOnlyBehind, IsState, LogsInTime, TakesWithin}
 use Rattle.mc_conn.specs.Held.{HoldsNone}
 use Rattle.mc_conn.specs.Onward.{own_sighting}
 use Rattle.uc_worker.specs.Going.{Continues}
@@ -32,6 +32,7 @@ pub record Does (until : Bool) (before after : Scene) (did : Bool) : Type 0 wher
   pub takes : Takes before after
   pub did_is : MatchBool did (0 < amount takes) (amount takes ≡ 0)
   pub in_time : until ≡ true → LogsInTime takes
+  pub within : TakesWithin takes
 
 -- a command was answered
 pub record AnswersCommand (old new : Worker) (tenant : ℕ) (command : Command)
@@ -146,6 +147,7 @@ pub record GoesRound (until : Bool) (before after : Scene) (state : State) : Typ
   pub only : state ≡ Full → until ≡ true
   pub held : (state ≡ Full) ⊎ HoldsOnlyBehind takes
   pub in_time : until ≡ true → LogsInTime takes
+  pub within : TakesWithin takes
   pub left : (queue_of after.conn ≡ [])
       ⊎ (waits before.streams.output.events < waits after.streams.output.events)
 

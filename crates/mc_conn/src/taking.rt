@@ -1,6 +1,6 @@
 //! Reading requests and taking them.
 ghost use Rattle.std.specs.Bool.{MatchBool};
-ghost use Rattle.std.specs.Prelude.{◌≡◌, ◌≢◌, ◌⊎◌, ◌↔◌, ◌<◌, ◌≤◌, [], Bool, true, false, None, IfOk, IsOkUnless, IsTrue, MatchResult, OnOk};
+ghost use Rattle.std.specs.Prelude.{◌≡◌, ◌≢◌, ◌⊎◌, ◌↔◌, ◌<◌, ◌≤◌, [], Bool, true, false, length, None, IfOk, IsOkUnless, IsTrue, MatchResult, OnOk};
 ghost use Rattle.mc_model.specs.declared.fault.Fault.TheVariants as faults;
 ghost use Rattle.mc_stream.specs.Stream.{Streams};
 ghost use Rattle.mc_conn.specs.Ending.{AwaitsLog, Breaks};
@@ -8,7 +8,8 @@ ghost use Rattle.mc_conn.specs.Held.{HoldsNone, IsRead, most_held};
 ghost use Rattle.mc_conn.specs.Parts.{Does, IsHeldBehind, IsLeft, KeepsStreams, LooksForNext};
 ghost use Rattle.mc_conn.specs.Owed.{FitsLog, demand_of, is_logged};
 ghost use Rattle.mc_conn.specs.Tallying.{HasCounted};
-ghost use Rattle.mc_conn.specs.Turn.{holding_of, scene};
+ghost use Rattle.mc_conn.specs.Turn.{holding_of, queue_of, scene};
+ghost use Rattle.mc_conn.specs.declared.conn.TheConstants.{QUEUE_BYTES};
 
 use crate::conn::{Conn, QUEUE_BYTES, Role};
 use crate::responding::respond;
@@ -75,6 +76,7 @@ impl Conn {
         requires role { FitsLog self.old.role worker.old }
         ensures outcome { MatchResult result
             (λ did. (until : Bool) (streams : Streams) → ¬ (IsLeft until self.old worker.old) →
+            length (queue_of self.old) ≤ QUEUE_BYTES →
             Does until (scene self.old worker.old streams)
             (scene self.new worker.new streams) did)
             (λ fault. (streams : Streams) →

@@ -10,7 +10,7 @@ use std::alloc::{AllocError, Global};
 use std::io::{ErrorKind, Read};
 use std::net::Shutdown;
 
-/// How many streams of a worker close at the same time, at most.
+/// How many streams of an event loop close at the same time, at most.
 pub(crate) const MOST_CLOSING: usize = 64;
 
 /// How many bytes are read and dropped of a stream that closes, at most.
@@ -92,7 +92,7 @@ fn serve(slot: &mut Option<ClosingStream>, buffer: &mut [u8; PULL_BYTES]) {
     }
 }
 
-/// The streams of a worker that close.
+/// The streams of an event loop that close.
 ///
 /// The system resets a stream that is closed while bytes from its peer are unread, and drops what
 /// the peer hasn't received yet. So its sending side is shut down first, and what comes is read and

@@ -1,4 +1,4 @@
-//! A connection of a worker.
+//! A connection of an event loop.
 ghost use Rattle.std.specs.Prelude.{◌≡◌};
 ghost use Rattle.mc_connections.specs.Moving.{byte_count};
 

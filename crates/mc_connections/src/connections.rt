@@ -1,4 +1,4 @@
-//! The connections of a worker.
+//! The connections of an event loop.
 ghost use Rattle.std.specs.Prelude.{◌≡◌, ◌==◌, ◌≤◌, ◌<◌, ◌*◌, ◌↔◌, ℕ, [], IfOk, IsTrue, Some, length, true};
 ghost use Rattle.mc_connections.specs.declared.connections.TheConstants.{MOST_OF_ALL};
 ghost use Rattle.mc_connections.specs.declared.places.TheConstants.{MOST_CONNECTIONS};
@@ -34,7 +34,7 @@ pub(crate) fn is_among(role: &Role, tenants: usize) -> bool
     }
 }
 
-/// The connections of a worker by key, each of a role that the log has.
+/// The connections of an event loop by key, each of a role that the log has.
 #[derive(Drop)]
 pub struct Connections {
     pub(crate) by_key: Slab<Connection>,

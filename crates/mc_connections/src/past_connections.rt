@@ -6,7 +6,7 @@ ghost use Rattle.std.specs.Prelude.{◌≡◌, List, [], ◌∷◌};
 use crate::connection::Connection;
 use std::marker::Model;
 
-/// Every connection of a worker that has ended, as it was then, the latest first. It takes no
+/// Every connection of an event loop that has ended, as it was then, the latest first. It takes no
 /// memory, and its methods do nothing at run time. Only this crate writes on it.
 #[derive(Drop)]
 pub struct PastConnections {

@@ -1,4 +1,4 @@
-//! Places for the connections of a worker.
+//! Places for the connections of an event loop.
 ghost use Rattle.std.specs.Prelude.{◌≡◌, ◌+◌, ◌-◌, ◌*◌, ◌<◌, ◌≤◌, ◌↔◌, IfOk, IsTrue, length, replicate, sum};
 ghost use Rattle.fair_places.specs.Places.{held_by};
 ghost use Rattle.mc_conn.specs.Owed.{IsAmong};

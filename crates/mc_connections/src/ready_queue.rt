@@ -1,5 +1,6 @@
-//! Which of a worker's connections are served next.
-ghost use Rattle.std.specs.Prelude.{◌≡◌, ◌*◌, ◌≤◌, length, IfOk, OnOk};
+//! Which of an event loop's connections are served next.
+ghost use Rattle.std.specs.Prelude.{◌≡◌, ◌*◌, ◌≤◌, ◌↔◌, length, IfOk, IsTrue, OnOk};
+ghost use Rattle.fair_queue.specs.Turns.{IsIdle};
 ghost use Rattle.mc_connections.specs.InQueue.{HasLetWait, HasServedNext};
 ghost use Rattle.mc_connections.specs.Serving.{tenant_at};
 ghost use Rattle.mc_connections.specs.Tallying.{CountsForTenant};
@@ -23,7 +24,7 @@ use uc_worker::{Gate, Worker};
 /// streams that close.
 pub const WAKER: Token = Token(usize::MAX);
 
-/// The connections of a worker, and those of them that wait to be served: each tenant's in its turn,
+/// The connections of an event loop, and those of them that wait to be served: each tenant's in its turn,
 /// and administrators' in one of their own.
 #[derive(Drop)]
 pub struct ReadyQueue {
@@ -65,7 +66,9 @@ impl ReadyQueue {
 
     /// Returns whether the worker may block in `poll`: no connection is to be served before an
     /// event comes.
-    pub fn may_wait(&self) -> bool {
+    pub fn may_wait(&self) -> bool
+        ensures { IsTrue result ↔ IsIdle self.now.waiting.queue }
+    {
         self.waiting.is_empty()
     }
 

@@ -1,6 +1,6 @@
 //! The numbers of a server at one time, by what its workers show.
 ghost use Rattle.std.specs.Option.{MatchOption};
-ghost use Rattle.std.specs.Prelude.{◌≡◌, ◌++◌, ◌↔◌, ◌<◌, [], IfOk, IsTrue, OnOk, length};
+ghost use Rattle.std.specs.Prelude.{◌≡◌, ◌++◌, ◌↔◌, ◌<◌, [], IfOk, IsOkUnless, IsTrue, OnOk, length};
 ghost use Rattle.mc_metrics.specs.Gathering.{Gathers, IsFurthest, IsNoFurther, connections_shown, kept_in, log_shown, replayed_in, tally_at, tally_shown, tenant_numbers, tenant_shown, tenants_shown, workers_shown};
 
 use crate::snapshot::{LogNumbers, Snapshot, TenantNumbers, WorkerNumbers};
@@ -147,8 +147,9 @@ fn numbers_of(
     leader: &Shown,
     workers: &[Shown],
 ) -> Result<TenantNumbers, Fault>
-    ensures { IfOk result
+    ensures numbers { IfOk result
         (λ numbers. numbers ≡ tenant_numbers workers.now leader.now number name.now) }
+    ensures memory { IsOkUnless result Fault.Memory }
 {
     let Some(name) = Name::new(alloc, name.as_bytes())? else {
         unreachable!()
@@ -174,8 +175,9 @@ fn write_tenants(
     workers: &[Shown],
     out: &mut Vec<TenantNumbers>,
 ) -> Result<(), Fault>
-    ensures { OnOk result (out.new.items ≡ out.old.items
+    ensures shown { OnOk result (out.new.items ≡ out.old.items
         ++ tenants_shown workers.now leader.now (length out.old.items) names.now) }
+    ensures memory { IsOkUnless result Fault.Memory }
 {
     match names {
         [] => Ok(()),
@@ -235,8 +237,9 @@ fn log_numbers(shown: &ServerShown, leader: &WorkerShown) -> LogNumbers
 ///
 /// Returns `Memory` if memory runs out.
 pub fn snapshot_of(alloc: Global, names: &[Name], shown: &ServerShown) -> Result<Snapshot, Fault>
-    ensures { IfOk result (λ snapshot. (0 < length shown.now.workers.items) →
+    ensures gathers { IfOk result (λ snapshot. (0 < length shown.now.workers.items) →
         Gathers names.now shown.now snapshot) }
+    ensures memory { IsOkUnless result Fault.Memory }
 {
     let mut tenants = Vec::new(alloc);
     let mut workers = Vec::new(alloc);

@@ -1,4 +1,6 @@
 //! What a server shows, as it is read for a scrape.
+ghost use Rattle.std.specs.Prelude.{IsOkUnless};
+
 use crate::memory::resident_bytes;
 use mc_counters::{Board, LogBoard};
 use mc_metrics::{ServerShown, Shown, Snapshot, snapshot_of};
@@ -41,7 +43,9 @@ impl Boards {
     /// Returns the numbers that are shown now.
     ///
     /// Returns `Memory` if memory runs out.
-    pub fn snapshot<R: Files>(&self, rt: &R, alloc: Global) -> Result<Snapshot, Fault> {
+    pub fn snapshot<R: Files>(&self, rt: &R, alloc: Global) -> Result<Snapshot, Fault>
+        ensures { IsOkUnless result Fault.Memory }
+    {
         let tenants = self.names.len();
         let mut workers = Vec::with_capacity(alloc, self.workers.len())?;
         for board in &self.workers {

@@ -21,9 +21,9 @@ abbrev pub ready_text : List Listening → List ℕ
 ready_text listening =
     flat_map (λ one. listening_line one.name.now one.address) listening ++ codes "ready\n"
 
--- the line with the length of the log, once all connections were served
+-- the line with how many places of all logs were used, once all connections were served
 abbrev pub done_line : ℕ → List ℕ
-done_line length = codes "done " ++ (decimal length ++ codes "\n")
+done_line places = codes "done " ++ (decimal places ++ codes "\n")
 
 -- the line for a listener whose address can't be listened on
 abbrev pub cannot_listen_line : Text → List ℕ

@@ -249,7 +249,7 @@ fn tell_stop<R: Wait, E: Output>(rt: &R, stop: Stop, errors: &mut E)
 /// or the output fails, that is reported as `wfmc: TEXT`, with status 1.
 ///
 /// With `--check` it serves nothing. It prints that the words can be served, with status 0, or
-/// reports on `errors` the first of them that can't and why, with status 2.
+/// reports on `errors` one of them that can't and why, with status 2.
 ///
 /// Help and the version go to the output, with status 0, and a mistake in the words to `errors`,
 /// with status 2, as clap's text. A failure of `errors` is ignored.

@@ -79,20 +79,20 @@ fn push_line<R: Wait, O: Output>(
     push_all(rt, b"\n", output)
 }
 
-/// Prints the length of the log. Needs no memory.
+/// Prints how many places of all logs were used. Needs no memory.
 ///
 /// Returns `Output` if the output fails.
 pub(crate) fn tell_done<R: Wait, O: Output>(
     rt: &R,
-    length: u64,
+    places: u64,
     output: &mut O,
 ) -> Result<(), Fault>
     ensures outcome { MatchResult result
-        (λ _. PushesAll (done_line length) (O.tells output.old) (O.tells output.new))
-        (FailsToPush (done_line length) (O.tells output.old) (O.tells output.new)) }
+        (λ _. PushesAll (done_line places) (O.tells output.old) (O.tells output.new))
+        (FailsToPush (done_line places) (O.tells output.old) (O.tells output.new)) }
 {
     let mut buffer = Buffer::new();
-    push_line(rt, b"done ", buffer.format(length).as_bytes(), output)
+    push_line(rt, b"done ", buffer.format(places).as_bytes(), output)
 }
 
 /// Reports that a listener's address can't be listened on. A failure of `errors` is ignored. Needs no

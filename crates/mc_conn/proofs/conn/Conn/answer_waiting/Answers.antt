@@ -9,13 +9,13 @@ use Rattle.mc_conn.proofs.Countings.{tallies_self}
 use Rattle.mc_conn.proofs.conn.Conn.answer_waiting.Goals as goal
 
 pub returns-in_ok-respond-in-Some-clause-outcome : goal.returns-in_ok-respond-in-Some-clause-outcome
-returns-in_ok-respond-in-Some-clause-outcome g c until streams room =
+returns-in_ok-respond-in-Some-clause-outcome g c until streams room few =
     let value = c.take.ensures.value in
     let is = c.in-Some.is in
     let old : c.args.self.now.waiting ≡ Some c.in-Some.request = cc in
     does_responded c.args.self.now _ _ _ streams c.in-Some.request (read_answered (lines_spoken c.args.self.now.reader.speaker) c.args.self.now.waiting c.take.new.self c.args.self.now.reader.held c.in-Some.request old c.take.ensures.after) refl refl refl
     (ap (λ ends. c.args.self.now.is_over || ends) c.ends_stream-ends.ensures) c.respond.ensures.onward c.in_ok-respond-in-Some.ensures.outcome c.in_ok-respond-in-Some.ensures.counts until
-    (not_left until c.args.self.now c.args.worker.now c.in-Some.request old room)
+    (not_left until c.args.self.now c.args.worker.now c.in-Some.request old room) few
 
 pub returns-in_ok-respond-in-Some-clause-fewer : goal.returns-in_ok-respond-in-Some-clause-fewer
 returns-in_ok-respond-in-Some-clause-fewer g c =
@@ -36,7 +36,7 @@ returns-in_err-respond-in-Some-clause-outcome g c =
     c.in_err-respond-in-Some.ensures.outcome)
 
 pub returns-in-None-clause-outcome : goal.returns-in-None-clause-outcome
-returns-in-None-clause-outcome g c until streams room =
+returns-in-None-clause-outcome g c until streams room few =
     let value = c.take.ensures.value in
     let is = c.in-None.is in
     let after = c.take.ensures.after in

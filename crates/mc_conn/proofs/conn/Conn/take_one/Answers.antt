@@ -1,9 +1,10 @@
-use Rattle.std.proofs.Common.{◌≡◌, ◌∙◌, true, false, sym, refl}
+use Rattle.std.proofs.Common.{◌≡◌, ◌≤◌, ◌∙◌, true, false, length, sym, refl, arith}
 use Rattle.std.proofs.lemmas.Result.{err_from_is_err_and}
 use Rattle.mc_stream.specs.Stream.{Streams}
 use Rattle.mc_conn.specs.Held.{most_held}
 use Rattle.mc_conn.specs.Parts.{IsLeft}
-use Rattle.mc_conn.specs.Turn.{holding_of, scene}
+use Rattle.mc_conn.specs.Turn.{holding_of, queue_of, scene}
+use Rattle.mc_conn.specs.declared.conn.TheConstants.{QUEUE_BYTES}
 use Rattle.mc_conn.proofs.Breakings.{breaks_later, breaks_looking}
 use Rattle.mc_conn.proofs.Outcomes.{if_ok_map, match_map}
 use Rattle.mc_conn.proofs.Readings.{fewer_after}
@@ -23,8 +24,9 @@ returns-then-len-gt-QUEUE_BYTES-clause-outcome g c streams =
 pub returns-clause-outcome : goal.returns-clause-outcome
 returns-clause-outcome g c =
     let room : ¬ (IsLeft c.args.until_done c.look.new.self c.args.worker.now) = λ left. let no : true ≡ false = sym (c.is_left.ensures.1 left) ∙ c.if-is_left.false in cc in
+    let few : length (queue_of c.look.new.self) ≤ QUEUE_BYTES = omega (arith, c.if-len-gt-QUEUE_BYTES.false, c.len.ensures) in
     let looked = λ (streams : Streams). does_looked c.args.until_done c.args.self.now c.look.new.self c.args.worker.now streams c.in_ok-look.ensures.read c.look.ensures.looks in
-    match_map c.answer_waiting.result _ _ _ _ (λ did does streams. does_trans _ _ (scene c.look.new.self _ streams) _ _ did (looked streams) (does c.args.until_done streams room))
+    match_map c.answer_waiting.result _ _ _ _ (λ did does streams. does_trans _ _ (scene c.look.new.self _ streams) _ _ did (looked streams) (does c.args.until_done streams room few))
     (λ fault breaks streams. breaks_later fault _ (scene c.look.new.self _ streams) _ (looked streams).takes (breaks streams)) c.answer_waiting.ensures.outcome
 
 pub returns-clause-fewer : goal.returns-clause-fewer
