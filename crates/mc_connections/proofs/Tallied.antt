@@ -1,5 +1,5 @@
 -- Lemmas on what one turn after another counts.
-use Rattle.std.proofs.Common.{ℕ, zero, suc, List, [], ◌∷◌, ◌≡◌, ap, ◌∙◌, subst, inl, inr, map}
+use Rattle.std.proofs.Common.{ℕ, zero, suc, List, [], ◌∷◌, ◌≡◌, refl, ap, ◌∙◌, subst, inl, inr, map}
 use Rattle.std.specs.Prelude.{slice_index_or, slice_set}
 use Rattle.mc_counters.specs.Tallied.{CountedRequest}
 use Rattle.mc_counters.specs.declared.tally.Tally.{Tally}
