@@ -254,7 +254,7 @@ def show_limits():
             for _ in range(3):
                 hog.send(many_names(3000) + b"quit\r\n")
                 size, last = hog.drain()
-                gets.append("all of it" if last.endswith(b"b\r\nEND\r\n") else f"{size:,} bytes, the last {last[-30:]!r}")
+                gets.append("all of it" if last.endswith(b"v\r\nEND\r\n") else f"{size:,} bytes, the last {last[-30:]!r}")
                 hog = server.client(worker=0)
             waits = [probe.stop() for probe in probes]
             wrong = [it for wait in waits for it in wait[2]]

@@ -17,10 +17,9 @@ import tempfile
 sys.path.insert(0, str(pathlib.Path(__file__).parents[1] / "tests"))
 from harness import repository
 from harness.measures import figures_of, gathered, print_load, print_spread
-from harness.servers import Memcached, Server
+from harness.servers import LARGE, Memcached, Server
 
 PROGRAM = repository.program("wfmc")
-QUOTAS = (2_000_000, 4_000_000_000)
 SHAPES = ((50, 1), (8, 32))  # connections, requests that each sends at once
 GETS = (95, 50)  # in 100
 DATA = ((100, 10_000), (100, 1_000_000), (4_096, 10_000), (65_536, 1_000), (1_048_576, 100))  # bytes of an item, keys
@@ -41,7 +40,7 @@ def start(which, threads):
         server = Memcached("-t", str(threads), "-m", "4096", "-I", "2m")
         return server, server.port
     options = ["--workers", str(threads), "--places", "1048576", "--generations", "0"]
-    server = Server(PROGRAM, options, {"a": QUOTAS})
+    server = Server(PROGRAM, options, {"a": LARGE})
     return server, server.ports["a"]
 
 
