@@ -24,8 +24,8 @@ use uc_worker::{Gate, Worker};
 /// streams that close.
 pub const WAKER: Token = Token(usize::MAX);
 
-/// The connections of an event loop, and those of them that wait to be served: each tenant's in its turn,
-/// and administrators' in one of their own.
+/// The connections of an event loop, and those of them that wait to be served: each tenant's in its
+/// turn, and administrators' in one of their own.
 #[derive(Drop)]
 pub struct ReadyQueue {
     pub connections: Connections,

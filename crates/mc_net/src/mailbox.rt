@@ -163,7 +163,8 @@ impl Receive<TcpStream> for Mailbox {
     fn receive<R: Wait>(&self, rt: &R, arrival: Arrival<TcpStream>) -> Result<(), Halt>
         ensures { OnOk result ⊤ }
     {
-        // A loop that ends as full leaves its queue to the next log, and no loop is done before the last stream.
+        // A loop that ends as full leaves its queue to the next log, and none is done before the
+        // last stream.
         let _ = self.put(
             rt,
             Offer {

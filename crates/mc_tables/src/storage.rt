@@ -142,10 +142,12 @@ pub trait StorageFor<'a>: Storage {
             ≡ (renumbered_at meter.now.limits (Self.table self.old) unique key.now delta).reply) }
         ensures table { OnOk result (Self.table self.new
             ≡ (renumbered_at meter.now.limits (Self.table self.old) unique key.now delta).table) }
-        ensures meter { IfOk result (λ answer. IsMeterBy answer.1 meter.now.limits (Self.table self.old)
+        ensures meter { IfOk result
+            (λ answer. IsMeterBy answer.1 meter.now.limits (Self.table self.old)
             (renumbered_at meter.now.limits (Self.table self.old) unique key.now delta)) }
         ensures granted { OnErr result (is_refusal
-            (renumbered_at meter.now.limits (Self.table self.old) unique key.now delta).reply ≡ false) }
+            (renumbered_at meter.now.limits (Self.table self.old) unique key.now delta).reply
+            ≡ false) }
         ensures memory { IsOkUnless result Fault.Memory }
         ensures unchanged { OnErr result (Self.table self.new ≡ Self.table self.old) };
 }
